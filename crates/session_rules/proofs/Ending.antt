@@ -1,6 +1,6 @@
 -- A session of which the deepest level ends, on its way through the portals.
 use Rattle.std.proofs.Common.{◌≡◌, ◌≢◌, ℕ, ◌+◌, find, true, false, Option, Some, None, List, [], ◌∷◌, ◌++◌, refl, sym, ap, ◌∙◌, subst, inl, inr, arith}
-use Rattle.std.specs.Prelude.{if◌then◌else◌, All}
+use Rattle.std.specs.Prelude.{if◌then◌else◌}
 use Rattle.std.specs.Option.{option_map_or}
 use Rattle.std.proofs.lemmas.Bool.{cases_eq, cases_Bool, ne_eqb}
 use Rattle.std.proofs.lemmas.List.Elements.{All-head, All-tail, All-weaker}
@@ -28,40 +28,18 @@ use Rattle.session_rules.specs.World.{Scene}
 use Rattle.session_rules.specs.Lookup.{newest, portals_but}
 use Rattle.session_rules.specs.Acts.{Ended, changes, context_gone, for_each, in_order, portal_gone, say, where_there}
 use Rattle.session_rules.specs.Releases.{given_back, item_released}
-use Rattle.session_rules.specs.Standing.{AreContexts, AreDifferent, AreHooks, AreLevels, AreOuter, ArePlans, HasItems, IsItem, IsPlace, IsPortal, IsRow, referred}
+use Rattle.session_rules.specs.Standing.{AreContexts, AreLevels, ArePlans, HasItems, IsItem, IsPlace, IsPortal, IsRow, referred}
+use Rattle.session_rules.specs.Ending.{AreEnding, Ending, IsDone, IsLoose}
 use Rattle.session_rules.proofs.Guarded.{all_changed}
 use Rattle.session_rules.proofs.ContextsKept.{IsSame, contexts_level_gone, off_outside, same_removed}
 use Rattle.session_rules.proofs.HooksKept.{conserves_gone, hooks_ended}
 use Rattle.session_rules.proofs.HeldItems.{held_forgotten}
-use Rattle.session_rules.proofs.LevelsKept.{AreEnding, IsLoose, levels_stay}
+use Rattle.session_rules.proofs.LevelsKept.{levels_stay}
 use Rattle.session_rules.proofs.Lone.{lone_changed, lone_left}
 use Rattle.session_rules.proofs.PlansAmong.{levels_apart, plans_moved}
 use Rattle.session_rules.proofs.PortalLists.{but_one, different_without, others_back, others_front, owner_split}
 use Rattle.session_rules.proofs.PortalsAmong.{IsRowOf, attached_by, off_levels, off_rows, place_same, place_spared, row_left, row_of}
 use Rattle.session_rules.proofs.Settling.{Fits, Settles, besides_of, item_settles}
-
--- the deepest level's owner isn't the portal's
-abbrev pub IsAway : LevelState → OpenPortal → Type 0
-IsAway level p = (n : ℕ) → p.owner ≡ Some n → level.owner ≡ Some n → ⊥
-
--- a portal that is done
-pub record IsDone (level : LevelState) (done : List LevelState) (t : Contexts) (x : OwnerTree) (current : ℕ) (p : OpenPortal) : Type 0 where
-  pub portal : IsPortal p done t x current
-  pub away : IsAway level p
-
--- Portals of the front are done, and are those of the levels `done`.
-pub record Ending (level : LevelState) (levels done : List LevelState) (front back : List OpenPortal) (s : Scene) : Type 0 where
-  pub contexts : AreContexts s.session.contexts s.session.next_context
-  pub hooks : AreHooks s.session.contexts s.around.shelf
-  pub all : AreLevels (level ∷ levels) s.session.contexts s.session.owners
-  pub outer : AreOuter levels
-  pub kinds : IsSoundTable (table_of s.around.kinds)
-  pub owners : AreEnding (table_of s.around.kinds) s.session.owners s.session.next_owner s.session.next_serial level levels (front ++ back)
-  pub plans : ArePlans s.session.plans s.session.contexts s.session.current (referred s.session.owners)
-  pub ended : All (IsDone level done s.session.contexts s.session.owners s.session.current) front
-  pub rest : All (λ p. IsPortal p (level ∷ levels) s.session.contexts s.session.owners s.session.current) back
-  pub different : AreDifferent (front ++ back)
-  pub are : s.session.portals ≡ front ++ back
 
 -- what an end changes on this way
 pub record Parts : Type 0 where

@@ -24,6 +24,7 @@ use Rattle.session_rules.specs.Portals.{portal_aborted, portal_closed, portal_pa
 use Rattle.session_rules.specs.Releases.{owner_moved, owner_released}
 use Rattle.session_rules.specs.Ends.{aborted, cleaned_up, committed, empty_context_gone, exited, given_up, level_context_gone, level_owner_gone, level_popped, level_released, level_rolled_back, recovered, stack_lowered, stack_popped, subcommitted, switched_up}
 use Rattle.session_rules.specs.Standing.{AreContexts, AreHooks, AreLevels, AreOpen, AreDifferent, AreOwners, AreOuter, ArePlans, ArePortals, AreStacked, FitLevels, HasExited, HasItems, IsAtRest, IsAttached, IsDead, IsLevel, IsLive, IsOfPortal, IsOwner, IsPlace, IsPortal, IsMade, IsOpen, Stands, StandsBetweenLines, active_depth, owner_at, referred}
+use Rattle.session_rules.specs.Ending.{AreEnding, Ending, IsAway, IsDone, gone_levels}
 use Rattle.session_rules.proofs.Forests.{has_left, parent_left}
 use Rattle.session_rules.proofs.ContextsKept.{IsSame, contexts_level_gone, nothing_left, off_outside, protected_has, same_removed, stay_same, top_protected}
 use Rattle.session_rules.proofs.HooksKept.{conserves_gone, hooks_ended}
@@ -32,14 +33,14 @@ use Rattle.session_rules.proofs.HeldItems.{held_removed}
 use Rattle.session_rules.proofs.Releasing.{Tables, still_sound, swept_by, tabled, with_owners}
 use Rattle.session_rules.proofs.Settling.{Besides, Fits, HasSettled, Spares, besides_of, release_settles, spares_same, with_besides}
 use Rattle.session_rules.proofs.Stacked.{depth_small, depth_still, none_stacked, stacked_above, stacked_below, stacked_lowered, stacked_within}
-use Rattle.session_rules.proofs.LevelsKept.{AreEnding, HasLeft, IsStill, is_there, left_nothing, left_still, levels_stay, one_value, outer_contexts, outer_owners, owners_aborted, owners_end, owners_without, without_owner}
+use Rattle.session_rules.proofs.LevelsKept.{HasLeft, IsStill, is_there, left_nothing, left_still, levels_stay, one_value, outer_contexts, outer_owners, owners_aborted, owners_end, owners_without, without_owner}
 use Rattle.session_rules.proofs.Lone.{lone_left, lone_swept}
 use Rattle.session_rules.proofs.PortalsAmong.{IsRowOf, attached_by, off_levels, off_rows, place_level, place_own, place_same, place_spared, row_left, row_of}
 use Rattle.session_rules.proofs.Resting.{all_rest_aborted, all_rest_outside, rests_becomes, rests_but}
-use Rattle.session_rules.proofs.Ending.{Ending, IsAway, IsDone, Leads, Parts, with_parts}
+use Rattle.session_rules.proofs.Ending.{Leads, Parts, with_parts}
 use Rattle.session_rules.proofs.Replacing.{all_closed, all_swept_away, swept_away}
 use Rattle.session_rules.proofs.Passing.{all_passed}
-use Rattle.session_rules.proofs.Failing.{all_aborted, gone_levels}
+use Rattle.session_rules.proofs.Failing.{all_aborted}
 use Rattle.session_rules.proofs.PlansAmong.{above_apart, cached_left, levels_apart, own_other, plan_outside, plans_counted, plans_current, plans_moved}
 
 -- A scene with these levels. Each scene is of this form.

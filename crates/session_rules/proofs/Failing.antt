@@ -22,16 +22,17 @@ use Rattle.session_rules.specs.Acts.{Ended, children_gone, for_each, in_order, p
 use Rattle.session_rules.specs.Releases.{owner_moved}
 use Rattle.session_rules.specs.Checks.{has_failed}
 use Rattle.session_rules.specs.Portals.{is_ready, portal_aborted, portal_failed, portal_withdrawn}
-use Rattle.session_rules.specs.Standing.{HasItems, IsAtRest, IsAttached, IsDead, IsLive, IsOwner, IsPlace, IsPortal, active_depth, owner_at, referred}
+use Rattle.session_rules.specs.Standing.{HasItems, IsAtRest, IsAttached, IsDead, IsLive, IsOwner, IsPlace, IsPortal, active_depth, referred}
+use Rattle.session_rules.specs.Ending.{AreEnding, Ending, IsLoose, gone_levels}
 use Rattle.session_rules.proofs.Guarded.{all_moved}
 use Rattle.session_rules.proofs.ContextsKept.{contexts_emptied, protected_has, same_emptied}
 use Rattle.session_rules.proofs.HooksKept.{conserves_children, hooks_ended}
-use Rattle.session_rules.proofs.LevelsKept.{AreEnding, IsLoose, no_value, one_value}
+use Rattle.session_rules.proofs.LevelsKept.{no_value, one_value}
 use Rattle.session_rules.proofs.Lone.{lone_emptied, own_emptied}
 use Rattle.session_rules.proofs.Stacked.{depth_small, depth_still}
 use Rattle.session_rules.proofs.PortalLists.{Changes, changed_one, owner_beside, owner_here, owner_split}
 use Rattle.session_rules.proofs.PortalsAmong.{attached_by, row_emptied}
-use Rattle.session_rules.proofs.Ending.{Beside, Ending, Leads, each_goes, goes_nothing, levels_beside, parts_of, places_beside, plans_beside, with_parts}
+use Rattle.session_rules.proofs.Ending.{Beside, Leads, each_goes, goes_nothing, levels_beside, parts_of, places_beside, plans_beside, with_parts}
 use Rattle.session_rules.proofs.Replacing.{IsBeside, first_of_rest, kept, own_loose, replaced}
 use Rattle.session_rules.proofs.Moving.{HasMoved, has_moved, loose_moved}
 use Rattle.session_rules.proofs.Passing.{IsBounded, bounded, levels_moved, plans_owner_moved, portal_moved}
@@ -40,20 +41,13 @@ module _ (level : LevelState) (levels : List LevelState) where
   abbrev pub deep : ℕ
   deep = length (level ∷ levels)
 
-  abbrev pub gone_levels : List LevelState
-  gone_levels = record level { aborted = true } ∷ levels
-
-  -- the owners of levels are those that they were
-  pub at_gone : (k : ℕ) → owner_at k gone_levels ≡ owner_at k (level ∷ levels)
-  at_gone k = refl
-
-  pub still_owner : (n : ℕ) → IsOwner n gone_levels → IsOwner n (level ∷ levels)
+  pub still_owner : (n : ℕ) → IsOwner n (gone_levels level levels) → IsOwner n (level ∷ levels)
   still_owner n i = elim i [ inl e ↦ inl e | inr j ↦ inr j ]
 
-  pub attached_gone : (n k : ℕ) (x : OwnerTree) → IsAttached n k (level ∷ levels) x → IsAttached n k gone_levels x
-  attached_gone n k x a = attached_by n k (level ∷ levels) gone_levels x x (λ w. w) refl (λ w. w) refl (still_owner n) a
+  pub attached_gone : (n k : ℕ) (x : OwnerTree) → IsAttached n k (level ∷ levels) x → IsAttached n k (gone_levels level levels) x
+  attached_gone n k x a = attached_by n k (level ∷ levels) (gone_levels level levels) x x (λ w. w) refl (λ w. w) refl (still_owner n) a
 
-  pub gone_depth : active_depth gone_levels ≡ length levels
+  pub gone_depth : active_depth (gone_levels level levels) ≡ length levels
   gone_depth = depth_still (record level { aborted = true }) levels refl
 
   -- the deepest level has an owner where something is active there
@@ -67,14 +61,14 @@ module _ (level : LevelState) (levels : List LevelState) where
     pub changes_failed : (p : OpenPortal) → Changes p (failed p)
     changes_failed p = record { name = refl; context = λ n e. e; owner = λ n e. absurd (cc e) }
 
-    pub failed_stage : (p : OpenPortal) → p.created ≡ deep → IsBounded p deep → IsDead (failed p) gone_levels
+    pub failed_stage : (p : OpenPortal) → p.created ≡ deep → IsBounded p deep → IsDead (failed p) (gone_levels level levels)
     failed_stage p e b = record { aborted = refl; created = e; within = b.within; active = b.active; failed = refl; owner = refl; expr = refl }
 
     -- what owned a portal of the level is left to it
-    pub failed_owners : (p : OpenPortal) (front back : List OpenPortal) (s : Scene) → Ending level levels gone_levels front (p ∷ back) s → p.created ≡ deep
+    pub failed_owners : (p : OpenPortal) (front back : List OpenPortal) (s : Scene) → Ending level levels (gone_levels level levels) front (p ∷ back) s → p.created ≡ deep
         → AreEnding (table_of s.around.kinds) s.session.owners s.session.next_owner s.session.next_serial level levels (front ++ (failed p ∷ back))
     failed_owners p front back s h e =
-        let i = first_of_rest level levels gone_levels p front back s h in
+        let i = first_of_rest level levels (gone_levels level levels) p front back s h in
         record {
           sound = h.owners.sound;
           each = λ n u. elim (h.owners.each n u) [
@@ -84,7 +78,7 @@ module _ (level : LevelState) (levels : List LevelState) where
                 | inl f ↦ elim i.stage [
                   | inl l ↦
                       let lo = owned p l (omega (arith, l.within, e)) in
-                      inr (own_loose level levels gone_levels p s.session.owners (once_of s.session.owners s.session.next_owner s.session.next_serial h.owners.sound) n lo.0 (i.owner n f) e lo.1)
+                      inr (own_loose level levels (gone_levels level levels) p s.session.owners (once_of s.session.owners s.session.next_owner s.session.next_serial h.owners.sound) n lo.0 (i.owner n f) e lo.1)
                   | inr d ↦ absurd (no_value p.owner n d.owner f)
                 ]
                 | inr r ↦ inl (owner_beside n (failed p) front back r)
@@ -97,7 +91,7 @@ module _ (level : LevelState) (levels : List LevelState) where
           items = h.owners.items;
         }
 
-    pub failed_leads : (p : OpenPortal) (front back : List OpenPortal) (s : Scene) → Ending level levels gone_levels front (p ∷ back) s → p.created ≡ deep → Leads level levels gone_levels back s (portal_failed p s).scene
+    pub failed_leads : (p : OpenPortal) (front back : List OpenPortal) (s : Scene) → Ending level levels (gone_levels level levels) front (p ∷ back) s → p.created ≡ deep → Leads level levels (gone_levels level levels) back s (portal_failed p s).scene
     failed_leads p front back s h e = go p.context refl
       where
         portals : List OpenPortal
@@ -106,17 +100,17 @@ module _ (level : LevelState) (levels : List LevelState) where
         is : portal_changed p.name failed s.session.portals ≡ front ++ (failed p ∷ back)
         is = ap (portal_changed p.name failed) h.are ∙ changed_one p failed front back h.different
 
-        go : (c : Option ℕ) → p.context ≡ c → Leads level levels gone_levels back s (in_order (portal_becomes p.name failed ∷ where_there c children_gone ∷ []) s).scene
+        go : (c : Option ℕ) → p.context ≡ c → Leads level levels (gone_levels level levels) back s (in_order (portal_becomes p.name failed ∷ where_there c children_gone ∷ []) s).scene
         go None q =
-            let i = first_of_rest level levels gone_levels p front back s h in
-            let own : IsPortal (failed p) gone_levels s.session.contexts s.session.owners s.session.current = record {
+            let i = first_of_rest level levels (gone_levels level levels) p front back s h in
+            let own : IsPortal (failed p) (gone_levels level levels) s.session.contexts s.session.owners s.session.current = record {
               place = λ n f. absurd (no_value p.context n q f);
               made = λ _. refl;
               owner = λ n f. absurd (cc f);
               stage = inr (failed_stage p e (bounded p (level ∷ levels) i.stage));
             } in
-            let r : Ending level levels gone_levels (front ++ (failed p ∷ [])) back (with_parts (record (parts_of s) { portals = front ++ (failed p ∷ back) }) s) =
-            replaced level levels gone_levels p (failed p) front back s s.session.contexts s.session.owners s.around.shelf h (changes_failed p) h.contexts h.hooks h.all (failed_owners p front back s h e) h.plans (λ r b d. d.portal) (λ r b k. k) own
+            let r : Ending level levels (gone_levels level levels) (front ++ (failed p ∷ [])) back (with_parts (record (parts_of s) { portals = front ++ (failed p ∷ back) }) s) =
+            replaced level levels (gone_levels level levels) p (failed p) front back s s.session.contexts s.session.owners s.around.shelf h (changes_failed p) h.contexts h.hooks h.all (failed_owners p front back s h e) h.plans (λ r b d. d.portal) (λ r b k. k) own
             (λ n f z. absurd (cc f)) in
             record {
               front = front ++ (failed p ∷ []);
@@ -124,11 +118,11 @@ module _ (level : LevelState) (levels : List LevelState) where
                 parts = record (parts_of s) { portals = portal_changed p.name failed s.session.portals };
                 same = refl;
                 is = refl;
-                ending = subst (λ (ps : List OpenPortal). Ending level levels gone_levels (front ++ (failed p ∷ [])) back (with_parts (record (parts_of s) { portals = ps }) s)) (sym is) r;
+                ending = subst (λ (ps : List OpenPortal). Ending level levels (gone_levels level levels) (front ++ (failed p ∷ [])) back (with_parts (record (parts_of s) { portals = ps }) s)) (sym is) r;
               };
             }
         go (Some c) q =
-            let i = first_of_rest level levels gone_levels p front back s h in
+            let i = first_of_rest level levels (gone_levels level levels) p front back s h in
             let t : Contexts = s.session.contexts in
             let u : Contexts = with_children c Empty t in
             let x : OwnerTree = s.session.owners in
@@ -143,7 +137,7 @@ module _ (level : LevelState) (levels : List LevelState) where
               rows = λ m o ne out k. row_emptied t h.contexts.once m o cur k c ne out;
             } in
             let same = same_emptied t next h.contexts c c self place.protected in
-            let own : IsPortal (failed p) gone_levels u x cur = record {
+            let own : IsPortal (failed p) (gone_levels level levels) u x cur = record {
               place = λ n f. subst (λ (j : ℕ). IsPlace j None u cur) (one_value p.context c n q f) (record {
                 protected = same.protected;
                 parent = same.parent ∙ place.parent;
@@ -162,20 +156,20 @@ module _ (level : LevelState) (levels : List LevelState) where
               owner = k.owner;
               stage = k.stage;
             } in
-            let r : Ending level levels gone_levels (front ++ (failed p ∷ [])) back (with_parts (record (parts_of s) { contexts = u; shelf = shelf; portals = front ++ (failed p ∷ back) }) s) =
-            replaced level levels gone_levels p (failed p) front back s u x shelf h (changes_failed p) (contexts_emptied t next h.contexts c place.own)
+            let r : Ending level levels (gone_levels level levels) (front ++ (failed p ∷ [])) back (with_parts (record (parts_of s) { contexts = u; shelf = shelf; portals = front ++ (failed p ∷ back) }) s) =
+            replaced level levels (gone_levels level levels) p (failed p) front back s u x shelf h (changes_failed p) (contexts_emptied t next h.contexts c place.own)
             (hooks_ended t (ends.children_gone c t) s.around.shelf (conserves_children c t h.contexts.once) h.hooks)
             (levels_beside t next h.contexts c p.expr cur place level levels u x b h.all)
             (failed_owners p front back s h e)
             (plans_beside t next h.contexts c p.expr cur place s.session.plans u (referred x) b h.plans)
-            (λ r d k. still gone_levels r d k.portal) (λ r d k. still (level ∷ levels) r d k) own (λ n f z. absurd (cc f)) in
+            (λ r d k. still (gone_levels level levels) r d k.portal) (λ r d k. still (level ∷ levels) r d k) own (λ n f z. absurd (cc f)) in
             record {
               front = front ++ (failed p ∷ []);
               goes = record {
                 parts = record (parts_of s) { contexts = u; shelf = shelf; portals = portal_changed p.name failed s.session.portals };
                 same = refl;
                 is = refl;
-                ending = subst (λ (ps : List OpenPortal). Ending level levels gone_levels (front ++ (failed p ∷ [])) back (with_parts (record (parts_of s) { contexts = u; shelf = shelf; portals = ps }) s)) (sym is) r;
+                ending = subst (λ (ps : List OpenPortal). Ending level levels (gone_levels level levels) (front ++ (failed p ∷ [])) back (with_parts (record (parts_of s) { contexts = u; shelf = shelf; portals = ps }) s)) (sym is) r;
               };
             }
 
@@ -200,7 +194,7 @@ module _ (level : LevelState) (levels : List LevelState) where
         is_new portal.Ready e unready = absurd (cc unready)
         is_new portal.Failed e unready = absurd (cc e)
 
-    pub drawn_live : (b : Bool) (p : OpenPortal) → has_failed p.state ≡ b → IsLive p (level ∷ levels) → p.created ≢ deep → IsLive (drawn b p) gone_levels
+    pub drawn_live : (b : Bool) (p : OpenPortal) → has_failed p.state ≡ b → IsLive p (level ∷ levels) → p.created ≢ deep → IsLive (drawn b p) (gone_levels level levels)
     drawn_live b p e l ne =
         let few : active_depth (level ∷ levels) ≤ deep = depth_small (level ∷ levels) in
         record { some = l.some; within = omega (arith, l.within, l.active, few, ne); active = omega (arith, gone_depth); line = inl (drawn_rests b p e l ne) }
@@ -211,19 +205,19 @@ module _ (level : LevelState) (levels : List LevelState) where
     abbrev pub withdraws : OpenPortal → OpenPortal
     withdraws old = record old { active = deep - 1; owner = if has_failed old.state then None else old.owner }
 
-    pub drawn_in : (p : OpenPortal) (b : Bool) → has_failed p.state ≡ b → (front back : List OpenPortal) (s : Scene) → Ending level levels gone_levels front (p ∷ back) s
+    pub drawn_in : (p : OpenPortal) (b : Bool) → has_failed p.state ≡ b → (front back : List OpenPortal) (s : Scene) → Ending level levels (gone_levels level levels) front (p ∷ back) s
         → portal_changed p.name withdraws s.session.portals ≡ front ++ (drawn b p ∷ back)
     drawn_in p b e front back s h =
         ap (portal_changed p.name withdraws) h.are ∙ changed_one p withdraws front back h.different ∙ ap (λ (c : Bool). front ++ (drawn c p ∷ back)) e
 
     -- it keeps its owner, or has none
-    pub draws : (p : OpenPortal) (b : Bool) (front back : List OpenPortal) (s : Scene) → Ending level levels gone_levels front (p ∷ back) s → p.created ≢ deep → has_failed p.state ≡ b → (b ≡ true → p.owner ≡ None)
-        → Leads level levels gone_levels back s (portal_becomes p.name withdraws s).scene
+    pub draws : (p : OpenPortal) (b : Bool) (front back : List OpenPortal) (s : Scene) → Ending level levels (gone_levels level levels) front (p ∷ back) s → p.created ≢ deep → has_failed p.state ≡ b → (b ≡ true → p.owner ≡ None)
+        → Leads level levels (gone_levels level levels) back s (portal_becomes p.name withdraws s).scene
     draws p b front back s h ne e none =
-        let i = first_of_rest level levels gone_levels p front back s h in
+        let i = first_of_rest level levels (gone_levels level levels) p front back s h in
         let l : IsLive p (level ∷ levels) = live p s.session.contexts s.session.owners s.session.current i ne in
         let q : OpenPortal = drawn b p in
-        let own : IsPortal q gone_levels s.session.contexts s.session.owners s.session.current = record {
+        let own : IsPortal q (gone_levels level levels) s.session.contexts s.session.owners s.session.current = record {
           place = i.place;
           made = i.made;
           owner = λ n f. attached_gone n p.created s.session.owners (i.owner n (drawn_owner b p n f));
@@ -243,8 +237,8 @@ module _ (level : LevelState) (levels : List LevelState) where
           fresh = h.owners.fresh;
           items = h.owners.items;
         } in
-        let r : Ending level levels gone_levels (front ++ (q ∷ [])) back (with_parts (record (parts_of s) { portals = front ++ (q ∷ back) }) s) =
-        replaced level levels gone_levels p q front back s s.session.contexts s.session.owners s.around.shelf h (changes_drawn b p) h.contexts h.hooks h.all owners h.plans (λ r d k. k.portal) (λ r d k. k) own
+        let r : Ending level levels (gone_levels level levels) (front ++ (q ∷ [])) back (with_parts (record (parts_of s) { portals = front ++ (q ∷ back) }) s) =
+        replaced level levels (gone_levels level levels) p q front back s s.session.contexts s.session.owners s.around.shelf h (changes_drawn b p) h.contexts h.hooks h.all owners h.plans (λ r d k. k.portal) (λ r d k. k) own
         (λ n f z. (i.owner n (drawn_owner b p n f)).other (inl z)) in
         record {
           front = front ++ (q ∷ []);
@@ -252,7 +246,7 @@ module _ (level : LevelState) (levels : List LevelState) where
             parts = record (parts_of s) { portals = portal_changed p.name withdraws s.session.portals };
             same = refl;
             is = refl;
-            ending = subst (λ (ps : List OpenPortal). Ending level levels gone_levels (front ++ (q ∷ [])) back (with_parts (record (parts_of s) { portals = ps }) s)) (sym (drawn_in p b e front back s h)) r;
+            ending = subst (λ (ps : List OpenPortal). Ending level levels (gone_levels level levels) (front ++ (q ∷ [])) back (with_parts (record (parts_of s) { portals = ps }) s)) (sym (drawn_in p b e front back s h)) r;
           };
         }
       where
@@ -261,10 +255,10 @@ module _ (level : LevelState) (levels : List LevelState) where
         keep false none n f = f
 
     -- its owner moves to the level's
-    pub moves_down : (p : OpenPortal) (front back : List OpenPortal) (s : Scene) (o lo : ℕ) → Ending level levels gone_levels front (p ∷ back) s → p.created ≢ deep → has_failed p.state ≡ true → p.owner ≡ Some o → level.owner ≡ Some lo → deep ≤ p.active
-        → Leads level levels gone_levels back s (in_order (owner_moved o lo ∷ portal_becomes p.name withdraws ∷ []) s).scene
+    pub moves_down : (p : OpenPortal) (front back : List OpenPortal) (s : Scene) (o lo : ℕ) → Ending level levels (gone_levels level levels) front (p ∷ back) s → p.created ≢ deep → has_failed p.state ≡ true → p.owner ≡ Some o → level.owner ≡ Some lo → deep ≤ p.active
+        → Leads level levels (gone_levels level levels) back s (in_order (owner_moved o lo ∷ portal_becomes p.name withdraws ∷ []) s).scene
     moves_down p front back s o lo h ne e owned is_lo low =
-        let i = first_of_rest level levels gone_levels p front back s h in
+        let i = first_of_rest level levels (gone_levels level levels) p front back s h in
         let l : IsLive p (level ∷ levels) = live p s.session.contexts s.session.owners s.session.current i ne in
         let t : Contexts = s.session.contexts in
         let x : OwnerTree = s.session.owners in
@@ -277,7 +271,7 @@ module _ (level : LevelState) (levels : List LevelState) where
         let w : Moves o lo x = record { node = a.there; parent = there; other = λ z. a.other (inl (is_lo ∙ ap Some z)); apart = ap (has lo) a.lone } in
         let m : HasMoved o lo x = has_moved o lo x once w a.lone in
         let q : OpenPortal = drawn true p in
-        let own : IsPortal q gone_levels t y s.session.current = record {
+        let own : IsPortal q (gone_levels level levels) t y s.session.current = record {
           place = i.place;
           made = i.made;
           owner = λ n f. absurd (cc f);
@@ -307,9 +301,9 @@ module _ (level : LevelState) (levels : List LevelState) where
           fresh = λ b n u. begun n u;
           items = all_moved (HasItems (table_of s.around.kinds)) o lo x h.owners.items;
         } in
-        let r : Ending level levels gone_levels (front ++ (q ∷ [])) back (with_parts (record (parts_of s) { owners = y; portals = front ++ (q ∷ back) }) s) =
-        replaced level levels gone_levels p q front back s t y s.around.shelf h (changes_drawn true p) h.contexts h.hooks (levels_moved (level ∷ levels) o lo t x s.session.current m a.other h.all) owners (plans_owner_moved s o lo once w h.plans)
-        (λ r b d. portal_moved gone_levels o lo t x s.session.current m p r owned b (inl is_lo) d.portal) (λ r b k. portal_moved (level ∷ levels) o lo t x s.session.current m p r owned b (inl is_lo) k) own
+        let r : Ending level levels (gone_levels level levels) (front ++ (q ∷ [])) back (with_parts (record (parts_of s) { owners = y; portals = front ++ (q ∷ back) }) s) =
+        replaced level levels (gone_levels level levels) p q front back s t y s.around.shelf h (changes_drawn true p) h.contexts h.hooks (levels_moved (level ∷ levels) o lo t x s.session.current m a.other h.all) owners (plans_owner_moved s o lo once w h.plans)
+        (λ r b d. portal_moved (gone_levels level levels) o lo t x s.session.current m p r owned b (inl is_lo) d.portal) (λ r b k. portal_moved (level ∷ levels) o lo t x s.session.current m p r owned b (inl is_lo) k) own
         (λ n f z. absurd (cc f)) in
         record {
           front = front ++ (q ∷ []);
@@ -317,49 +311,49 @@ module _ (level : LevelState) (levels : List LevelState) where
             parts = record (parts_of s) { owners = y; portals = portal_changed p.name withdraws s.session.portals };
             same = refl;
             is = refl;
-            ending = subst (λ (ps : List OpenPortal). Ending level levels gone_levels (front ++ (q ∷ [])) back (with_parts (record (parts_of s) { owners = y; portals = ps }) s)) (sym (drawn_in p true e front back s h)) r;
+            ending = subst (λ (ps : List OpenPortal). Ending level levels (gone_levels level levels) (front ++ (q ∷ [])) back (with_parts (record (parts_of s) { owners = y; portals = ps }) s)) (sym (drawn_in p true e front back s h)) r;
           };
         }
 
-    pub aborted_leads : (p : OpenPortal) (front back : List OpenPortal) (s : Scene) → Ending level levels gone_levels front (p ∷ back) s → Leads level levels gone_levels back s (portal_aborted deep level.owner p s).scene
+    pub aborted_leads : (p : OpenPortal) (front back : List OpenPortal) (s : Scene) → Ending level levels (gone_levels level levels) front (p ∷ back) s → Leads level levels (gone_levels level levels) back s (portal_aborted deep level.owner p s).scene
     aborted_leads p front back s h = by_created (p.created == deep) refl
       where
         by_lo : (o : ℕ) → p.created ≢ deep → has_failed p.state ≡ true → p.owner ≡ Some o → deep ≤ p.active → (lo : ℕ) → level.owner ≡ Some lo
-            → Leads level levels gone_levels back s (in_order (where_there level.owner (owner_moved o) ∷ portal_becomes p.name withdraws ∷ []) s).scene
+            → Leads level levels (gone_levels level levels) back s (in_order (where_there level.owner (owner_moved o) ∷ portal_becomes p.name withdraws ∷ []) s).scene
         by_lo o ne f owned low lo e =
-            subst (λ (c : Option ℕ). Leads level levels gone_levels back s (in_order (where_there c (owner_moved o) ∷ portal_becomes p.name withdraws ∷ []) s).scene) (sym e) (moves_down p front back s o lo h ne f owned e low)
+            subst (λ (c : Option ℕ). Leads level levels (gone_levels level levels) back s (in_order (where_there c (owner_moved o) ∷ portal_becomes p.name withdraws ∷ []) s).scene) (sym e) (moves_down p front back s o lo h ne f owned e low)
 
         by_owner : p.created ≢ deep → has_failed p.state ≡ true → deep ≤ p.active → (c : Option ℕ) → p.owner ≡ c
-            → Leads level levels gone_levels back s (in_order (where_there c (λ owner. where_there level.owner (owner_moved owner)) ∷ portal_becomes p.name withdraws ∷ []) s).scene
+            → Leads level levels (gone_levels level levels) back s (in_order (where_there c (λ owner. where_there level.owner (owner_moved owner)) ∷ portal_becomes p.name withdraws ∷ []) s).scene
         by_owner ne f low None e = draws p true front back s h ne f (λ _. e)
         by_owner ne f low (Some o) e =
-            let i = first_of_rest level levels gone_levels p front back s h in
+            let i = first_of_rest level levels (gone_levels level levels) p front back s h in
             let lo = owned p (live p s.session.contexts s.session.owners s.session.current i ne) low in
             by_lo o ne f e low lo.0 lo.1
 
         by_state : p.created ≢ deep → deep ≤ p.active → (b : Bool) → has_failed p.state ≡ b
-            → Leads level levels gone_levels back s (in_order (where_so b (where_there p.owner (λ owner. where_there level.owner (owner_moved owner))) ∷ portal_becomes p.name withdraws ∷ []) s).scene
+            → Leads level levels (gone_levels level levels) back s (in_order (where_so b (where_there p.owner (λ owner. where_there level.owner (owner_moved owner))) ∷ portal_becomes p.name withdraws ∷ []) s).scene
         by_state ne low true f = by_owner ne f low p.owner refl
         by_state ne low false f = draws p false front back s h ne f (λ z. absurd (cc z))
 
-        by_active : p.created ≢ deep → (b : Bool) → (p.active == deep) ≡ b → Leads level levels gone_levels back s (where_so b (portal_withdrawn deep level.owner p) s).scene
+        by_active : p.created ≢ deep → (b : Bool) → (p.active == deep) ≡ b → Leads level levels (gone_levels level levels) back s (where_so b (portal_withdrawn deep level.owner p) s).scene
         by_active ne true e = by_state ne (omega (arith, eqb-true p.active deep e)) (has_failed p.state) refl
         by_active ne false e =
-            let i = first_of_rest level levels gone_levels p front back s h in
+            let i = first_of_rest level levels (gone_levels level levels) p front back s h in
             let l : IsLive p (level ∷ levels) = live p s.session.contexts s.session.owners s.session.current i ne in
             let off = eqb-false p.active deep e in
             let few : active_depth (level ∷ levels) ≤ deep = depth_small (level ∷ levels) in
-            let now : IsPortal p gone_levels s.session.contexts s.session.owners s.session.current = record {
+            let now : IsPortal p (gone_levels level levels) s.session.contexts s.session.owners s.session.current = record {
               place = i.place;
               made = i.made;
               owner = λ n f. attached_gone n p.created s.session.owners (i.owner n f);
               stage = inl (record { some = l.some; within = l.within; active = omega (arith, l.active, few, off, gone_depth); line = elim l.line [ inl r ↦ inl r | inr a ↦ absurd (off a.0) ] });
             } in
-            record { front = front ++ (p ∷ []); goes = goes_nothing level levels gone_levels (front ++ (p ∷ [])) back s (kept level levels gone_levels p front back s h now (λ n f z. (i.owner n f).other (inl z))) }
+            record { front = front ++ (p ∷ []); goes = goes_nothing level levels (gone_levels level levels) (front ++ (p ∷ [])) back s (kept level levels (gone_levels level levels) p front back s h now (λ n f z. (i.owner n f).other (inl z))) }
 
-        by_created : (b : Bool) → (p.created == deep) ≡ b → Leads level levels gone_levels back s (elim b as (λ _. Ended) [ true ↦ portal_failed p s | false ↦ where_so (p.active == deep) (portal_withdrawn deep level.owner p) s ]).scene
+        by_created : (b : Bool) → (p.created == deep) ≡ b → Leads level levels (gone_levels level levels) back s (elim b as (λ _. Ended) [ true ↦ portal_failed p s | false ↦ where_so (p.active == deep) (portal_withdrawn deep level.owner p) s ]).scene
         by_created true e = failed_leads p front back s h (eqb-true p.created deep e)
         by_created false e = by_active (λ z. absurd (eqb-false p.created deep e z)) (p.active == deep) refl
 
-    pub all_aborted : (ps : List OpenPortal) (s : Scene) → Ending level levels gone_levels [] ps s → Leads level levels gone_levels [] s (for_each (portal_aborted deep level.owner) ps s).scene
-    all_aborted ps s h = each_goes level levels gone_levels (portal_aborted deep level.owner) aborted_leads ps [] s h
+    pub all_aborted : (ps : List OpenPortal) (s : Scene) → Ending level levels (gone_levels level levels) [] ps s → Leads level levels (gone_levels level levels) [] s (for_each (portal_aborted deep level.owner) ps s).scene
+    all_aborted ps s h = each_goes level levels (gone_levels level levels) (portal_aborted deep level.owner) aborted_leads ps [] s h

@@ -238,9 +238,6 @@ module _ {A : Type 0} (own : A → Bool) where
   top_own top Empty h = absurd h
   top_own top (Node k a below beside) h = rw (eq-eqb k top h.0) h.1
 
-  pub top_has : (top : ℕ) (t : Forest A) → IsRooted own top t → has top t ≡ true
-  top_has top t h = own_has top t (top_own top t h)
-
   pub top_root : (top : ℕ) (t : Forest A) → IsRooted own top t → is_root top t ≡ true
   top_root top Empty h = absurd h
   top_root top (Node k a below beside) h = rw (eq-eqb k top h.0) refl

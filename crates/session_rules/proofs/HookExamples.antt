@@ -1,6 +1,8 @@
 -- The words on hooks, computed in two short scripts.
 use Rattle.std.proofs.Common.{◌≡◌, [], ◌∷◌, codes, Some, None, refl}
 use Rattle.pgs_command.specs.declared.commands.Command.TheVariants as command
+use Rattle.pgs_command.specs.declared.commands.Work.TheVariants as work
+use Rattle.pgs_command.specs.declared.commands.ContextCommand.TheVariants as context
 use Rattle.any_ctx.specs.SetLedger.{created, stats}
 use Rattle.session_rules.specs.State.{opening}
 use Rattle.session_rules.specs.World.{Moment}
@@ -32,7 +34,7 @@ at_first = record {
 -- A hook of the context of a command of its own runs when the command ends.
 alone : Turn
 unfolding opening at_first turn elements_of does does_all recovered created stats
-alone = turn None (Some (command.OnReset (codes "CurTransactionContext"))) at_first
+alone = turn None (Some (command.Work (work.Contexts (context.OnReset (codes "CurTransactionContext"))))) at_first
 
 alone_counts : (callbacks_of 7 alone.events ≡ 1) × (registered_of 7 alone.events ≡ 1) × (runs_of 7 (all_hooks alone.moment.scene) ≡ 1) × (hooks_of 7 (used_hooks alone.moment.scene) ≡ 1)
 unfolding opening at_first turn elements_of does does_all recovered alone created stats
@@ -41,7 +43,7 @@ alone_counts = (refl, refl, refl, refl)
 -- A hook of the topmost context waits, and runs when the session ends.
 waits : Turn
 unfolding opening at_first turn elements_of does does_all recovered alone created stats
-waits = turn None (Some (command.OnReset (codes "TopMemoryContext"))) alone.moment
+waits = turn None (Some (command.Work (work.Contexts (context.OnReset (codes "TopMemoryContext"))))) alone.moment
 
 waits_counts : (callbacks_of 9 waits.events ≡ 0) × (registered_of 9 waits.events ≡ 1) × (runs_of 9 (all_hooks waits.moment.scene) ≡ 4) × (hooks_of 9 (used_hooks waits.moment.scene) ≡ 1)
 unfolding opening at_first turn elements_of does does_all recovered alone waits created stats

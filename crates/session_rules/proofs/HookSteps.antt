@@ -1,13 +1,13 @@
 -- What became of a scene's hooks is counted: where contexts end, come and move, where a hook is registered, and where nothing becomes of them.
-use Rattle.std.proofs.Common.{◌≡◌, ℕ, ◌+◌, ◌<◌, Bool, true, false, cond, if◌then◌else◌, Option, Some, None, List, [], ◌∷◌, ◌++◌, length, map, flat_map, drop, refl, sym, ap, ◌∙◌, inl, inr, arith}
-use Rattle.std.specs.Prelude.{◌≤◌, ◌==◌, filter}
+use Rattle.std.proofs.Common.{◌≡◌, ℕ, ◌+◌, ◌<◌, Bool, true, false, cond, if◌then◌else◌, Option, Some, None, List, [], ◌∷◌, ◌++◌, length, map, drop, refl, sym, ap, ◌∙◌, inl, inr, arith}
+use Rattle.std.specs.Prelude.{◌≤◌, ◌==◌}
 use Rattle.std.specs.Option.{option_map_or}
 use Rattle.std.specs.List.{sum_by}
 use Rattle.std.proofs.lemmas.Bool.{cases_Bool, cases_eq, eq-eqb, both_ways, false_from_ne_true, or_parts}
 use Rattle.std.proofs.lemmas.List.Sums.{sum_by-append, sum_by-cons}
 use Rattle.pgs_step.specs.declared.events.What.{What}
 use Rattle.pgs_step.specs.declared.events.What.TheVariants as what
-use Rattle.forest.specs.Forest.{Empty, Node, has, times, Once, at, changed, is_above, moved, put, with_children}
+use Rattle.forest.specs.Forest.{Empty, has, times, Once, at, changed, is_above, moved, put, with_children}
 use Rattle.forest.proofs.Trees.{Moves, at_some, has_changed, has_of_removed, has_some, once_changed, once_put, put_absent, times_moved, times_some}
 use Rattle.forest.proofs.Moved.{sum_moved}
 use Rattle.reset_callbacks.specs.Hook.{Hook, ran}
@@ -16,15 +16,6 @@ use Rattle.context_rules.specs.Contexts.{Context, Contexts, is_child, placed_und
 use Rattle.context_rules.specs.Ends as ends
 use Rattle.context_rules.specs.Ends.{cleared, cleared_alone, emptied, gone, handed_in, waiting}
 use Rattle.context_rules.specs.Refusals.{is_within}
-use Rattle.lock_local.specs.Locks.{Lock, owner_count}
-use Rattle.lock_local.specs.Changes as locks
-use Rattle.file_table.specs.Descriptors.{is_among}
-use Rattle.file_table.specs.Files.{Files, given_events, loser, touch_events}
-use Rattle.snap_table.specs.declared.active.Active.{Active}
-use Rattle.snap_table.specs.Snapshots.{is_deep, pops}
-use Rattle.any_ctx.specs.Ledgers.{stats}
-use Rattle.context_report.specs.Lines.{last_of, line_of, no_total}
-use Rattle.context_rules.specs.Reports.{lines, report, summed}
 use Rattle.session_rules.specs.State.{first_of}
 use Rattle.session_rules.specs.World.{Scene}
 use Rattle.session_rules.specs.Acts.{Ended, behind, children_gone, context_cleared, context_cleared_alone, context_gone}
@@ -33,7 +24,7 @@ use Rattle.session_rules.specs.Taking.{hook_waits}
 use Rattle.session_rules.specs.HookCounts.{HookCount, HooksCounted, CountsHooks, runs_of}
 use Rattle.session_rules.proofs.Forests.{has_put_other, once_emptied, once_left, times_emptied}
 use Rattle.session_rules.proofs.Sums.{sum_changed, sum_put, sum_same}
-use Rattle.session_rules.proofs.HookSums.{Parts, Runs, both_run, callbacks_both, hooks_ran, is_of_hooks, more_runs, none_run, of_context, parts_alone, parts_children, parts_cleared, parts_gone, registered_both, runs_ran, sum_waiting}
+use Rattle.session_rules.proofs.HookSums.{Parts, Runs, callbacks_both, hooks_ran, more_runs, none_run, of_context, parts_alone, parts_children, parts_cleared, parts_gone, registered_both, runs_ran, sum_waiting}
 
 -- each number of a context stands once, and is below the next one
 pub record AreNumbered (contexts : Contexts) (next : ℕ) : Type 0 where
@@ -74,20 +65,6 @@ counted_on {t = t} {u = u} {x = x} {y = y} h k = record {
   out = λ fit.
       let first = h.out fit in
       let next : length (waiting u) ≤ y.out = omega (arith, first, fit) in omega (arith, first, k.out next);
-}
-
--- other hooks that stay as they are, as those that wait in other sessions
-pub counted_beside : (others : List Hook) {a x b y : List Hook} {es : List What} → HookCount a x b y es → HookCount (others ++ a) (others ++ x) (others ++ b) (others ++ y) es
-counted_beside others {a = a} {x = x} {b = b} {y = y} h = record {
-  runs = λ n.
-      let g : Hook → ℕ = λ hook. if hook.word == n then hook.runs else 0 in
-      omega (arith, h.runs n, sum_by-append g others a, sum_by-append g others b);
-  taken = λ n.
-      let g : Hook → ℕ = λ hook. cond (hook.word == n) 1 0 in
-      omega (arith, h.taken n, sum_by-append g others x, sum_by-append g others y);
-  whole = λ n.
-      let g : Hook → ℕ = λ hook. cond (hook.word == n) 1 0 in
-      omega (arith, h.whole n, sum_by-append g others a, sum_by-append g others b);
 }
 
 pub counted_both : {scene : Scene} {first next : Ended} → Counted scene first → Counted first.scene next → Counted scene (behind first.events next)
@@ -347,55 +324,3 @@ counted_hook n hook s k there first = go s.around.shelf.fresh refl
           numbered = numbered_changed n f s.session.contexts s.session.next_context k;
           hooks = counted_waits n f hook a.0 s.session.contexts s.around.shelf ys k.once a.1 refl (e ∙ ap (λ (h : Hook). h ∷ ys) same);
         }
-
--- events of lists that say nothing of hooks
-pub still_one : (event : What) → is_of_hooks event ≡ false → Runs [] (event ∷ [])
-still_one event h = more_runs event h none_run
-
-pub still_map : {A : Type 0} (f : A → What) → ((a : A) → is_of_hooks (f a) ≡ false) → (xs : List A) → Runs [] (map f xs)
-still_map f h [] = none_run
-still_map f h (x ∷ xs) = more_runs (f x) (h x) (still_map f h xs)
-
-pub still_flat : {A : Type 0} (f : A → List What) → ((a : A) → Runs [] (f a)) → (xs : List A) → Runs [] (flat_map f xs)
-still_flat f h [] = none_run
-still_flat f h (x ∷ xs) = both_run (h x) (still_flat f h xs)
-
-pub still_if : (b : Bool) {xs ys : List What} → Runs [] xs → Runs [] ys → Runs [] (if b then xs else ys)
-still_if true h k = h
-still_if false h k = k
-
--- locks
-pub still_lock_releases : (owner : ℕ) (all : List Lock) → Runs [] (locks.releases owner all)
-still_lock_releases owner all =
-    still_flat (locks.release_of owner)
-    (λ lock. still_if (owner_count owner lock == 0) none_run (still_one (what.ReleaseLock lock.object lock.mode (owner_count owner lock) owner) refl))
-    all
-
-pub still_lock_passes : (from to : ℕ) (all : List Lock) → Runs [] (locks.passes from to all)
-still_lock_passes from to all =
-    still_flat (locks.pass_of from to)
-    (λ lock. still_if (owner_count from lock == 0) none_run (still_one (what.PassLock lock.object lock.mode (owner_count from lock) from to) refl))
-    all
-
-pub still_all_locks : (top : ℕ) (all : List Lock) → Runs [] (locks.releases_of_all top all)
-still_all_locks top all = still_map (locks.release_whole top) (λ lock. refl) all
-
--- files and active snapshots
-still_given : (o : Option ℕ) (file : ℕ) → Runs [] (given_events o file)
-still_given None file = still_one (what.DescriptorOpened file) refl
-still_given (Some closed) file = more_runs (what.DescriptorClosed closed) refl (still_one (what.DescriptorOpened file) refl)
-
-pub still_touch : (file : ℕ) (files : Files) → Runs [] (touch_events file files)
-still_touch file files = still_if (is_among file files.recent) none_run (still_given (loser files) file)
-
-pub still_pops : (level : ℕ) (stack : List Active) → Runs [] (pops level stack)
-still_pops level stack = still_map (λ (entry : Active). what.Pop entry.snapshot) (λ entry. refl) (filter (is_deep level) stack)
-
--- a report
-still_lines : (depth : ℕ) (t : Contexts) → Runs [] (lines depth t)
-still_lines depth Empty = none_run
-still_lines depth (Node n c below beside) =
-    more_runs (line_of depth n c.name (stats c.ledger)) refl (both_run (still_lines (depth + 1) below) (still_lines depth beside))
-
-pub still_report : (t : Contexts) → Runs [] (report t)
-still_report t = both_run (still_lines 0 t) (still_one (last_of (summed no_total t)) refl)

@@ -39,7 +39,7 @@ use Rattle.session_rules.specs.Releases.{Keeper, NoOne, TheKind, given_back, ite
 use Rattle.session_rules.specs.Taking.{descriptor_given, item_taken, lock_taken, remembers, taken_by}
 use Rattle.session_rules.specs.Parts.{at_kind, at_owner, lock_given_back}
 use Rattle.session_rules.specs.Does.{does}
-use Rattle.session_rules.specs.Standing.{AreLevels, AreOwners, ArePlans, HasItems, IsItem, IsPlan, Stands, referred, references_of}
+use Rattle.session_rules.specs.Standing.{AreLevels, AreOwners, ArePlans, HasItems, IsItem, IsPlan, IsWorking, Stands, references_of, referred}
 use Rattle.session_rules.proofs.Guarded.{all_changed}
 use Rattle.session_rules.proofs.LevelsKept.{levels_stay, no_value}
 use Rattle.session_rules.proofs.HeldItems.{held_forgotten, held_remembered}
@@ -51,7 +51,7 @@ use Rattle.session_rules.proofs.Ending.{begun_changed}
 use Rattle.session_rules.proofs.Settling.{Besides, Fits, IsApart, Settles, Spares, besides_of, item_settles, spares_same, with_besides}
 use Rattle.session_rules.proofs.Releasing.{Tables, tabled, tables_of}
 use Rattle.session_rules.proofs.EndsStand.{stands_tabled}
-use Rattle.session_rules.proofs.StepsStand.{IsWorking, Works, fallible_keeps, fit_working, not_released, nothing_works}
+use Rattle.session_rules.proofs.StepsStand.{Works, fallible_keeps, fit_working, not_released, nothing_works}
 use Rattle.session_rules.proofs.NamesStand.{at_name}
 
 -- The items of one owner change, and each is of a known kind; plans, their contexts and tables change with them.

@@ -50,7 +50,6 @@ turn_calls name done (Some error) = refl
 pub does_counts : (w : Option ℕ) (element : Element) (moment : Moment) → moment.calls ≤ (does w element moment).moment.calls
 unfolding does
 does_counts w (e.Checks a) moment = refused_counts (failure a moment.scene) moment _
-does_counts w (e.Says a) moment = omega arith
 does_counts w (e.MakeLevel a b) moment = fallible_counts w moment _ _
 does_counts w (e.MakeContext a) moment = fallible_counts w moment _ _
 does_counts w (e.MakeOwner a) moment = fallible_counts w moment _ _
@@ -65,39 +64,12 @@ does_counts w (e.Touch a) moment = fallible_counts w moment _ _
 does_counts w (e.PushSnapshot a) moment = fallible_counts w moment _ _
 does_counts w (e.MakePlan a) moment = fallible_counts w moment _ _
 does_counts w (e.MakePortal a b c d) moment = fallible_counts w moment _ _
-does_counts w e.LevelStands moment = omega arith
-does_counts w (e.Switch a) moment = omega arith
-does_counts w (e.Reset a) moment = omega arith
-does_counts w (e.ResetOnly a) moment = omega arith
-does_counts w (e.Delete a) moment = omega arith
-does_counts w (e.DeleteChildren a) moment = omega arith
-does_counts w (e.Reparent a b) moment = omega arith
-does_counts w (e.FreeChunk a) moment = omega arith
-does_counts w (e.Put a b c) moment = omega arith
-does_counts w (e.Show a b c) moment = omega arith
-does_counts w e.Report moment = omega arith
-does_counts w e.Stat moment = omega arith
-does_counts w (e.TellBuffer a) moment = omega arith
-does_counts w (e.GiveBack a b) moment = omega arith
-does_counts w (e.GiveBackNamed a b) moment = omega arith
-does_counts w (e.Unlock a b) moment = omega arith
-does_counts w e.PopSnapshot moment = omega arith
-does_counts w (e.DropPlan a) moment = omega arith
-does_counts w (e.PortalReady a) moment = omega arith
-does_counts w (e.FetchBegins a) moment = omega arith
-does_counts w (e.Scans a b) moment = omega arith
-does_counts w (e.EndPortal a) moment = omega arith
 does_counts w (e.InTurn a b) moment = omega (arith, does_counts w b moment, turn_calls a (does w b moment) (does w b moment).refusal)
-does_counts w e.CommitTop moment = omega arith
-does_counts w e.Subcommit moment = omega arith
-does_counts w e.Abort moment = omega arith
-does_counts w e.Cleanup moment = omega arith
+does_counts w other moment = omega arith
 
 -- Where the call that is refused comes later, an element does what it does where none is.
 pub does_later : (w : Option ℕ) (element : Element) (moment : Moment) → IsLater (does None element moment).moment.calls w → does w element moment ≡ does None element moment
 unfolding does
-does_later w (e.Checks a) moment l = refl
-does_later w (e.Says a) moment l = refl
 does_later w (e.MakeLevel a b) moment l = fallible_later w moment _ _ l
 does_later w (e.MakeContext a) moment l = fallible_later w moment _ _ l
 does_later w (e.MakeOwner a) moment l = fallible_later w moment _ _ l
@@ -112,35 +84,10 @@ does_later w (e.Touch a) moment l = fallible_later w moment _ _ l
 does_later w (e.PushSnapshot a) moment l = fallible_later w moment _ _ l
 does_later w (e.MakePlan a) moment l = fallible_later w moment _ _ l
 does_later w (e.MakePortal a b c d) moment l = fallible_later w moment _ _ l
-does_later w e.LevelStands moment l = refl
-does_later w (e.Switch a) moment l = refl
-does_later w (e.Reset a) moment l = refl
-does_later w (e.ResetOnly a) moment l = refl
-does_later w (e.Delete a) moment l = refl
-does_later w (e.DeleteChildren a) moment l = refl
-does_later w (e.Reparent a b) moment l = refl
-does_later w (e.FreeChunk a) moment l = refl
-does_later w (e.Put a b c) moment l = refl
-does_later w (e.Show a b c) moment l = refl
-does_later w e.Report moment l = refl
-does_later w e.Stat moment l = refl
-does_later w (e.TellBuffer a) moment l = refl
-does_later w (e.GiveBack a b) moment l = refl
-does_later w (e.GiveBackNamed a b) moment l = refl
-does_later w (e.Unlock a b) moment l = refl
-does_later w e.PopSnapshot moment l = refl
-does_later w (e.DropPlan a) moment l = refl
-does_later w (e.PortalReady a) moment l = refl
-does_later w (e.FetchBegins a) moment l = refl
-does_later w (e.Scans a b) moment l = refl
-does_later w (e.EndPortal a) moment l = refl
 does_later w (e.InTurn a b) moment l =
     ap (λ (done : Done). failing_turn a done done.refusal)
     (does_later w b moment (subst (λ (n : ℕ). IsLater n w) (turn_calls a (does None b moment) (does None b moment).refusal) l))
-does_later w e.CommitTop moment l = refl
-does_later w e.Subcommit moment l = refl
-does_later w e.Abort moment l = refl
-does_later w e.Cleanup moment l = refl
+does_later w other moment l = refl
 
 -- The calls do not fall over several elements either.
 then_counts : (calls : ℕ) (done : Done) (refusal : Option Error) (rest : Moment → Done) → calls ≤ done.moment.calls

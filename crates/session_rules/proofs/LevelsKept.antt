@@ -10,11 +10,11 @@ use Rattle.forest.proofs.Moved.{above_by_parent, above_none}
 use Rattle.context_rules.specs.Contexts.{Contexts, is_protected}
 use Rattle.owner_kinds.specs.KindTable.{KindTable, IsSound as IsSoundTable}
 use Rattle.owner_core.specs.Owners.{Owner, OwnerTree, AllAt, HoldsNothing, has_begun}
-use Rattle.owner_core.specs.Sound.{IsSound}
 use Rattle.owner_core.proofs.Sounds.{once_of, sound_removed}
 use Rattle.session_rules.specs.State.{LevelState, OpenPortal, abort_context, first_of, owner_of, top_context}
 use Rattle.session_rules.specs.Making.{level_parent}
-use Rattle.session_rules.specs.Standing.{AreContexts, AreLevels, AreOuter, AreOwners, HasItems, IsContextOf, IsOfPortal, IsOwner, IsOwnerOf, IsReleased, IsWithin}
+use Rattle.session_rules.specs.Standing.{AreContexts, AreLevels, AreOuter, AreOwners, HasItems, IsContextOf, IsOwner, IsOwnerOf, IsReleased}
+use Rattle.session_rules.specs.Ending.{AreEnding, IsLoose}
 use Rattle.session_rules.proofs.Forests.{at_left}
 use Rattle.session_rules.proofs.Guarded.{all_removed, top_parent}
 use Rattle.session_rules.proofs.ContextsKept.{IsSame, own as own_context}
@@ -127,20 +127,6 @@ begun_has n owners u = elim (cases_Bool (has n owners)) [
 abbrev pub without_owner : Option ℕ → OwnerTree → OwnerTree
 without_owner None owners = owners
 without_owner (Some p) owners = removed p owners
-
--- the deepest level's owner, or one below it
-pub record IsLoose (level : LevelState) (n : ℕ) (owners : OwnerTree) : Type 0 where
-  pub owner : ℕ
-  pub is : level.owner ≡ Some owner
-  pub within : IsWithin owner n owners
-
--- The owners of a session whose deepest level ends: what isn't a level's or a portal's is the deepest level's to release.
-pub record AreEnding (kinds : KindTable) (owners : OwnerTree) (next_owner next_serial : ℕ) (level : LevelState) (levels : List LevelState) (portals : List OpenPortal) : Type 0 where
-  pub sound : IsSound owners next_owner next_serial
-  pub each : (n : ℕ) → has n owners ≡ true → IsOwner n (level ∷ levels) ⊎ (IsOfPortal n portals ⊎ IsLoose level n owners)
-  pub begun : (n : ℕ) → has_begun n owners ≡ true → IsLoose level n owners
-  pub fresh : level.aborted ≡ false → (n : ℕ) → has_begun n owners ≡ true → ⊥
-  pub items : AllNodes (HasItems kinds) owners
 
 pub owners_end : (kinds : KindTable) (owners : OwnerTree) (a b : ℕ) (level : LevelState) (levels : List LevelState) (portals : List OpenPortal) → AreOwners kinds owners a b (level ∷ levels) portals → AreEnding kinds owners a b level levels portals
 owners_end kinds owners a b level levels portals h = record {

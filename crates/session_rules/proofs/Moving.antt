@@ -8,8 +8,8 @@ use Rattle.forest.proofs.Moved.{at_moved}
 use Rattle.forest.proofs.Walks.{children_in, once_children}
 use Rattle.owner_core.specs.Owners.{OwnerTree}
 use Rattle.session_rules.specs.State.{LevelState}
+use Rattle.session_rules.specs.Ending.{IsLoose}
 use Rattle.session_rules.proofs.Forests.{children_put, has_left, has_put_other, once_left, parent_left, parent_put, parent_put_other}
-use Rattle.session_rules.proofs.LevelsKept.{IsLoose}
 use Rattle.session_rules.proofs.Lone.{children_left, lone_moved}
 
 module _ {A : Type 0} where

@@ -31,7 +31,7 @@ use Rattle.session_rules.specs.Making.{context_made, new_context_made}
 use Rattle.session_rules.specs.Parts.{at_context, context_moved}
 use Rattle.session_rules.specs.Taking.{hook_registered, hook_waits}
 use Rattle.session_rules.specs.Does.{does}
-use Rattle.session_rules.specs.Standing.{AreContexts, AreHooks, AreLevels, IsPlace, IsRow, Stands, referred}
+use Rattle.session_rules.specs.Standing.{AreContexts, AreHooks, AreLevels, IsPlace, IsRow, IsWorking, Stands, referred}
 use Rattle.session_rules.proofs.Forests.{has_emptied, has_left, once_left}
 use Rattle.session_rules.proofs.ContextsKept.{Stay, apart, contexts_alone, contexts_changed, contexts_children_gone, contexts_created, contexts_gone, contexts_reparented, has_alone, has_created, has_reparented, moves_by, protected_has, same_removed, stay_alone, stay_changed, stay_children_gone, stay_created, stay_gone, stay_on, stay_reparented, stay_same, top_protected}
 use Rattle.session_rules.proofs.HooksKept.{conserves_alone, conserves_children, conserves_cleared, conserves_gone, hooks_ended, hooks_put, hooks_taken, hooks_reparented}
@@ -39,7 +39,7 @@ use Rattle.session_rules.proofs.LevelsKept.{IsContext, no_value, one_value}
 use Rattle.session_rules.proofs.Lone.{lone_changed, lone_emptied, lone_left, lone_moved, lone_put}
 use Rattle.session_rules.proofs.PlansAmong.{IsCached, levels_other, own_other, plans_current}
 use Rattle.session_rules.proofs.PortalsAmong.{place_current, place_level, place_own, place_same, portals_moved, row_changed, row_emptied, row_free, row_left, row_put}
-use Rattle.session_rules.proofs.StepsStand.{IsWorking, Works, contexts_step, fallible_keeps, nothing_works, still_planned, still_portals}
+use Rattle.session_rules.proofs.StepsStand.{Works, contexts_step, fallible_keeps, nothing_works, still_planned, still_portals}
 
 -- the context of the first level of a list that is put together
 first_context : (levels : List LevelState) (n : ℕ) → context_of (first_of levels) ≡ Some n → IsContext n levels
@@ -232,10 +232,6 @@ pub both_none : (a b : Bool) (x y : TreeError) → refusals.first_of (refusals.w
 both_none true b x y e = absurd (cc e)
 both_none false true x y e = absurd (cc e)
 both_none false false x y e = (refl, refl)
-
-one_none : (a : Bool) (x : TreeError) → refusals.where_so a x ≡ None → a ≡ false
-one_none true x e = absurd (cc e)
-one_none false x e = refl
 
 pub checked : (name : Text) (s : SessionState) (refusal : ℕ → Option TreeError) (n : ℕ) → context_named name s ≡ Some n → refusal_at name s refusal ≡ None → refusal n ≡ None
 checked name s refusal n is e =

@@ -17,15 +17,16 @@ use Rattle.session_rules.specs.Acts.{for_each, in_order, portal_becomes, where_s
 use Rattle.session_rules.specs.Releases.{owner_moved}
 use Rattle.session_rules.specs.Portals.{portal_passed}
 use Rattle.session_rules.specs.Standing.{AreLevels, AreOuter, ArePlans, HasItems, IsAtRest, IsAtWork, IsAttached, IsDead, IsLive, IsOwner, IsPortal, owner_at, referred}
+use Rattle.session_rules.specs.Ending.{AreEnding, Ending}
 use Rattle.session_rules.proofs.Guarded.{all_moved}
 use Rattle.session_rules.proofs.ContextsKept.{stay_same}
 use Rattle.session_rules.proofs.HeldItems.{held_moved}
-use Rattle.session_rules.proofs.LevelsKept.{AreEnding, is_there, levels_stay, no_value, one_value}
+use Rattle.session_rules.proofs.LevelsKept.{is_there, levels_stay, no_value, one_value}
 use Rattle.session_rules.proofs.Stacked.{depth_outer, depth_small, depth_still}
 use Rattle.session_rules.proofs.PlansAmong.{plans_counted}
 use Rattle.session_rules.proofs.PortalLists.{Changes, changed_one, owner_beside, owner_here, owner_split}
 use Rattle.session_rules.proofs.PortalsAmong.{attached_by}
-use Rattle.session_rules.proofs.Ending.{Ending, Leads, each_goes, parts_of, with_parts}
+use Rattle.session_rules.proofs.Ending.{Leads, each_goes, parts_of, with_parts}
 use Rattle.session_rules.proofs.Replacing.{IsBeside, first_of_rest, replaced}
 use Rattle.session_rules.proofs.Moving.{HasMoved, has_moved, loose_moved}
 

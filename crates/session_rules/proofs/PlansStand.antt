@@ -18,14 +18,14 @@ use Rattle.session_rules.specs.Checks.{unless}
 use Rattle.session_rules.specs.Releases.{plan_becomes}
 use Rattle.session_rules.specs.Making.{plan_made}
 use Rattle.session_rules.specs.Does.{does}
-use Rattle.session_rules.specs.Standing.{AreApart, ArePlans, Differ, IsPlace, IsPlan, Stands, referred, references_of}
+use Rattle.session_rules.specs.Standing.{AreApart, ArePlans, Differ, IsPlace, IsPlan, IsWorking, Stands, references_of, referred}
 use Rattle.session_rules.proofs.Forests.{children_put}
 use Rattle.session_rules.proofs.ContextsKept.{Stay, contexts_created, has_created, is_unused, new_parent, new_protected, protected_has, stay_created}
 use Rattle.session_rules.proofs.HooksKept.{hooks_put}
 use Rattle.session_rules.proofs.Lone.{lone_put}
 use Rattle.session_rules.proofs.PlansKept.{IsOther}
 use Rattle.session_rules.proofs.Settling.{Fits, Settles, becomes, besides_of}
-use Rattle.session_rules.proofs.StepsStand.{IsWorking, Works, besides_step, contexts_step, fallible_keeps, nothing_works, still_planned, still_portals}
+use Rattle.session_rules.proofs.StepsStand.{Works, besides_step, contexts_step, fallible_keeps, nothing_works, still_planned, still_portals}
 use Rattle.session_rules.proofs.PortalsAmong.{IsRowOf, own_rows, row_of, row_put}
 
 -- a plan more

@@ -21,7 +21,7 @@ use Rattle.session_rules.specs.Elements.{Text}
 use Rattle.session_rules.specs.Acts.{context_gone, in_order, portal_gone, where_so, where_there}
 use Rattle.session_rules.specs.Releases.{item_released, owner_gone, owner_released}
 use Rattle.session_rules.specs.Portals.{executor_ended, is_ready, portal_ended, portal_owner_ended}
-use Rattle.session_rules.specs.Standing.{AreContexts, AreLevels, AreOwners, ArePortals, HasItems, IsAtRest, IsAttached, IsLive, IsOfPortal, IsOwner, IsPlace, IsPlan, IsPortal, Stands, referred}
+use Rattle.session_rules.specs.Standing.{AreContexts, AreLevels, AreOwners, ArePortals, HasItems, IsAtRest, IsAttached, IsLive, IsOfPortal, IsOwner, IsPlace, IsPlan, IsPortal, IsWorking, Stands, referred}
 use Rattle.session_rules.proofs.Forests.{at_left, has_left, parent_left}
 use Rattle.session_rules.proofs.Guarded.{all_removed}
 use Rattle.session_rules.proofs.ContextsKept.{contexts_level_gone}
@@ -37,7 +37,7 @@ use Rattle.session_rules.proofs.PortalsAmong.{attached_by, place_spared}
 use Rattle.session_rules.proofs.Resting.{rests_becomes, rests_but}
 use Rattle.session_rules.proofs.Ending.{Beside, below_place, beside_removed, levels_beside, places_beside, plans_beside}
 use Rattle.session_rules.proofs.PlansAmong.{levels_apart, plans_counted}
-use Rattle.session_rules.proofs.StepsStand.{IsWorking, Works, fit_working, not_released, nothing_works}
+use Rattle.session_rules.proofs.StepsStand.{Works, fit_working, not_released, nothing_works}
 use Rattle.session_rules.proofs.PortalsStand.{Named, changes_in, named_changed, named_in, split_portals, this_live, this_portal}
 use Rattle.session_rules.proofs.PortalWorks.{Beside as LeavesPortals, item_beside, nothing_beside, then_beside}
 

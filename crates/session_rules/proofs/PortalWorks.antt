@@ -31,12 +31,12 @@ use Rattle.session_rules.specs.Making.{left}
 use Rattle.session_rules.specs.Taking.{item_taken, lock_taken, memory_taken, remembers, taken_by}
 use Rattle.session_rules.specs.Parts.{at_owner, scan_part, scanned}
 use Rattle.session_rules.specs.Does.{does, failing_turn}
-use Rattle.session_rules.specs.Standing.{IsAtRest, IsItem, Stands}
+use Rattle.session_rules.specs.Standing.{IsAtRest, IsFetched, IsItem, IsWorking, Stands}
 use Rattle.session_rules.proofs.EndsStand.{stands_tabled}
 use Rattle.session_rules.proofs.ItemsStand.{give_step, other_step}
 use Rattle.session_rules.proofs.NamesStand.{alone_step, at_name}
 use Rattle.session_rules.proofs.Releasing.{tables_of}
-use Rattle.session_rules.proofs.StepsStand.{IsWorking, Works, fallible_keeps, keeps_allocated, kept_step, nothing_works}
+use Rattle.session_rules.proofs.StepsStand.{Works, fallible_keeps, keeps_allocated, kept_step, nothing_works}
 use Rattle.session_rules.proofs.PortalsStand.{Named, active_portal, named_changed, named_in, scan_portal, state_portal, this_portal}
 use Rattle.session_rules.proofs.Resting.{rests_becomes}
 
@@ -98,10 +98,6 @@ becomes_works s name f h rests named = go (portal_named name s.session.portals) 
     go None e =
         subst (λ (ps : List OpenPortal). Works s (record s { session = record s.session { portals = ps } })) (sym (none_changed name f s.session.portals e)) (nothing_works s h)
     go (Some p) e = record { stands = named p e; levels = refl; at_rest = rests_becomes name f s.session.portals rests }
-
--- the portal of a name, if any, is active in the deepest level
-abbrev pub IsFetched : Text → Scene → Type 0
-IsFetched name s = (p : OpenPortal) → portal_named name s.session.portals ≡ Some p → p.active ≡ length s.session.levels
 
 -- a step of a turn of the portal of a name
 pub record Turns (name : Text) (s z : Scene) : Type 0 where

@@ -25,7 +25,7 @@ use Rattle.session_rules.specs.Making.{context_made, new_context_made, new_owner
 use Rattle.session_rules.proofs.ItemsStand.{owner_there}
 use Rattle.portal_store.specs.declared.portal.PortalState.{PortalState}
 use Rattle.exec_core.specs.declared.scan.Scan.{Scan}
-use Rattle.session_rules.specs.Standing.{AreContexts, AreDifferent, AreHooks, AreLevels, AreOther, AreOwners, ArePlans, ArePortals, IsAtRest, IsAtWork, IsAttached, IsDead, IsLive, IsOfPortal, IsOwner, IsPlace, IsPortal, Stands, active_depth, owner_at, referred}
+use Rattle.session_rules.specs.Standing.{AreContexts, AreDifferent, AreHooks, AreLevels, AreOther, AreOwners, ArePlans, ArePortals, IsAtRest, IsAtWork, IsAttached, IsDead, IsLive, IsOfPortal, IsOwner, IsPlace, IsPortal, IsWorking, Stands, active_depth, owner_at, referred}
 use Rattle.session_rules.proofs.Forests.{children_put, has_put_other}
 use Rattle.session_rules.proofs.ContextsKept.{Stay, contexts_created, has_created, is_unused, new_parent, new_protected, protected_has, stay_created, stay_same}
 use Rattle.session_rules.proofs.HeldItems.{held_created}
@@ -36,7 +36,7 @@ use Rattle.session_rules.proofs.PlansAmong.{plans_counted}
 use Rattle.session_rules.proofs.PortalLists.{Changes, all_back, all_front, changed_one, different_new, different_changed, different_owned, others_back, others_front, owner_beside, owner_here, owner_split}
 use Rattle.session_rules.proofs.PortalsAmong.{IsRowOf, attached_by, own_rows, place_same, row_of, row_put}
 use Rattle.session_rules.proofs.Stacked.{depth_small, depth_working}
-use Rattle.session_rules.proofs.StepsStand.{IsNewOwner, IsWorking, fit_working, new_owner_is, not_released, still_planned}
+use Rattle.session_rules.proofs.StepsStand.{IsNewOwner, fit_working, new_owner_is, not_released, still_planned}
 
 -- the portal of a name among the others
 pub record Named (name : Text) (p : OpenPortal) (ps : List OpenPortal) : Type 0 where

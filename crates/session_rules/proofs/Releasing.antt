@@ -19,7 +19,7 @@ use Rattle.owner_items.specs.Next.{is_of_phase, is_phase}
 use Rattle.owner_core.specs.Owners.{Owner, OwnerTree, HoldsNothing}
 use Rattle.owner_core.specs.Released.{own_released, released}
 use Rattle.owner_core.specs.Sound.{IsSound}
-use Rattle.owner_core.specs.Steps.{Step, Said, GivesBack, ReleasesLocks, PassesLocks, ReleasesAllLocks, release_steps}
+use Rattle.owner_core.specs.Steps.{Step, Said, GivesBack, ReleasesLocks, PassesLocks, ReleasesAllLocks}
 use Rattle.owner_core.proofs.Sounds.{sound_released}
 use Rattle.lock_local.specs.Locks.{Lock}
 use Rattle.lock_local.specs.Changes as locks
@@ -28,7 +28,7 @@ use Rattle.session_rules.specs.State.{StandingPlan}
 use Rattle.session_rules.specs.World.{Scene}
 use Rattle.session_rules.specs.Lookup.{plan_at}
 use Rattle.session_rules.specs.Acts.{for_each, where_so, where_there}
-use Rattle.session_rules.specs.Releases.{Keeper, NoOne, ThePlans, TheDescriptors, TheKind, keeper_of, left_to, owner_released, phase_released, plan_becomes, step_done}
+use Rattle.session_rules.specs.Releases.{Keeper, NoOne, ThePlans, TheDescriptors, TheKind, keeper_of, left_to, plan_becomes, step_done}
 use Rattle.session_rules.specs.Standing.{HasItems, IsItem}
 use Rattle.session_rules.proofs.Swept.{both_swept}
 
@@ -110,19 +110,6 @@ record HasPhase (kinds : KindTable) (owner : ℕ) (phase : Phase) (s t : Scene) 
   same : table_of tables.kinds ≡ table_of s.around.kinds
   is : t ≡ with_owners (released kinds phase owner s.session.owners) (tabled tables s)
 
-phase_tables : (kinds : KindTable) (commit top : Bool) (owner : ℕ) (phase : Phase) (s : Scene) → s.session.plans ≡ [] → table_of s.around.kinds ≡ kinds
-    → HasPhase kinds owner phase s (phase_released commit top owner phase s).scene
-phase_tables kinds commit top owner phase s none e =
-    let all : OnlyTables s (for_each step_done (release_steps (table_of s.around.kinds) phase commit top owner s.session.owners) s).scene =
-    steps_tables (release_steps (table_of s.around.kinds) phase commit top owner s.session.owners) s none in
-    record {
-      tables = all.tables;
-      same = all.same;
-      is =
-          ap (λ (z : Scene). with_owners (released (table_of s.around.kinds) phase owner z.session.owners) z) all.is
-          ∙ ap (λ (k : KindTable). with_owners (released k phase owner s.session.owners) (tabled all.tables s)) e;
-    }
-
 -- what the three phases leave of an owner
 abbrev pub swept_by : KindTable → Owner → Owner
 swept_by kinds owner = own_released kinds AfterLocks (own_released kinds Locks (own_released kinds BeforeLocks owner))
@@ -132,42 +119,12 @@ pub record HasSwept (kinds : KindTable) (p : ℕ) (owners now : OwnerTree) : Typ
   pub is : now ≡ swept (swept_by kinds) p owners
   pub phases : now ≡ released kinds AfterLocks p (released kinds Locks p (released kinds BeforeLocks p owners))
 
--- an owner is released
-pub record HasReleased (p : ℕ) (s t : Scene) : Type 0 where
-  pub tables : Tables
-  pub same : table_of tables.kinds ≡ table_of s.around.kinds
-  pub owners : OwnerTree
-  pub swept : HasSwept (table_of s.around.kinds) p s.session.owners owners
-  pub is : t ≡ with_owners owners (tabled tables s)
-
 -- the three phases as one
 pub released_swept : (kinds : KindTable) (p : ℕ) (owners : OwnerTree)
     → released kinds AfterLocks p (released kinds Locks p (released kinds BeforeLocks p owners)) ≡ swept (swept_by kinds) p owners
 released_swept kinds p owners =
     ap (released kinds AfterLocks p) (both_swept (own_released kinds BeforeLocks) (own_released kinds Locks) p owners)
     ∙ both_swept (λ (x : Owner). own_released kinds Locks (own_released kinds BeforeLocks x)) (own_released kinds AfterLocks) p owners
-
-pub release_is : (commit top : Bool) (p : ℕ) (s : Scene) → s.session.plans ≡ [] → HasReleased p s (owner_released commit top p s).scene
-release_is commit top p s none =
-    let kinds : KindTable = table_of s.around.kinds in
-    let one : HasPhase kinds p BeforeLocks s (phase_released commit top p BeforeLocks s).scene = phase_tables kinds commit top p BeforeLocks s none refl in
-    let a : Scene = with_owners (released kinds BeforeLocks p s.session.owners) (tabled one.tables s) in
-    let two : HasPhase kinds p Locks a (phase_released commit top p Locks a).scene = phase_tables kinds commit top p Locks a none one.same in
-    let b : Scene = with_owners (released kinds Locks p a.session.owners) (tabled two.tables a) in
-    let three : HasPhase kinds p AfterLocks b (phase_released commit top p AfterLocks b).scene = phase_tables kinds commit top p AfterLocks b none (two.same ∙ one.same) in
-    let c : Scene = with_owners (released kinds AfterLocks p b.session.owners) (tabled three.tables b) in
-    let first : (phase_released commit top p BeforeLocks s).scene ≡ a = one.is in
-    let second : (phase_released commit top p Locks (phase_released commit top p BeforeLocks s).scene).scene ≡ b =
-    ap (λ (z : Scene). (phase_released commit top p Locks z).scene) first ∙ two.is in
-    let third : (owner_released commit top p s).scene ≡ c =
-    ap (λ (z : Scene). (phase_released commit top p AfterLocks z).scene) second ∙ three.is in
-    record {
-      tables = three.tables;
-      same = three.same ∙ two.same ∙ one.same;
-      owners = c.session.owners;
-      swept = record { is = released_swept kinds p s.session.owners; phases = refl };
-      is = third;
-    }
 
 -- numbers from 1 to 8, one by one
 one_of_eight : (P : ℕ → Type 0) → P 1 → P 2 → P 3 → P 4 → P 5 → P 6 → P 7 → P 8 → (k : ℕ) → 1 ≤ k → k ≤ 8 → P k

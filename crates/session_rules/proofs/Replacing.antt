@@ -16,12 +16,13 @@ use Rattle.session_rules.specs.Acts.{Ended, context_gone, for_each, in_order, po
 use Rattle.session_rules.specs.Releases.{item_released}
 use Rattle.session_rules.specs.Portals.{executor_ended, is_ready, portal_closed}
 use Rattle.session_rules.specs.Standing.{AreContexts, AreDifferent, AreHooks, AreLevels, AreOther, ArePlans, IsAttached, IsLive, IsPortal, active_depth, referred}
-use Rattle.session_rules.proofs.LevelsKept.{AreEnding, IsLoose, no_value}
+use Rattle.session_rules.specs.Ending.{AreEnding, Ending, IsAway, IsDone, IsLoose}
+use Rattle.session_rules.proofs.LevelsKept.{no_value}
 use Rattle.session_rules.proofs.Stacked.{depth_outer, depth_small, depth_still}
 use Rattle.session_rules.proofs.PortalLists.{Changes, different_changed, others_back, others_front}
 use Rattle.session_rules.proofs.PortalsAmong.{attached_by}
 use Rattle.session_rules.proofs.Resting.{rests_aborted}
-use Rattle.session_rules.proofs.Ending.{Ending, Goes, IsAway, IsDone, Leads, close_goes, each_goes, goes_nothing, item_goes, parts_of, then_goes, with_parts}
+use Rattle.session_rules.proofs.Ending.{Goes, Leads, close_goes, each_goes, goes_nothing, item_goes, parts_of, then_goes, with_parts}
 
 -- another portal has neither the context nor the owner of one
 pub record IsBeside (p r : OpenPortal) : Type 0 where

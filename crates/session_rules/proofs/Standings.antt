@@ -1,22 +1,16 @@
 -- What callers take from a session that stands.
-use Rattle.std.proofs.Common.{◌≡◌, ◌≢◌, ◌↔◌, ℕ, ◌≤◌, ◌<◌, true, false, Option, Some, None, List, [], ◌∷◌, All, refl, sym, ap, ◌∙◌, subst, inl, inr, arith}
-use Rattle.std.specs.Prelude.{unwrap_or}
-use Rattle.std.proofs.lemmas.Bool.{cases_eq, ne_eqb, both_ways, false_from_ne_true}
+use Rattle.std.proofs.Common.{◌≡◌, ℕ, ◌≤◌, true, false, List, [], ◌∷◌, All, sym, ap, ◌∙◌, subst, inl, inr, arith}
+use Rattle.std.proofs.lemmas.Bool.{cases_eq, both_ways, false_from_ne_true}
 use Rattle.std.proofs.lemmas.List.Elements.{All-nil, All-cons, All-head, All-tail}
-use Rattle.forest.specs.Forest.{Empty, Node, has, children, parent_of, AllNodes}
-use Rattle.forest.proofs.Moved.{above_none}
+use Rattle.forest.specs.Forest.{Empty, Node, has, AllNodes}
 use Rattle.pgs_step.specs.declared.ids.Item.{Item}
-use Rattle.context_rules.specs.Refusals.{is_within}
 use Rattle.owner_kinds.specs.KindTable.{IsKind, IsSound, KindTable}
 use Rattle.owner_kinds.specs.KindShelf.{table_of}
 use Rattle.owner_core.specs.Owners.{OwnerTree, has_begun}
-use Rattle.session_rules.specs.State.{LevelState, SessionState, abort_context, context_of, first_of, owner_of, top_context}
+use Rattle.session_rules.specs.State.{LevelState, SessionState, abort_context, top_context}
 use Rattle.session_rules.specs.World.{Around, Scene}
-use Rattle.session_rules.specs.Making.{level_parent}
-use Rattle.session_rules.specs.Standing.{AreHooks, AreLevels, AreOuter, AreOwners, HasItems, IsItem, Stands, StandsBetweenLines}
-use Rattle.session_rules.proofs.Guarded.{top_parent}
-use Rattle.session_rules.proofs.ContextsKept.{own, protected_has, top_protected}
-use Rattle.session_rules.proofs.LevelsKept.{is_there, no_value, outer_contexts}
+use Rattle.session_rules.specs.Standing.{AreHooks, AreOwners, HasItems, IsItem, Stands, StandsBetweenLines}
+use Rattle.session_rules.proofs.ContextsKept.{protected_has, top_protected}
 use Rattle.session_rules.proofs.EndsStand.{settled}
 
 -- The session's own contexts are there.
@@ -26,33 +20,6 @@ own_there scene h n l u =
       | inl e ↦ ap (λ (m : ℕ). has m scene.session.contexts) e ∙ protected_has top_context scene.session.contexts (top_protected scene.session.contexts scene.session.next_context h.contexts)
       | inr ne ↦ protected_has n scene.session.contexts (h.contexts.own n (omega arith) u).protected
     ]
-
--- The context that is the current one once the deepest level is gone is neither its context nor below that.
-pub current_outside : (level : LevelState) (levels : List LevelState) (s : Scene) (n : ℕ) → Stands (settled (level ∷ levels) s) → level.context ≡ Some n
-    → is_within n (unwrap_or (context_of (first_of levels)) top_context) s.session.contexts ≡ false
-current_outside level levels s n h e = go levels h.levels.1 h.fit.1 (h.levels.0.context n e).newer
-  where
-    apart : (m : ℕ) → m ≢ n → has m (children n s.session.contexts) ≡ false → is_within n m s.session.contexts ≡ false
-    apart m ne out = rw (ne_eqb m n ne, out) refl
-
-    go : (ls : List LevelState) → AreLevels ls s.session.contexts s.session.owners → AreOuter ls → level_parent (first_of ls) < n → is_within n (unwrap_or (context_of (first_of ls)) top_context) s.session.contexts ≡ false
-    go [] l o newer =
-        apart top_context (λ z. omega (arith, z, newer))
-        (above_none top_context n s.session.contexts h.contexts.once (top_parent own top_context s.session.contexts h.contexts.once h.contexts.rooted))
-    go (above ∷ ls) l o newer =
-        let c = is_there above.context o.0.made.context in
-        let out = outer_contexts (above ∷ ls) s.session.contexts s.session.owners s.session.next_context n h.contexts l o (h.levels.0.context n e).own newer c.0 (inl c.1) in
-        ap (λ (z : Option ℕ). is_within n (unwrap_or z top_context) s.session.contexts) c.1 ∙ apart c.0 (λ z. omega (arith, z, out.0)) out.1
-
--- The deepest level's owner has no parent exactly where there is no level above.
-pub top_owner : (level : LevelState) (levels : List LevelState) (s : Scene) (p : ℕ) → Stands (settled (level ∷ levels) s) → level.owner ≡ Some p → (levels ≡ []) ↔ (parent_of p s.session.owners ≡ None)
-top_owner level levels s p h e = go levels h.fit.1 (h.levels.0.owner p e).parent
-  where
-    go : (ls : List LevelState) → AreOuter ls → parent_of p s.session.owners ≡ owner_of (first_of ls) → (ls ≡ []) ↔ (parent_of p s.session.owners ≡ None)
-    go [] o is = (λ _. is, λ _. refl)
-    go (above ∷ ls) o is =
-        let c = is_there above.owner o.0.made.owner in
-        (λ z. absurd (cc z), λ none. absurd (no_value (parent_of p s.session.owners) c.0 none (is ∙ c.1)))
 
 -- The release of an active level's owner hasn't begun.
 pub not_begun : (level : LevelState) (levels : List LevelState) (s : Scene) (n : ℕ) → Stands (settled (level ∷ levels) s) → level.aborted ≡ false → has_begun n s.session.owners ≡ false

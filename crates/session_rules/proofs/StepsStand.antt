@@ -8,7 +8,6 @@ use Rattle.forest.specs.Forest.{Empty, has, Once, at, children, parent_of, put, 
 use Rattle.forest.proofs.Trees.{has_at, times_some, has_changed}
 use Rattle.forest.proofs.Neighbours.{parent_absent}
 use Rattle.pgs_step.specs.declared.errors.Error.{Error}
-use Rattle.pgs_step.specs.declared.events.What.{What}
 use Rattle.pgs_step.specs.declared.events.What.TheVariants as what
 use Rattle.snap_table.specs.declared.active.Active.{Active}
 use Rattle.chunk_header.specs.declared.CtxError.{CtxError}
@@ -30,7 +29,6 @@ use Rattle.session_rules.specs.World.{Scene, Moment}
 use Rattle.session_rules.specs.Elements as element
 use Rattle.session_rules.specs.Elements.{Check, InCurrent, LevelContext, OfLevel, Text}
 use Rattle.session_rules.specs.Lookup.{memory_in}
-use Rattle.session_rules.specs.Checks.{failure}
 use Rattle.session_rules.specs.Ends.{aborted, cleaned_up, committed, subcommitted}
 use Rattle.session_rules.specs.Does.{does}
 use Rattle.session_rules.specs.Acts.{Ended, changes, in_order, nothing, say, switched, where_there}
@@ -38,7 +36,7 @@ use Rattle.session_rules.specs.Making.{held, left, level_context_name, level_mad
 use Rattle.session_rules.specs.Taking.{chunk_resized, memory_taken, snapshot_pushed}
 use Rattle.session_rules.specs.Parts.{level_stands}
 use Rattle.session_rules.specs.Calls.{fallible, is_call, refused_call, unless_refused}
-use Rattle.session_rules.specs.Standing.{AreContexts, AreHooks, AreLevels, AreOuter, AreOwners, ArePlans, ArePortals, AreStacked, FitLevels, HasItems, IsActive, IsAtRest, IsContextOf, IsDead, IsDeepest, IsFresh, IsItem, IsLive, IsMade, IsOpen, IsOwner, IsOwnerOf, IsPlace, IsPlan, IsPortal, IsReleased, IsRow, Stands, WasReleased, active_depth, owner_at, referred}
+use Rattle.session_rules.specs.Standing.{AreContexts, AreHooks, AreLevels, AreOuter, AreOwners, ArePlans, ArePortals, AreStacked, FitLevels, HasItems, IsActive, IsAtRest, IsContextOf, IsDead, IsDeepest, IsFresh, IsItem, IsLive, IsMade, IsOpen, IsOwner, IsOwnerOf, IsPlace, IsPlan, IsPortal, IsReleased, IsRow, IsWorking, Stands, WasReleased, active_depth, owner_at, referred}
 use Rattle.session_rules.proofs.Forests.{at_put, at_put_other, children_put, has_put_other, parent_put, parent_put_other}
 use Rattle.session_rules.proofs.Guarded.{all_put}
 use Rattle.session_rules.proofs.ContextsKept.{Stay, contexts_changed, contexts_created, has_created, new_empty, new_parent, new_protected, protected_has, stay_changed, stay_created, stay_same, top_protected}
@@ -79,11 +77,6 @@ deepest_active level t x current h = record {
   at_abort = λ a. absurd (both_ways level.aborted h.unaborted a);
   open_level = λ a. absurd (both_ways level.aborted h.unaborted a);
 }
-
--- the steps of a command are taken in an active level
-abbrev pub IsWorking : List LevelState → Type 0
-IsWorking [] = ⊥
-IsWorking (level ∷ levels) = IsActive level
 
 -- what work in a level leads to: the session stands, its levels are as they were, and where portals were at rest they still are
 pub record Works (s z : Scene) : Type 0 where
@@ -634,53 +627,6 @@ below_limit most n e =
 
 -- Each element, whatever call is refused.
 module _ (w : Option ℕ) (moment : Moment) (h : Stands moment.scene) where
-  pub checks_stands : (check : Check) → Stands (does w (element.Checks check) moment).moment.scene
-  unfolding does
-  checks_stands check = go (failure check moment.scene)
-    where
-      go : (r : Option Error) → Stands (unless_refused r moment nothing).moment.scene
-      go None = h
-      go (Some e) = h
-
-  pub says_stands : (event : What) → Stands (does w (element.Says event) moment).moment.scene
-  unfolding does
-  says_stands event = h
-
-  pub report_stands : Stands (does w element.Report moment).moment.scene
-  unfolding does
-  report_stands = h
-
-  pub show_stands : (name : Text) (from n : ℕ) → Stands (does w (element.Show name from n) moment).moment.scene
-  unfolding does
-  show_stands name from n = h
-
-  pub make_level_stands : (name : Option Text) (implicit : Bool) → All IsAtRest moment.scene.session.portals → AreOuter moment.scene.session.levels → (implicit ≡ true → moment.scene.session.levels ≡ []) → Stands (does w (element.MakeLevel name implicit) moment).moment.scene
-  unfolding does
-  make_level_stands name implicit at_rest outer alone =
-      fallible_keeps Stands w moment _ (level_made name implicit) h (λ _. level_made_stands name implicit moment.scene h at_rest outer alone)
-
-  pub make_context_stands : (level : LevelState) (levels : List LevelState) → moment.scene.session.levels ≡ level ∷ levels → level.starting ≡ true → level.context ≡ None
-      → Stands (does w (element.MakeContext LevelContext) moment).moment.scene
-  unfolding does
-  make_context_stands level levels is starting none =
-      fallible_keeps Stands w moment _ (new_context_made LevelContext) h
-      (λ _. settled_as (λ (z : Scene). Stands (new_context_made LevelContext z).scene) moment.scene (level ∷ levels) h is
-      (λ k. level_context_stands level levels moment.scene starting none k))
-
-  pub make_owner_stands : (level : LevelState) (levels : List LevelState) → moment.scene.session.levels ≡ level ∷ levels → level.starting ≡ true → level.owner ≡ None
-      → Stands (does w (element.MakeOwner OfLevel) moment).moment.scene
-  unfolding does
-  make_owner_stands level levels is starting none =
-      fallible_keeps Stands w moment _ (new_owner_made OfLevel) h
-      (λ free. settled_as (λ (z : Scene). Stands (new_owner_made OfLevel z).scene) moment.scene (level ∷ levels) h is
-      (λ k. level_owner_stands level levels moment.scene starting none (below_limit 65536 (size moment.scene.session.owners) free) k))
-
-  pub started_stands : (level : LevelState) (levels : List LevelState) → moment.scene.session.levels ≡ level ∷ levels → level.aborted ≡ false → IsMade level
-      → Stands (does w element.LevelStands moment).moment.scene
-  unfolding does
-  started_stands level levels is active made =
-      settled_as (λ (z : Scene). Stands (level_stands z).scene) moment.scene (level ∷ levels) h is (λ k. level_stands_stands level levels moment.scene active made k)
-
   pub commit_stands : (level : LevelState) → moment.scene.session.levels ≡ level ∷ [] → Leaves [] (does w element.CommitTop moment).moment.scene
   unfolding does
   commit_stands level is =

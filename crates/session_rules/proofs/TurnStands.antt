@@ -10,6 +10,26 @@ use Rattle.pgs_step.specs.declared.events.What.{What}
 use Rattle.pgs_step.specs.declared.events.What.TheVariants as what
 use Rattle.pgs_command.specs.declared.commands.Command.{Command}
 use Rattle.pgs_command.specs.declared.commands.Command.TheVariants as command
+use Rattle.pgs_command.specs.declared.commands.TransactionCommand.{TransactionCommand}
+use Rattle.pgs_command.specs.declared.commands.TransactionCommand.TheVariants as transaction
+use Rattle.pgs_command.specs.declared.commands.Work.{Work}
+use Rattle.pgs_command.specs.declared.commands.Work.TheVariants as work
+use Rattle.pgs_command.specs.declared.commands.ContextCommand.{ContextCommand}
+use Rattle.pgs_command.specs.declared.commands.ContextCommand.TheVariants as context
+use Rattle.pgs_command.specs.declared.commands.ChunkCommand.{ChunkCommand}
+use Rattle.pgs_command.specs.declared.commands.ChunkCommand.TheVariants as chunk
+use Rattle.pgs_command.specs.declared.commands.ItemCommand.{ItemCommand}
+use Rattle.pgs_command.specs.declared.commands.ItemCommand.TheVariants as item
+use Rattle.pgs_command.specs.declared.commands.LockCommand.{LockCommand}
+use Rattle.pgs_command.specs.declared.commands.LockCommand.TheVariants as lock
+use Rattle.pgs_command.specs.declared.commands.SnapshotCommand.{SnapshotCommand}
+use Rattle.pgs_command.specs.declared.commands.SnapshotCommand.TheVariants as snapshot
+use Rattle.pgs_command.specs.declared.commands.PlanCommand.{PlanCommand}
+use Rattle.pgs_command.specs.declared.commands.PlanCommand.TheVariants as plan
+use Rattle.pgs_command.specs.declared.commands.PortalCommand.{PortalCommand}
+use Rattle.pgs_command.specs.declared.commands.PortalCommand.TheVariants as portal
+use Rattle.pgs_command.specs.declared.commands.TellCommand.{TellCommand}
+use Rattle.pgs_command.specs.declared.commands.TellCommand.TheVariants as tell
 use Rattle.pgs_command.specs.Kinds.{class_kind}
 use Rattle.session_rules.specs.State.{LevelState, OpenPortal, SessionState, buffer_pin, file_kind, first_of, is_aborted, level_owner, owner_of, plan_reference, relcache_reference, snapshot_reference}
 use Rattle.session_rules.specs.World.{Scene, Moment}
@@ -23,14 +43,14 @@ use Rattle.session_rules.specs.Checks.{failure, unless}
 use Rattle.session_rules.specs.Calls.{Done, fallible, refused_call, unless_refused}
 use Rattle.session_rules.specs.Making.{context_made, level_made, new_context_made, new_owner_made, portal_made}
 use Rattle.session_rules.specs.Does.{does, does_all, then_done}
-use Rattle.session_rules.specs.Commands.{at_savepoint, begin, commit, committed_to, elements_of, in_transaction, is_end, refused, rollback, rolled_back_to, save, savepoint, start, then_ok, unaborted}
-use Rattle.session_rules.specs.Works.{after_turn, fallible_part, fetch_steps, portal_steps, turn_steps, work_of}
+use Rattle.session_rules.specs.Commands.{at_savepoint, begin, commit, committed_to, elements_of, ends_aborted, in_transaction, is_end, refused, rollback, rolled_back_to, save, savepoint, start, then_ok, transaction_of, unaborted}
+use Rattle.session_rules.specs.Works.{Row, after_turn, portal_steps, chunk_row, context_row, fallible_part, fetch_steps, item_row, lock_row, plan_row, portal_row, row_of, snapshot_row, tell_row, turn_steps, work_of}
 use Rattle.exec_core.specs.declared.scan.Scan.{Scan}
 use Rattle.exec_core.specs.declared.steps.ScanStep.{ScanStep}
 use Rattle.exec_core.specs.declared.steps.ScanStep.TheVariants as step
 use Rattle.exec_core.specs.Turn.{is_bad, is_tenth, new_scan, page_of, page_steps, row_step, row_steps, unpinned}
 use Rattle.exec_core.specs.Turn.{turn as scan_turn}
-use Rattle.portal_store.specs.declared.portal.PortalState.TheVariants as portal
+use Rattle.portal_store.specs.declared.portal.PortalState.TheVariants as state
 use Rattle.pgs_step.specs.declared.lock_modes.Mode.TheVariants.{AccessShareLock}
 use Rattle.pgs_command.specs.declared.kinds.ReferenceClass.TheVariants.{Relcache}
 use Rattle.pgs_command.proofs.ValueLemmas.{is_text-same}
@@ -38,13 +58,14 @@ use Rattle.any_ctx.specs.declared.any.CtxKind.TheVariants as kind
 use Rattle.std.specs.List.{flat_map}
 use Rattle.session_rules.proofs.LevelsKept.{is_there}
 use Rattle.session_rules.proofs.PortalsStand.{context_portal, made_portal, named_changed, named_in, owner_portal, row_portal}
-use Rattle.session_rules.proofs.PortalWorks.{Beside, IsFetched, Turned, Turns, begins_fetched, begins_works, beside_turns, check_beside, portal_allocates, portal_enlarges, portal_locks, portal_takes, ready_works, row_allocates, scan_turns, turned}
+use Rattle.session_rules.proofs.PortalWorks.{Beside, Turned, Turns, begins_fetched, begins_works, beside_turns, check_beside, portal_allocates, portal_enlarges, portal_locks, portal_takes, ready_works, row_allocates, scan_turns, turned}
 use Rattle.session_rules.proofs.PortalEnds.{end_portal_works}
 use Rattle.session_rules.proofs.Resting.{RestsBeside, beside_becomes, beside_rests, rests_beside}
+use Rattle.session_rules.proofs.Leaves.{IsRun}
 use Rattle.session_rules.specs.Transcript.{line_elements, turn, turn_of}
-use Rattle.session_rules.specs.Standing.{AreOpen, AreOuter, FitLevels, IsActive, IsAtRest, IsOpen, Stands, StandsBetweenLines}
+use Rattle.session_rules.specs.Standing.{AreOpen, AreOuter, FitLevels, IsActive, IsAtRest, IsFetched, IsOpen, IsWorking, Stands, StandsBetweenLines}
 use Rattle.session_rules.proofs.EndsStand.{Leaves, outer_open, recovered_stands}
-use Rattle.session_rules.proofs.StepsStand.{IsWorking, Works, abort_stands, alloc_works, below_limit, cleanup_stands, commit_stands, enlarge_works, free_works, level_context_stands, level_made_stands, level_owner_stands, level_stands_stands, merge_stands, nothing_works, own_refusal, pop_works, push_works, put_works, realloc_works, settled_as}
+use Rattle.session_rules.proofs.StepsStand.{Works, abort_stands, alloc_works, below_limit, cleanup_stands, commit_stands, enlarge_works, free_works, level_context_stands, level_made_stands, level_owner_stands, level_stands_stands, merge_stands, nothing_works, own_refusal, pop_works, push_works, put_works, realloc_works, settled_as}
 use Rattle.owner_kinds.specs.KindShelf.{table_of}
 use Rattle.session_rules.proofs.ItemsStand.{class_item, class_other, class_unkept, file_works, give_back_named_works, give_back_works, lock_works, pin_works, snapshot_item, take_named_works, take_plan_works, take_works, touch_works, unlock_works}
 use Rattle.session_rules.proofs.PlansStand.{drop_plan_works, is_new, is_standing, make_plan_works}
@@ -55,36 +76,81 @@ pub record Leads (Q : Scene → Type 0) (done : Done) : Type 0 where
   pub stands : Stands done.moment.scene
   pub passed : done.refusal ≡ None → Q done.moment.scene
 
-module _ (w : Option ℕ) (P Q : Scene → Type 0) where
-  -- elements in order
-  pub leads_on : (x : Element) (xs : List Element) (moment : Moment) → Leads P (does w x moment) → ((m : Moment) → P m.scene → Leads Q (does_all w xs m)) → Leads Q (does_all w (x ∷ xs) moment)
+-- What is known of the scene that an element meets, besides that it stands, where the element needs it.
+abbrev pub Asks : Element → Scene → Type 0
+Asks (element.InTurn name x) s = Asks x s
+Asks (element.Take role kind key) s = IsWorking s.session.levels
+Asks (element.TakeNamed name key) s = IsWorking s.session.levels
+Asks (element.Reparent name parent) s = failure (element.MayMove name parent) s ≡ None
+Asks (element.EndPortal name) s = IsWorking s.session.levels × All IsAtRest s.session.portals
+Asks element.CommitTop s = (level : LevelState) × (s.session.levels ≡ level ∷ [])
+Asks element.Subcommit s = (levels : LevelState × List LevelState) × (s.session.levels ≡ levels.0 ∷ levels.1) × (1 ≤ length levels.1) × All IsAtRest s.session.portals
+Asks element.Abort s = (levels : LevelState × List LevelState) × (s.session.levels ≡ levels.0 ∷ levels.1) × (levels.0.aborted ≡ false) × IsOpen levels.0
+Asks element.Cleanup s = (levels : LevelState × List LevelState) × (s.session.levels ≡ levels.0 ∷ levels.1) × (levels.0.aborted ≡ true)
+Asks other s = Unit {0}
+
+pub record Meets (x : Element) (s : Scene) : Type 0 where
+  pub stands : Stands s
+  pub asks : Asks x s
+
+-- What elements in order led to; and each of them met a scene that stands.
+pub record Runs (w : Option ℕ) (Q : Scene → Type 0) (xs : List Element) (moment : Moment) : Type 0 where
+  pub stands : Stands (does_all w xs moment).moment.scene
+  pub passed : (does_all w xs moment).refusal ≡ None → Q (does_all w xs moment).moment.scene
+  pub run : IsRun Meets w xs moment
+
+module _ (w : Option ℕ) where
+  -- one element, and then others behind it
+  leads_then : (Q : Scene → Type 0) (x : Element) (xs : List Element) (moment : Moment) → ((r : Error) → (does w x moment).refusal ≡ Some r → Stands (does w x moment).moment.scene)
+      → ((does w x moment).refusal ≡ None → Leads Q (does_all w xs (does w x moment).moment)) → Leads Q (does_all w (x ∷ xs) moment)
   unfolding does_all
-  leads_on x xs moment first next = go (does w x moment).refusal refl
+  leads_then Q x xs moment stopped next = go (does w x moment).refusal refl
     where
       go : (r : Option Error) → (does w x moment).refusal ≡ r → Leads Q (then_done (does w x moment) r (does_all w xs))
-      go None e =
-          let k : Leads Q (does_all w xs (does w x moment).moment) = next (does w x moment).moment (first.passed e) in
-          record { stands = k.stands; passed = k.passed }
-      go (Some r) e = record { stands = first.stands; passed = λ none. let z : Some r ≡ None = sym e ∙ none in absurd (cc z) }
+      go None e = let k : Leads Q (does_all w xs (does w x moment).moment) = next e in record { stands = k.stands; passed = k.passed }
+      go (Some r) e = record { stands = stopped r e; passed = λ none. let z : Some r ≡ None = sym e ∙ none in absurd (cc z) }
 
-  pub leads_both : (xs ys : List Element) (moment : Moment) → Leads P (does_all w xs moment) → ((m : Moment) → P m.scene → Leads Q (does_all w ys m)) → Leads Q (does_all w (xs ++ ys) moment)
+  runs_then : (Q : Scene → Type 0) (x : Element) (xs : List Element) (moment : Moment) → Meets x moment.scene → ((r : Error) → (does w x moment).refusal ≡ Some r → Stands (does w x moment).moment.scene)
+      → ((does w x moment).refusal ≡ None → Runs w Q xs (does w x moment).moment) → Runs w Q (x ∷ xs) moment
+  runs_then Q x xs moment meets stopped next =
+      let all : Leads Q (does_all w (x ∷ xs) moment) = leads_then Q x xs moment stopped (λ none. let k : Runs w Q xs (does w x moment).moment = next none in record { stands = k.stands; passed = k.passed }) in
+      record { stands = all.stands; passed = all.passed; run = (meets, λ none. (next none).run) }
+
+  -- elements in order
+  pub leads_on : (P Q : Scene → Type 0) (x : Element) (xs : List Element) (moment : Moment) → Leads P (does w x moment) → ((m : Moment) → P m.scene → Leads Q (does_all w xs m)) → Leads Q (does_all w (x ∷ xs) moment)
+  leads_on P Q x xs moment first next = leads_then Q x xs moment (λ r e. first.stands) (λ none. next (does w x moment).moment (first.passed none))
+
+  pub runs_on : (P Q : Scene → Type 0) (x : Element) (xs : List Element) (moment : Moment) → Meets x moment.scene → Leads P (does w x moment) → ((m : Moment) → P m.scene → Runs w Q xs m) → Runs w Q (x ∷ xs) moment
+  runs_on P Q x xs moment meets first next = runs_then Q x xs moment meets (λ r e. first.stands) (λ none. next (does w x moment).moment (first.passed none))
+
+  pub runs_both : (P Q : Scene → Type 0) (xs ys : List Element) (moment : Moment) → Runs w P xs moment → ((m : Moment) → P m.scene → Runs w Q ys m) → Runs w Q (xs ++ ys) moment
   unfolding does_all
-  leads_both [] ys moment first next = next moment (first.passed refl)
-  leads_both (x ∷ xs) ys moment first next = go (does w x moment).refusal refl first (λ k. leads_both xs ys (does w x moment).moment k next)
+  runs_both P Q [] ys moment first next = next moment (first.passed refl)
+  runs_both P Q (x ∷ xs) ys moment first next =
+      let all : Leads P (then_done (does w x moment) (does w x moment).refusal (does_all w xs)) = record { stands = first.stands; passed = first.passed } in
+      runs_then Q x (xs ++ ys) moment first.run.0 (λ r e. stopped (does w x moment).refusal all r e)
+      (λ none.
+      let k : Leads P (does_all w xs (does w x moment).moment) = went_on (does w x moment).refusal all none in
+      runs_both P Q xs ys (does w x moment).moment (record { stands = k.stands; passed = k.passed; run = first.run.1 none }) next)
     where
-      go : (r : Option Error) → (does w x moment).refusal ≡ r → Leads P (then_done (does w x moment) r (does_all w xs))
-          → (Leads P (does_all w xs (does w x moment).moment) → Leads Q (does_all w (xs ++ ys) (does w x moment).moment)) → Leads Q (then_done (does w x moment) r (does_all w (xs ++ ys)))
-      go None e k rest =
-          let m : Leads Q (does_all w (xs ++ ys) (does w x moment).moment) = rest (record { stands = k.stands; passed = k.passed }) in
-          record { stands = m.stands; passed = m.passed }
-      go (Some r) e k rest = record { stands = k.stands; passed = λ none. let z : Some r ≡ None = sym e ∙ none in absurd (cc z) }
+      stopped : (r : Option Error) → Leads P (then_done (does w x moment) r (does_all w xs)) → (n : Error) → r ≡ Some n → Stands (does w x moment).moment.scene
+      stopped None k n e = absurd (cc e)
+      stopped (Some r) k n e = k.stands
+
+      went_on : (r : Option Error) → Leads P (then_done (does w x moment) r (does_all w xs)) → r ≡ None → Leads P (does_all w xs (does w x moment).moment)
+      went_on None k e = record { stands = k.stands; passed = k.passed }
+      went_on (Some r) k e = absurd (cc e)
 
 pub leads_nowhere : (w : Option ℕ) (Q : Scene → Type 0) (moment : Moment) → Stands moment.scene → Q moment.scene → Leads Q (does_all w [] moment)
 unfolding does_all
 leads_nowhere w Q moment h q = record { stands = h; passed = λ _. q }
 
+runs_nowhere : (w : Option ℕ) (Q : Scene → Type 0) (moment : Moment) → Stands moment.scene → Q moment.scene → Runs w Q [] moment
+unfolding does_all
+runs_nowhere w Q moment h q = record { stands = h; passed = λ _. q; run = tt }
+
 -- A turn.
-pub turn_leads : (w : Option ℕ) (command : Option Command) (moment : Moment) → Leads StandsBetweenLines (does_all w (line_elements command moment.scene.session) moment) → StandsBetweenLines (turn w command moment).moment.scene
+pub turn_leads : (w : Option ℕ) (command : Option Command) (moment : Moment) → Runs w StandsBetweenLines (line_elements command moment.scene.session) moment → StandsBetweenLines (turn w command moment).moment.scene
 unfolding turn
 turn_leads w command moment k =
     go (does_all w (line_elements command moment.scene.session) moment).refusal refl
@@ -115,108 +181,32 @@ working_in levels scene h are = subst IsWorking (sym are) h
 pub working_at : (levels : List LevelState) (scene : Scene) → IsWorking levels → At levels scene → IsWorking scene.session.levels
 working_at levels scene h at = working_in levels scene h at.are
 
--- a check, and what is done behind it
-pub check_leads : (Q : Scene → Type 0) (w : Option ℕ) (check : Check) (moment : Moment) → Stands moment.scene → (failure check moment.scene ≡ None → Q moment.scene) → Leads Q (does w (element.Checks check) moment)
-unfolding does
-check_leads Q w check moment h so = go (failure check moment.scene) refl
-  where
-    go : (r : Option Error) → failure check moment.scene ≡ r → Leads Q (unless_refused r moment nothing)
-    go None e = record { stands = h; passed = λ _. so e }
-    go (Some r) e = record { stands = h; passed = λ none. absurd (cc none) }
-
 module _ (w : Option ℕ) (levels : List LevelState) (Q : Scene → Type 0) where
-  pub behind_check : (check : Check) (xs : List Element) (moment : Moment) → At levels moment.scene → ((m : Moment) → At levels m.scene → failure check m.scene ≡ None → Leads Q (does_all w xs m))
-      → Leads Q (does_all w (element.Checks check ∷ xs) moment)
-  behind_check check xs moment at next =
-      leads_on w (λ z. At levels z × (failure check z ≡ None)) Q (element.Checks check) xs moment
-      (check_leads (λ z. At levels z × (failure check z ≡ None)) w check moment at.stands (λ e. (at, e)))
-      (λ m p. next m p.0 p.1)
-
   -- what a check said holds where an owner got room
-  pub behind_room : (check : Check) (xs : List Element) (moment : Moment) → At levels moment.scene → failure check moment.scene ≡ None → ((m : Moment) → At levels m.scene → failure check m.scene ≡ None → Leads Q (does_all w xs m))
-      → Leads Q (does_all w (element.Enlarge OfLevel ∷ xs) moment)
+  pub behind_room : (check : Check) (xs : List Element) (moment : Moment) → At levels moment.scene → failure check moment.scene ≡ None → ((m : Moment) → At levels m.scene → failure check m.scene ≡ None → Runs w Q xs m)
+      → Runs w Q (element.Enlarge OfLevel ∷ xs) moment
   unfolding does
   behind_room check xs moment at ok next =
-      leads_on w (λ z. At levels z × (failure check z ≡ None)) Q (element.Enlarge OfLevel) xs moment
+      runs_on w (λ z. At levels z × (failure check z ≡ None)) Q (element.Enlarge OfLevel) xs moment (record { stands = at.stands; asks = tt })
       (fallible_leads (λ z. At levels z × (failure check z ≡ None)) w moment None nothing at.stands (λ z q. q.0.stands) (λ _. (at, ok)))
       (λ m p. next m p.0 p.1)
 
-  pub behind_work : (x : Element) (xs : List Element) (moment : Moment) → At levels moment.scene → Works moment.scene (does w x moment).moment.scene → ((m : Moment) → At levels m.scene → Leads Q (does_all w xs m))
-      → Leads Q (does_all w (x ∷ xs) moment)
-  behind_work x xs moment at works next =
-      leads_on w (At levels) Q x xs moment (record { stands = works.stands; passed = λ _. record { stands = works.stands; are = works.levels ∙ at.are; at_rest = works.at_rest at.at_rest } }) next
+  pub behind_work : (x : Element) (xs : List Element) (moment : Moment) → At levels moment.scene → Asks x moment.scene → Works moment.scene (does w x moment).moment.scene → ((m : Moment) → At levels m.scene → Runs w Q xs m)
+      → Runs w Q (x ∷ xs) moment
+  behind_work x xs moment at asks works next =
+      runs_on w (At levels) Q x xs moment (record { stands = at.stands; asks = asks }) (record { stands = works.stands; passed = λ _. record { stands = works.stands; are = works.levels ∙ at.are; at_rest = works.at_rest at.at_rest } }) next
 
-pub nothing_more : (w : Option ℕ) (levels : List LevelState) (moment : Moment) → At levels moment.scene → Leads (At levels) (does_all w [] moment)
-nothing_more w levels moment at = leads_nowhere w (At levels) moment at.stands at
-
-pub says_works : (w : Option ℕ) (event : What) (moment : Moment) → Stands moment.scene → Works moment.scene (does w (element.Says event) moment).moment.scene
-unfolding does
-says_works w event moment h = nothing_works moment.scene h
-
-pub report_works : (w : Option ℕ) (moment : Moment) → Stands moment.scene → Works moment.scene (does w element.Report moment).moment.scene
-unfolding does
-report_works w moment h = nothing_works moment.scene h
-
-pub stat_works : (w : Option ℕ) (moment : Moment) → Stands moment.scene → Works moment.scene (does w element.Stat moment).moment.scene
-unfolding does
-stat_works w moment h = nothing_works moment.scene h
+pub nothing_more : (w : Option ℕ) (levels : List LevelState) (moment : Moment) → At levels moment.scene → Runs w (At levels) [] moment
+nothing_more w levels moment at = runs_nowhere w (At levels) moment at.stands at
 
 pub show_works : (w : Option ℕ) (name : Text) (from n : ℕ) (moment : Moment) → Stands moment.scene → Works moment.scene (does w (element.Show name from n) moment).moment.scene
 unfolding does
 show_works w name from n moment h = nothing_works moment.scene h
 
-pub buffer_works : (w : Option ℕ) (buffer : ℕ) (moment : Moment) → Stands moment.scene → Works moment.scene (does w (element.TellBuffer buffer) moment).moment.scene
-unfolding does
-buffer_works w buffer moment h = nothing_works moment.scene h
-
 -- there is a buffer
 pub is_buffer : (buffer : ℕ) (b : Bool) (error : Error) → nat_lt buffer 1024 ≡ b → unless b error ≡ None → buffer < 1024
 is_buffer buffer true error e h = ltb-true buffer 1024 e
 is_buffer buffer false error e h = absurd (cc h)
-
--- the commands on contexts, chunks, pins, files, references, extension kinds, snapshots, plans, portals and locks, `raise` and `stat`
-abbrev pub IsWork : Command → Type 0
-IsWork command.Raise = Unit {0}
-IsWork command.Report = Unit {0}
-IsWork command.Stat = Unit {0}
-IsWork (command.Context name parent kind) = Unit {0}
-IsWork (command.Switch name) = Unit {0}
-IsWork (command.OnReset name) = Unit {0}
-IsWork (command.Reset name) = Unit {0}
-IsWork (command.ResetOnly name) = Unit {0}
-IsWork (command.Delete name) = Unit {0}
-IsWork (command.DeleteChildren name) = Unit {0}
-IsWork (command.Reparent name parent) = Unit {0}
-IsWork (command.Alloc chunk size) = Unit {0}
-IsWork (command.AllocZeroed chunk size) = Unit {0}
-IsWork (command.Realloc chunk size) = Unit {0}
-IsWork (command.Free chunk) = Unit {0}
-IsWork (command.Put chunk place bytes) = Unit {0}
-IsWork (command.Show chunk place length) = Unit {0}
-IsWork (command.Pin buffer) = Unit {0}
-IsWork (command.Unpin buffer) = Unit {0}
-IsWork (command.Buffer buffer) = Unit {0}
-IsWork (command.Open file) = Unit {0}
-IsWork (command.Touch file) = Unit {0}
-IsWork (command.Close file) = Unit {0}
-IsWork (command.Reference class key) = Unit {0}
-IsWork (command.Unreference class key) = Unit {0}
-IsWork (command.Acquire kind key) = Unit {0}
-IsWork (command.Drop kind key) = Unit {0}
-IsWork (command.Snapshot snapshot) = Unit {0}
-IsWork (command.Unsnapshot snapshot) = Unit {0}
-IsWork (command.Push snapshot) = Unit {0}
-IsWork command.Pop = Unit {0}
-IsWork (command.Plan plan) = Unit {0}
-IsWork (command.PlanReference plan) = Unit {0}
-IsWork (command.PlanUnreference plan) = Unit {0}
-IsWork (command.PlanDrop plan) = Unit {0}
-IsWork (command.Portal name object rows bad) = Unit {0}
-IsWork (command.Fetch name count) = Unit {0}
-IsWork (command.EndPortal name) = Unit {0}
-IsWork (command.Lock object mode) = Unit {0}
-IsWork (command.Unlock object mode) = Unit {0}
-IsWork other = ⊥
 
 -- A portal on its way: it has its context and its owner, or hasn't them yet.
 pub record IsMaking (context owner : Bool) (depth : ℕ) (p : OpenPortal) : Type 0 where
@@ -243,10 +233,10 @@ no_value_of (Some n) e = absurd (cc e)
 
 module _ (w : Option ℕ) (levels : List LevelState) (active : IsWorking levels) (name : Text) (Q : Scene → Type 0) where
   -- a step that leaves portals as they are
-  pub behind_beside : (c o : Bool) (x : Element) (xs : List Element) (moment : Moment) → Makes levels name c o moment.scene → Beside moment.scene (does w x moment).moment.scene
-      → ((m : Moment) → Makes levels name c o m.scene → Leads Q (does_all w xs m)) → Leads Q (does_all w (x ∷ xs) moment)
-  behind_beside c o x xs moment k b next =
-      leads_on w (Makes levels name c o) Q x xs moment
+  pub behind_beside : (c o : Bool) (x : Element) (xs : List Element) (moment : Moment) → Makes levels name c o moment.scene → Asks x moment.scene → Beside moment.scene (does w x moment).moment.scene
+      → ((m : Moment) → Makes levels name c o m.scene → Runs w Q xs m) → Runs w Q (x ∷ xs) moment
+  behind_beside c o x xs moment k asks b next =
+      runs_on w (Makes levels name c o) Q x xs moment (record { stands = k.at.stands; asks = asks })
       (record {
         stands = b.works.stands;
         passed = λ _. record {
@@ -258,10 +248,10 @@ module _ (w : Option ℕ) (levels : List LevelState) (active : IsWorking levels)
       }) next
 
   pub behind_made : (object rows : ℕ) (bad : Option ℕ) (xs : List Element) (moment : Moment) → At levels moment.scene → portal_named name moment.scene.session.portals ≡ None
-      → ((m : Moment) → Makes levels name false false m.scene → Leads Q (does_all w xs m)) → Leads Q (does_all w (element.MakePortal name object rows bad ∷ xs) moment)
+      → ((m : Moment) → Makes levels name false false m.scene → Runs w Q xs m) → Runs w Q (element.MakePortal name object rows bad ∷ xs) moment
   unfolding does
   behind_made object rows bad xs moment at free next =
-      leads_on w (Makes levels name false false) Q (element.MakePortal name object rows bad) xs moment
+      runs_on w (Makes levels name false false) Q (element.MakePortal name object rows bad) xs moment (record { stands = at.stands; asks = tt })
       (fallible_leads (Makes levels name false false) w moment _ (portal_made name object rows bad) at.stands (λ z q. q.at.stands)
       (λ _. record {
         at = record {
@@ -269,16 +259,16 @@ module _ (w : Option ℕ) (levels : List LevelState) (active : IsWorking levels)
           are = at.are;
           beside = All-cons (RestsBeside name) _ moment.scene.session.portals (λ _ _. refl) (rests_beside name moment.scene.session.portals at.at_rest);
         };
-        portal = record { name = name; context = None; expr = None; owner = None; scan = new_scan object rows bad; created = length moment.scene.session.levels; active = length moment.scene.session.levels; state = portal.New };
+        portal = record { name = name; context = None; expr = None; owner = None; scan = new_scan object rows bad; created = length moment.scene.session.levels; active = length moment.scene.session.levels; state = state.New };
         named = rw (is_text-same name) refl;
         is = record { has_context = refl; has_owner = refl; expr = refl; created = ap length at.are };
       })) next
 
-  pub behind_context : (xs : List Element) (moment : Moment) → Makes levels name false false moment.scene → ((m : Moment) → Makes levels name true false m.scene → Leads Q (does_all w xs m))
-      → Leads Q (does_all w (element.MakeContext (PortalContext name) ∷ xs) moment)
+  pub behind_context : (xs : List Element) (moment : Moment) → Makes levels name false false moment.scene → ((m : Moment) → Makes levels name true false m.scene → Runs w Q xs m)
+      → Runs w Q (element.MakeContext (PortalContext name) ∷ xs) moment
   unfolding does
   behind_context xs moment k next =
-      leads_on w (Makes levels name true false) Q (element.MakeContext (PortalContext name)) xs moment
+      runs_on w (Makes levels name true false) Q (element.MakeContext (PortalContext name)) xs moment (record { stands = k.at.stands; asks = tt })
       (fallible_leads (Makes levels name true false) w moment _ (new_context_made (PortalContext name)) k.at.stands (λ z q. q.at.stands)
       (λ _. record {
         at = record {
@@ -298,12 +288,12 @@ module _ (w : Option ℕ) (levels : List LevelState) (active : IsWorking levels)
       go [] a = absurd a
       go (level ∷ ls) a = is_there level.owner a.made.owner
 
-  pub behind_owner : (xs : List Element) (moment : Moment) → Makes levels name true false moment.scene → ((m : Moment) → Makes levels name true true m.scene → Leads Q (does_all w xs m))
-      → Leads Q (does_all w (element.MakeOwner (OfPortal name) ∷ xs) moment)
+  pub behind_owner : (xs : List Element) (moment : Moment) → Makes levels name true false moment.scene → ((m : Moment) → Makes levels name true true m.scene → Runs w Q xs m)
+      → Runs w Q (element.MakeOwner (OfPortal name) ∷ xs) moment
   unfolding does
   behind_owner xs moment k next =
       let lo = level_owned moment k.at in
-      leads_on w (Makes levels name true true) Q (element.MakeOwner (OfPortal name)) xs moment
+      runs_on w (Makes levels name true true) Q (element.MakeOwner (OfPortal name)) xs moment (record { stands = k.at.stands; asks = tt })
       (fallible_leads (Makes levels name true true) w moment _ (new_owner_made (OfPortal name)) k.at.stands (λ z q. q.at.stands)
       (λ room. record {
         at = record {
@@ -318,11 +308,11 @@ module _ (w : Option ℕ) (levels : List LevelState) (active : IsWorking levels)
       })) next
 
   -- the context of one row, and then the portal is ready
-  pub behind_row : (xs : List Element) (moment : Moment) → Makes levels name true true moment.scene → ((m : Moment) → Nears levels name m.scene → Leads Q (does_all w xs m))
-      → Leads Q (does_all w (element.MakeContext (RowContext name) ∷ xs) moment)
+  pub behind_row : (xs : List Element) (moment : Moment) → Makes levels name true true moment.scene → ((m : Moment) → Nears levels name m.scene → Runs w Q xs m)
+      → Runs w Q (element.MakeContext (RowContext name) ∷ xs) moment
   unfolding does
   behind_row xs moment k next =
-      leads_on w (Nears levels name) Q (element.MakeContext (RowContext name)) xs moment
+      runs_on w (Nears levels name) Q (element.MakeContext (RowContext name)) xs moment (record { stands = k.at.stands; asks = tt })
       (fallible_leads (Nears levels name) w moment _ (new_context_made (RowContext name)) k.at.stands (λ z q. q.stands)
       (λ _. record { stands = row_made k; are = row_levels k; beside = row_beside k })) next
     where
@@ -359,7 +349,7 @@ module _ (w : Option ℕ) (levels : List LevelState) (active : IsWorking levels)
         passed = λ _. record {
           stands = works.stands;
           are = works.levels ∙ k.are;
-          at_rest = beside_rests name (λ p. record p { state = portal.Ready }) moment.scene.session.portals (λ q unready. absurd (cc unready)) k.beside;
+          at_rest = beside_rests name (λ p. record p { state = state.Ready }) moment.scene.session.portals (λ q unready. absurd (cc unready)) k.beside;
         };
       }
 
@@ -371,15 +361,15 @@ pub record Fetches (levels : List LevelState) (name : Text) (scene : Scene) : Ty
 -- The elements of a fetch.
 abbrev AllFetch : Option ℕ → List LevelState → Text → List Element → Type 0
 AllFetch w levels name [] = Unit {0}
-AllFetch w levels name (x ∷ xs) = ((m : Moment) → Fetches levels name m.scene → Leads (Fetches levels name) (does w x m)) × AllFetch w levels name xs
+AllFetch w levels name (x ∷ xs) = ((m : Moment) → Fetches levels name m.scene → Meets x m.scene × Leads (Fetches levels name) (does w x m)) × AllFetch w levels name xs
 
 pub both_fetch : (w : Option ℕ) (levels : List LevelState) (name : Text) (xs ys : List Element) → AllFetch w levels name xs → AllFetch w levels name ys → AllFetch w levels name (xs ++ ys)
 both_fetch w levels name [] ys a b = b
 both_fetch w levels name (x ∷ xs) ys a b = (a.0, both_fetch w levels name xs ys a.1 b)
 
-pub all_fetch : (w : Option ℕ) (levels : List LevelState) (name : Text) (xs : List Element) (moment : Moment) → Fetches levels name moment.scene → AllFetch w levels name xs → Leads (Fetches levels name) (does_all w xs moment)
-all_fetch w levels name [] moment k a = leads_nowhere w (Fetches levels name) moment k.at.stands k
-all_fetch w levels name (x ∷ xs) moment k a = leads_on w (Fetches levels name) (Fetches levels name) x xs moment (a.0 moment k) (λ m l. all_fetch w levels name xs m l a.1)
+pub all_fetch : (w : Option ℕ) (levels : List LevelState) (name : Text) (xs : List Element) (moment : Moment) → Fetches levels name moment.scene → AllFetch w levels name xs → Runs w (Fetches levels name) xs moment
+all_fetch w levels name [] moment k a = runs_nowhere w (Fetches levels name) moment k.at.stands k
+all_fetch w levels name (x ∷ xs) moment k a = runs_on w (Fetches levels name) (Fetches levels name) x xs moment (a.0 moment k).0 (a.0 moment k).1 (λ m l. all_fetch w levels name xs m l a.1)
 
 pub fetches_on : (levels : List LevelState) (name : Text) (s z : Scene) → Fetches levels name s → Turns name s z → Fetches levels name z
 fetches_on levels name s z k t = record {
@@ -424,34 +414,38 @@ module _ (w : Option ℕ) (levels : List LevelState) (active : IsWorking levels)
   AllTurn xs = AllFetch w levels name xs
 
   -- the elements of a step, each in its turn
-  pub in_turn : (x : Element) → ((m : Moment) → At levels m.scene → Turns name m.scene (does w x m).moment.scene) → (m : Moment) → Fetches levels name m.scene → Leads (Fetches levels name) (does w (element.InTurn name x) m)
-  in_turn x turns m k =
-      let t : Turned name m.scene (does w (element.InTurn name x) m) = turned w m k.at.stands (working_at levels m.scene active k.at) name x k.fetched (turns m k.at) in
-      record { stands = t.stands; passed = λ none. fetches_on levels name m.scene (does w (element.InTurn name x) m).moment.scene k (t.passed none) }
+  pub in_turn : (x : Element) → ((m : Moment) → At levels m.scene → Asks x m.scene) → ((m : Moment) → At levels m.scene → Turns name m.scene (does w x m).moment.scene) → (m : Moment) → Fetches levels name m.scene
+      → Meets (element.InTurn name x) m.scene × Leads (Fetches levels name) (does w (element.InTurn name x) m)
+  in_turn x asks turns m k =
+      let t : Turned name m.scene (does w (element.InTurn name x) m) = turned w m k.at.stands (working_at levels m.scene active k.at) name x k.fetched (turns m k.at) in (
+        record { stands = k.at.stands; asks = asks m k.at },
+        record { stands = t.stands; passed = λ none. fetches_on levels name m.scene (does w (element.InTurn name x) m).moment.scene k (t.passed none) },
+      )
 
   -- and one that leaves the portals as they are
-  pub beside_turn : (x : Element) → ((m : Moment) → At levels m.scene → Beside m.scene (does w x m).moment.scene) → (m : Moment) → Fetches levels name m.scene → Leads (Fetches levels name) (does w (element.InTurn name x) m)
-  beside_turn x beside = in_turn x (λ m k. beside_turns name m.scene (does w x m).moment.scene (beside m k))
+  pub beside_turn : (x : Element) → ((m : Moment) → At levels m.scene → Asks x m.scene) → ((m : Moment) → At levels m.scene → Beside m.scene (does w x m).moment.scene) → (m : Moment) → Fetches levels name m.scene
+      → Meets (element.InTurn name x) m.scene × Leads (Fetches levels name) (does w (element.InTurn name x) m)
+  beside_turn x asks beside = in_turn x asks (λ m k. beside_turns name m.scene (does w x m).moment.scene (beside m k))
 
-  pub says_fetched : (event : What) (m : Moment) → Fetches levels name m.scene → Leads (Fetches levels name) (does w (element.Says event) m)
+  pub says_fetched : (event : What) (m : Moment) → Fetches levels name m.scene → Meets (element.Says event) m.scene × Leads (Fetches levels name) (does w (element.Says event) m)
   unfolding does
-  says_fetched event m k = record { stands = k.at.stands; passed = λ _. k }
+  says_fetched event m k = (record { stands = k.at.stands; asks = tt }, record { stands = k.at.stands; passed = λ _. k })
 
   pub step_work : (s : ScanStep) → IsStep s → AllTurn (map (element.InTurn name) (element.Scans name s ∷ fallible_part name s))
-  step_work s is = (in_turn (element.Scans name s) (λ m k. scan_turns w m k.stands (working_at levels m.scene active k) name s), parts s is)
+  step_work s is = (in_turn (element.Scans name s) (λ m k. tt) (λ m k. scan_turns w m k.stands (working_at levels m.scene active k) name s), parts s is)
     where
       parts : (s : ScanStep) → IsStep s → AllTurn (map (element.InTurn name) (fallible_part name s))
       parts (step.Pin page) small = (
-        beside_turn (element.Enlarge (OfPortal name)) (λ m k. portal_enlarges w m k.stands (working_at levels m.scene active k) name),
+        beside_turn (element.Enlarge (OfPortal name)) (λ m k. tt) (λ m k. portal_enlarges w m k.stands (working_at levels m.scene active k) name),
         (
-          beside_turn (element.Take (OfPortal name) buffer_pin page)
+          beside_turn (element.Take (OfPortal name) buffer_pin page) (λ m k. working_at levels m.scene active k)
               (λ m k.
               portal_takes w m k.stands (working_at levels m.scene active k) name buffer_pin page refl (λ z. absurd (omega (arith, z))) (λ serial. record { kind = inl (record { from = omega arith; to = omega arith }); buffer = λ _. small })),
           tt,
         ),
       )
-      parts (step.Bad row) is = (beside_turn (element.Checks (element.Refuse (error.BadRow row))) (λ m k. check_beside w m k.stands (working_at levels m.scene active k) name (element.Refuse (error.BadRow row))), tt)
-      parts step.Alloc is = (beside_turn (element.Alloc (InRow name) None 64 false) (λ m k. row_allocates w m k.stands (working_at levels m.scene active k) name None 64), tt)
+      parts (step.Bad row) is = (beside_turn (element.Checks (element.Refuse (error.BadRow row))) (λ m k. tt) (λ m k. check_beside w m k.stands (working_at levels m.scene active k) name (element.Refuse (error.BadRow row))), tt)
+      parts step.Alloc is = (beside_turn (element.Alloc (InRow name) None 64 false) (λ m k. tt) (λ m k. row_allocates w m k.stands (working_at levels m.scene active k) name None 64), tt)
       parts step.Reset is = tt
       parts (step.Unpin page) is = tt
       parts (step.Row row value) is = tt
@@ -474,12 +468,12 @@ module _ (w : Option ℕ) (levels : List LevelState) (active : IsWorking levels)
   fetch_all count None = tt
   fetch_all count (Some p) = fetch_work count p.scan 0
 
-pub behind_begin : (w : Option ℕ) (levels : List LevelState) → IsWorking levels → (name : Text) (Q : Scene → Type 0) (xs : List Element) (moment : Moment) → At levels moment.scene → ((m : Moment) → Fetches levels name m.scene → Leads Q (does_all w xs m))
-    → Leads Q (does_all w (element.FetchBegins name ∷ xs) moment)
+pub behind_begin : (w : Option ℕ) (levels : List LevelState) → IsWorking levels → (name : Text) (Q : Scene → Type 0) (xs : List Element) (moment : Moment) → At levels moment.scene → ((m : Moment) → Fetches levels name m.scene → Runs w Q xs m)
+    → Runs w Q (element.FetchBegins name ∷ xs) moment
 behind_begin w levels active name Q xs moment k next =
     let working = working_at levels moment.scene active k in
     let works : Works moment.scene (does w (element.FetchBegins name) moment).moment.scene = begins_works w moment k.stands working name in
-    leads_on w (Fetches levels name) Q (element.FetchBegins name) xs moment
+    runs_on w (Fetches levels name) Q (element.FetchBegins name) xs moment (record { stands = k.stands; asks = tt })
     (record {
       stands = works.stands;
       passed = λ _. record {
@@ -493,160 +487,146 @@ is_unnamed None error e = refl
 is_unnamed (Some p) error e = absurd (cc e)
 
 module _ (w : Option ℕ) (levels : List LevelState) (active : IsWorking levels) where
-  pub portal_leads : (name : Text) (object rows : ℕ) (bad : Option ℕ) (moment : Moment) → At levels moment.scene → portal_named name moment.scene.session.portals ≡ None → Leads (At levels) (does_all w (portal_steps name object rows bad) moment)
+  pub portal_leads : (name : Text) (object rows : ℕ) (bad : Option ℕ) (moment : Moment) → At levels moment.scene → portal_named name moment.scene.session.portals ≡ None → Runs w (At levels) (portal_steps name object rows bad) moment
   portal_leads name object rows bad moment at free =
       behind_made w levels active name (At levels) object rows bad _ moment at free
       (λ m k. behind_context w levels active name (At levels) _ m k
       (λ m k. behind_owner w levels active name (At levels) _ m k
-      (λ m k. behind_beside w levels active name (At levels) true true (element.TakeLock (OfPortal name) object AccessShareLock) _ m k (portal_locks w m k.at.stands (working_in levels m.scene active k.at.are) name object AccessShareLock)
-      (λ m k. behind_beside w levels active name (At levels) true true (element.Enlarge (OfPortal name)) _ m k (portal_enlarges w m k.at.stands (working_in levels m.scene active k.at.are) name)
-      (λ m k. behind_beside w levels active name (At levels) true true (element.Take (OfPortal name) relcache_reference object) _ m k
+      (λ m k. behind_beside w levels active name (At levels) true true (element.TakeLock (OfPortal name) object AccessShareLock) _ m k tt (portal_locks w m k.at.stands (working_in levels m.scene active k.at.are) name object AccessShareLock)
+      (λ m k. behind_beside w levels active name (At levels) true true (element.Enlarge (OfPortal name)) _ m k tt (portal_enlarges w m k.at.stands (working_in levels m.scene active k.at.are) name)
+      (λ m k. behind_beside w levels active name (At levels) true true (element.Take (OfPortal name) relcache_reference object) _ m k (working_in levels m.scene active k.at.are)
       (portal_takes w m k.at.stands (working_in levels m.scene active k.at.are) name relcache_reference object refl (λ z. absurd (omega (arith, z))) (class_item (table_of m.scene.around.kinds) Relcache object))
-      (λ m k. behind_beside w levels active name (At levels) true true (element.Enlarge (OfPortal name)) _ m k (portal_enlarges w m k.at.stands (working_in levels m.scene active k.at.are) name)
-      (λ m k. behind_beside w levels active name (At levels) true true (element.Take (OfPortal name) snapshot_reference object) _ m k
+      (λ m k. behind_beside w levels active name (At levels) true true (element.Enlarge (OfPortal name)) _ m k tt (portal_enlarges w m k.at.stands (working_in levels m.scene active k.at.are) name)
+      (λ m k. behind_beside w levels active name (At levels) true true (element.Take (OfPortal name) snapshot_reference object) _ m k (working_in levels m.scene active k.at.are)
       (portal_takes w m k.at.stands (working_in levels m.scene active k.at.are) name snapshot_reference object refl (λ z. absurd (omega (arith, z))) (snapshot_item (table_of m.scene.around.kinds) object))
-      (λ m k. behind_beside w levels active name (At levels) true true (element.Alloc (InPortal name) None 200 false) _ m k (portal_allocates w m k.at.stands (working_in levels m.scene active k.at.are) name None 200)
+      (λ m k. behind_beside w levels active name (At levels) true true (element.Alloc (InPortal name) None 200 false) _ m k tt (portal_allocates w m k.at.stands (working_in levels m.scene active k.at.are) name None 200)
       (λ m k. behind_row w levels active name (At levels) _ m k
-      (λ m k. leads_on w (At levels) (At levels) (element.PortalReady name) [] m (ready_leads w levels active name (At levels) m k) (λ m k. nothing_more w levels m k)))))))))))
+      (λ m k. runs_on w (At levels) (At levels) (element.PortalReady name) [] m (record { stands = k.stands; asks = tt }) (ready_leads w levels active name (At levels) m k) (λ m k. nothing_more w levels m k)))))))))))
 
+-- all these checks pass
+abbrev pub Pass : List Check → Scene → Type 0
+Pass [] scene = Unit {0}
+Pass (check ∷ checks) scene = (failure check scene ≡ None) × Pass checks scene
+
+-- A row leads on where its steps do behind checks that pass.
+pub row_leads : (w : Option ℕ) (Q : Scene → Type 0) (checks : List Check) (steps : List Element) (moment : Moment) → Stands moment.scene
+    → (Pass checks moment.scene → Runs w Q steps moment) → Runs w Q (map element.Checks checks ++ steps) moment
+unfolding does
+row_leads w Q [] steps moment h next = next tt
+row_leads w Q (check ∷ checks) steps moment h next =
+    runs_then w Q (element.Checks check) (map element.Checks checks ++ steps) moment (record { stands = h; asks = tt }) (λ r e. stopped (failure check moment.scene))
+    (λ none. went_on (failure check moment.scene) refl none (λ e. row_leads w Q checks steps moment h (λ passes. next (e, passes))))
+  where
+    stopped : (r : Option Error) → Stands (unless_refused r moment nothing).moment.scene
+    stopped None = h
+    stopped (Some error) = h
+
+    went_on : (r : Option Error) → failure check moment.scene ≡ r → (unless_refused r moment nothing).refusal ≡ None → (failure check moment.scene ≡ None → Runs w Q (map element.Checks checks ++ steps) moment)
+        → Runs w Q (map element.Checks checks ++ steps) (unless_refused r moment nothing).moment
+    went_on None e none rest = rest e
+    went_on (Some error) e none rest = absurd (cc none)
+
+-- the steps of a command, behind its checks
 module _ (w : Option ℕ) (levels : List LevelState) (active : IsWorking levels) where
-  pub work_leads : (c : Command) (session : SessionState) → IsWork c → (moment : Moment) → At levels moment.scene → Leads (At levels) (does_all w (work_of c session) moment)
-  work_leads command.Raise session is moment at = behind_check w levels (At levels) (element.Refuse error.Raised) [] moment at (λ m k _. nothing_more w levels m k)
-  work_leads command.Report session is moment at = behind_work w levels (At levels) element.Report [] moment at (report_works w moment at.stands) (λ m k. nothing_more w levels m k)
-  work_leads command.Stat session is moment at = behind_work w levels (At levels) element.Stat [] moment at (stat_works w moment at.stands) (λ m k. nothing_more w levels m k)
-  work_leads (command.Context name parent kind) session is moment at =
-      behind_check w levels (At levels) (element.ContextIsNew name) _ moment at
-      (λ m k _. behind_check w levels (At levels) (element.IsContext parent) _ m k
-      (λ m k _. behind_work w levels (At levels) _ [] m k (make_script_context_works w m k.stands (working_at levels m.scene active k) name parent _) (λ m k. nothing_more w levels m k)))
-  work_leads (command.Switch name) session is moment at =
-      behind_check w levels (At levels) (element.IsContext name) _ moment at
-      (λ m k _. behind_work w levels (At levels) (element.Switch name) [] m k (switch_works w m k.stands (working_at levels m.scene active k) name) (λ m k. nothing_more w levels m k))
-  work_leads (command.OnReset name) session is moment at =
-      behind_check w levels (At levels) (element.IsContext name) _ moment at
-      (λ m k _. behind_work w levels (At levels) (element.Register name) [] m k (register_works w m k.stands (working_at levels m.scene active k) name) (λ m k. nothing_more w levels m k))
-  work_leads (command.Reset name) session is moment at =
-      behind_check w levels (At levels) (element.IsContext name) _ moment at
-      (λ m k _. behind_check w levels (At levels) (element.MayReset name) _ m k
-      (λ m k ok. behind_work w levels (At levels) (element.Reset name) [] m k (reset_works w m k.stands (working_at levels m.scene active k) name ok) (λ m k. nothing_more w levels m k)))
-  work_leads (command.ResetOnly name) session is moment at =
-      behind_check w levels (At levels) (element.IsContext name) _ moment at
-      (λ m k _. behind_check w levels (At levels) (element.MayResetOnly name) _ m k
-      (λ m k ok. behind_work w levels (At levels) (element.ResetOnly name) [] m k (reset_only_works w m k.stands (working_at levels m.scene active k) name) (λ m k. nothing_more w levels m k)))
-  work_leads (command.Delete name) session is moment at =
-      behind_check w levels (At levels) (element.IsContext name) _ moment at
-      (λ m k _. behind_check w levels (At levels) (element.MayDelete name) _ m k
-      (λ m k ok. behind_work w levels (At levels) (element.Delete name) [] m k (delete_works w m k.stands (working_at levels m.scene active k) name ok) (λ m k. nothing_more w levels m k)))
-  work_leads (command.DeleteChildren name) session is moment at =
-      behind_check w levels (At levels) (element.IsContext name) _ moment at
-      (λ m k _. behind_check w levels (At levels) (element.MayReset name) _ m k
-      (λ m k ok. behind_work w levels (At levels) (element.DeleteChildren name) [] m k (delete_children_works w m k.stands (working_at levels m.scene active k) name ok) (λ m k. nothing_more w levels m k)))
-  work_leads (command.Reparent name parent) session is moment at =
-      behind_check w levels (At levels) (element.IsContext name) _ moment at
-      (λ m k _. behind_check w levels (At levels) (element.IsContext parent) _ m k
-      (λ m k _. behind_check w levels (At levels) (element.MayMove name parent) _ m k
-      (λ m k ok. behind_work w levels (At levels) (element.Reparent name parent) [] m k (reparent_works w m k.stands (working_at levels m.scene active k) name parent ok) (λ m k. nothing_more w levels m k))))
-  work_leads (command.Alloc chunk size) session is moment at =
-      behind_check w levels (At levels) (element.ChunkIsNew chunk) _ moment at
-      (λ m k _. behind_work w levels (At levels) (element.Alloc InCurrent (Some chunk) size false) [] m k (alloc_works w m k.stands (working_at levels m.scene active k) (Some chunk) size false) (λ m k. nothing_more w levels m k))
-  work_leads (command.AllocZeroed chunk size) session is moment at =
-      behind_check w levels (At levels) (element.ChunkIsNew chunk) _ moment at
-      (λ m k _. behind_work w levels (At levels) (element.Alloc InCurrent (Some chunk) size true) [] m k (alloc_works w m k.stands (working_at levels m.scene active k) (Some chunk) size true) (λ m k. nothing_more w levels m k))
-  work_leads (command.Realloc chunk size) session is moment at =
-      behind_check w levels (At levels) (element.IsChunk chunk) _ moment at
-      (λ m k _. behind_work w levels (At levels) (element.Realloc chunk size) [] m k (realloc_works w m k.stands (working_at levels m.scene active k) chunk size) (λ m k. nothing_more w levels m k))
-  work_leads (command.Free chunk) session is moment at =
-      behind_check w levels (At levels) (element.MayFree chunk) _ moment at
-      (λ m k _. behind_work w levels (At levels) (element.FreeChunk chunk) [] m k (free_works w m k.stands (working_at levels m.scene active k) chunk) (λ m k. nothing_more w levels m k))
-  work_leads (command.Put chunk place bytes) session is moment at =
-      behind_check w levels (At levels) (element.MayPut chunk place (length bytes)) _ moment at
-      (λ m k _. behind_work w levels (At levels) (element.Put chunk place bytes) [] m k (put_works w m k.stands (working_at levels m.scene active k) chunk place bytes) (λ m k. nothing_more w levels m k))
-  work_leads (command.Show chunk place n) session is moment at =
-      behind_check w levels (At levels) (element.MayShow chunk place n) _ moment at
-      (λ m k _. behind_work w levels (At levels) (element.Show chunk place n) [] m k (show_works w chunk place n m k.stands) (λ m k. nothing_more w levels m k))
-  work_leads (command.Pin buffer) session is moment at =
-      behind_check w levels (At levels) (element.IsBuffer buffer) _ moment at
-      (λ m k ok. behind_work w levels (At levels) (element.Enlarge OfLevel) _ m k (enlarge_works w m k.stands)
-      (λ m k. behind_work w levels (At levels) (element.Take OfLevel buffer_pin buffer) [] m k
-      (pin_works w m k.stands (working_at levels m.scene active k) buffer (is_buffer buffer (nat_lt buffer 1024) error.NoSuchBuffer refl ok)) (λ m k. nothing_more w levels m k)))
-  work_leads (command.Unpin buffer) session is moment at =
-      behind_check w levels (At levels) (element.Holds buffer_pin buffer) _ moment at
-      (λ m k _. behind_work w levels (At levels) (element.GiveBack buffer_pin buffer) [] m k (give_back_works w m k.stands (working_at levels m.scene active k) buffer_pin buffer) (λ m k. nothing_more w levels m k))
-  work_leads (command.Buffer buffer) session is moment at =
-      behind_check w levels (At levels) (element.IsBuffer buffer) _ moment at
-      (λ m k _. behind_work w levels (At levels) (element.TellBuffer buffer) [] m k (buffer_works w buffer m k.stands) (λ m k. nothing_more w levels m k))
-  work_leads (command.Open file) session is moment at =
-      behind_check w levels (At levels) (element.FileIsNew file) _ moment at
-      (λ m k _. behind_work w levels (At levels) (element.Enlarge OfLevel) _ m k (enlarge_works w m k.stands)
-      (λ m k. behind_work w levels (At levels) (element.Take OfLevel file_kind file) [] m k (file_works w m k.stands (working_at levels m.scene active k) file) (λ m k. nothing_more w levels m k)))
-  work_leads (command.Touch file) session is moment at =
-      behind_check w levels (At levels) (element.IsFile file) _ moment at
-      (λ m k _. behind_work w levels (At levels) (element.Touch file) [] m k (touch_works w m k.stands (working_at levels m.scene active k) file) (λ m k. nothing_more w levels m k))
-  work_leads (command.Close file) session is moment at =
-      behind_check w levels (At levels) (element.Holds file_kind file) _ moment at
-      (λ m k _. behind_work w levels (At levels) (element.GiveBack file_kind file) [] m k (give_back_works w m k.stands (working_at levels m.scene active k) file_kind file) (λ m k. nothing_more w levels m k))
-  work_leads (command.Reference class key) session is moment at =
-      behind_work w levels (At levels) (element.Enlarge OfLevel) _ moment at (enlarge_works w moment at.stands)
-      (λ m k. behind_work w levels (At levels) (element.Take OfLevel (class_kind class) key) [] m k
-      (take_works w m k.stands (working_at levels m.scene active k) (class_kind class) key (class_unkept class) (class_other class) (class_item (table_of m.scene.around.kinds) class key)) (λ m k. nothing_more w levels m k))
-  work_leads (command.Unreference class key) session is moment at =
-      behind_check w levels (At levels) (element.Holds (class_kind class) key) _ moment at
-      (λ m k _. behind_work w levels (At levels) (element.GiveBack (class_kind class) key) [] m k (give_back_works w m k.stands (working_at levels m.scene active k) (class_kind class) key) (λ m k. nothing_more w levels m k))
-  work_leads (command.Acquire kind key) session is moment at =
-      behind_check w levels (At levels) (element.IsKind kind) _ moment at
-      (λ m k _. behind_work w levels (At levels) (element.Enlarge OfLevel) _ m k (enlarge_works w m k.stands)
-      (λ m k. behind_work w levels (At levels) (element.TakeNamed kind key) [] m k (take_named_works w m k.stands (working_at levels m.scene active k) kind key) (λ m k. nothing_more w levels m k)))
-  work_leads (command.Drop kind key) session is moment at =
-      behind_check w levels (At levels) (element.IsKind kind) _ moment at
-      (λ m k _. behind_check w levels (At levels) (element.HoldsNamed kind key) _ m k
-      (λ m k _. behind_work w levels (At levels) (element.GiveBackNamed kind key) [] m k (give_back_named_works w m k.stands (working_at levels m.scene active k) kind key) (λ m k. nothing_more w levels m k)))
-  work_leads (command.Snapshot snapshot) session is moment at =
-      behind_work w levels (At levels) (element.Enlarge OfLevel) _ moment at (enlarge_works w moment at.stands)
-      (λ m k. behind_work w levels (At levels) (element.Take OfLevel snapshot_reference snapshot) [] m k
-      (take_works w m k.stands (working_at levels m.scene active k) snapshot_reference snapshot refl (λ z. absurd (omega (arith, z))) (snapshot_item (table_of m.scene.around.kinds) snapshot)) (λ m k. nothing_more w levels m k))
-  work_leads (command.Unsnapshot snapshot) session is moment at =
-      behind_check w levels (At levels) (element.Holds snapshot_reference snapshot) _ moment at
-      (λ m k _. behind_work w levels (At levels) (element.GiveBack snapshot_reference snapshot) [] m k (give_back_works w m k.stands (working_at levels m.scene active k) snapshot_reference snapshot) (λ m k. nothing_more w levels m k))
-  work_leads (command.Push snapshot) session is moment at =
-      behind_work w levels (At levels) (element.PushSnapshot snapshot) [] moment at (push_works w moment at.stands (working_at levels moment.scene active at) snapshot) (λ m k. nothing_more w levels m k)
-  work_leads command.Pop session is moment at =
-      behind_check w levels (At levels) element.HoldsSnapshot _ moment at
-      (λ m k _. behind_work w levels (At levels) element.PopSnapshot [] m k (pop_works w m k.stands) (λ m k. nothing_more w levels m k))
-  work_leads (command.Plan plan) session is moment at =
-      behind_check w levels (At levels) (element.PlanIsNew plan) _ moment at
-      (λ m k ok. behind_work w levels (At levels) (element.MakePlan plan) [] m k
-      (make_plan_works w m k.stands (working_at levels m.scene active k) plan (is_new (plan_at plan m.scene.session.plans) error.NameTaken ok)) (λ m k. nothing_more w levels m k))
-  work_leads (command.PlanReference plan) session is moment at =
-      behind_check w levels (At levels) (element.IsPlan plan) _ moment at
-      (λ m k ok. behind_room w levels (At levels) (element.IsPlan plan) _ m k ok
-      (λ m k ok.
-      let p = is_standing (plan_at plan m.scene.session.plans) error.NoSuchName ok in
-      behind_work w levels (At levels) (element.Take OfLevel plan_reference plan) [] m k (take_plan_works w m k.stands (working_at levels m.scene active k) plan p.0 p.1) (λ m k. nothing_more w levels m k)))
-  work_leads (command.PlanUnreference plan) session is moment at =
-      behind_check w levels (At levels) (element.Holds plan_reference plan) _ moment at
-      (λ m k _. behind_work w levels (At levels) (element.GiveBack plan_reference plan) [] m k (give_back_works w m k.stands (working_at levels m.scene active k) plan_reference plan) (λ m k. nothing_more w levels m k))
-  work_leads (command.PlanDrop plan) session is moment at =
-      behind_check w levels (At levels) (element.IsPlan plan) _ moment at
-      (λ m k _. behind_work w levels (At levels) (element.DropPlan plan) [] m k (drop_plan_works w m k.stands (working_at levels m.scene active k) plan) (λ m k. nothing_more w levels m k))
-  work_leads (command.Portal name object rows bad) session is moment at =
-      behind_check w levels (At levels) (element.PortalIsNew name) _ moment at
-      (λ m k ok. portal_leads w levels active name object rows bad m k (is_unnamed (portal_named name m.scene.session.portals) error.PortalTaken ok))
-  work_leads (command.Fetch name count) session is moment at =
-      behind_check w levels (At levels) (element.IsPortal name) _ moment at
-      (λ m k _. behind_check w levels (At levels) (element.HasNotFailed name) _ m k
-      (λ m k _. behind_begin w levels active name (At levels) _ m k
-      (λ m k.
-      let l : Leads (Fetches levels name) (does_all w (option_map_or (λ portal. fetch_steps name count portal.scan 0) (portal_named name session.portals) []) m) =
-      all_fetch w levels name _ m k (fetch_all w levels active name count (portal_named name session.portals)) in
-      record { stands = l.stands; passed = λ none. let q = l.passed none in q.at })))
-  work_leads (command.EndPortal name) session is moment at =
-      behind_check w levels (At levels) (element.IsPortal name) _ moment at
-      (λ m k _. behind_work w levels (At levels) (element.EndPortal name) [] m k (end_portal_works w m k.stands (working_at levels m.scene active k) k.at_rest name) (λ m k. nothing_more w levels m k))
-  work_leads (command.Lock object mode) session is moment at =
-      behind_work w levels (At levels) (element.TakeLock OfLevel object mode) [] moment at (lock_works w moment at.stands (working_at levels moment.scene active at) object mode) (λ m k. nothing_more w levels m k)
-  work_leads (command.Unlock object mode) session is moment at =
-      behind_check w levels (At levels) (element.HoldsLock object mode) _ moment at
-      (λ m k _. behind_work w levels (At levels) (element.Unlock object mode) [] m k (unlock_works w m k.stands (working_at levels m.scene active k) object mode) (λ m k. nothing_more w levels m k))
-  work_leads other session is moment at = absurd is
+  abbrev Steps : Row → Moment → Type 0
+  Steps r m = Pass r.checks m.scene → Runs w (At levels) r.steps m
+
+  by_step : (x : Element) (m : Moment) → At levels m.scene → Asks x m.scene → Works m.scene (does w x m).moment.scene → Runs w (At levels) (x ∷ []) m
+  by_step x m k asks works = behind_work w levels (At levels) x [] m k asks works (λ n l. nothing_more w levels n l)
+
+  by_take : (x : Element) (m : Moment) → At levels m.scene → ((n : Moment) → At levels n.scene → Asks x n.scene) → ((n : Moment) → At levels n.scene → Works n.scene (does w x n).moment.scene) → Runs w (At levels) (element.Enlarge OfLevel ∷ x ∷ []) m
+  by_take x m k asks works = behind_work w levels (At levels) (element.Enlarge OfLevel) _ m k tt (enlarge_works w m k.stands) (λ n l. by_step x n l (asks n l) (works n l))
+
+  works_in : (m : Moment) → At levels m.scene → IsWorking m.scene.session.levels
+  works_in m k = working_at levels m.scene active k
+
+  contexts_lead : (c : ContextCommand) (m : Moment) → At levels m.scene → Steps (context_row c) m
+  contexts_lead (context.Create name parent kind) m k ok = by_step _ m k tt (make_script_context_works w m k.stands (works_in m k) name parent _)
+  contexts_lead (context.Switch name) m k ok = by_step (element.Switch name) m k tt (switch_works w m k.stands (works_in m k) name)
+  contexts_lead (context.OnReset name) m k ok = by_step (element.Register name) m k tt (register_works w m k.stands (works_in m k) name)
+  contexts_lead (context.Reset name) m k ok = by_step (element.Reset name) m k tt (reset_works w m k.stands (works_in m k) name ok.1.0)
+  contexts_lead (context.ResetOnly name) m k ok = by_step (element.ResetOnly name) m k tt (reset_only_works w m k.stands (works_in m k) name)
+  contexts_lead (context.Delete name) m k ok = by_step (element.Delete name) m k tt (delete_works w m k.stands (works_in m k) name ok.1.0)
+  contexts_lead (context.DeleteChildren name) m k ok = by_step (element.DeleteChildren name) m k tt (delete_children_works w m k.stands (works_in m k) name ok.1.0)
+  contexts_lead (context.Reparent name parent) m k ok = by_step (element.Reparent name parent) m k ok.1.1.0 (reparent_works w m k.stands (works_in m k) name parent ok.1.1.0)
+
+  chunks_lead : (c : ChunkCommand) (m : Moment) → At levels m.scene → Steps (chunk_row c) m
+  chunks_lead (chunk.Alloc name size) m k ok = by_step (element.Alloc InCurrent (Some name) size false) m k tt (alloc_works w m k.stands (works_in m k) (Some name) size false)
+  chunks_lead (chunk.AllocZeroed name size) m k ok = by_step (element.Alloc InCurrent (Some name) size true) m k tt (alloc_works w m k.stands (works_in m k) (Some name) size true)
+  chunks_lead (chunk.Realloc name size) m k ok = by_step (element.Realloc name size) m k tt (realloc_works w m k.stands (works_in m k) name size)
+  chunks_lead (chunk.Free name) m k ok = by_step (element.FreeChunk name) m k tt (free_works w m k.stands (works_in m k) name)
+  chunks_lead (chunk.Put name place bytes) m k ok = by_step (element.Put name place bytes) m k tt (put_works w m k.stands (works_in m k) name place bytes)
+  chunks_lead (chunk.Show name place n) m k ok = by_step (element.Show name place n) m k tt (show_works w name place n m k.stands)
+
+  items_lead : (c : ItemCommand) (m : Moment) → At levels m.scene → Steps (item_row c) m
+  items_lead (item.Pin buffer) m k ok =
+      by_take (element.Take OfLevel buffer_pin buffer) m k works_in (λ n l. pin_works w n l.stands (works_in n l) buffer (is_buffer buffer (nat_lt buffer 1024) error.NoSuchBuffer refl ok.0))
+  items_lead (item.Unpin buffer) m k ok = by_step (element.GiveBack buffer_pin buffer) m k tt (give_back_works w m k.stands (works_in m k) buffer_pin buffer)
+  items_lead (item.Open file) m k ok = by_take (element.Take OfLevel file_kind file) m k works_in (λ n l. file_works w n l.stands (works_in n l) file)
+  items_lead (item.Touch file) m k ok = by_step (element.Touch file) m k tt (touch_works w m k.stands (works_in m k) file)
+  items_lead (item.Close file) m k ok = by_step (element.GiveBack file_kind file) m k tt (give_back_works w m k.stands (works_in m k) file_kind file)
+  items_lead (item.Reference class key) m k ok =
+      by_take (element.Take OfLevel (class_kind class) key) m k works_in
+      (λ n l. take_works w n l.stands (works_in n l) (class_kind class) key (class_unkept class) (class_other class) (class_item (table_of n.scene.around.kinds) class key))
+  items_lead (item.Unreference class key) m k ok = by_step (element.GiveBack (class_kind class) key) m k tt (give_back_works w m k.stands (works_in m k) (class_kind class) key)
+  items_lead (item.Acquire kind key) m k ok = by_take (element.TakeNamed kind key) m k works_in (λ n l. take_named_works w n l.stands (works_in n l) kind key)
+  items_lead (item.Drop kind key) m k ok = by_step (element.GiveBackNamed kind key) m k tt (give_back_named_works w m k.stands (works_in m k) kind key)
+  items_lead (item.Snapshot key) m k ok =
+      by_take (element.Take OfLevel snapshot_reference key) m k works_in
+      (λ n l. take_works w n l.stands (works_in n l) snapshot_reference key refl (λ z. absurd (omega (arith, z))) (snapshot_item (table_of n.scene.around.kinds) key))
+  items_lead (item.Unsnapshot key) m k ok = by_step (element.GiveBack snapshot_reference key) m k tt (give_back_works w m k.stands (works_in m k) snapshot_reference key)
+
+  locks_lead : (c : LockCommand) (m : Moment) → At levels m.scene → Steps (lock_row c) m
+  locks_lead (lock.Lock object mode) m k ok = by_step (element.TakeLock OfLevel object mode) m k tt (lock_works w m k.stands (works_in m k) object mode)
+  locks_lead (lock.Unlock object mode) m k ok = by_step (element.Unlock object mode) m k tt (unlock_works w m k.stands (works_in m k) object mode)
+
+  snapshots_lead : (c : SnapshotCommand) (m : Moment) → At levels m.scene → Steps (snapshot_row c) m
+  snapshots_lead (snapshot.Push key) m k ok = by_step (element.PushSnapshot key) m k tt (push_works w m k.stands (works_in m k) key)
+  snapshots_lead snapshot.Pop m k ok = by_step element.PopSnapshot m k tt (pop_works w m k.stands)
+
+  plans_lead : (c : PlanCommand) (m : Moment) → At levels m.scene → Steps (plan_row c) m
+  plans_lead (plan.Create number) m k ok = by_step (element.MakePlan number) m k tt (make_plan_works w m k.stands (works_in m k) number (is_new (plan_at number m.scene.session.plans) error.NameTaken ok.0))
+  plans_lead (plan.Reference number) m k ok =
+      behind_room w levels (At levels) (element.IsPlan number) _ m k ok.0
+      (λ n l ok.
+      let p = is_standing (plan_at number n.scene.session.plans) error.NoSuchName ok in
+      by_step (element.Take OfLevel plan_reference number) n l (works_in n l) (take_plan_works w n l.stands (works_in n l) number p.0 p.1))
+  plans_lead (plan.Unreference number) m k ok = by_step (element.GiveBack plan_reference number) m k tt (give_back_works w m k.stands (works_in m k) plan_reference number)
+  plans_lead (plan.Drop number) m k ok = by_step (element.DropPlan number) m k tt (drop_plan_works w m k.stands (works_in m k) number)
+
+  portals_lead : (c : PortalCommand) (portals : List OpenPortal) (m : Moment) → At levels m.scene → Steps (portal_row c portals) m
+  portals_lead (portal.Open name object rows bad) portals m k ok = portal_leads w levels active name object rows bad m k (is_unnamed (portal_named name m.scene.session.portals) error.PortalTaken ok.0)
+  portals_lead (portal.Fetch name count) portals m k ok =
+      behind_begin w levels active name (At levels) _ m k
+      (λ n l.
+      let f : Runs w (Fetches levels name) (option_map_or (λ p. fetch_steps name count p.scan 0) (portal_named name portals) []) n =
+      all_fetch w levels name _ n l (fetch_all w levels active name count (portal_named name portals)) in
+      record { stands = f.stands; passed = λ none. let q = f.passed none in q.at; run = f.run })
+  portals_lead (portal.End name) portals m k ok = by_step (element.EndPortal name) m k (works_in m k, k.at_rest) (end_portal_works w m k.stands (works_in m k) k.at_rest name)
+
+  tells_lead : (c : TellCommand) (m : Moment) → At levels m.scene → Steps (tell_row c) m
+  unfolding does
+  tells_lead tell.Report m k ok = by_step element.Report m k tt (nothing_works m.scene k.stands)
+  tells_lead tell.Stat m k ok = by_step element.Stat m k tt (nothing_works m.scene k.stands)
+  tells_lead (tell.Buffer buffer) m k ok = by_step (element.TellBuffer buffer) m k tt (nothing_works m.scene k.stands)
+
+  steps_lead : (c : Work) (portals : List OpenPortal) (m : Moment) → At levels m.scene → Steps (row_of c portals) m
+  steps_lead work.Raise portals m k ok = nothing_more w levels m k
+  steps_lead (work.Contexts c) portals m k ok = contexts_lead c m k ok
+  steps_lead (work.Chunks c) portals m k ok = chunks_lead c m k ok
+  steps_lead (work.Items c) portals m k ok = items_lead c m k ok
+  steps_lead (work.Locks c) portals m k ok = locks_lead c m k ok
+  steps_lead (work.Snapshots c) portals m k ok = snapshots_lead c m k ok
+  steps_lead (work.Plans c) portals m k ok = plans_lead c m k ok
+  steps_lead (work.Portals c) portals m k ok = portals_lead c portals m k ok
+  steps_lead (work.Tells c) portals m k ok = tells_lead c m k ok
+
+  -- What is done within a transaction leads on.
+  pub work_runs : (c : Work) (session : SessionState) (moment : Moment) → At levels moment.scene → Runs w (At levels) (work_of c session) moment
+  work_runs c session moment at = row_leads w (At levels) (row_of c session.portals).checks (row_of c session.portals).steps moment at.stands (steps_lead c session.portals moment at)
+
+  pub work_leads : (c : Work) (session : SessionState) (moment : Moment) → At levels moment.scene → Leads (At levels) (does_all w (work_of c session) moment)
+  work_leads c session moment at = let k : Runs w (At levels) (work_of c session) moment = work_runs c session moment at in record { stands = k.stands; passed = k.passed }
 
 -- a level as it is being begun
 abbrev pub begun : Option Text → Bool → Option ℕ → Option ℕ → Bool → LevelState
@@ -724,13 +704,13 @@ module _ (w : Option ℕ) (name : Option Text) (implicit : Bool) (levels : List 
       record { stands = x.stands; passed = λ _. x }
 
   -- a level is begun
-  pub start_leads : (moment : Moment) → At levels moment.scene → AreOuter levels → (implicit ≡ true → levels ≡ []) → Leads (HasBegun name implicit levels) (does_all w (start name implicit) moment)
+  pub start_leads : (moment : Moment) → At levels moment.scene → AreOuter levels → (implicit ≡ true → levels ≡ []) → Runs w (HasBegun name implicit levels) (start name implicit) moment
   start_leads moment at outer alone =
-      leads_on w (At (begun name implicit None None true ∷ levels)) (HasBegun name implicit levels) _ _ moment (level_leads moment at outer alone)
-      (λ m k. leads_on w (HasContext name implicit levels) (HasBegun name implicit levels) _ _ m (context_leads m k)
-      (λ m k. leads_on w (HasOwner name implicit levels) (HasBegun name implicit levels) _ _ m (owner_leads m k)
-      (λ m k. leads_on w (HasBegun name implicit levels) (HasBegun name implicit levels) _ _ m (stands_leads m k)
-      (λ m k. leads_nowhere w (HasBegun name implicit levels) m k.stands k))))
+      runs_on w (At (begun name implicit None None true ∷ levels)) (HasBegun name implicit levels) _ _ moment (record { stands = at.stands; asks = tt }) (level_leads moment at outer alone)
+      (λ m k. runs_on w (HasContext name implicit levels) (HasBegun name implicit levels) _ _ m (record { stands = k.stands; asks = tt }) (context_leads m k)
+      (λ m k. runs_on w (HasOwner name implicit levels) (HasBegun name implicit levels) _ _ m (record { stands = k.stands; asks = tt }) (owner_leads m k)
+      (λ m k. runs_on w (HasBegun name implicit levels) (HasBegun name implicit levels) _ _ m (record { stands = k.stands; asks = tt }) (stands_leads m k)
+      (λ m k. runs_nowhere w (HasBegun name implicit levels) m k.stands k))))
 
 pub begun_active : (name : Option Text) (implicit : Bool) (c o : ℕ) → IsActive (begun name implicit (Some c) (Some o) false)
 begun_active name implicit c o = record { made = record { context = refl; owner = refl }; started = refl; unaborted = refl }
@@ -772,44 +752,43 @@ unfolding does
 says_leads w event moment h = record { stands = h.stands; passed = λ _. h }
 
 module _ (w : Option ℕ) where
-  abbrev Between : Done → Type 0
-  Between done = Leads StandsBetweenLines done
+  abbrev Between : List Element → Moment → Type 0
+  Between xs moment = Runs w StandsBetweenLines xs moment
 
-  pub between_says : (event : What) (xs : List Element) (moment : Moment) → StandsBetweenLines moment.scene → ((m : Moment) → StandsBetweenLines m.scene → Between (does_all w xs m)) → Between (does_all w (element.Says event ∷ xs) moment)
-  between_says event xs moment h next = leads_on w StandsBetweenLines StandsBetweenLines (element.Says event) xs moment (says_leads w event moment h) next
+  pub between_says : (event : What) (xs : List Element) (moment : Moment) → StandsBetweenLines moment.scene → ((m : Moment) → StandsBetweenLines m.scene → Between xs m) → Between (element.Says event ∷ xs) moment
+  between_says event xs moment h next = runs_on w StandsBetweenLines StandsBetweenLines (element.Says event) xs moment (record { stands = h.stands; asks = tt }) (says_leads w event moment h) next
 
-  pub between_nothing : (moment : Moment) → StandsBetweenLines moment.scene → Between (does_all w [] moment)
-  between_nothing moment h = leads_nowhere w StandsBetweenLines moment h.stands h
+  pub between_nothing : (moment : Moment) → StandsBetweenLines moment.scene → Between [] moment
+  between_nothing moment h = runs_nowhere w StandsBetweenLines moment h.stands h
 
-  pub then_ok_leads : (xs : List Element) (moment : Moment) → Between (does_all w xs moment) → Between (does_all w (then_ok xs) moment)
+  pub then_ok_leads : (xs : List Element) (moment : Moment) → Between xs moment → Between (then_ok xs) moment
   then_ok_leads xs moment first =
-      leads_both w StandsBetweenLines StandsBetweenLines xs _ moment first (λ m k. between_says what.Ok [] m k (λ m k. between_nothing m k))
+      runs_both w StandsBetweenLines StandsBetweenLines xs _ moment first (λ m k. between_says what.Ok [] m k (λ m k. between_nothing m k))
 
-  pub refused_leads : (Q : Scene → Type 0) (error : Error) (moment : Moment) → Stands moment.scene → Leads Q (does_all w (refused error) moment)
-  refused_leads Q error moment h =
-      leads_on w (λ z. ⊥) Q (element.Checks (element.Refuse error)) [] moment (check_leads (λ z. ⊥) w (element.Refuse error) moment h (λ e. cc e)) (λ m no. absurd no)
+  pub refused_leads : (Q : Scene → Type 0) (error : Error) (moment : Moment) → Stands moment.scene → Runs w Q (refused error) moment
+  refused_leads Q error moment h = row_leads w Q (element.Refuse error ∷ []) [] moment h (λ passes. absurd (cc passes.0))
 
   -- what an end leads to
   pub end_leads : (levels : List LevelState) (done : Done) → Leaves levels done.moment.scene → Leads (Leaves levels) done
   end_leads levels done h = record { stands = h.between.stands; passed = λ _. h }
 
-  pub end_nothing : (levels : List LevelState) (moment : Moment) → Leaves levels moment.scene → Leads (Leaves levels) (does_all w [] moment)
-  end_nothing levels moment h = leads_nowhere w (Leaves levels) moment h.between.stands h
+  pub end_nothing : (levels : List LevelState) (moment : Moment) → Leaves levels moment.scene → Runs w (Leaves levels) [] moment
+  end_nothing levels moment h = runs_nowhere w (Leaves levels) moment h.between.stands h
 
   -- a level is rolled back
   pub level_rolled : (level : LevelState) (levels : List LevelState) (moment : Moment) → Leaves (level ∷ levels) moment.scene
-      → Leads (Leaves levels) (does_all w (if level.aborted then element.Cleanup ∷ [] else element.Abort ∷ element.Cleanup ∷ []) moment)
+      → Runs w (Leaves levels) (if level.aborted then element.Cleanup ∷ [] else element.Abort ∷ element.Cleanup ∷ []) moment
   level_rolled level levels moment h = go level.aborted refl
     where
-      cleans : (old : LevelState) (m : Moment) → old.aborted ≡ true → Leaves (old ∷ levels) m.scene → Leads (Leaves levels) (does_all w (element.Cleanup ∷ []) m)
+      cleans : (old : LevelState) (m : Moment) → old.aborted ≡ true → Leaves (old ∷ levels) m.scene → Runs w (Leaves levels) (element.Cleanup ∷ []) m
       cleans old m gone l =
-          leads_on w (Leaves levels) (Leaves levels) element.Cleanup [] m
+          runs_on w (Leaves levels) (Leaves levels) element.Cleanup [] m (record { stands = l.between.stands; asks = ((old, levels), l.are, gone) })
           (end_leads levels (does w element.Cleanup m) (cleanup_stands w m l.between.stands old levels l.are gone)) (λ m k. end_nothing levels m k)
 
-      go : (b : Bool) → level.aborted ≡ b → Leads (Leaves levels) (does_all w (if b then element.Cleanup ∷ [] else element.Abort ∷ element.Cleanup ∷ []) moment)
+      go : (b : Bool) → level.aborted ≡ b → Runs w (Leaves levels) (if b then element.Cleanup ∷ [] else element.Abort ∷ element.Cleanup ∷ []) moment
       go true e = cleans level moment e h
       go false e =
-          leads_on w (Leaves (record level { aborted = true } ∷ levels)) (Leaves levels) element.Abort (element.Cleanup ∷ []) moment
+          runs_on w (Leaves (record level { aborted = true } ∷ levels)) (Leaves levels) element.Abort (element.Cleanup ∷ []) moment (record { stands = h.between.stands; asks = ((level, levels), h.are, e, open_of moment.scene level levels h.between h.are) })
           (end_leads (record level { aborted = true } ∷ levels) (does w element.Abort moment)
           (abort_stands w moment h.between.stands level levels h.are e (open_of moment.scene level levels h.between h.are)))
           (λ m k. cleans (record level { aborted = true }) m refl k)
@@ -818,28 +797,28 @@ module _ (w : Option ℕ) where
   abbrev IsOuter : Scene → Type 0
   IsOuter scene = StandsBetweenLines scene × AreOuter scene.session.levels
 
-  pub outer_rolled : (n : ℕ) (levels : List LevelState) (moment : Moment) → Leaves levels moment.scene → AreOuter levels → Leads IsOuter (does_all w (rolled_back_to n levels) moment)
-  outer_rolled n [] moment h o = leads_nowhere w IsOuter moment h.between.stands (h.between, subst AreOuter (sym h.are) o)
+  pub outer_rolled : (n : ℕ) (levels : List LevelState) (moment : Moment) → Leaves levels moment.scene → AreOuter levels → Runs w IsOuter (rolled_back_to n levels) moment
+  outer_rolled n [] moment h o = runs_nowhere w IsOuter moment h.between.stands (h.between, subst AreOuter (sym h.are) o)
   outer_rolled n (level ∷ levels) moment h o = go (nat_lt (length levels + 1) n) (λ m k. outer_rolled n levels m k o.2)
     where
-      go : (b : Bool) → ((m : Moment) → Leaves levels m.scene → Leads IsOuter (does_all w (rolled_back_to n levels) m))
-          → Leads IsOuter (does_all w (if b then [] else (if level.aborted then element.Cleanup ∷ [] else element.Abort ∷ element.Cleanup ∷ []) ++ rolled_back_to n levels) moment)
-      go true rest = leads_nowhere w IsOuter moment h.between.stands (h.between, subst AreOuter (sym h.are) o)
-      go false rest = leads_both w (Leaves levels) IsOuter _ (rolled_back_to n levels) moment (level_rolled level levels moment h) rest
+      go : (b : Bool) → ((m : Moment) → Leaves levels m.scene → Runs w IsOuter (rolled_back_to n levels) m)
+          → Runs w IsOuter (if b then [] else (if level.aborted then element.Cleanup ∷ [] else element.Abort ∷ element.Cleanup ∷ []) ++ rolled_back_to n levels) moment
+      go true rest = runs_nowhere w IsOuter moment h.between.stands (h.between, subst AreOuter (sym h.are) o)
+      go false rest = runs_both w (Leaves levels) IsOuter _ (rolled_back_to n levels) moment (level_rolled level levels moment h) rest
 
-  pub rolled_leads : (n : ℕ) (level : LevelState) (levels : List LevelState) (moment : Moment) → Leaves (level ∷ levels) moment.scene → n ≤ length levels + 1 → Leads IsOuter (does_all w (rolled_back_to n (level ∷ levels)) moment)
+  pub rolled_leads : (n : ℕ) (level : LevelState) (levels : List LevelState) (moment : Moment) → Leaves (level ∷ levels) moment.scene → n ≤ length levels + 1 → Runs w IsOuter (rolled_back_to n (level ∷ levels)) moment
   rolled_leads n level levels moment h small = go (nat_lt (length levels + 1) n) (le-ltb (length levels + 1) n small)
     where
-      go : (b : Bool) → b ≡ false → Leads IsOuter (does_all w (if b then [] else (if level.aborted then element.Cleanup ∷ [] else element.Abort ∷ element.Cleanup ∷ []) ++ rolled_back_to n levels) moment)
+      go : (b : Bool) → b ≡ false → Runs w IsOuter (if b then [] else (if level.aborted then element.Cleanup ∷ [] else element.Abort ∷ element.Cleanup ∷ []) ++ rolled_back_to n levels) moment
       go true e = absurd (cc e)
       go false e =
-          leads_both w (Leaves levels) IsOuter _ (rolled_back_to n levels) moment (level_rolled level levels moment h)
+          runs_both w (Leaves levels) IsOuter _ (rolled_back_to n levels) moment (level_rolled level levels moment h)
           (λ m k. outer_rolled n levels m k (outer_of moment.scene level levels h.between.stands h.are))
 
-  pub all_rolled_leads : (n : ℕ) (level : LevelState) (levels : List LevelState) (moment : Moment) → Leaves (level ∷ levels) moment.scene → n ≤ length levels + 1 → Between (does_all w (rolled_back_to n (level ∷ levels)) moment)
+  pub all_rolled_leads : (n : ℕ) (level : LevelState) (levels : List LevelState) (moment : Moment) → Leaves (level ∷ levels) moment.scene → n ≤ length levels + 1 → Between (rolled_back_to n (level ∷ levels)) moment
   all_rolled_leads n level levels moment h small =
-      let k : Leads IsOuter (does_all w (rolled_back_to n (level ∷ levels)) moment) = rolled_leads n level levels moment h small in
-      record { stands = k.stands; passed = λ e. (k.passed e).0 }
+      let k : Runs w IsOuter (rolled_back_to n (level ∷ levels)) moment = rolled_leads n level levels moment h small in
+      record { stands = k.stands; passed = λ e. (k.passed e).0; run = k.run }
 
   -- levels are merged into those above them
   pub record HasMerged (n : ℕ) (scene : Scene) : Type 0 where
@@ -847,36 +826,36 @@ module _ (w : Option ℕ) where
     leaves : Leaves levels scene
     many : length levels ≡ n
 
-  pub merges_leads : (k n : ℕ) (levels : List LevelState) (moment : Moment) → Leaves levels moment.scene → 1 ≤ n → length levels ≡ n + k → Leads (HasMerged n) (does_all w (replicate k element.Subcommit) moment)
-  merges_leads zero n levels moment h some e = leads_nowhere w (HasMerged n) moment h.between.stands (record { levels = levels; leaves = h; many = omega (arith, e) })
+  pub merges_leads : (k n : ℕ) (levels : List LevelState) (moment : Moment) → Leaves levels moment.scene → 1 ≤ n → length levels ≡ n + k → Runs w (HasMerged n) (replicate k element.Subcommit) moment
+  merges_leads zero n levels moment h some e = runs_nowhere w (HasMerged n) moment h.between.stands (record { levels = levels; leaves = h; many = omega (arith, e) })
   merges_leads (suc k) n [] moment h some e = absurd (omega (arith, e))
   merges_leads (suc k) n (level ∷ levels) moment h some e =
-      leads_on w (Leaves levels) (HasMerged n) element.Subcommit (replicate k element.Subcommit) moment
+      runs_on w (Leaves levels) (HasMerged n) element.Subcommit (replicate k element.Subcommit) moment (record { stands = h.between.stands; asks = ((level, levels), h.are, omega (arith, e, some), h.between.at_rest) })
       (end_leads levels (does w element.Subcommit moment) (merge_stands w moment h.between.stands level levels h.are (omega (arith, e, some)) h.between.at_rest))
       (λ m l. merges_leads k n levels m l some (omega (arith, e)))
 
   -- level 1 commits
-  pub top_leads : (moment : Moment) → HasMerged 1 moment.scene → Between (does_all w (element.CommitTop ∷ []) moment)
+  pub top_leads : (moment : Moment) → HasMerged 1 moment.scene → Between (element.CommitTop ∷ []) moment
   top_leads moment h = go h.levels h.leaves h.many
     where
-      go : (levels : List LevelState) → Leaves levels moment.scene → length levels ≡ 1 → Between (does_all w (element.CommitTop ∷ []) moment)
+      go : (levels : List LevelState) → Leaves levels moment.scene → length levels ≡ 1 → Between (element.CommitTop ∷ []) moment
       go [] l e = absurd (omega (arith, e))
       go (level ∷ []) l e =
-          leads_on w (Leaves []) StandsBetweenLines element.CommitTop [] moment (end_leads [] (does w element.CommitTop moment) (commit_stands w moment l.between.stands level l.are))
+          runs_on w (Leaves []) StandsBetweenLines element.CommitTop [] moment (record { stands = l.between.stands; asks = (level, l.are) }) (end_leads [] (does w element.CommitTop moment) (commit_stands w moment l.between.stands level l.are))
           (λ m k. between_nothing m k.between)
       go (level ∷ (other ∷ levels)) l e = absurd (omega (arith, e))
 
-  pub commit_leads : (levels : List LevelState) (moment : Moment) → Leaves levels moment.scene → Between (does_all w (commit levels) moment)
+  pub commit_leads : (levels : List LevelState) (moment : Moment) → Leaves levels moment.scene → Between (commit levels) moment
   commit_leads [] moment h = between_says what.NotInTransaction [] moment h.between (λ m k. between_nothing m k)
   commit_leads (level ∷ levels) moment h = go level.aborted
     where
-      go : (b : Bool) → Between (does_all w (if b then rolled_back_to 1 (level ∷ levels) else committed_to 2 (level ∷ levels) ++ (element.CommitTop ∷ [])) moment)
+      go : (b : Bool) → Between (if b then rolled_back_to 1 (level ∷ levels) else committed_to 2 (level ∷ levels) ++ (element.CommitTop ∷ [])) moment
       go true = all_rolled_leads 1 level levels moment h (omega arith)
       go false =
-          leads_both w (HasMerged 1) StandsBetweenLines (committed_to 2 (level ∷ levels)) (element.CommitTop ∷ []) moment
+          runs_both w (HasMerged 1) StandsBetweenLines (committed_to 2 (level ∷ levels)) (element.CommitTop ∷ []) moment
           (merges_leads (length (level ∷ levels) + 1 - 2) 1 (level ∷ levels) moment h (omega arith) (omega arith)) top_leads
 
-  pub rollback_leads : (levels : List LevelState) (moment : Moment) → Leaves levels moment.scene → Between (does_all w (rollback levels) moment)
+  pub rollback_leads : (levels : List LevelState) (moment : Moment) → Leaves levels moment.scene → Between (rollback levels) moment
   rollback_leads [] moment h = between_says what.NotInTransaction [] moment h.between (λ m k. between_nothing m k)
   rollback_leads (level ∷ levels) moment h = all_rolled_leads 1 level levels moment h (omega arith)
 
@@ -898,36 +877,36 @@ module _ (w : Option ℕ) where
       go false is e rest = let b = rest e in (b.0, omega (arith, b.1))
 
   pub at_savepoint_leads : (name : Text) (levels : List LevelState) (go_on : ℕ → List Element) (moment : Moment) → Leaves levels moment.scene
-      → ((n : ℕ) → 2 ≤ n → n ≤ length levels → Between (does_all w (go_on n) moment)) → Between (does_all w (at_savepoint name levels go_on) moment)
+      → ((n : ℕ) → 2 ≤ n → n ≤ length levels → Between (go_on n) moment) → Between (at_savepoint name levels go_on) moment
   at_savepoint_leads name [] go_on moment h next = refused_leads StandsBetweenLines error.NoTransactionBlock moment h.between.stands
   at_savepoint_leads name (level ∷ levels) go_on moment h next = go (savepoint name (level ∷ levels)) refl
     where
-      go : (o : Option ℕ) → savepoint name (level ∷ levels) ≡ o → Between (does_all w (option_map_or go_on o (refused error.NoSuchSavepoint)) moment)
+      go : (o : Option ℕ) → savepoint name (level ∷ levels) ≡ o → Between (option_map_or go_on o (refused error.NoSuchSavepoint)) moment
       go None e = refused_leads StandsBetweenLines error.NoSuchSavepoint moment h.between.stands
       go (Some n) e = let b = savepoint_bound name (level ∷ levels) n e in next n b.0 b.1
 
-  pub release_leads : (n : ℕ) (levels : List LevelState) (moment : Moment) → Leaves levels moment.scene → 2 ≤ n → n ≤ length levels → Between (does_all w (committed_to n levels) moment)
+  pub release_leads : (n : ℕ) (levels : List LevelState) (moment : Moment) → Leaves levels moment.scene → 2 ≤ n → n ≤ length levels → Between (committed_to n levels) moment
   release_leads n levels moment h low high =
-      let k : Leads (HasMerged (n - 1)) (does_all w (committed_to n levels) moment) = merges_leads (length levels + 1 - n) (n - 1) levels moment h (omega (arith, low)) (omega (arith, low, high)) in
-      record { stands = k.stands; passed = λ e. (k.passed e).leaves.between }
+      let k : Runs w (HasMerged (n - 1)) (committed_to n levels) moment = merges_leads (length levels + 1 - n) (n - 1) levels moment h (omega (arith, low)) (omega (arith, low, high)) in
+      record { stands = k.stands; passed = λ e. (k.passed e).leaves.between; run = k.run }
 
   -- a block or a savepoint is begun
-  pub block_leads : (name : Option Text) (levels : List LevelState) (moment : Moment) → Leaves levels moment.scene → AreOuter levels → Between (does_all w (start name false) moment)
+  pub block_leads : (name : Option Text) (levels : List LevelState) (moment : Moment) → Leaves levels moment.scene → AreOuter levels → Between (start name false) moment
   block_leads name levels moment h outer =
-      let k : Leads (HasBegun name false levels) (does_all w (start name false) moment) = start_leads w name false levels moment (at_left levels moment.scene h) outer (λ e. absurd (cc e)) in
-      record { stands = k.stands; passed = λ e. begun_between name levels _ outer (k.passed e) }
+      let k : Runs w (HasBegun name false levels) (start name false) moment = start_leads w name false levels moment (at_left levels moment.scene h) outer (λ e. absurd (cc e)) in
+      record { stands = k.stands; passed = λ e. begun_between name levels _ outer (k.passed e); run = k.run }
 
-  pub back_leads : (name : Text) (n : ℕ) (levels : List LevelState) (moment : Moment) → Leaves levels moment.scene → 2 ≤ n → n ≤ length levels → Between (does_all w (rolled_back_to n levels ++ start (Some name) false) moment)
+  pub back_leads : (name : Text) (n : ℕ) (levels : List LevelState) (moment : Moment) → Leaves levels moment.scene → 2 ≤ n → n ≤ length levels → Between (rolled_back_to n levels ++ start (Some name) false) moment
   back_leads name n [] moment h low high = absurd (omega (arith, low, high))
   back_leads name n (level ∷ levels) moment h low high =
-      leads_both w IsOuter StandsBetweenLines (rolled_back_to n (level ∷ levels)) (start (Some name) false) moment (rolled_leads n level levels moment h (omega (arith, high)))
+      runs_both w IsOuter StandsBetweenLines (rolled_back_to n (level ∷ levels)) (start (Some name) false) moment (rolled_leads n level levels moment h (omega (arith, high)))
       (λ m k. block_leads (Some name) m.scene.session.levels m (record { between = k.0; are = refl }) k.1)
 
-  pub begin_leads : (levels : List LevelState) (moment : Moment) → Leaves levels moment.scene → Between (does_all w (begin levels) moment)
+  pub begin_leads : (levels : List LevelState) (moment : Moment) → Leaves levels moment.scene → Between (begin levels) moment
   begin_leads [] moment h = block_leads None [] moment h tt
   begin_leads (level ∷ levels) moment h = between_says what.AlreadyInTransaction [] moment h.between (λ m k. between_nothing m k)
 
-  pub save_leads : (name : Text) (levels : List LevelState) (moment : Moment) → Leaves levels moment.scene → is_aborted levels ≡ false → Between (does_all w (save name levels) moment)
+  pub save_leads : (name : Text) (levels : List LevelState) (moment : Moment) → Leaves levels moment.scene → is_aborted levels ≡ false → Between (save name levels) moment
   save_leads name [] moment h active = refused_leads StandsBetweenLines error.NoTransactionBlock moment h.between.stands
   save_leads name (level ∷ levels) moment h active =
       block_leads (Some name) (level ∷ levels) moment h
@@ -935,55 +914,65 @@ module _ (w : Option ℕ) where
 
   -- what a command does in a level, and the level that is begun for it alone
   pub work_between : (levels : List LevelState) (work : List Element) (moment : Moment) → Leaves levels moment.scene → is_aborted levels ≡ false
-      → ((ls : List LevelState) → IsWorking ls → (m : Moment) → At ls m.scene → Leads (At ls) (does_all w work m)) → Between (does_all w (in_transaction levels work) moment)
+      → ((ls : List LevelState) → IsWorking ls → (m : Moment) → At ls m.scene → Runs w (At ls) work m) → Between (in_transaction levels work) moment
   work_between [] work moment h active does_work =
-      leads_both w (HasBegun None true []) StandsBetweenLines (start None true) _ moment
+      runs_both w (HasBegun None true []) StandsBetweenLines (start None true) _ moment
       (start_leads w None true [] moment (at_left [] moment.scene h) tt (λ _. refl))
       (λ m b.
-      leads_both w (At (begun None true (Some b.context) (Some b.owner) false ∷ [])) StandsBetweenLines work _ m
+      runs_both w (At (begun None true (Some b.context) (Some b.owner) false ∷ [])) StandsBetweenLines work _ m
       (does_work (begun None true (Some b.context) (Some b.owner) false ∷ []) (begun_active None true b.context b.owner) m (record { stands = b.stands; are = b.levels; at_rest = b.at_rest }))
       (λ m k.
-      leads_on w (Leaves []) StandsBetweenLines element.CommitTop _ m
+      runs_on w (Leaves []) StandsBetweenLines element.CommitTop _ m (record { stands = k.stands; asks = (begun None true (Some b.context) (Some b.owner) false, k.are) })
       (end_leads [] (does w element.CommitTop m) (commit_stands w m k.stands (begun None true (Some b.context) (Some b.owner) false) k.are))
       (λ m l. between_says what.Ok [] m l.between (λ m k. between_nothing m k))))
   work_between (level ∷ levels) work moment h active does_work =
-      leads_both w (At (level ∷ levels)) StandsBetweenLines work _ moment
+      runs_both w (At (level ∷ levels)) StandsBetweenLines work _ moment
       (does_work (level ∷ levels) (active_of moment.scene level levels h.between h.are active) moment (at_left (level ∷ levels) moment.scene h))
       (λ m k. between_says what.Ok [] m
       (record { stands = k.stands; open_levels = subst AreOpen (sym k.are) (subst AreOpen h.are h.between.open_levels); at_rest = k.at_rest })
       (λ m k. between_nothing m k))
 
+  -- what begins and ends transactions and savepoints
+  transaction_leads : (c : TransactionCommand) (moment : Moment) → StandsBetweenLines moment.scene → (is_aborted moment.scene.session.levels && not (ends_aborted c)) ≡ false
+      → Between (transaction_of c moment.scene.session.levels) moment
+  transaction_leads transaction.Begin moment h active = begin_leads moment.scene.session.levels moment (record { between = h; are = refl })
+  transaction_leads transaction.Commit moment h active = commit_leads moment.scene.session.levels moment (record { between = h; are = refl })
+  transaction_leads transaction.Rollback moment h active = rollback_leads moment.scene.session.levels moment (record { between = h; are = refl })
+  transaction_leads (transaction.Savepoint name) moment h active =
+      save_leads name moment.scene.session.levels moment (record { between = h; are = refl }) (only_left (is_aborted moment.scene.session.levels) active)
+  transaction_leads (transaction.Release name) moment h active =
+      at_savepoint_leads name moment.scene.session.levels (λ n. committed_to n moment.scene.session.levels) moment (record { between = h; are = refl })
+      (λ n low high. release_leads n moment.scene.session.levels moment (record { between = h; are = refl }) low high)
+  transaction_leads (transaction.RollbackTo name) moment h active =
+      at_savepoint_leads name moment.scene.session.levels (λ n. rolled_back_to n moment.scene.session.levels ++ start (Some name) false) moment (record { between = h; are = refl })
+      (λ n low high. back_leads name n moment.scene.session.levels moment (record { between = h; are = refl }) low high)
+
   -- each command in a transaction that isn't aborted, and each end in one that is
   pub unaborted_leads : (c : Command) (moment : Moment) → StandsBetweenLines moment.scene → (is_aborted moment.scene.session.levels && not (is_end c)) ≡ false
-      → Between (does_all w (unaborted c moment.scene.session) moment)
+      → Between (unaborted c moment.scene.session) moment
   unaborted_leads command.Nothing moment h active = between_nothing moment h
-  unaborted_leads command.Begin moment h active = then_ok_leads _ moment (begin_leads moment.scene.session.levels moment (record { between = h; are = refl }))
-  unaborted_leads command.Commit moment h active = then_ok_leads _ moment (commit_leads moment.scene.session.levels moment (record { between = h; are = refl }))
-  unaborted_leads command.Rollback moment h active = then_ok_leads _ moment (rollback_leads moment.scene.session.levels moment (record { between = h; are = refl }))
-  unaborted_leads (command.Savepoint name) moment h active =
-      then_ok_leads _ moment (save_leads name moment.scene.session.levels moment (record { between = h; are = refl }) (only_left (is_aborted moment.scene.session.levels) active))
-  unaborted_leads (command.Release name) moment h active =
-      then_ok_leads _ moment
-      (at_savepoint_leads name moment.scene.session.levels (λ n. committed_to n moment.scene.session.levels) moment (record { between = h; are = refl })
-      (λ n low high. release_leads n moment.scene.session.levels moment (record { between = h; are = refl }) low high))
-  unaborted_leads (command.RollbackTo name) moment h active =
-      then_ok_leads _ moment
-      (at_savepoint_leads name moment.scene.session.levels (λ n. rolled_back_to n moment.scene.session.levels ++ start (Some name) false) moment (record { between = h; are = refl })
-      (λ n low high. back_leads name n moment.scene.session.levels moment (record { between = h; are = refl }) low high))
-  unaborted_leads other moment h active =
-      work_between moment.scene.session.levels (work_of other moment.scene.session) moment (record { between = h; are = refl }) (only_left (is_aborted moment.scene.session.levels) active)
-      (λ ls working m k. work_leads w ls working other moment.scene.session tt m k)
+  unaborted_leads (command.Transaction c) moment h active = then_ok_leads _ moment (transaction_leads c moment h active)
+  unaborted_leads (command.Work c) moment h active =
+      work_between moment.scene.session.levels (work_of c moment.scene.session) moment (record { between = h; are = refl }) (only_left (is_aborted moment.scene.session.levels) active)
+      (λ ls working m k. work_runs w ls working c moment.scene.session m k)
 
-  pub command_leads : (c : Command) (moment : Moment) → StandsBetweenLines moment.scene → Between (does_all w (elements_of c moment.scene.session) moment)
+  pub command_leads : (c : Command) (moment : Moment) → StandsBetweenLines moment.scene → Between (elements_of c moment.scene.session) moment
   unfolding elements_of
   command_leads c moment h = go (is_aborted moment.scene.session.levels && not (is_end c)) refl
     where
       go : (b : Bool) → (is_aborted moment.scene.session.levels && not (is_end c)) ≡ b
-          → Between (does_all w (elim b as (λ _. List Element) [ true ↦ refused error.TransactionAborted | false ↦ unaborted c moment.scene.session ]) moment)
+          → Between (elim b as (λ _. List Element) [ true ↦ refused error.TransactionAborted | false ↦ unaborted c moment.scene.session ]) moment
       go true e = refused_leads StandsBetweenLines error.TransactionAborted moment h.stands
       go false e = unaborted_leads c moment h e
 
+  line_leads : (line : Option Command) (moment : Moment) → StandsBetweenLines moment.scene → Between (line_elements line moment.scene.session) moment
+  line_leads None moment h = refused_leads StandsBetweenLines error.SyntaxError moment h.stands
+  line_leads (Some c) moment h = command_leads c moment h
+
+  -- Each element of a line meets a scene that stands.
+  pub line_runs : (line : Option Command) (moment : Moment) → StandsBetweenLines moment.scene → IsRun Meets w (line_elements line moment.scene.session) moment
+  line_runs line moment h = let k : Between (line_elements line moment.scene.session) moment = line_leads line moment h in k.run
+
   -- A line leads from a session between two lines to one between two lines, whatever it says and whatever is refused.
   pub turn_stands : (line : Option Command) (moment : Moment) → StandsBetweenLines moment.scene → StandsBetweenLines (turn w line moment).moment.scene
-  turn_stands None moment h = turn_leads w None moment (refused_leads StandsBetweenLines error.SyntaxError moment h.stands)
-  turn_stands (Some c) moment h = turn_leads w (Some c) moment (command_leads c moment h)
+  turn_stands line moment h = turn_leads w line moment (line_leads line moment h)

@@ -6,6 +6,8 @@ use Rattle.pgs_step.specs.declared.errors.Error.TheVariants as error
 use Rattle.pgs_step.specs.declared.events.What.TheVariants as what
 use Rattle.pgs_command.specs.declared.commands.Command.{Command}
 use Rattle.pgs_command.specs.declared.commands.Command.TheVariants as command
+use Rattle.pgs_command.specs.declared.commands.TransactionCommand.{TransactionCommand}
+use Rattle.pgs_command.specs.declared.commands.TransactionCommand.TheVariants as transaction
 use Rattle.session_rules.specs.Elements as e
 use Rattle.session_rules.specs.State.{is_aborted, LevelState, SessionState}
 use Rattle.session_rules.specs.Elements.{Element, LevelContext, OfLevel, Text}
@@ -51,7 +53,7 @@ abbrev pub rollback : List LevelState → List Element
 rollback [] = e.Says what.NotInTransaction ∷ []
 rollback (level ∷ levels) = rolled_back_to 1 (level ∷ levels)
 
--- What a command other than those on transactions does: where there is no level, one is started for it alone.
+-- What is done within a transaction: where there is no level, one is started for it alone.
 abbrev pub in_transaction : List LevelState → List Element → List Element
 in_transaction [] work = start None true ++ (work ++ (e.CommitTop ∷ e.Says what.Ok ∷ []))
 in_transaction (level ∷ levels) work = work ++ (e.Says what.Ok ∷ [])
@@ -69,25 +71,33 @@ begin (level ∷ levels) = e.Says what.AlreadyInTransaction ∷ []
 abbrev pub then_ok : List Element → List Element
 then_ok elements = elements ++ (e.Says what.Ok ∷ [])
 
+-- what begins and ends transactions and savepoints, where the deepest level is not aborted
+abbrev pub transaction_of : TransactionCommand → List LevelState → List Element
+transaction_of transaction.Begin levels = begin levels
+transaction_of transaction.Commit levels = commit levels
+transaction_of transaction.Rollback levels = rollback levels
+transaction_of (transaction.Savepoint name) levels = save name levels
+transaction_of (transaction.Release name) levels = at_savepoint name levels (λ n. committed_to n levels)
+transaction_of (transaction.RollbackTo name) levels = at_savepoint name levels (λ n. rolled_back_to n levels ++ start (Some name) false)
+
 -- the elements of a command where the deepest level is not aborted
 abbrev pub unaborted : Command → SessionState → List Element
 unaborted command.Nothing session = []
-unaborted command.Begin session = then_ok (begin session.levels)
-unaborted command.Commit session = then_ok (commit session.levels)
-unaborted command.Rollback session = then_ok (rollback session.levels)
-unaborted (command.Savepoint name) session = then_ok (save name session.levels)
-unaborted (command.Release name) session = then_ok (at_savepoint name session.levels (λ n. committed_to n session.levels))
-unaborted (command.RollbackTo name) session =
-    then_ok (at_savepoint name session.levels (λ n. rolled_back_to n session.levels ++ start (Some name) false))
-unaborted other session = in_transaction session.levels (work_of other session)
+unaborted (command.Transaction c) session = then_ok (transaction_of c session.levels)
+unaborted (command.Work w) session = in_transaction session.levels (work_of w session)
+
+-- whether what ends a transaction, or goes back to a savepoint, is done in an aborted one too
+abbrev pub ends_aborted : TransactionCommand → Bool
+ends_aborted transaction.Commit = true
+ends_aborted transaction.Rollback = true
+ends_aborted (transaction.RollbackTo name) = true
+ends_aborted other = false
 
 -- whether the command is done in an aborted transaction too
 abbrev pub is_end : Command → Bool
 is_end command.Nothing = true
-is_end command.Commit = true
-is_end command.Rollback = true
-is_end (command.RollbackTo name) = true
-is_end other = false
+is_end (command.Transaction c) = ends_aborted c
+is_end (command.Work w) = false
 
 -- The elements of a command. In an aborted transaction each but the ends is refused.
 unfoldable pub elements_of : Command → SessionState → List Element

@@ -21,4 +21,5 @@ pub mod Asked
 pub mod Modes
 pub mod Guarded
 pub mod Standing
+pub mod Ending
 pub mod HookCounts

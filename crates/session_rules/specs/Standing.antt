@@ -17,7 +17,8 @@ use Rattle.owner_core.specs.Sound.{IsSound}
 use Rattle.session_rules.specs.State.{LevelState, OpenPortal, StandingPlan, abort_context, cache_context, first_of, is_aborted, owner_of, plan_reference, portals_context, top_context}
 use Rattle.portal_store.specs.declared.portal.PortalState.TheVariants.{New, Failed}
 use Rattle.session_rules.specs.World.{Scene}
-use Rattle.session_rules.specs.Lookup.{plan_at}
+use Rattle.session_rules.specs.Elements.{Text}
+use Rattle.session_rules.specs.Lookup.{plan_at, portal_named}
 use Rattle.session_rules.specs.Portals.{is_ready}
 use Rattle.session_rules.specs.Making.{level_parent}
 use Rattle.session_rules.specs.Guarded.{AreGuarded, IsRooted}
@@ -80,6 +81,11 @@ pub record IsActive (level : LevelState) : Type 0 where
   pub made : IsMade level
   pub started : level.starting ≡ false
   pub unaborted : level.aborted ≡ false
+
+-- the steps of a command are taken in an active level
+abbrev pub IsWorking : List LevelState → Type 0
+IsWorking [] = ⊥
+IsWorking (level ∷ levels) = IsActive level
 
 -- a level that is not being started and was not begun for one command alone
 pub record IsOpen (level : LevelState) : Type 0 where
@@ -274,6 +280,10 @@ pub record Stands (scene : Scene) : Type 0 where
   pub portals : ArePortals scene.session.portals scene.session.levels scene.session.contexts scene.session.owners scene.session.current
   pub plans : ArePlans scene.session.plans scene.session.contexts scene.session.current (referred scene.session.owners)
   pub snapshots : AreStacked 1 (active_depth scene.session.levels) scene.session.snapshots
+
+-- the portal of a name, if any, is active in the deepest level
+abbrev pub IsFetched : Text → Scene → Type 0
+IsFetched name s = (p : OpenPortal) → portal_named name s.session.portals ≡ Some p → p.active ≡ length s.session.levels
 
 -- A session in its surroundings between two lines: besides, no level is being started, none was begun for one command alone, and
 -- each portal is at rest.

@@ -110,7 +110,7 @@ goes_on reads w (line ∷ lines) course = goes_on reads w lines (after_line read
 abbrev pub at_start : World → Course
 at_start world = record { world = world; events = []; performed = 0; wanted = false }
 
--- The course of a script. A program that performs only some of the commands reads the lines of all others as bad ones.
+-- the course of a script, whose lines are read in this way
 unfoldable pub course_by : Reading → Option ℕ → Options → List Kind → ShelfState → List (List ℕ) → Course
 course_by reads w options kinds shelf lines = goes_on reads w lines (at_start (opened options kinds shelf))
 

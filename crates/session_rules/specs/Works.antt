@@ -1,4 +1,4 @@
--- The checks and the steps of each command but those on transactions.
+-- What is done within a transaction: for each command a row, its checks and then its steps.
 use Rattle.std.specs.Prelude.{ℕ, zero, suc, ◌+◌, ◌==◌, true, false, List, [], ◌∷◌, ◌++◌, map, fold, length, Option, Some, None}
 use Rattle.std.specs.Option.{option_map_or}
 use Rattle.std.specs.List.{flat_map}
@@ -6,8 +6,24 @@ use Rattle.pgs_step.specs.declared.errors.Error.TheVariants as error
 use Rattle.pgs_step.specs.declared.events.What.TheVariants as what
 use Rattle.pgs_step.specs.declared.ids.KindId.{KindId}
 use Rattle.pgs_step.specs.declared.lock_modes.Mode.TheVariants.{AccessShareLock}
-use Rattle.pgs_command.specs.declared.commands.Command.{Command}
-use Rattle.pgs_command.specs.declared.commands.Command.TheVariants as command
+use Rattle.pgs_command.specs.declared.commands.Work.{Work}
+use Rattle.pgs_command.specs.declared.commands.Work.TheVariants as work
+use Rattle.pgs_command.specs.declared.commands.ContextCommand.{ContextCommand}
+use Rattle.pgs_command.specs.declared.commands.ContextCommand.TheVariants as context
+use Rattle.pgs_command.specs.declared.commands.ChunkCommand.{ChunkCommand}
+use Rattle.pgs_command.specs.declared.commands.ChunkCommand.TheVariants as chunk
+use Rattle.pgs_command.specs.declared.commands.ItemCommand.{ItemCommand}
+use Rattle.pgs_command.specs.declared.commands.ItemCommand.TheVariants as item
+use Rattle.pgs_command.specs.declared.commands.LockCommand.{LockCommand}
+use Rattle.pgs_command.specs.declared.commands.LockCommand.TheVariants as lock
+use Rattle.pgs_command.specs.declared.commands.SnapshotCommand.{SnapshotCommand}
+use Rattle.pgs_command.specs.declared.commands.SnapshotCommand.TheVariants as snapshot
+use Rattle.pgs_command.specs.declared.commands.PlanCommand.{PlanCommand}
+use Rattle.pgs_command.specs.declared.commands.PlanCommand.TheVariants as plan
+use Rattle.pgs_command.specs.declared.commands.PortalCommand.{PortalCommand}
+use Rattle.pgs_command.specs.declared.commands.PortalCommand.TheVariants as portal
+use Rattle.pgs_command.specs.declared.commands.TellCommand.{TellCommand}
+use Rattle.pgs_command.specs.declared.commands.TellCommand.TheVariants as tell
 use Rattle.pgs_command.specs.declared.kinds.ContextKind.{ContextKind}
 use Rattle.pgs_command.specs.declared.kinds.ContextKind.TheVariants as script
 use Rattle.pgs_command.specs.Kinds.{class_kind}
@@ -18,7 +34,7 @@ use Rattle.exec_core.specs.declared.steps.ScanStep.{ScanStep}
 use Rattle.exec_core.specs.declared.steps.ScanStep.TheVariants as step
 use Rattle.exec_core.specs.Turn.{turn, taken}
 use Rattle.session_rules.specs.Elements as e
-use Rattle.session_rules.specs.State.{SessionState, buffer_pin, file_kind, plan_reference, relcache_reference, snapshot_reference}
+use Rattle.session_rules.specs.State.{OpenPortal, SessionState, buffer_pin, file_kind, plan_reference, relcache_reference, snapshot_reference}
 use Rattle.session_rules.specs.Elements.{Check, Element, InCurrent, InPortal, InRow, OfLevel, OfPortal, OwnerRole, PortalContext, RowContext, ScriptContext, Text}
 use Rattle.session_rules.specs.Lookup.{portal_named}
 
@@ -29,44 +45,6 @@ kind_of script.Small = kind.Small
 kind_of (script.Slab size) = kind.Slab size
 kind_of script.Generation = kind.Generation
 kind_of script.Bump = kind.Bump
-
--- the checks of a command, in order
-abbrev pub checks_of : Command → List Check
-checks_of command.Raise = e.Refuse error.Raised ∷ []
-checks_of (command.Context name parent kind) = e.ContextIsNew name ∷ e.IsContext parent ∷ []
-checks_of (command.Switch name) = e.IsContext name ∷ []
-checks_of (command.OnReset name) = e.IsContext name ∷ []
-checks_of (command.Reset name) = e.IsContext name ∷ e.MayReset name ∷ []
-checks_of (command.ResetOnly name) = e.IsContext name ∷ e.MayResetOnly name ∷ []
-checks_of (command.Delete name) = e.IsContext name ∷ e.MayDelete name ∷ []
-checks_of (command.DeleteChildren name) = e.IsContext name ∷ e.MayReset name ∷ []
-checks_of (command.Reparent name parent) = e.IsContext name ∷ e.IsContext parent ∷ e.MayMove name parent ∷ []
-checks_of (command.Alloc chunk size) = e.ChunkIsNew chunk ∷ []
-checks_of (command.AllocZeroed chunk size) = e.ChunkIsNew chunk ∷ []
-checks_of (command.Realloc chunk size) = e.IsChunk chunk ∷ []
-checks_of (command.Free chunk) = e.MayFree chunk ∷ []
-checks_of (command.Put chunk at bytes) = e.MayPut chunk at (length bytes) ∷ []
-checks_of (command.Show chunk at length) = e.MayShow chunk at length ∷ []
-checks_of (command.Pin buffer) = e.IsBuffer buffer ∷ []
-checks_of (command.Unpin buffer) = e.Holds buffer_pin buffer ∷ []
-checks_of (command.Buffer buffer) = e.IsBuffer buffer ∷ []
-checks_of (command.Open file) = e.FileIsNew file ∷ []
-checks_of (command.Touch file) = e.IsFile file ∷ []
-checks_of (command.Close file) = e.Holds file_kind file ∷ []
-checks_of (command.Unlock object mode) = e.HoldsLock object mode ∷ []
-checks_of (command.Unreference class key) = e.Holds (class_kind class) key ∷ []
-checks_of (command.Acquire kind key) = e.IsKind kind ∷ []
-checks_of (command.Drop kind key) = e.IsKind kind ∷ e.HoldsNamed kind key ∷ []
-checks_of (command.Unsnapshot snapshot) = e.Holds snapshot_reference snapshot ∷ []
-checks_of command.Pop = e.HoldsSnapshot ∷ []
-checks_of (command.Plan plan) = e.PlanIsNew plan ∷ []
-checks_of (command.PlanReference plan) = e.IsPlan plan ∷ []
-checks_of (command.PlanUnreference plan) = e.Holds plan_reference plan ∷ []
-checks_of (command.PlanDrop plan) = e.IsPlan plan ∷ []
-checks_of (command.Portal name object rows bad) = e.PortalIsNew name ∷ []
-checks_of (command.Fetch name count) = e.IsPortal name ∷ e.HasNotFailed name ∷ []
-checks_of (command.EndPortal name) = e.IsPortal name ∷ []
-checks_of other = []
 
 -- an owner gets room for an item, and takes it
 abbrev pub takes : OwnerRole → KindId → ℕ → List Element
@@ -105,50 +83,88 @@ fetch_steps name (suc count) scan rows =
       | false ↦ fetch_steps name count (after_turn scan) (rows + 1)
     ])
 
--- the steps of a command, in order
-abbrev pub steps_of : Command → SessionState → List Element
-steps_of (command.Context name parent kind) session = e.MakeContext (ScriptContext name parent (kind_of kind)) ∷ []
-steps_of (command.Switch name) session = e.Switch name ∷ []
-steps_of (command.OnReset name) session = e.Register name ∷ []
-steps_of (command.Reset name) session = e.Reset name ∷ []
-steps_of (command.ResetOnly name) session = e.ResetOnly name ∷ []
-steps_of (command.Delete name) session = e.Delete name ∷ []
-steps_of (command.DeleteChildren name) session = e.DeleteChildren name ∷ []
-steps_of (command.Reparent name parent) session = e.Reparent name parent ∷ []
-steps_of (command.Alloc chunk size) session = e.Alloc InCurrent (Some chunk) size false ∷ []
-steps_of (command.AllocZeroed chunk size) session = e.Alloc InCurrent (Some chunk) size true ∷ []
-steps_of (command.Realloc chunk size) session = e.Realloc chunk size ∷ []
-steps_of (command.Free chunk) session = e.FreeChunk chunk ∷ []
-steps_of (command.Put chunk at bytes) session = e.Put chunk at bytes ∷ []
-steps_of (command.Show chunk at length) session = e.Show chunk at length ∷ []
-steps_of command.Report session = e.Report ∷ []
-steps_of command.Stat session = e.Stat ∷ []
-steps_of (command.Pin buffer) session = takes OfLevel buffer_pin buffer
-steps_of (command.Unpin buffer) session = e.GiveBack buffer_pin buffer ∷ []
-steps_of (command.Buffer buffer) session = e.TellBuffer buffer ∷ []
-steps_of (command.Open file) session = takes OfLevel file_kind file
-steps_of (command.Touch file) session = e.Touch file ∷ []
-steps_of (command.Close file) session = e.GiveBack file_kind file ∷ []
-steps_of (command.Lock object mode) session = e.TakeLock OfLevel object mode ∷ []
-steps_of (command.Unlock object mode) session = e.Unlock object mode ∷ []
-steps_of (command.Reference class key) session = takes OfLevel (class_kind class) key
-steps_of (command.Unreference class key) session = e.GiveBack (class_kind class) key ∷ []
-steps_of (command.Acquire kind key) session = e.Enlarge OfLevel ∷ e.TakeNamed kind key ∷ []
-steps_of (command.Drop kind key) session = e.GiveBackNamed kind key ∷ []
-steps_of (command.Snapshot snapshot) session = takes OfLevel snapshot_reference snapshot
-steps_of (command.Unsnapshot snapshot) session = e.GiveBack snapshot_reference snapshot ∷ []
-steps_of (command.Push snapshot) session = e.PushSnapshot snapshot ∷ []
-steps_of command.Pop session = e.PopSnapshot ∷ []
-steps_of (command.Plan plan) session = e.MakePlan plan ∷ []
-steps_of (command.PlanReference plan) session = takes OfLevel plan_reference plan
-steps_of (command.PlanUnreference plan) session = e.GiveBack plan_reference plan ∷ []
-steps_of (command.PlanDrop plan) session = e.DropPlan plan ∷ []
-steps_of (command.Portal name object rows bad) session = portal_steps name object rows bad
-steps_of (command.Fetch name count) session =
-    e.FetchBegins name ∷ option_map_or (λ portal. fetch_steps name count portal.scan 0) (portal_named name session.portals) []
-steps_of (command.EndPortal name) session = e.EndPortal name ∷ []
-steps_of other session = []
+-- A row of the rules: what a command checks, in order, and the steps that it takes then.
+pub record Row : Type 0 where
+  pub checks : List Check
+  pub steps : List Element
 
--- the checks and then the steps of a command other than those on transactions
-abbrev pub work_of : Command → SessionState → List Element
-work_of command session = map e.Checks (checks_of command) ++ steps_of command session
+abbrev pub row : List Check → List Element → Row
+row checks steps = record { checks = checks; steps = steps }
+
+-- the elements of a row
+abbrev pub elements : Row → List Element
+elements r = map e.Checks r.checks ++ r.steps
+
+abbrev pub context_row : ContextCommand → Row
+context_row (context.Create name parent kind) = row (e.ContextIsNew name ∷ e.IsContext parent ∷ []) (e.MakeContext (ScriptContext name parent (kind_of kind)) ∷ [])
+context_row (context.Switch name) = row (e.IsContext name ∷ []) (e.Switch name ∷ [])
+context_row (context.OnReset name) = row (e.IsContext name ∷ []) (e.Register name ∷ [])
+context_row (context.Reset name) = row (e.IsContext name ∷ e.MayReset name ∷ []) (e.Reset name ∷ [])
+context_row (context.ResetOnly name) = row (e.IsContext name ∷ e.MayResetOnly name ∷ []) (e.ResetOnly name ∷ [])
+context_row (context.Delete name) = row (e.IsContext name ∷ e.MayDelete name ∷ []) (e.Delete name ∷ [])
+context_row (context.DeleteChildren name) = row (e.IsContext name ∷ e.MayReset name ∷ []) (e.DeleteChildren name ∷ [])
+context_row (context.Reparent name parent) = row (e.IsContext name ∷ e.IsContext parent ∷ e.MayMove name parent ∷ []) (e.Reparent name parent ∷ [])
+
+abbrev pub chunk_row : ChunkCommand → Row
+chunk_row (chunk.Alloc name size) = row (e.ChunkIsNew name ∷ []) (e.Alloc InCurrent (Some name) size false ∷ [])
+chunk_row (chunk.AllocZeroed name size) = row (e.ChunkIsNew name ∷ []) (e.Alloc InCurrent (Some name) size true ∷ [])
+chunk_row (chunk.Realloc name size) = row (e.IsChunk name ∷ []) (e.Realloc name size ∷ [])
+chunk_row (chunk.Free name) = row (e.MayFree name ∷ []) (e.FreeChunk name ∷ [])
+chunk_row (chunk.Put name at bytes) = row (e.MayPut name at (length bytes) ∷ []) (e.Put name at bytes ∷ [])
+chunk_row (chunk.Show name at count) = row (e.MayShow name at count ∷ []) (e.Show name at count ∷ [])
+
+abbrev pub item_row : ItemCommand → Row
+item_row (item.Pin buffer) = row (e.IsBuffer buffer ∷ []) (takes OfLevel buffer_pin buffer)
+item_row (item.Unpin buffer) = row (e.Holds buffer_pin buffer ∷ []) (e.GiveBack buffer_pin buffer ∷ [])
+item_row (item.Open file) = row (e.FileIsNew file ∷ []) (takes OfLevel file_kind file)
+item_row (item.Touch file) = row (e.IsFile file ∷ []) (e.Touch file ∷ [])
+item_row (item.Close file) = row (e.Holds file_kind file ∷ []) (e.GiveBack file_kind file ∷ [])
+item_row (item.Reference class key) = row [] (takes OfLevel (class_kind class) key)
+item_row (item.Unreference class key) = row (e.Holds (class_kind class) key ∷ []) (e.GiveBack (class_kind class) key ∷ [])
+item_row (item.Acquire kind key) = row (e.IsKind kind ∷ []) (e.Enlarge OfLevel ∷ e.TakeNamed kind key ∷ [])
+item_row (item.Drop kind key) = row (e.IsKind kind ∷ e.HoldsNamed kind key ∷ []) (e.GiveBackNamed kind key ∷ [])
+item_row (item.Snapshot key) = row [] (takes OfLevel snapshot_reference key)
+item_row (item.Unsnapshot key) = row (e.Holds snapshot_reference key ∷ []) (e.GiveBack snapshot_reference key ∷ [])
+
+abbrev pub lock_row : LockCommand → Row
+lock_row (lock.Lock object mode) = row [] (e.TakeLock OfLevel object mode ∷ [])
+lock_row (lock.Unlock object mode) = row (e.HoldsLock object mode ∷ []) (e.Unlock object mode ∷ [])
+
+abbrev pub snapshot_row : SnapshotCommand → Row
+snapshot_row (snapshot.Push key) = row [] (e.PushSnapshot key ∷ [])
+snapshot_row snapshot.Pop = row (e.HoldsSnapshot ∷ []) (e.PopSnapshot ∷ [])
+
+abbrev pub plan_row : PlanCommand → Row
+plan_row (plan.Create number) = row (e.PlanIsNew number ∷ []) (e.MakePlan number ∷ [])
+plan_row (plan.Reference number) = row (e.IsPlan number ∷ []) (takes OfLevel plan_reference number)
+plan_row (plan.Unreference number) = row (e.Holds plan_reference number ∷ []) (e.GiveBack plan_reference number ∷ [])
+plan_row (plan.Drop number) = row (e.IsPlan number ∷ []) (e.DropPlan number ∷ [])
+
+-- what a fetch does depends on where the scan of its portal stands
+abbrev pub portal_row : PortalCommand → List OpenPortal → Row
+portal_row (portal.Open name object rows bad) portals = row (e.PortalIsNew name ∷ []) (portal_steps name object rows bad)
+portal_row (portal.Fetch name count) portals =
+    row (e.IsPortal name ∷ e.HasNotFailed name ∷ [])
+    (e.FetchBegins name ∷ option_map_or (λ p. fetch_steps name count p.scan 0) (portal_named name portals) [])
+portal_row (portal.End name) portals = row (e.IsPortal name ∷ []) (e.EndPortal name ∷ [])
+
+abbrev pub tell_row : TellCommand → Row
+tell_row tell.Report = row [] (e.Report ∷ [])
+tell_row tell.Stat = row [] (e.Stat ∷ [])
+tell_row (tell.Buffer buffer) = row (e.IsBuffer buffer ∷ []) (e.TellBuffer buffer ∷ [])
+
+-- the row of what is done within a transaction
+abbrev pub row_of : Work → List OpenPortal → Row
+row_of work.Raise portals = row (e.Refuse error.Raised ∷ []) []
+row_of (work.Contexts c) portals = context_row c
+row_of (work.Chunks c) portals = chunk_row c
+row_of (work.Items c) portals = item_row c
+row_of (work.Locks c) portals = lock_row c
+row_of (work.Snapshots c) portals = snapshot_row c
+row_of (work.Plans c) portals = plan_row c
+row_of (work.Portals c) portals = portal_row c portals
+row_of (work.Tells c) portals = tell_row c
+
+-- what is done within a transaction: the checks, and then the steps
+abbrev pub work_of : Work → SessionState → List Element
+work_of w session = elements (row_of w session.portals)
