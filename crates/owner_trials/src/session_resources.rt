@@ -4,7 +4,7 @@ ghost use Rattle.std.specs.Option.{option_map};
 ghost use Rattle.forest.specs.Forest.{Empty, parent_of};
 ghost use Rattle.session_owners.specs.ResourceState.{owners_of, AllAt, HoldsNothing, IsLive, created};
 ghost use Rattle.session_owners.specs.Commons.{Serves};
-ghost use Rattle.session_tables.specs.Placing.{PlansFit};
+ghost use Rattle.session_owners.specs.Placing.{PlansFit};
 ghost use Rattle.plan_store.specs.Plans.{is_usable};
 
 use owner_core::OwnerError;

@@ -1,6 +1,6 @@
 //! Pins of two sessions. What a session says of its plans is in session_trials.
 use pin_table::SharedPins;
-use session_tables::Tables;
+use session_owners::Tables;
 use std::test::Fail;
 
 #[test]

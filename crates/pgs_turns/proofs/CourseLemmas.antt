@@ -7,7 +7,7 @@ use Rattle.session_rules.specs.Calls.{IsLater}
 use Rattle.session_rules.specs.State.{SessionState}
 use Rattle.session_rules.specs.Transcript.{Course, after_line, after_read, course_by, goes_on}
 use Rattle.session_rules.specs.World.{World, opened}
-use Rattle.session_items.specs.Answers.{Fits}
+use Rattle.session_commands.specs.Answers.{Fits}
 use Rattle.pgs_command.specs.Lines.{read_line}
 use Rattle.pgs_turns.specs.Script.{said_in}
 use Rattle.pgs_turns.specs.Transcript.{Setting, course_of}

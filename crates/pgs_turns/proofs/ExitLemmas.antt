@@ -27,11 +27,11 @@ use Rattle.session_rules.proofs.EndsStand.{exited_stands}
 use Rattle.session_owners.specs.ResourceState.{owners_of}
 use Rattle.session_store.specs.State.{StoreState, session_of}
 use Rattle.session_store.specs.Calls.{StaysBeside}
-use Rattle.session_items.specs.declared.calls.Calls.{Calls}
+use Rattle.session_commands.specs.declared.calls.Calls.{Calls}
 use Rattle.session_core.specs.Lines.{IsBetweenLines}
 use Rattle.session_core.specs.Ended.{Ends}
-use Rattle.session_items.specs.Performed.{scene_in}
-use Rattle.session_items.proofs.Standing.{empty_around}
+use Rattle.session_commands.specs.Performed.{scene_in}
+use Rattle.session_commands.proofs.Standing.{empty_around}
 use Rattle.pgs_turns.specs.World.{AreStanding, HaveDescriptors, IsOpening, Run, SameRun, one_of, sessions_in, world_in}
 use Rattle.pgs_turns.specs.Hooks.{TellHooks}
 use Rattle.pgs_turns.specs.Turns.{AllExit}

@@ -16,7 +16,7 @@ use Rattle.session_rules.specs.Does.{does_all}
 use Rattle.session_rules.specs.Transcript.{Course, Turn, after_command, after_turn, turn, turn_of}
 use Rattle.session_rules.specs.Asked.{asked_all, asked_by_command, asked_by_turn}
 use Rattle.session_store.specs.State.{StoreState, session_of}
-use Rattle.session_items.specs.Answers.{Fits}
+use Rattle.session_commands.specs.Answers.{Fits}
 use Rattle.pgs_turns.specs.declared.lines.Said.{Said}
 use Rattle.pgs_turns.specs.Script.{said_in}
 use Rattle.pgs_turns.specs.World.{HaveDescriptors, Run, world_in}

@@ -13,3 +13,8 @@ pub mod StartLemmas
 pub mod TakenLemmas
 pub mod ToldHooks
 pub mod TurnLemmas
+pub mod WordLemmas
+pub mod LineLemmas
+pub mod MadeLemmas
+pub mod ToldLemmas
+pub mod MadeTurns

@@ -6,8 +6,8 @@ use Rattle.session_rules.specs.Ends.{exited}
 use Rattle.session_rules.specs.State.{SessionState}
 use Rattle.session_rules.specs.Transcript.{Course, after_exit, ended, exits, transcript_by}
 use Rattle.session_rules.specs.World.{World, around, opened}
-use Rattle.session_items.specs.Answers.{Fits}
-use Rattle.session_items.specs.declared.calls.Calls.{Calls}
+use Rattle.session_commands.specs.Answers.{Fits}
+use Rattle.session_commands.specs.declared.calls.Calls.{Calls}
 use Rattle.pgs_turns.specs.Transcript.{Setting, course_of, kinds_after, shelf_after, transcript, EndsAt}
 use Rattle.pgs_turns.specs.World.{HaveDescriptors, IsOpening, Run, setting_of, world_in}
 use Rattle.pgs_turns.specs.Hooks.{HooksAreTold, TellHooks}

@@ -6,7 +6,7 @@ use Rattle.session_rules.specs.State.{SessionState, opening}
 use Rattle.session_store.specs.State.{StoreState, session_of}
 use Rattle.pgs_command.specs.Lines.{read_line}
 use Rattle.pgs_turns.specs.Script.{said_in}
-use Rattle.session_items.specs.Performed.{most_steps}
+use Rattle.session_commands.specs.Performed.{most_steps}
 use Rattle.pgs_turns.specs.World.{HaveDescriptors, IsOpening, Run, setting_of}
 use Rattle.pgs_turns.specs.Turns.{HaveRoom, IsWithin, TakesTurn}
 use Rattle.pgs_turns.specs.Courses.{HasPerformed}

@@ -30,7 +30,7 @@ use Rattle.session_rules.proofs.OpeningStands.{opening_stands}
 use Rattle.session_store.specs.State.{StoreState, session_of}
 use Rattle.session_store.specs.Calls.{Keeps, StaysBeside}
 use Rattle.session_core.specs.Lines.{IsBetweenLines}
-use Rattle.session_items.specs.Performed.{scene_in}
+use Rattle.session_commands.specs.Performed.{scene_in}
 use Rattle.session_core.proofs.Opened.{opened_lines}
 pub use Rattle.session_core.proofs.Opened.{none_held}
 use Rattle.pgs_turns.specs.World.{AreStanding, HaveDescriptors, HooksFit, IsHeld, IsOpening, KindsFit, LocksFit, PinsFit, Run, SameRun, all_waiting, held_by_all, one_of, options_in, sessions_in, world_in}

@@ -11,7 +11,7 @@ use Rattle.session_rules.specs.State.{opening}
 use Rattle.session_store.specs.State.{StoreState}
 use Rattle.reset_callbacks.specs.ShelfState.{ShelfState}
 use Rattle.session_owners.specs.Commons.{CommonState}
-use Rattle.session_items.specs.declared.calls.Calls.{Calls}
+use Rattle.session_commands.specs.declared.calls.Calls.{Calls}
 use Rattle.pgs_turns.specs.Courses.{TakesInAll, TakesLines}
 use Rattle.pgs_turns.specs.Transcript.{Setting}
 use Rattle.pgs_turns.specs.World.{setting_of}

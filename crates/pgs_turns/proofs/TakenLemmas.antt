@@ -15,7 +15,7 @@ use Rattle.session_rules.specs.State.{SessionState}
 use Rattle.session_rules.specs.Transcript.{Course, after_command, after_line, after_read, at_start}
 use Rattle.session_rules.specs.World.{opened, session_at}
 use Rattle.session_rules.proofs.Asking.{asked_by_more, other_line, read_line_asks}
-use Rattle.session_items.specs.Answers.{Fits}
+use Rattle.session_commands.specs.Answers.{Fits}
 use Rattle.pgs_command.specs.Lines.{read_line}
 use Rattle.pgs_turns.specs.Script.{said_in}
 use Rattle.pgs_turns.specs.Transcript.{Setting, course_of}

@@ -23,11 +23,11 @@ use Rattle.session_rules.proofs.HookSums.{more_runs, none_run}
 use Rattle.session_rules.proofs.Standings.{stands_between_elsewhere}
 use Rattle.session_store.specs.State.{StoreState, session_of}
 use Rattle.session_store.specs.Calls.{StaysBeside}
-use Rattle.session_items.specs.Answers.{Fits}
+use Rattle.session_commands.specs.Answers.{Fits}
 use Rattle.session_core.specs.Lines.{IsBetweenLines}
-use Rattle.session_items.specs.Performed.{Takes, most_steps, scene_in}
+use Rattle.session_commands.specs.Performed.{Takes, most_steps, scene_in}
 use Rattle.session_core.specs.Turns.{Turned, moment_in}
-use Rattle.session_items.proofs.Standing.{empty_around, fitting, fitting_fits}
+use Rattle.session_commands.proofs.Standing.{empty_around, fitting, fitting_fits}
 use Rattle.pgs_turns.specs.declared.lines.Said.{Said}
 use Rattle.pgs_turns.specs.World.{AreStanding, HaveDescriptors, Run, one_of, sessions_in, world_in}
 use Rattle.pgs_turns.specs.Hooks.{TellHooks}

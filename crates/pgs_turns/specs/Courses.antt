@@ -5,8 +5,8 @@ use Rattle.pgs_step.specs.declared.events.Event.{Event}
 use Rattle.session_rules.specs.Asked.{asked_by, asked_in_all}
 use Rattle.session_rules.specs.Transcript.{Course, ended}
 use Rattle.session_rules.specs.World.{World, opened}
-use Rattle.session_items.specs.Answers.{Fits}
-use Rattle.session_items.specs.Performed.{most_steps}
+use Rattle.session_commands.specs.Answers.{Fits}
+use Rattle.session_commands.specs.Performed.{most_steps}
 use Rattle.pgs_command.specs.Lines.{read_line}
 use Rattle.pgs_turns.specs.Transcript.{Setting, course_of, kinds_after, shelf_after, transcript, EndsAt}
 use Rattle.pgs_turns.specs.World.{HaveDescriptors, Run, SameRun, setting_of, world_in, AreKept}

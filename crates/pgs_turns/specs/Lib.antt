@@ -5,3 +5,7 @@ pub mod World
 pub mod Hooks
 pub mod Turns
 pub mod Courses
+pub mod Counting
+pub mod Summary
+pub mod Made
+pub mod Generating

@@ -9,8 +9,8 @@ use Rattle.session_rules.specs.Transcript.{Course, after_command, ended}
 use Rattle.session_rules.specs.Asked.{asked_by_command}
 use Rattle.session_store.specs.State.{StoreState, session_of}
 use Rattle.session_store.specs.Calls.{Keeps, StaysBeside}
-pub use Rattle.session_items.specs.Answers.{Fits}
-use Rattle.session_items.specs.Performed.{HasRoom, most_steps}
+pub use Rattle.session_commands.specs.Answers.{Fits}
+use Rattle.session_commands.specs.Performed.{HasRoom, most_steps}
 use Rattle.pgs_turns.specs.declared.lines.Said.{Said}
 use Rattle.pgs_turns.specs.World.{HaveDescriptors, Run, SameRun, all_waiting, held_by_all, one_of, sessions_in, world_in}
 use Rattle.pgs_turns.specs.Hooks.{TellHooks}

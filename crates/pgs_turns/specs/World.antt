@@ -21,10 +21,10 @@ use Rattle.session_owners.specs.Commons.{CommonState, pinned_once}
 use Rattle.session_owners.specs.ResourceState.{locks_of, owners_of}
 use Rattle.session_store.specs.State.{StoreState, session_of}
 use Rattle.session_store.specs.Calls.{Keeps, StaysBeside}
-use Rattle.session_items.specs.declared.calls.Calls.{Calls}
-use Rattle.session_items.specs.declared.shared.Shared.{Shared}
+use Rattle.session_commands.specs.declared.calls.Calls.{Calls}
+use Rattle.session_commands.specs.declared.shared.Shared.{Shared}
 use Rattle.session_core.specs.Lines.{IsBetweenLines}
-use Rattle.session_items.specs.Performed.{Now}
+use Rattle.session_commands.specs.Performed.{Now}
 use Rattle.pgs_turns.specs.Transcript.{Setting}
 
 -- where a run stands: the stores of its sessions, session n at place n - 1, and what they share

@@ -12,9 +12,9 @@ use Rattle.pgs_turns.specs.Transcript.{Setting, course_of, kinds_after, shelf_af
 use Rattle.pgs_turns.specs.World.{Run, setting_of}
 use Rattle.pgs_turns.proofs.CourseLemmas.{course_of-stopped}
 use Rattle.pgs_turns.proofs.OverLemmas.{kinds-stopped, shelf-stopped, transcript-stopped}
-use Rattle.pgs_generator.specs.Generating.{Tells, text_for}
-use Rattle.pgs_generator.specs.Summary.{generated_by}
-use Rattle.pgs_generator.proofs.ToldLemmas.{all_lines, few_lines, told_whole}
+use Rattle.pgs_turns.specs.Generating.{Tells, text_for}
+use Rattle.pgs_turns.specs.Summary.{generated_by}
+use Rattle.pgs_turns.proofs.ToldLemmas.{all_lines, few_lines, told_whole}
 use Rattle.pgs_world.specs.declared.program.Outcome.{Outcome}
 use Rattle.pgs_world.specs.Ending.{generated_outcome, generated_status}
 use Rattle.pgs_world.specs.Generated.{IsGenerated, IsMade, IsStopped, IsTranscript, IsUntold}

@@ -4,3 +4,7 @@ pub mod GeneratedLemmas
 pub mod HalfLines
 pub mod LoopLemmas
 pub mod StartedLemmas
+pub mod Parts
+pub mod Reading
+pub mod Numbers
+pub mod Rows

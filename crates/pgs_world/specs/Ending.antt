@@ -3,7 +3,7 @@ use Rattle.std.specs.Prelude.{ℕ, ◌≡◌, ◌⊎◌, Bool, nat_lt, if◌then
 use Rattle.pgs_world.specs.declared.performing.End.{End}
 use Rattle.pgs_world.specs.declared.performing.End.TheVariants as end
 use Rattle.pgs_world.specs.declared.performing.Ended.{Ended}
-use Rattle.pgs_generator.specs.declared.generating.Generated.{Generated}
+use Rattle.pgs_turns.specs.declared.generating.Generated.{Generated}
 use Rattle.pgs_world.specs.declared.program.Outcome.{Outcome}
 use Rattle.pgs_world.specs.Loop.{is_wanted}
 

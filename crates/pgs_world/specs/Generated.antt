@@ -8,7 +8,7 @@ use Rattle.session_rules.specs.Modes.{made_script, summary}
 use Rattle.session_rules.specs.Transcript.{ended, errors_in}
 use Rattle.pgs_turns.specs.Hooks.{HooksAreTold}
 use Rattle.pgs_turns.specs.Transcript.{Setting, course_of, kinds_after, shelf_after, transcript, EndsAt}
-use Rattle.pgs_generator.specs.Generating.{IsFront, text_for}
+use Rattle.pgs_turns.specs.Generating.{IsFront, text_for}
 use Rattle.pgs_world.specs.declared.program.Outcome.{Outcome}
 
 -- What the transcript of the script of so many rounds tells, where call w was refused for want of memory, if any: how many ERROR events there

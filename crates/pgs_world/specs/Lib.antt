@@ -7,3 +7,5 @@ pub mod Loop
 pub mod Ending
 pub mod Generated
 pub mod Plays
+pub mod Options
+pub mod Parts

@@ -5,8 +5,8 @@ use Rattle.pgs_io.specs.Lines.{lines_of, ended_lines}
 use Rattle.pgs_world.specs.declared.program.Outcome.{Outcome}
 use Rattle.owner_kinds.specs.Kind.{Kind}
 use Rattle.reset_callbacks.specs.ShelfState.{ShelfState}
-use Rattle.pgs_options.specs.Options.{options_of}
-use Rattle.pgs_options.specs.declared.options.Options.{Options}
+use Rattle.pgs_world.specs.Options.{options_of}
+use Rattle.pgs_world.specs.declared.options.Options.{Options}
 use Rattle.addr_space.specs.Space.{Space, taken}
 use Rattle.session_rules.specs.Transcript.{errors_in}
 use Rattle.pgs_turns.specs.Courses.{TakesInAll, TakesLines}

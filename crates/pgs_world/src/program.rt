@@ -7,8 +7,8 @@ ghost use Rattle.std.specs.Prelude.{string_bytes as string_text};
 ghost use Rattle.addr_space.specs.Space.{accounts, held, risen, taken};
 ghost use Rattle.reset_callbacks.specs.Hook.{AreDistinct};
 ghost use Rattle.reset_callbacks.specs.ShelfState as shelf_state;
-ghost use Rattle.pgs_options.specs.Options.{options_of};
-ghost use Rattle.pgs_options.specs.declared.options.Options.{Options as Asked};
+ghost use Rattle.pgs_world.specs.Options.{options_of};
+ghost use Rattle.pgs_world.specs.declared.options.Options.{Options as Asked};
 ghost use Rattle.owner_kinds.specs.KindShelf.{table_of};
 ghost use Rattle.owner_kinds.specs.KindTable.{IsSound};
 ghost use Rattle.pgs_turns.specs.Transcript.{names_of};
@@ -22,13 +22,14 @@ ghost use Rattle.pgs_turns.specs.Courses.{TakesInAll};
 
 use crate::performing::{End, Ended, perform_lines};
 use crate::printer::Printer;
+use crate::{Options, OptionsError, read_options};
 use addr_space::Space;
 use owner_kinds::{ExtKind, KindShelf};
-use pgs_generator::{Generated, generate};
 use pgs_io::{Sink, Source, put_all};
-use pgs_options::{Options, OptionsError, read_options};
 use pgs_step::Name;
-use pgs_turns::{Calls, Session, Shared, end_unheard, exit_all, start_sessions};
+use pgs_turns::{
+    Calls, Generated, Session, Shared, end_unheard, exit_all, generate, start_sessions,
+};
 use reset_callbacks::{ResetHook, Shelf};
 use session_owners::Commons;
 use std::alloc::{AllocError, Global};
@@ -66,7 +67,7 @@ const NOT_STARTED: Outcome = Outcome {
 /// to the sink. Where the words ask for rounds of the script that is made, it reads nothing, performs that
 /// script, and writes one line that tells how many lines, events, ERROR events and fallible calls there were.
 ///
-/// `words` are those of the command line, without the program's name; pgs_options reads them. The contexts of
+/// `words` are those of the command line, without the program's name; `read_options` reads them. The contexts of
 /// session n count for account n - 1 of the space, whose limit is set to what the words say. The hooks of all
 /// sessions come from the shelf, and each that ran is handed in there. `acquire` and `drop` find the kinds by their names; the first of
 /// them is kind 16 in the library's events.

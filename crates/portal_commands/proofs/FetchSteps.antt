@@ -31,23 +31,22 @@ use Rattle.session_rules.specs.Does.{does, does_all, then_done}
 use Rattle.session_rules.specs.Lookup.{memory_in, owner_in, portal_named}
 use Rattle.session_rules.specs.Parts.{at_portal, scan_part, scanned}
 use Rattle.session_rules.specs.Releases.{given_back, item_released}
-use Rattle.session_rules.specs.Standing.{Stands}
+use Rattle.session_rules.specs.Standing.{IsFetched, IsWorking, Stands}
 use Rattle.session_rules.specs.Works.{fallible_part}
 use Rattle.session_rules.proofs.PortalsStand.{Named, active_portal, named_changed, named_in, scan_portal}
-use Rattle.session_rules.proofs.PortalWorks.{Beside, IsFetched, becomes_fetched, beside_turns, check_beside, nothing_beside, owner_named, part_beside, portal_enlarges, portal_takes, row_allocates, then_beside}
-use Rattle.session_rules.proofs.StepsStand.{IsWorking}
+use Rattle.session_rules.proofs.PortalWorks.{Beside, becomes_fetched, beside_turns, check_beside, nothing_beside, owner_named, part_beside, portal_enlarges, portal_takes, row_allocates, then_beside}
 use Rattle.session_store.specs.Calls.{Acted, BothAlone, ContextsAlone, IsSilent, Keeps, PortalsAlone, Refused}
 use Rattle.session_store.specs.State.{StoreState, levels_of, portal_state, portals_of, session_of}
-use Rattle.session_items.specs.Answers.{at_calls, wants}
-use Rattle.session_items.specs.Deepest.{IsOwnerOf}
-use Rattle.session_items.specs.Performed.{IsBetweenSteps, Now, Performed, scene_in}
-use Rattle.session_items.specs.declared.calls.Calls.{Calls}
-use Rattle.session_items.proofs.Numbering.{item_keeps, numbers, there_keeps}
-use Rattle.session_items.proofs.Performing.{moves_nothing, performed_end, performed_none, same_scene_in}
-use Rattle.session_items.proofs.Commands.{fails}
-use Rattle.session_items.proofs.Numbering.{keeps_rises}
-use Rattle.session_items.proofs.Standing.{empty_around, fitting, fitting_fits}
-use Rattle.session_items.proofs.Stepping.{grown}
+use Rattle.session_commands.specs.Answers.{at_calls, wants}
+use Rattle.session_commands.specs.Deepest.{IsOwnerOf}
+use Rattle.session_commands.specs.Performed.{IsBetweenSteps, Now, Performed, scene_in}
+use Rattle.session_commands.specs.declared.calls.Calls.{Calls}
+use Rattle.session_commands.proofs.Numbering.{item_keeps, numbers, there_keeps}
+use Rattle.session_commands.proofs.Performing.{moves_nothing, performed_end, performed_none, same_scene_in}
+use Rattle.session_commands.proofs.Commands.{fails}
+use Rattle.session_commands.proofs.Numbering.{keeps_rises}
+use Rattle.session_commands.proofs.Standing.{empty_around, fitting, fitting_fits}
+use Rattle.session_commands.proofs.Stepping.{grown}
 use Rattle.portal_commands.proofs.Listed.{keeps_alone, named_as}
 use Rattle.portal_commands.proofs.Places.{at_same}
 use Rattle.portal_commands.proofs.TurnLists.{is_bad_step}
@@ -437,7 +436,7 @@ serves_as name x y a b P r is h = subst (λ (z : ScanStep). Performed (cost_of z
 
 -- a row that can't be made
 pub bad_performed : (name : Text) (row : ℕ) (a : Now) (P : List What → Type 0) → Keeps a.store a.space → P [] → Performed (cost_of (step.Bad row)) (fallible_part name (step.Bad row)) a a P (Some (error.BadRow row))
-bad_performed name row a P keeps silent = fails (element.Refuse (error.BadRow row)) [] a P (error.BadRow row) keeps silent refl (λ around. refl)
+bad_performed name row a P keeps silent = fails 0 (element.Refuse (error.BadRow row)) [] a P (error.BadRow row) keeps silent refl (λ around. refl)
 
 -- a step that needs nothing besides
 abbrev pub NeedsNothing : ScanStep → Type 0

@@ -23,10 +23,10 @@ use Rattle.session_store.specs.Calls.{Acted, ContextsAlone, IsSilent, Keeps, Ref
 use Rattle.session_owners.specs.Commons.{CommonState}
 use Rattle.reset_callbacks.specs.ShelfState.{ShelfState}
 use Rattle.session_owners.proofs.Balances.{balances_none}
-use Rattle.session_items.specs.Performed.{Now, Performed, scene_in}
-use Rattle.session_items.proofs.Commands.{tree_error_plain}
-use Rattle.session_items.proofs.Performing.{performed_made, performed_own, performed_step, same_scene_in}
-use Rattle.session_items.proofs.Stepping.{Rises, count_behind, grown, lent, memory_or_not, step_injected, step_wants, still_asks, still_keeps, still_moves, still_refused}
+use Rattle.session_commands.specs.Performed.{Now, Performed, scene_in}
+use Rattle.session_commands.proofs.Commands.{tree_error_plain}
+use Rattle.session_commands.proofs.Performing.{performed_made, performed_step, same_scene_in}
+use Rattle.session_commands.proofs.Stepping.{Rises, count_behind, grown, lent, still_injected, still_keeps, still_moves, still_refused, step_tree}
 
 module _ (role : MemoryRole) (bytes : ℕ) where
   abbrev own : Scene → Option Error
@@ -54,11 +54,9 @@ module _ (role : MemoryRole) (bytes : ℕ) where
       go (Some n) = record { contexts = omega arith; owners = omega arith; serials = omega arith; descriptors = refl }
 
   module _ (a b : Now) (P : List What → Type 0) (counted : b.calls ≡ record a.calls { count = a.calls.count + 1 }) where
-    pub memory_injected : b.space ≡ a.space → lent b ≡ lent a → Keeps a.store a.space → b.store ≡ a.store → P [] → (e : Error) → (e ≡ Injected (a.calls.count + 1)) × ((a.calls.count + 1 == a.calls.fail) ≡ true)
+    pub memory_injected : b.space ≡ a.space → Keeps a.store a.space → lent b ≡ lent a → P [] → b.store ≡ a.store → (e : Error) → (e ≡ Injected (a.calls.count + 1)) × ((a.calls.count + 1 == a.calls.fail) ≡ true)
         → Performed 1 (element.Alloc role None bytes false ∷ []) a b P (Some e)
-    memory_injected space shelf keeps store silent e told =
-        step_injected (element.Alloc role None bytes false) own takes does_alloc a b P counted (still_refused a b store space shelf) (still_keeps a b store space shelf keeps)
-        (still_moves a b store space shelf keeps) silent e told (still_asks a b store space shelf)
+    memory_injected = still_injected (element.Alloc role None bytes false) own takes does_alloc a b P counted
 
     -- in a context that is there
     module _ (goes : (a.calls.count + 1 == a.calls.fail) ≡ false) (n : ℕ) (is : memory_in role (session_of a.store a.space) ≡ Some n) where
@@ -83,20 +81,8 @@ module _ (role : MemoryRole) (bytes : ℕ) where
           → (e ≡ tree.Memory) ⊎ (alloc_refusal n (left_in a.store a.space) None bytes (contexts_in a.store a.space) ≡ Some e)
           → (e ≡ tree.Memory → t ≡ NoMemory b.calls.count) → (e ≢ tree.Memory → t ≡ tree_error e) → Performed 1 (element.Alloc role None bytes false ∷ []) a b P (Some t)
       memory_refused same silent alone space e t cause memory other =
-          elim (memory_or_not e) [
-            | inl m ↦
-                subst (λ (z : Error). Performed 1 (element.Alloc role None bytes false ∷ []) a b P (Some z)) (sym (memory m))
-                (step_wants (element.Alloc role None bytes false) own takes does_alloc a b P counted same alone.keeps alone.moves silent goes (0, ap (λ (s : Space). s.taken) space))
-            | inr k ↦
-                subst (λ (z : Error). Performed 1 (element.Alloc role None bytes false ∷ []) a b P (Some z)) (sym (other k))
-                (performed_own (element.Alloc role None bytes false) own takes does_alloc a b P counted same alone.keeps alone.moves (tree_error e) goes (tree_error_plain e) silent
-                (λ around. told_in around ∙ ap (option_map tree_error) (own_cause k cause)) (ap (λ (s : Space). s.taken) space))
-          ]
-        where
-          own_cause : e ≢ tree.Memory → (e ≡ tree.Memory) ⊎ (alloc_refusal n (left_in a.store a.space) None bytes (contexts_in a.store a.space) ≡ Some e)
-              → alloc_refusal n (left_in a.store a.space) None bytes (contexts_in a.store a.space) ≡ Some e
-          own_cause k (inl m) = absurd (k m)
-          own_cause k (inr c) = c
+          step_tree (element.Alloc role None bytes false) own takes does_alloc a b P counted same alone.keeps alone.moves silent goes
+          (alloc_refusal n (left_in a.store a.space) None bytes (contexts_in a.store a.space)) told_in 0 e t cause memory other (inl (ap (λ (s : Space). s.taken) space))
 
     -- where there is no such context the call counts, and nothing is taken
     pub memory_nowhere : (a.calls.count + 1 == a.calls.fail) ≡ false → memory_in role (session_of a.store a.space) ≡ None → b.space ≡ a.space → lent b ≡ lent a → Keeps a.store a.space → b.store ≡ a.store → P []

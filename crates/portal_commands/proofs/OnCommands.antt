@@ -5,8 +5,7 @@ use Rattle.std.specs.Borrow.{Bor}
 use Rattle.std.specs.Option.{option_copied, option_map, option_map_or}
 use Rattle.addr_space.specs.Space.{Asks}
 use Rattle.context_tree.specs.State.{Moves}
-use Rattle.pgs_command.specs.declared.commands.Command.{Command}
-use Rattle.pgs_command.specs.declared.commands.Command.TheVariants as command
+use Rattle.pgs_command.specs.declared.commands.PortalCommand.TheVariants as portal
 use Rattle.pgs_step.specs.declared.errors.Error.{Error}
 use Rattle.pgs_step.specs.declared.errors.Error.TheVariants as error
 use Rattle.pgs_step.specs.declared.events.What.{What}
@@ -15,7 +14,7 @@ use Rattle.portal_store.specs.declared.portal.Portal.{Portal}
 use Rattle.portal_store.specs.Portals as list
 use Rattle.portal_store.specs.declared.portal.PortalState.{PortalState}
 use Rattle.portal_store.specs.declared.portal.PortalState.TheVariants as ready
-use Rattle.session_rules.specs.State.{OpenPortal, SessionState, depth}
+use Rattle.session_rules.specs.State.{OpenPortal, depth}
 use Rattle.session_rules.specs.World.{Around, Moment}
 use Rattle.session_rules.specs.Acts.{portal_becomes, say}
 use Rattle.session_rules.specs.Calls.{unfailing}
@@ -26,25 +25,16 @@ use Rattle.session_rules.specs.Elements.{Element, Text}
 use Rattle.session_rules.specs.Lookup.{portal_named}
 use Rattle.session_rules.specs.Parts.{at_portal}
 use Rattle.session_rules.specs.Portals.{portal_ended}
-use Rattle.session_rules.specs.Works.{fetch_steps, portal_steps, work_of}
-use Rattle.session_rules.proofs.TurnStands as rules
+use Rattle.session_rules.specs.Works.{elements, fetch_steps, portal_row, portal_steps}
 use Rattle.session_store.specs.Calls.{Acted, Keeps}
-use Rattle.session_store.specs.State.{portal_state, session_of}
-use Rattle.session_items.specs.Performed.{Grows, Now, Performed, most_work, scene_in}
-use Rattle.session_items.proofs.Commands.{fails, passes}
-use Rattle.session_items.proofs.Performing.{grows_nothing, moves_nothing, performed_both, performed_end, performed_more}
+use Rattle.session_store.specs.State.{portal_state, portals_of, session_of}
+use Rattle.session_commands.specs.Performed.{Grows, Now, Performed, most_work, scene_in}
+use Rattle.session_commands.proofs.Commands.{fails, passes}
+use Rattle.session_commands.proofs.Performing.{grows_nothing, moves_nothing, performed_both, performed_end, performed_more}
 use Rattle.session_owners.proofs.Balances.{balances_none}
-use Rattle.portal_commands.proofs.Chains.{silent_then}
+use Rattle.session_commands.proofs.Chains.{silent_then}
 use Rattle.portal_commands.specs.Fetching.{scan_named}
 use Rattle.portal_commands.proofs.Listed.{named_as, none_named}
-use Rattle.portal_commands.specs.Works.{IsOnPortals}
-
--- the rules have lemmas on each of them
-pub is_work : (c : Command) → IsOnPortals c → rules.IsWork c
-is_work (command.Portal name object rows bad) h = tt
-is_work (command.Fetch name count) h = tt
-is_work (command.EndPortal name) h = tt
-is_work other h = absurd h
 
 -- no portal has the name, or one has
 module _ (name : Text) (a : Now) where
@@ -118,58 +108,58 @@ told event a P keeps said =
     (moves_nothing a.store.tree a.space keeps.agrees) (grows_nothing 0 a) refl (λ around. refl)
 
 -- `portal`
-module _ (name : Text) (object rows : ℕ) (bad : Option ℕ) (session : SessionState) (a : Now) (P : List What → Type 0) (keeps : Keeps a.store a.space) where
-  pub portal_taken : (p : Portal) → list.portal_named name a.store.portals ≡ Some p → P [] → Performed most_work (work_of (command.Portal name object rows bad) session) a a P (Some error.PortalTaken)
-  portal_taken p is silent = performed_more 0 most_work _ a a P (Some error.PortalTaken) (omega arith) (fails (element.PortalIsNew name) _ a P error.PortalTaken keeps silent refl (is_taken name a p is))
+module _ (name : Text) (object rows : ℕ) (bad : Option ℕ) (a : Now) (P : List What → Type 0) (keeps : Keeps a.store a.space) where
+  pub portal_taken : (p : Portal) → list.portal_named name a.store.portals ≡ Some p → P [] → Performed most_work (elements (portal_row (portal.Open name object rows bad) (portals_of a.store.portals))) a a P (Some error.PortalTaken)
+  portal_taken p is silent = fails most_work (element.PortalIsNew name) _ a P error.PortalTaken keeps silent refl (is_taken name a p is)
 
-  pub portal_opened : (b : Now) (r : Option Error) → list.portal_named name a.store.portals ≡ None → Performed 10 (portal_steps name object rows bad) a b P r → Performed most_work (work_of (command.Portal name object rows bad) session) a b P r
+  pub portal_opened : (b : Now) (r : Option Error) → list.portal_named name a.store.portals ≡ None → Performed 10 (portal_steps name object rows bad) a b P r → Performed most_work (elements (portal_row (portal.Open name object rows bad) (portals_of a.store.portals))) a b P r
   portal_opened b r none x = passes most_work (element.PortalIsNew name) (portal_steps name object rows bad) a b P r keeps (is_new name a none) (performed_more 10 most_work (portal_steps name object rows bad) a b P r (omega arith) x)
 
 -- `fetch`
 module _ (name : Text) (count : ℕ) (a : Now) (R : List What → Type 0) (keeps : Keeps a.store a.space) where
-  pub fetch_of_none : list.portal_named name a.store.portals ≡ None → R [] → Performed most_work (work_of (command.Fetch name count) (session_of a.store a.space)) a a R (Some error.NoSuchPortal)
+  pub fetch_of_none : list.portal_named name a.store.portals ≡ None → R [] → Performed most_work (elements (portal_row (portal.Fetch name count) (portals_of a.store.portals))) a a R (Some error.NoSuchPortal)
   fetch_of_none none silent =
-      performed_more 0 most_work _ a a R (Some error.NoSuchPortal) (omega arith) (fails (element.IsPortal name) _ a R error.NoSuchPortal keeps silent refl (is_missing name a none))
+      fails most_work (element.IsPortal name) _ a R error.NoSuchPortal keeps silent refl (is_missing name a none)
 
   module _ (p : Portal) (is : list.portal_named name a.store.portals ≡ Some p) where
-    pub fetch_of_failed : has_failed p.state ≡ true → R [] → Performed most_work (work_of (command.Fetch name count) (session_of a.store a.space)) a a R (Some error.PortalFailed)
+    pub fetch_of_failed : has_failed p.state ≡ true → R [] → Performed most_work (elements (portal_row (portal.Fetch name count) (portals_of a.store.portals))) a a R (Some error.PortalFailed)
     fetch_of_failed bad silent =
         passes most_work (element.IsPortal name) _ a a R (Some error.PortalFailed) keeps (is_there name a p is)
-        (performed_more 0 most_work _ a a R (Some error.PortalFailed) (omega arith) (fails (element.HasNotFailed name) _ a R error.PortalFailed keeps silent refl (has_gone_bad name a p is bad)))
+        (fails most_work (element.HasNotFailed name) _ a R error.PortalFailed keeps silent refl (has_gone_bad name a p is bad))
 
     -- its scan
     pub scan_of_it : scan_named name a.store ≡ Some p.scan
     scan_of_it = ap (option_map (λ (q : OpenPortal). q.scan)) (sym (named_as name a.store.portals) ∙ ap (option_map portal_state) is)
 
-    steps_are : option_map_or (λ (q : OpenPortal). fetch_steps name count q.scan 0) (portal_named name (session_of a.store a.space).portals) [] ≡ fetch_steps name count p.scan 0
-    unfolding session_of
+    steps_are : option_map_or (λ (q : OpenPortal). fetch_steps name count q.scan 0) (portal_named name (portals_of a.store.portals)) [] ≡ fetch_steps name count p.scan 0
     steps_are = ap (λ (o : Option OpenPortal). option_map_or (λ q. fetch_steps name count q.scan 0) o []) (sym (named_as name a.store.portals) ∙ ap (option_map portal_state) is)
 
     module _ (well : has_failed p.state ≡ false) (small : count ≤ 1000000) (b d : Now) (begun : Performed 0 (element.FetchBegins name ∷ []) a b (λ events. events ≡ []) None) where
-      fetch_by : (k : ℕ) (r : Option Error) → k ≤ most_work → Performed k (fetch_steps name count p.scan 0) b d R r → Performed most_work (work_of (command.Fetch name count) (session_of a.store a.space)) a d R r
+      fetch_by : (k : ℕ) (r : Option Error) → k ≤ most_work → Performed k (fetch_steps name count p.scan 0) b d R r → Performed most_work (elements (portal_row (portal.Fetch name count) (portals_of a.store.portals))) a d R r
       fetch_by k r le x =
           passes most_work (element.IsPortal name) _ a d R r keeps (is_there name a p is)
           (passes most_work (element.HasNotFailed name) _ a d R r keeps (may_be_fetched name a p is well)
           (performed_more (0 + k) most_work _ a d R r (omega (arith, le))
           (silent_then 0 k (element.FetchBegins name ∷ []) _ a b d R r begun (subst (λ (es : List Element). Performed k es b d R r) (sym steps_are) x))))
 
-      pub fetch_refused : (e : Error) → Performed (3 * count) (fetch_steps name count p.scan 0) b d R (Some e) → Performed most_work (work_of (command.Fetch name count) (session_of a.store a.space)) a d R (Some e)
+      pub fetch_refused : (e : Error) → Performed (3 * count) (fetch_steps name count p.scan 0) b d R (Some e) → Performed most_work (elements (portal_row (portal.Fetch name count) (portals_of a.store.portals))) a d R (Some e)
       fetch_refused e x = fetch_by (3 * count) (Some e) (omega (arith, small)) x
 
       pub fetch_done : (rows : ℕ) (Q S : List What → Type 0) (done : List Element) → fetch_steps name count p.scan 0 ≡ done ++ (element.Says (what.Fetched name rows) ∷ []) → Performed (3 * count) done b d Q None → Keeps d.store d.space
-          → S (what.Fetched name rows ∷ []) → ((us vs : List What) → Q us → S vs → R (us ++ vs)) → Performed most_work (work_of (command.Fetch name count) (session_of a.store a.space)) a d R None
+          → S (what.Fetched name rows ∷ []) → ((us vs : List What) → Q us → S vs → R (us ++ vs)) → Performed most_work (elements (portal_row (portal.Fetch name count) (portals_of a.store.portals))) a d R None
       fetch_done rows Q S done all x after said joins =
           fetch_by (3 * count + 0) None (omega (arith, small))
           (subst (λ (es : List Element). Performed (3 * count + 0) es b d R None) (sym all)
           (performed_both (3 * count) 0 done (element.Says (what.Fetched name rows) ∷ []) b d d Q S R None x (told (what.Fetched name rows) d S after said) joins))
 
 -- `endportal`
-module _ (name : Text) (session : SessionState) (a : Now) (P : List What → Type 0) (keeps : Keeps a.store a.space) where
-  pub end_of_none : list.portal_named name a.store.portals ≡ None → P [] → Performed 0 (work_of (command.EndPortal name) session) a a P (Some error.NoSuchPortal)
-  end_of_none none silent = fails (element.IsPortal name) _ a P error.NoSuchPortal keeps silent refl (is_missing name a none)
+module _ (name : Text) (a : Now) (P : List What → Type 0) (keeps : Keeps a.store a.space) where
+  pub end_of_none : list.portal_named name a.store.portals ≡ None → P [] → Performed most_work (elements (portal_row (portal.End name) (portals_of a.store.portals))) a a P (Some error.NoSuchPortal)
+  end_of_none none silent = fails most_work (element.IsPortal name) _ a P error.NoSuchPortal keeps silent refl (is_missing name a none)
 
   pub portal_ends : (b : Now) (p : Portal) → list.portal_named name a.store.portals ≡ Some p → Acted (at_portal name portal_ended) a.store b.store a.space b.space a.shelf b.shelf a.commons b.commons P → Keeps b.store b.space
-      → Moves a.store.tree b.store.tree a.space b.space → Grows 0 a b → b.calls ≡ a.calls → Asks a.store.tree.account 0 a.space b.space → Performed 0 (work_of (command.EndPortal name) session) a b P None
+      → Moves a.store.tree b.store.tree a.space b.space → Grows 0 a b → b.calls ≡ a.calls → Asks a.store.tree.account 0 a.space b.space → Performed most_work (elements (portal_row (portal.End name) (portals_of a.store.portals))) a b P None
   portal_ends b p is acted after moves grows calls asks =
-      passes 0 (element.IsPortal name) (element.EndPortal name ∷ []) a b P None keeps (is_there name a p is)
-      (performed_end 0 (element.EndPortal name) (at_portal name portal_ended) a b P (does_end name) acted after moves grows calls (λ around. asks))
+      passes most_work (element.IsPortal name) (element.EndPortal name ∷ []) a b P None keeps (is_there name a p is)
+      (performed_more 0 most_work _ a b P None (omega arith)
+      (performed_end 0 (element.EndPortal name) (at_portal name portal_ended) a b P (does_end name) acted after moves grows calls (λ around. asks)))

@@ -29,19 +29,19 @@ use Rattle.session_rules.specs.Elements.{Element, InPortal, OfPortal, PortalCont
 use Rattle.session_rules.specs.Does.{does, does_all}
 use Rattle.session_rules.specs.Lookup.{portal_named}
 use Rattle.session_rules.specs.Making.{context_made, new_context_made, new_owner_made, portal_made}
-use Rattle.session_rules.specs.Standing.{IsItem, Stands}
+use Rattle.session_rules.specs.Standing.{IsItem, IsWorking, Stands}
 use Rattle.session_rules.specs.Releases.{NoOne, ThePlans, keeper_of}
 use Rattle.session_rules.specs.Works.{takes}
 use Rattle.session_rules.proofs.LevelsKept.{is_there}
 use Rattle.session_rules.proofs.PortalsStand.{context_portal, made_portal, named_changed, named_in, owner_portal, row_portal}
 use Rattle.session_rules.proofs.PortalWorks.{Beside, owner_named, portal_allocates, portal_enlarges, portal_locks, portal_takes}
-use Rattle.session_rules.proofs.StepsStand.{IsWorking, below_limit}
+use Rattle.session_rules.proofs.StepsStand.{below_limit}
 use Rattle.session_rules.proofs.TurnStands.{Leads, fallible_leads, leads_nowhere, leads_on, no_value_of}
 use Rattle.session_store.specs.State.{StoreState, levels_of, portal_state, portals_of, session_of}
-use Rattle.session_items.specs.Deepest.{IsOwnerOf}
-use Rattle.session_items.specs.Answers.{at_calls}
-use Rattle.session_items.specs.Performed.{IsBetweenSteps, Now, Performed, scene_in}
-use Rattle.session_items.proofs.Standing.{empty_around, known_behind, stands_behind}
+use Rattle.session_commands.specs.Deepest.{IsOwnerOf}
+use Rattle.session_commands.specs.Answers.{at_calls}
+use Rattle.session_commands.specs.Performed.{IsBetweenSteps, Now, Performed, scene_in}
+use Rattle.session_commands.proofs.Standing.{empty_around, known_behind, stands_behind}
 use Rattle.portal_commands.proofs.Listed.{named_as}
 use Rattle.portal_commands.specs.Making.{IsMaking, IsOnItsWay}
 

@@ -17,27 +17,12 @@ use Rattle.session_rules.specs.Works.{takes}
 use Rattle.session_owners.proofs.Balances.{balances_none}
 use Rattle.session_store.specs.Calls.{Keeps}
 use Rattle.session_store.specs.State.{session_of}
-use Rattle.session_items.specs.Answers.{refusal_of}
-use Rattle.session_items.specs.Performed.{Now, Performed, scene_in}
-use Rattle.session_items.specs.declared.calls.Calls.{Calls}
-use Rattle.session_items.proofs.HeldItems.{no_room_for, take_item_injected, taken_in_room}
-use Rattle.session_items.proofs.Performing.{moves_nothing, performed_made}
-use Rattle.session_items.proofs.Pinning.{enlarge_done, enlarge_injected}
-use Rattle.session_items.proofs.Stepping.{Rises, count_behind, grown}
-
-abbrev pins : OwnerRole → ℕ → Scene → Ended
-pins role page = at_owner role (λ owner. item_taken owner buffer_pin page)
-
-does_take : (role : OwnerRole) (page : ℕ) (w : Option ℕ) (m : Moment) → does w (element.Take role buffer_pin page) m ≡ fallible w m (take_refused (keeper_of buffer_pin) m.scene) (pins role page)
-unfolding does
-does_take role page w m = refl
-
-pin_rises : (role : OwnerRole) (page : ℕ) (s : Scene) → Rises 1 s (pins role page s).scene
-pin_rises role page s = go (owner_in role s.session)
-  where
-    go : (o : Option ℕ) → Rises 1 s (where_there o (λ owner. item_taken owner buffer_pin page) s).scene
-    go None = record { contexts = omega arith; owners = omega arith; serials = omega arith; descriptors = refl }
-    go (Some n) = record { contexts = omega arith; owners = omega arith; serials = omega arith; descriptors = refl }
+use Rattle.session_commands.specs.Answers.{refusal_of}
+use Rattle.session_commands.specs.Performed.{Now, Performed, scene_in}
+use Rattle.session_commands.specs.declared.calls.Calls.{Calls}
+use Rattle.session_commands.proofs.HeldItems.{no_room_for, take, taken_in_room}
+use Rattle.session_commands.proofs.Pinning.{enlarge}
+use Rattle.session_commands.proofs.Stepping.{call_done, call_injected}
 
 -- what a call of the run says
 abbrev pub Told : Result (Unit {0}) Error → Calls → Type 0
@@ -45,31 +30,24 @@ Told r calls = OnOk r ((calls.count + 1 == calls.fail) ≡ false) × IfErr r (λ
 
 module _ (role : OwnerRole) (page : ℕ) (a : Now) (keeps : Keeps a.store a.space) (none : owner_in role (session_of a.store a.space) ≡ None) where
   no_item : (k : Calls) → k ≡ record a.calls { count = a.calls.count + 1 } → (r : Result (Unit {0}) Error) → Told r a.calls → Performed 1 (element.Take role buffer_pin page ∷ []) a (record a { calls = k }) (λ events. events ≡ []) (refusal_of r)
-  no_item k counted (Err e) told = take_item_injected role buffer_pin page a (record a { calls = k }) (λ events. events ≡ []) counted refl keeps refl refl refl e told.1
+  no_item k counted (Err e) told = call_injected (take role buffer_pin page) a (record a { calls = k }) (λ events. events ≡ []) counted refl keeps refl refl refl e told.1
   no_item k counted (Ok u) told =
-      performed_made (element.Take role buffer_pin page) (take_refused (keeper_of buffer_pin)) (pins role page) (does_take role page) a (record a { calls = k }) (λ events. events ≡ []) counted 1 told.0 (λ around. refl)
-      (record {
+      call_done (take role buffer_pin page) a (record a { calls = k }) (λ events. events ≡ []) counted refl keeps told.0 (λ around. refl) refl keeps (record {
         leads = λ around. ap (λ (o : Option ℕ). (where_there o (λ n. item_taken n buffer_pin page) (scene_in a around)).scene) none;
         says = λ around. ap (λ (o : Option ℕ). (where_there o (λ n. item_taken n buffer_pin page) (scene_in a around)).events) none;
         balances = balances_none a.store.owners a.commons;
-      }) keeps (moves_nothing a.store.tree a.space keeps.agrees)
-      (grown 1 (pins role page) a (record a { calls = k }) (λ events. events ≡ []) (pin_rises role page)
-      (record {
-        leads = λ around. ap (λ (o : Option ℕ). (where_there o (λ n. item_taken n buffer_pin page) (scene_in a around)).scene) none;
-        says = λ around. ap (λ (o : Option ℕ). (where_there o (λ n. item_taken n buffer_pin page) (scene_in a around)).events) none;
-        balances = balances_none a.store.owners a.commons;
-      }) (omega (arith, count_behind a (record a { calls = k }) counted))) (λ around. refl)
+      })
 
 pub no_room : (role : OwnerRole) (page : ℕ) (a : Now) → Keeps a.store a.space → (k : Calls) → k ≡ record a.calls { count = a.calls.count + 1 } → (e : Error) → (e ≡ Injected (a.calls.count + 1)) × ((a.calls.count + 1 == a.calls.fail) ≡ true)
     → Performed 2 (takes role buffer_pin page) a (record a { calls = k }) (λ events. events ≡ []) (Some e)
 no_room role page a keeps k counted e told =
     no_room_for role buffer_pin page a (record a { calls = k }) (λ events. events ≡ []) refl e
-    (enlarge_injected role a (record a { calls = k }) (λ events. events ≡ []) counted refl refl keeps refl refl e told)
+    (call_injected (enlarge role) a (record a { calls = k }) (λ events. events ≡ []) counted refl keeps refl refl refl e told)
 
 pub no_pin : (role : OwnerRole) (page : ℕ) (a : Now) → Keeps a.store a.space → owner_in role (session_of a.store a.space) ≡ None → (k l : Calls) → k ≡ record a.calls { count = a.calls.count + 1 } → (a.calls.count + 1 == a.calls.fail) ≡ false
     → l ≡ record k { count = k.count + 1 } → (r : Result (Unit {0}) Error) → Told r k → Performed 2 (takes role buffer_pin page) a (record a { calls = l }) (λ events. events ≡ []) (refusal_of r)
 no_pin role page a keeps none k l counted goes again r told =
     taken_in_room role buffer_pin page a (record a { calls = k }) (record a { calls = l }) (λ events. events ≡ []) (refusal_of r)
-    (enlarge_done role a (record a { calls = k }) (λ events. events ≡ []) counted refl refl keeps refl goes refl
-    (record { leads = λ around. refl; says = λ around. refl; balances = balances_none a.store.owners a.commons }) keeps)
+    (call_done (enlarge role) a (record a { calls = k }) (λ events. events ≡ []) counted refl keeps goes (λ around. refl) refl keeps
+    (record { leads = λ around. refl; says = λ around. refl; balances = balances_none a.store.owners a.commons }))
     (no_item role page (record a { calls = k }) keeps none l again r told)

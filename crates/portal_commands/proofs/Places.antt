@@ -16,8 +16,8 @@ use Rattle.session_rules.specs.State.{OpenPortal}
 use Rattle.session_rules.specs.World.{Scene}
 use Rattle.session_store.specs.Calls.{Acted, IsSilent}
 use Rattle.session_store.specs.State.{StoreState, portal_state, portals_of, session_of}
-use Rattle.session_items.specs.Performed.{Now, scene_in}
-use Rattle.session_items.proofs.Standing.{empty_around}
+use Rattle.session_commands.specs.Performed.{Now, scene_in}
+use Rattle.session_commands.proofs.Standing.{empty_around}
 use Rattle.portal_commands.specs.Fetching.{IsAt}
 
 -- where a test that sees no change passes first

@@ -20,8 +20,8 @@ use Rattle.session_owners.specs.ResourceState.{ResourceState}
 use Rattle.session_owners.proofs.Balances.{balances_more}
 use Rattle.session_store.specs.Calls.{Acted, IsSilent, PortalsAlone}
 use Rattle.session_store.specs.State.{StoreState}
-use Rattle.session_items.specs.Answers.{Fits, at_calls, wants}
-use Rattle.session_items.specs.Performed.{Now, Performed, Takes, scene_in}
+use Rattle.session_commands.specs.Answers.{Fits, at_calls, wants}
+use Rattle.session_commands.specs.Performed.{Now, Performed, Takes, scene_in}
 use Rattle.portal_commands.proofs.Listed.{keeps_alone}
 use Rattle.portal_commands.specs.Fetching.{step_elements}
 

@@ -17,8 +17,8 @@ use Rattle.session_rules.specs.Elements.{Element, Text}
 use Rattle.session_rules.specs.Lookup.{portal_named}
 use Rattle.session_rules.specs.Works.{after_turn, fallible_part, fetch_steps, turn_steps}
 use Rattle.session_store.specs.State.{StoreState, portals_of}
-use Rattle.session_items.specs.Performed.{HasRoom, Now, Performed}
-use Rattle.session_items.proofs.Performing.{performed_both, performed_more, performed_none, performed_stop}
+use Rattle.session_commands.specs.Performed.{HasRoom, Now, Performed}
+use Rattle.session_commands.proofs.Performing.{performed_both, performed_more, performed_none, performed_stop}
 use Rattle.portal_commands.specs.Fetching.{IsFetching, cost_of, step_elements}
 use Rattle.portal_commands.proofs.FetchSteps.{found}
 use Rattle.portal_commands.proofs.TurnLists.{after, after_more, closing, costs, costs_both, elements_both, elements_more, gives_end, gives_row, is_bad_step, rest_last, rest_left, turn_costs}

@@ -9,8 +9,6 @@ use Rattle.exec_core.specs.declared.steps.ScanStep.TheVariants as step
 use Rattle.pgs_step.specs.declared.events.What.{What}
 use Rattle.pgs_step.specs.declared.events.What.TheVariants as what
 use Rattle.portal_store.specs.Portals.{place_named}
-use Rattle.session_rules.proofs.PortalWorks.{IsFetched}
-use Rattle.session_rules.proofs.StepsStand.{IsWorking}
 use Rattle.session_rules.specs.Elements as e
 use Rattle.session_rules.specs.Acts.{Ended, context_cleared_alone, nothing, say, where_there}
 use Rattle.session_rules.specs.Elements.{Element, InRow, OfPortal, Text}
@@ -20,9 +18,10 @@ use Rattle.session_rules.specs.Releases.{item_released}
 use Rattle.session_rules.specs.State.{buffer_pin}
 use Rattle.session_rules.specs.Works.{fallible_part}
 use Rattle.session_rules.specs.World.{Around, Scene}
+use Rattle.session_rules.specs.Standing.{IsFetched, IsWorking}
 use Rattle.session_store.specs.Calls.{Acted, Keeps}
 use Rattle.session_store.specs.State.{StoreState, levels_of, portals_of}
-use Rattle.session_items.specs.Performed.{IsBetweenSteps, Now, scene_in}
+use Rattle.session_commands.specs.Performed.{IsBetweenSteps, Now, scene_in}
 
 -- the scan of the portal of a name
 abbrev pub scan_named : Text → StoreState → Option Scan

@@ -1,4 +1,3 @@
--- Which commands are on portals, and what holds while they are performed.
-pub mod Works
+-- What holds while commands on portals are performed.
 pub mod Making
 pub mod Fetching

@@ -3,9 +3,9 @@ use Rattle.std.specs.Prelude.{◌≡◌, Bool, Some, is_some}
 use Rattle.session_rules.specs.Elements.{Text}
 use Rattle.session_rules.specs.Lookup.{portal_named}
 use Rattle.session_rules.specs.State.{OpenPortal, SessionState, depth}
-use Rattle.session_rules.proofs.StepsStand.{IsWorking}
+use Rattle.session_rules.specs.Standing.{IsWorking}
 use Rattle.session_store.specs.State.{levels_of, session_of}
-use Rattle.session_items.specs.Performed.{IsBetweenSteps, Now}
+use Rattle.session_commands.specs.Performed.{IsBetweenSteps, Now}
 
 -- a session has a portal of this name, which belongs to the deepest level; it has its context, its owner and the context of one row, or
 -- hasn't them yet

@@ -8,7 +8,4 @@ mod steps;
 mod turns;
 mod works;
 
-pub use ending::end_portal;
-pub use fetching::fetch;
-pub use making::make_portal;
 pub use works::work_on_portals;

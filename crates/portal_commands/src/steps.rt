@@ -9,25 +9,26 @@ ghost use Rattle.reset_callbacks.specs.ShelfState.{ShelfState};
 ghost use Rattle.session_owners.specs.Commons.{CommonState};
 ghost use Rattle.session_owners.specs.Counted.{IsReference};
 ghost use Rattle.session_owners.specs.ResourceState as owners;
-ghost use Rattle.session_rules.proofs.StepsStand.{IsWorking};
 ghost use Rattle.session_rules.specs.Elements as e;
 ghost use Rattle.session_rules.specs.Elements.{InPortal, OfPortal, PortalContext, RowContext};
+ghost use Rattle.session_rules.specs.Standing.{IsWorking};
 ghost use Rattle.session_rules.specs.Lookup.{memory_in};
 ghost use Rattle.session_rules.specs.Works.{takes};
+ghost use Rattle.session_rules.specs.Standing.{IsWorking};
 ghost use Rattle.session_store.specs.Calls.{StandsIn};
 ghost use Rattle.session_store.specs.State.{levels_of, session_of};
 ghost use Rattle.portal_commands.specs.Making.{IsMaking};
-ghost use Rattle.session_items.specs.Answers.{refusal_of};
-ghost use Rattle.session_items.specs.Deepest.{IsOwnerOf};
-ghost use Rattle.session_items.specs.Performed.{now, HasRoom, IsBetweenSteps, Performed};
+ghost use Rattle.session_commands.specs.Answers.{refusal_of};
+ghost use Rattle.session_commands.specs.Deepest.{IsOwnerOf};
+ghost use Rattle.session_commands.specs.Performed.{now, HasRoom, IsBetweenSteps, Performed};
 
 use owner_core::OwnerError;
 use owner_kinds::ExtKind;
 use pgs_step::{CtxId, Emit, Error, KindId, Mode, Name, OwnerId};
 use portal_store::PortalError;
 use reset_callbacks::ResetHook;
-use session_items::{Shared, call_error, hold_lock, hold_reference};
-use session_portals::{
+use session_commands::{Shared, call_error, hold_lock, hold_reference};
+use session_ends::{
     make_portal, make_portal_context, make_portal_owner, make_row_context, portal_named,
 };
 use session_store::Store;
@@ -51,9 +52,7 @@ pub(crate) fn new_portal<H: ResetHook, K: ExtKind>(
     ensures performed { Performed 1 (e.MakePortal name object rows bad ∷ []) (now store.old shared.old) (now store.new shared.new) (λ events. events ≡ []) (refusal_of result) }
     ensures making { OnOk result (IsMaking name false false false (now store.new shared.new)) }
 {
-    if let Err(error) = shared.calls.next() {
-        return Err(error);
-    }
+    shared.calls.next()?;
     match make_portal(store, name, object, rows, bad) {
         Ok(()) => Ok(()),
         Err(PortalError::TooMany) => Err(Error::LimitReached),
@@ -73,9 +72,7 @@ pub(crate) fn make_context<H: ResetHook, K: ExtKind, E: Emit>(
     ensures performed { Performed 1 (e.MakeContext (PortalContext name.now) ∷ []) (now store.old shared.old) (now store.new shared.new) (λ events. E.emits out.old events out.new) (refusal_of result) }
     ensures making { OnOk result (IsMaking name.now true false false (now store.new shared.new)) }
 {
-    if let Err(error) = shared.calls.next() {
-        return Err(error);
-    }
+    shared.calls.next()?;
     if let Err(refusal) = make_portal_context(store, shared.space, name, out) {
         return Err(call_error(refusal, shared.calls.count));
     }
@@ -94,9 +91,7 @@ pub(crate) fn make_owner<H: ResetHook, K: ExtKind, E: Emit>(
     ensures performed { Performed 1 (e.MakeOwner (OfPortal name.now) ∷ []) (now store.old shared.old) (now store.new shared.new) (λ events. E.emits out.old events out.new) (refusal_of result) }
     ensures making { OnOk result (IsMaking name.now true true false (now store.new shared.new)) }
 {
-    if let Err(error) = shared.calls.next() {
-        return Err(error);
-    }
+    shared.calls.next()?;
     match make_portal_owner(store, name, out) {
         Ok(()) => Ok(()),
         Err(OwnerError::TooMany) => Err(Error::LimitReached),
@@ -153,9 +148,7 @@ pub(crate) fn take_memory<H: ResetHook, K: ExtKind, E: Emit>(
     ensures making { OnOk result (IsMaking name.now true true false (now store.new shared.new)) }
 {
     let at = context_of(store, name);
-    if let Err(error) = shared.calls.next() {
-        return Err(error);
-    }
+    shared.calls.next()?;
     if let Err(refusal) = store.alloc_at(shared.space, at, None, PORTAL_BYTES) {
         return Err(call_error(refusal, shared.calls.count));
     }
@@ -174,9 +167,7 @@ pub(crate) fn make_row<H: ResetHook, K: ExtKind, E: Emit>(
     ensures performed { Performed 1 (e.MakeContext (RowContext name.now) ∷ []) (now store.old shared.old) (now store.new shared.new) (λ events. E.emits out.old events out.new) (refusal_of result) }
     ensures making { OnOk result (IsMaking name.now true true true (now store.new shared.new)) }
 {
-    if let Err(error) = shared.calls.next() {
-        return Err(error);
-    }
+    shared.calls.next()?;
     if let Err(refusal) = make_row_context(store, shared.space, name, out) {
         return Err(call_error(refusal, shared.calls.count));
     }

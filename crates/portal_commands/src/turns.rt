@@ -20,15 +20,15 @@ ghost use Rattle.session_rules.specs.Works.{after_turn, fallible_part, takes, tu
 ghost use Rattle.session_store.specs.Calls.{Keeps, StandsIn};
 ghost use Rattle.session_store.specs.State.{StoreState, session_of};
 ghost use Rattle.portal_commands.specs.Fetching.{Follows, IsAt, IsFetching, IsPage, cost_of, part_of, step_elements};
-ghost use Rattle.session_items.specs.Answers.{refusal_of};
-ghost use Rattle.session_items.specs.Performed.{now, HasRoom, Performed};
+ghost use Rattle.session_commands.specs.Answers.{refusal_of};
+ghost use Rattle.session_commands.specs.Performed.{now, HasRoom, Performed};
 
 use exec_core::ScanStep;
 use owner_kinds::ExtKind;
 use pgs_step::{CtxId, Emit, Error, KindId, Name, OwnerId, What};
 use reset_callbacks::ResetHook;
-use session_items::{Shared, call_error, hold_pin, release_item};
-use session_portals::{fail_portal, portal_at, step_at};
+use session_commands::{Shared, call_error, hold_pin, release_item};
+use session_ends::{fail_portal, portal_at, step_at};
 use session_store::Store;
 
 /// A portal that is fetched from: its name, and its place among the session's portals, at which the steps of a fetch find it.
@@ -233,9 +233,7 @@ fn count_pin<H: ResetHook, K: ExtKind>(shared: &mut Shared<'_, H, K>) -> Result<
     requires room { shared.old.calls.now.count + 2 < 2 ^ 62 }
     ensures counted { (role : OwnerRole) (page : ℕ) (store : StoreState) → Keeps store shared.old.space.now → owner_in role (session_of store shared.old.space.now) ≡ None → Performed 2 (takes role buffer_pin page) (now store shared.old) (now store shared.new) (λ events. events ≡ []) (refusal_of result) }
 {
-    if let Err(error) = shared.calls.next() {
-        return Err(error);
-    }
+    shared.calls.next()?;
     shared.calls.next()
 }
 
@@ -251,9 +249,7 @@ fn take_row<H: ResetHook, K: ExtKind, E: Emit>(
     requires room { HasRoom 1 (now store.old shared.old) }
     ensures performed { Performed 1 (e.Alloc (InRow portal.now.name) None 64 false ∷ []) (now store.old shared.old) (now store.new shared.new) (λ events. E.emits out.old events out.new) (refusal_of result) }
 {
-    if let Err(error) = shared.calls.next() {
-        return Err(error);
-    }
+    shared.calls.next()?;
     let Some(at) = row_context(store, portal.place) else {
         return Ok(());
     };

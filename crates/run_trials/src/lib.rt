@@ -1,5 +1,7 @@
-//! Worked examples on whole runs: scripts and their transcripts, with reads and writes that fail.
+//! Worked examples on whole runs: scripts and their transcripts, with reads and writes that fail, and the options of a run.
 #![tactic(auto)]
 
+#[cfg(test)]
+mod options;
 #[cfg(test)]
 mod tests;

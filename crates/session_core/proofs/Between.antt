@@ -1,5 +1,5 @@
 -- Behind the end of a level the session stands.
-use Rattle.std.proofs.Common.{◌≡◌, ℕ, ◌<◌, true, false, Option, Some, None, List, [], ◌∷◌, length, IfSome, refl, sym, ◌∙◌, ap, subst, arith}
+use Rattle.std.proofs.Common.{◌≡◌, ℕ, ◌<◌, true, false, List, [], ◌∷◌, length, IfSome, refl, sym, ◌∙◌, ap, subst, arith}
 use Rattle.std.specs.Prelude.{All}
 use Rattle.addr_space.specs.Space.{Space}
 use Rattle.pgs_step.specs.declared.errors.Error.{Error}
@@ -9,7 +9,7 @@ use Rattle.session_rules.specs.State.{LevelState, first_of, is_aborted}
 use Rattle.session_rules.specs.World.{Around, Scene}
 use Rattle.session_rules.specs.Acts.{Ended, in_order}
 use Rattle.session_rules.specs.Ends.{aborted, cleaned_up, committed, recovered, subcommitted}
-use Rattle.session_rules.specs.Standing.{AreOuter, IsAtRest, IsOpen, Stands, StandsBetweenLines}
+use Rattle.session_rules.specs.Standing.{IsAtRest, IsOpen, Stands, StandsBetweenLines}
 use Rattle.session_rules.proofs.EndsStand.{aborted_stands, away_stands, cleaned_up_stands, committed_stands, recovered_stands, settled, subcommitted_stands}
 use Rattle.session_rules.proofs.StepsStand.{settled_as}
 use Rattle.session_owners.specs.Commons.{CommonState}
@@ -19,8 +19,8 @@ use Rattle.session_store.specs.Calls.{Acted, Keeps, StandsIn}
 use Rattle.session_store.proofs.Depths.{levels_long}
 use Rattle.session_core.specs.Lines.{IsBetweenLines}
 use Rattle.session_core.specs.Ended.{Ends}
-use Rattle.session_items.specs.Performed.{IsBetweenSteps, Now}
-use Rattle.session_items.proofs.Standing.{empty_around}
+use Rattle.session_commands.specs.Performed.{IsBetweenSteps, Now}
+use Rattle.session_commands.proofs.Standing.{empty_around}
 
 -- the deepest level and those above it
 record HasDeepest (ls : List LevelState) : Type 0 where

@@ -19,10 +19,10 @@ use Rattle.session_rules.proofs.TurnStands.{turn_stands}
 use Rattle.session_owners.proofs.Balances.{serves_still}
 use Rattle.session_store.specs.State.{StoreState, levels_of, level_state, portals_of, session_of}
 use Rattle.session_store.proofs.Depths.{levels_long}
-use Rattle.session_items.specs.Answers.{at_calls, refusal_of}
-use Rattle.session_items.proofs.Standing.{empty_around}
+use Rattle.session_commands.specs.Answers.{at_calls, refusal_of}
+use Rattle.session_commands.proofs.Standing.{empty_around}
 use Rattle.session_core.specs.Lines.{IsAbortedBlock, IsBetweenLines, IsInBlock}
-use Rattle.session_items.specs.Performed.{Now, IsBetweenSteps, Performed, most_steps, scene_in}
+use Rattle.session_commands.specs.Performed.{Now, IsBetweenSteps, Performed, most_steps, scene_in}
 
 pub steps_of_lines : (a : Now) → IsBetweenLines a → IsBetweenSteps a
 steps_of_lines a h = record { keeps = h.keeps; serves = h.serves; stands = λ around. let z : StandsBetweenLines (scene_in a around) = h.stands around in z.stands }

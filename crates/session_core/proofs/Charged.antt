@@ -12,8 +12,8 @@ use Rattle.session_rules.specs.World.{Around, Moment, Options, moment}
 use Rattle.session_rules.specs.Transcript.{Course, Reading, course_by}
 use Rattle.session_rules.specs.Asked.{asked_by_line, asked_by_turn, asked_in_all}
 use Rattle.session_rules.proofs.Asking.{asked_in_all_more}
-use Rattle.session_items.specs.Answers.{Fits}
-use Rattle.session_items.specs.Performed.{Now, Takes}
+use Rattle.session_commands.specs.Answers.{Fits}
+use Rattle.session_commands.specs.Performed.{Now, Takes}
 use Rattle.session_core.specs.Turns.{Turned, moment_in}
 
 -- one rise of a count after another

@@ -24,12 +24,12 @@ use Rattle.session_owners.specs.Commons.{CommonState}
 use Rattle.session_owners.proofs.Balances.{balances_more}
 use Rattle.session_store.specs.State.{StoreState, levels_of, scene_of, session_of}
 use Rattle.session_store.specs.Calls.{Acted, Keeps}
-use Rattle.session_items.specs.Answers.{at_calls}
+use Rattle.session_commands.specs.Answers.{at_calls}
 use Rattle.session_core.specs.Ended.{Ends}
-use Rattle.session_items.specs.Performed.{Grows, Now, Performed, scene_in}
+use Rattle.session_commands.specs.Performed.{Grows, Now, Performed, scene_in}
 use Rattle.session_core.proofs.Numbers.{KeepsNumbers, numbers_grow}
 use Rattle.session_core.proofs.OnLevels.{does_abort, does_cleanup}
-use Rattle.session_items.proofs.Performing.{nowhere}
+use Rattle.session_commands.proofs.Standing.{empty_around}
 
 -- all levels are rolled back
 abbrev pub all_rolled : Scene → Ended
@@ -80,7 +80,7 @@ pub ends_of : (es : List Element) (act : Scene → Ended) (a b : Now) (P : List 
 ends_of es act a b P does asks done =
     let m : Around → Moment = at_calls (scene_in a) a.calls.count a.calls.fail in
     let behind : (around : Around) → (unfailing (m around) act).moment ≡ at_calls (scene_in b) b.calls.count a.calls.fail around = λ around. ap (λ (d : Done). d.moment) (sym (does (m around))) ∙ done.answers.moment around None tt in
-    let count : b.calls.count ≡ a.calls.count = sym (ap (λ (n : Moment). n.calls) (behind nowhere)) in
+    let count : b.calls.count ≡ a.calls.count = sym (ap (λ (n : Moment). n.calls) (behind empty_around)) in
     record {
       acted = record {
         leads = λ around. ap (λ (n : Moment). n.scene) (behind around);
@@ -89,7 +89,7 @@ ends_of es act a b P does asks done =
       };
       keeps = done.keeps;
       moves = done.moves;
-      asked = subst (λ (n : ℕ). Asks a.store.tree.account n a.space b.space) (asks (m nowhere)) (done.taken nowhere None tt);
+      asked = subst (λ (n : ℕ). Asks a.store.tree.account n a.space b.space) (asks (m empty_around)) (done.taken empty_around None tt);
       balances = done.balances;
       calls = ap (λ (n : ℕ). record { count = n; fail = b.calls.fail }) count ∙ ap (λ (n : ℕ). record { count = a.calls.count; fail = n }) done.fail;
       grows = done.grows;

@@ -1,5 +1,5 @@
 -- A session stands behind each step by which a level begins.
-use Rattle.std.proofs.Common.{◌≡◌, ℕ, ◌+◌, ◌<◌, ◌≤◌, Bool, true, false, List, [], ◌∷◌, ◌++◌, length, Option, Some, None, refl, sym, ◌∙◌, ap, subst, arith, append-nil}
+use Rattle.std.proofs.Common.{◌≡◌, ℕ, ◌+◌, ◌<◌, Bool, true, false, List, [], ◌∷◌, ◌++◌, length, Option, Some, None, refl, sym, ◌∙◌, ap, subst, arith, append-nil}
 use Rattle.std.specs.Prelude.{All}
 use Rattle.pgs_step.specs.declared.errors.Error.{Error}
 use Rattle.pgs_step.specs.declared.events.What.{What}
@@ -17,12 +17,12 @@ use Rattle.session_rules.proofs.StepsStand.{below_limit, level_context_stands, l
 use Rattle.session_rules.proofs.TurnStands.{Leads, fallible_leads, leads_nowhere, leads_on}
 use Rattle.session_store.specs.State.{levels_of, portals_of, session_of}
 use Rattle.session_store.proofs.Depths.{levels_long}
-use Rattle.session_items.specs.Answers.{at_calls}
+use Rattle.session_commands.specs.Answers.{at_calls}
 use Rattle.session_core.specs.Begun.{HasBegun}
 use Rattle.session_store.specs.Calls.{IsSilent}
-use Rattle.session_items.specs.Performed.{Now, Grows, HasRoom, IsBetweenSteps, Performed, scene_in}
-use Rattle.session_items.proofs.Performing.{performed_both, performed_more, performed_stop}
-use Rattle.session_items.proofs.Standing.{empty_around, known_behind, stands_behind}
+use Rattle.session_commands.specs.Performed.{Now, IsBetweenSteps, Performed, scene_in}
+use Rattle.session_commands.proofs.Performing.{performed_both, performed_more, performed_stop}
+use Rattle.session_commands.proofs.Standing.{empty_around, known_behind, stands_behind}
 
 -- a level as it is being begun
 abbrev pub begun : Option Text → Bool → Option ℕ → Option ℕ → Bool → LevelState
@@ -162,23 +162,6 @@ module _ (name : Option Text) (implicit : Bool) (outer : List LevelState) (porta
               is.portals_are,
             ),
       )
-
--- what is left of the room behind a step
-pub room_behind : (j k : ℕ) (a b : Now) → HasRoom (j + k) a → Grows j a b → HasRoom k b
-room_behind j k a b room grows = record {
-  contexts = omega (arith, room.contexts, grows.contexts);
-  owners = omega (arith, room.owners, grows.owners);
-  serials = omega (arith, room.serials, grows.serials);
-  calls = omega (arith, room.calls, grows.calls);
-}
-
-pub room_less : (j k : ℕ) (a : Now) → j ≤ k → HasRoom k a → HasRoom j a
-room_less j k a le room = record {
-  contexts = omega (arith, le, room.contexts);
-  owners = omega (arith, le, room.owners);
-  serials = omega (arith, le, room.serials);
-  calls = omega (arith, le, room.calls);
-}
 
 -- what was performed of a start, up to the step that was refused
 module _ (name : Option Text) (implicit : Bool) (a b : Now) (P : List What → Type 0) where

@@ -1,5 +1,6 @@
 pub mod Seen
 pub mod ByState
+pub mod Working
 pub mod Starting
 pub mod LevelsBegin
 pub mod Numbers

@@ -20,9 +20,9 @@ use Rattle.session_rules.specs.Ends.{aborted, cleaned_up, committed, empty_conte
 use Rattle.session_owners.specs.Commons.{CommonState}
 use Rattle.session_store.specs.State.{StoreState, scene_of, session_of}
 use Rattle.session_store.specs.Calls.{Acted}
-use Rattle.session_items.specs.Performed.{Grows, Now}
-use Rattle.session_items.proofs.Numbering.{Numbers, for_keeps, item_keeps, left_keeps, numbers, so_keeps, there_keeps}
-use Rattle.session_items.proofs.Performing.{nowhere}
+use Rattle.session_commands.specs.Performed.{Grows, Now}
+use Rattle.session_commands.proofs.Numbering.{Numbers, for_keeps, item_keeps, left_keeps, numbers, so_keeps, there_keeps}
+use Rattle.session_commands.proofs.Standing.{empty_around}
 
 -- a release leaves them, step by step
 step_keeps : (step : Step) (s : Scene) → numbers (step_done step s).scene ≡ numbers s
@@ -151,8 +151,8 @@ nothing_keeps a s x c around = refl
 pub numbers_grow : (act : Scene → Ended) (a b : Now) (P : List What → Type 0) → KeepsNumbers act → Acted act a.store b.store a.space b.space a.shelf b.shelf a.commons b.commons P → b.calls ≡ a.calls → Grows 0 a b
 unfolding session_of
 numbers_grow act a b P keeps acted calls =
-    let same : numbers (scene_of b.store b.space b.shelf b.commons nowhere) ≡ numbers (scene_of a.store a.space a.shelf a.commons nowhere) =
-    ap numbers (sym (acted.leads nowhere)) ∙ keeps a.store a.space a.shelf a.commons nowhere in
+    let same : numbers (scene_of b.store b.space b.shelf b.commons empty_around) ≡ numbers (scene_of a.store a.space a.shelf a.commons empty_around) =
+    ap numbers (sym (acted.leads empty_around)) ∙ keeps a.store a.space a.shelf a.commons empty_around in
     record {
       contexts = omega (arith, ap (λ (n : Numbers). n.context) same);
       owners = omega (arith, ap (λ (n : Numbers). n.owner) same);

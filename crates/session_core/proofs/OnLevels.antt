@@ -12,12 +12,12 @@ use Rattle.session_rules.specs.Calls.{Done, unfailing}
 use Rattle.session_rules.specs.Does.{does, does_all, done_behind, then_done}
 use Rattle.session_rules.specs.Asked.{asked, asked_all, asks_in}
 use Rattle.session_store.specs.Calls.{Acted, Keeps}
-use Rattle.session_items.specs.Performed.{Now, Performed, scene_in}
-use Rattle.session_items.specs.Answers.{Answers, at_calls}
-use Rattle.session_items.specs.declared.calls.Calls.{Calls}
-use Rattle.session_items.proofs.Answered.{does_one}
+use Rattle.session_commands.specs.Performed.{Now, Performed, scene_in}
+use Rattle.session_commands.specs.Answers.{Answers, at_calls}
+use Rattle.session_commands.specs.declared.calls.Calls.{Calls}
+use Rattle.session_commands.proofs.Answered.{does_one}
 use Rattle.session_core.proofs.Numbers.{KeepsNumbers, aborts, cleans, commits, numbers_grow, rolls, subcommits}
-use Rattle.session_items.proofs.Performing.{performed_end}
+use Rattle.session_commands.proofs.Performing.{performed_end}
 
 -- elements that can't fail, one behind the other
 both_do : (x y : Element) (f h : Scene → Ended) → ((w : Option ℕ) (m : Moment) → does w x m ≡ unfailing m f) → ((w : Option ℕ) (m : Moment) → does w y m ≡ unfailing m h)

@@ -15,7 +15,7 @@ use Rattle.session_owners.proofs.Balances.{serves_nothing}
 use Rattle.session_store.specs.State.{session_of}
 use Rattle.session_store.specs.Calls.{Keeps, StandsIn}
 use Rattle.session_core.specs.Lines.{IsBetweenLines}
-use Rattle.session_items.specs.Performed.{Grows, HasRoom, Now, most_count, most_steps}
+use Rattle.session_commands.specs.Performed.{Grows, HasRoom, Now, most_count, most_steps}
 use Rattle.session_core.proofs.BetweenLines.{opened_levels}
 
 -- Lines in turn, each of which raises no counter by more than a line may.

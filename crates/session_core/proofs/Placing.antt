@@ -15,7 +15,7 @@ use Rattle.session_rules.proofs.StepsStand.{KeepsContexts, keeps_written, still_
 use Rattle.session_owners.specs.Commons.{CommonState}
 use Rattle.session_store.specs.State.{StoreState, scene_of}
 use Rattle.session_store.specs.Calls.{Acted, ContextsAlone, IsSilent}
-use Rattle.session_items.specs.declared.calls.Calls.{Calls}
+use Rattle.session_commands.specs.declared.calls.Calls.{Calls}
 use Rattle.session_core.specs.Lines.{IsBetweenLines}
 
 -- where no level is being started, nothing that is asked of the levels depends on what the contexts hold

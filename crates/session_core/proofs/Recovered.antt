@@ -1,5 +1,5 @@
 -- What is done after an error, and at the end of a session.
-use Rattle.std.proofs.Common.{◌≡◌, ℕ, ◌+◌, ◌<◌, ◌≤◌, Bool, true, false, List, [], ◌∷◌, ◌++◌, length, Option, Some, None, refl, sym, ◌∙◌, ap, subst, arith, append-nil}
+use Rattle.std.proofs.Common.{◌≡◌, ℕ, ◌+◌, ◌<◌, Bool, true, false, List, [], ◌∷◌, ◌++◌, length, Some, None, refl, sym, ◌∙◌, ap, subst, arith, append-nil}
 use Rattle.std.specs.Prelude.{not}
 use Rattle.pgs_step.specs.declared.errors.Error.{Error}
 use Rattle.pgs_step.specs.declared.events.What.{What}
@@ -18,10 +18,10 @@ use Rattle.context_tree.specs.State.{Moves}
 use Rattle.context_tree.proofs.Composed.{tree_more}
 use Rattle.session_store.specs.Calls.{Acted, Keeps}
 use Rattle.session_store.proofs.Depths.{levels_long}
-use Rattle.session_items.specs.declared.shared.Shared.{Shared}
+use Rattle.session_commands.specs.declared.shared.Shared.{Shared}
 use Rattle.session_core.specs.Begun.{IsStarting}
 use Rattle.session_core.specs.Ended.{Ends}
-use Rattle.session_items.specs.Performed.{Now, now, scene_in}
+use Rattle.session_commands.specs.Performed.{Now, now, scene_in}
 use Rattle.session_core.proofs.Numbers.{KeepsNumbers, numbers_grow}
 
 -- what is given up, of these levels

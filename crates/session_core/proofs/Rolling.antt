@@ -1,13 +1,11 @@
 -- Levels end one behind the other, from the deepest up.
-use Rattle.std.proofs.Common.{◌≡◌, ◌∙◌, ℕ, suc, ◌+◌, ◌-◌, ◌<◌, ◌≤◌, Bool, true, false, Option, Some, None, List, [], ◌∷◌, ◌++◌, length, refl, sym, ap, subst, arith, append-nil, length-append}
+use Rattle.std.proofs.Common.{◌≡◌, ◌∙◌, ℕ, suc, ◌+◌, ◌-◌, ◌<◌, ◌≤◌, Bool, Option, Some, None, List, [], ◌∷◌, ◌++◌, length, refl, sym, ap, subst, arith, append-nil, length-append}
 use Rattle.std.specs.Prelude.{All, if◌then◌else◌, replicate}
-use Rattle.std.specs.Option.{option_map, option_map_or}
+use Rattle.std.specs.Option.{option_map_or}
 use Rattle.std.proofs.lemmas.Bool.{le-ltb, lt-ltb}
 use Rattle.std.proofs.lemmas.List.{append_assoc}
-use Rattle.pgs_step.specs.declared.errors.Error.{Error}
 use Rattle.pgs_step.specs.declared.errors.Error.TheVariants as error
 use Rattle.pgs_step.specs.declared.events.What.{What}
-use Rattle.pgs_step.specs.declared.events.What.TheVariants as what
 use Rattle.subxact_stack.specs.declared.levels.Level.{Level}
 use Rattle.session_rules.specs.State.{LevelState, is_aborted}
 use Rattle.session_rules.specs.Commands.{at_savepoint, committed_to, refused, rolled_back_to, savepoint}
@@ -16,9 +14,9 @@ use Rattle.session_rules.specs.Elements as element
 use Rattle.session_rules.specs.Standing.{AreOuter, FitLevels, IsAtRest, Stands}
 use Rattle.session_store.specs.State.{level_state, levels_of, portals_of, session_of}
 use Rattle.session_store.proofs.Depths.{levels_are, levels_long}
-use Rattle.session_items.specs.Performed.{IsBetweenSteps, Now, Performed, scene_in}
-use Rattle.session_items.proofs.Performing.{performed_both, performed_none}
-use Rattle.session_items.proofs.Standing.{empty_around}
+use Rattle.session_commands.specs.Performed.{IsBetweenSteps, Now, Performed, scene_in}
+use Rattle.session_commands.proofs.Performing.{performed_both, performed_none}
+use Rattle.session_commands.proofs.Standing.{empty_around}
 
 -- how a level is rolled back
 abbrev level_ends : Bool → List Element

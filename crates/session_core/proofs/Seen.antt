@@ -8,8 +8,8 @@ use Rattle.session_rules.specs.Elements.{Element}
 use Rattle.session_owners.specs.Commons.{CommonState, Serves}
 use Rattle.session_store.specs.State.{StoreState}
 use Rattle.session_store.specs.Calls.{Keeps, StandsIn}
-use Rattle.session_items.specs.declared.shared.Shared.{Shared}
-use Rattle.session_items.specs.Performed.{Now, Performed, now}
+use Rattle.session_commands.specs.declared.shared.Shared.{Shared}
+use Rattle.session_commands.specs.Performed.{Now, Performed, now}
 
 module _ (store v : StoreState) (is : store ≡ v) where
   -- what was performed from the store was performed from the value

@@ -16,14 +16,14 @@ use Rattle.session_rules.specs.World.{Around, Moment}
 use Rattle.session_owners.proofs.Balances.{balances_more}
 use Rattle.session_store.specs.Calls.{Keeps}
 use Rattle.session_store.specs.State.{session_of}
-use Rattle.session_items.specs.declared.calls.Calls.{Calls}
-use Rattle.session_items.specs.Answers.{Fits}
+use Rattle.session_commands.specs.declared.calls.Calls.{Calls}
+use Rattle.session_commands.specs.Answers.{Fits}
 use Rattle.session_core.specs.Ended.{Ends}
-use Rattle.session_items.specs.Performed.{Now, Performed, Takes, most_steps, scene_in}
+use Rattle.session_commands.specs.Performed.{Now, Performed, Takes, most_steps, scene_in}
 use Rattle.session_core.specs.Turns.{Turned, moment_in}
-use Rattle.session_items.proofs.Commands.{fails}
-use Rattle.session_items.proofs.Performing.{performed_more}
-use Rattle.session_items.proofs.Takings.{takes_on}
+use Rattle.session_commands.proofs.Commands.{fails}
+use Rattle.session_commands.proofs.Performing.{performed_more}
+use Rattle.session_commands.proofs.Takings.{takes_on}
 
 -- what is known of a turn
 record TurnIs (t : Turn) (m : Moment) (P : List What → Type 0) (wanted : Bool) : Type 0 where
@@ -116,7 +116,7 @@ pub turned_bad : (a b : Now) (Q : List What → Type 0) → Keeps a.store a.spac
 turned_bad a b Q keeps ended =
     turned_err None a a b (λ events. events ≡ []) Q Q error.SyntaxError
     (performed_more 0 most_steps (refused error.SyntaxError) a a (λ events. events ≡ []) (Some error.SyntaxError) (omega arith)
-    (fails (element.Refuse error.SyntaxError) [] a (λ events. events ≡ []) error.SyntaxError keeps refl refl (λ around. refl)))
+    (fails 0 (element.Refuse error.SyntaxError) [] a (λ events. events ≡ []) error.SyntaxError keeps refl refl (λ around. refl)))
     ended (λ us vs e q. subst Q (sym (ap (λ (xs : List What). xs ++ vs) e)) q)
 
 -- a line by what it is known to be

@@ -7,7 +7,7 @@ use Rattle.session_rules.specs.World.{Scene}
 use Rattle.session_rules.specs.Acts.{Ended}
 use Rattle.session_owners.specs.Commons.{Balances}
 use Rattle.session_store.specs.Calls.{Acted, Keeps}
-use Rattle.session_items.specs.Performed.{Now, Grows}
+use Rattle.session_commands.specs.Performed.{Now, Grows}
 
 -- An act was done that is no element of a command. The space keeps what isn't the session's, the session's account holds the blocks of its
 -- contexts and no more, it took nothing, the commons are in balance, no call was counted, and no counter rose.

@@ -7,7 +7,7 @@ use Rattle.session_store.specs.State.{levels_of}
 use Rattle.session_rules.specs.World.{Around}
 use Rattle.session_rules.specs.Standing.{AreOuter, StandsBetweenLines}
 use Rattle.session_store.specs.Calls.{Keeps}
-use Rattle.session_items.specs.Performed.{Now, scene_in}
+use Rattle.session_commands.specs.Performed.{Now, scene_in}
 
 -- A session between two lines: besides what holds between two steps, no level is being started, none was begun for one command
 -- alone, and each portal is at rest.

@@ -7,8 +7,8 @@ use Rattle.session_rules.specs.World.{Around, Moment}
 use Rattle.session_rules.specs.Transcript.{turn}
 use Rattle.session_rules.specs.Asked.{asked_by_turn}
 use Rattle.session_owners.specs.Commons.{Balances}
-use Rattle.session_items.specs.Answers.{Fits, at_calls}
-use Rattle.session_items.specs.Performed.{Now, Grows, Takes, most_steps, scene_in}
+use Rattle.session_commands.specs.Answers.{Fits, at_calls}
+use Rattle.session_commands.specs.Performed.{Now, Grows, Takes, most_steps, scene_in}
 
 -- the session there as the rules see it before a line
 abbrev pub moment_in : Now → Around → Moment

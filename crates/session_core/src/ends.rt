@@ -11,13 +11,13 @@ ghost use Rattle.subxact_stack.specs.Levels.{with_deepest};
 ghost use Rattle.session_core.specs.Begun.{IsStarting};
 ghost use Rattle.session_core.specs.Lines.{IsBetweenLines};
 ghost use Rattle.session_core.specs.Ended.{Ends};
-ghost use Rattle.session_items.specs.Performed.{now, IsBetweenSteps, Performed};
+ghost use Rattle.session_commands.specs.Performed.{now, IsBetweenSteps, Performed};
 
 use crate::session::Session;
 use owner_kinds::ExtKind;
 use pgs_step::{Emit, Error, What};
 use reset_callbacks::ResetHook;
-use session_items::{Shared, abort, clean_up, close, commit_top, roll_back, subcommit};
+use session_commands::{Shared, abort, clean_up, close, commit_top, roll_back, subcommit};
 
 impl<H: ResetHook> Session<H> {
     /// Level 1 commits, and the session is in no transaction then: `CommitTransaction`.

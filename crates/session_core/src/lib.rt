@@ -7,6 +7,7 @@ mod savepoints;
 mod session;
 mod transactions;
 mod turns;
+mod works;
 
 pub use session::{Session, StartError};
-pub use session_items::{Calls, Shared};
+pub use session_commands::{Calls, Shared};

@@ -6,14 +6,14 @@ ghost use Rattle.session_rules.specs.Commands.{at_savepoint, committed_to, rolle
 ghost use Rattle.session_rules.specs.Standing.{AreOuter, IsAtRest};
 ghost use Rattle.session_store.specs.State.{levels_of, portals_of};
 ghost use Rattle.subxact_stack.specs.declared.levels.Level.{Level as ALevel};
-ghost use Rattle.session_items.specs.Answers.{refusal_of};
-ghost use Rattle.session_items.specs.Performed.{now, HasRoom, IsBetweenSteps, Performed};
+ghost use Rattle.session_commands.specs.Answers.{refusal_of};
+ghost use Rattle.session_commands.specs.Performed.{now, HasRoom, IsBetweenSteps, Performed};
 
 use crate::session::Session;
 use owner_kinds::ExtKind;
 use pgs_step::{Emit, Error, Name, What};
 use reset_callbacks::ResetHook;
-use session_items::Shared;
+use session_commands::Shared;
 
 impl<H: ResetHook> Session<H> {
     /// The deepest level is rolled back; where it is aborted it is only cleaned up.
@@ -123,9 +123,7 @@ impl<H: ResetHook> Session<H> {
         ensures performed { Performed 3 (then_ok (start name false)) (now self.old shared.old) (now self.new shared.new) (λ events. E.emits out.old events out.new) (refusal_of result) }
         ensures between { OnErr result (IsBetweenSteps (now self.new shared.new)) }
     {
-        if let Err(error) = self.start_level(name, false, shared, out) {
-            return Err(error);
-        }
+        self.start_level(name, false, shared, out)?;
         out.emit(What::Ok);
         Ok(())
     }
@@ -190,9 +188,7 @@ impl<H: ResetHook> Session<H> {
         let Some(level) = self.store.savepoint(name) else {
             return Err(Error::NoSuchSavepoint);
         };
-        if let Err(error) = self.begin_again(level, *name, shared, out) {
-            return Err(error);
-        }
+        self.begin_again(level, *name, shared, out)?;
         out.emit(What::Ok);
         Ok(())
     }

@@ -17,7 +17,7 @@ ghost use Rattle.session_store.specs.State.{contexts_in, session_of};
 ghost use Rattle.session_store.specs.Calls.{Acted, ContextsAlone, IsSilent, Keeps, StandsIn, StaysBeside};
 ghost use Rattle.session_core.specs.Lines.{IsBetweenLines};
 ghost use Rattle.session_core.specs.declared.session.StartError.TheVariants as start_error;
-ghost use Rattle.session_items.specs.declared.calls.Calls.{Calls};
+ghost use Rattle.session_commands.specs.declared.calls.Calls.{Calls};
 
 use addr_space::{Addr, Space};
 use context_rules::TreeError;

@@ -5,16 +5,16 @@ ghost use Rattle.session_rules.specs.Elements.{LevelContext, OfLevel};
 ghost use Rattle.session_rules.specs.Commands.{start};
 ghost use Rattle.session_rules.specs.Standing.{AreOuter, IsAtRest};
 ghost use Rattle.session_store.specs.State.{levels_of, portals_of};
-ghost use Rattle.session_items.specs.Answers.{refusal_of};
+ghost use Rattle.session_commands.specs.Answers.{refusal_of};
 ghost use Rattle.session_core.specs.Begun.{HasBegun};
-ghost use Rattle.session_items.specs.Performed.{now, HasRoom, IsBetweenSteps, Performed};
+ghost use Rattle.session_commands.specs.Performed.{now, HasRoom, IsBetweenSteps, Performed};
 
 use crate::session::Session;
 use owner_core::OwnerError;
 use owner_kinds::ExtKind;
 use pgs_step::{Emit, Error, Name};
 use reset_callbacks::ResetHook;
-use session_items::{Shared, call_error};
+use session_commands::{Shared, call_error};
 use subxact_stack::LevelError;
 
 impl<H: ResetHook> Session<H> {
@@ -31,9 +31,7 @@ impl<H: ResetHook> Session<H> {
         requires most { length self.old.levels ≤ 1000 }
         ensures performed { Performed 1 (e.MakeLevel name implicit ∷ []) (now self.old shared.old) (now self.new shared.new) (λ events. E.emits out.old events out.new) (refusal_of result) }
     {
-        if let Err(error) = shared.calls.next() {
-            return Err(error);
-        }
+        shared.calls.next()?;
         match self.store.begin_level(name, implicit, out) {
             Ok(()) => {}
             Err(LevelError::TooMany) => return Err(Error::LimitReached),
@@ -53,9 +51,7 @@ impl<H: ResetHook> Session<H> {
         requires level { 0 < length self.old.levels }
         ensures performed { Performed 1 (e.MakeContext LevelContext ∷ []) (now self.old shared.old) (now self.new shared.new) (λ events. E.emits out.old events out.new) (refusal_of result) }
     {
-        if let Err(error) = shared.calls.next() {
-            return Err(error);
-        }
+        shared.calls.next()?;
         if let Err(refusal) = self.store.make_level_context(shared.space, out) {
             return Err(call_error(refusal, shared.calls.count));
         }
@@ -73,9 +69,7 @@ impl<H: ResetHook> Session<H> {
         requires level { 0 < length self.old.levels }
         ensures performed { Performed 1 (e.MakeOwner OfLevel ∷ []) (now self.old shared.old) (now self.new shared.new) (λ events. E.emits out.old events out.new) (refusal_of result) }
     {
-        if let Err(error) = shared.calls.next() {
-            return Err(error);
-        }
+        shared.calls.next()?;
         match self.store.make_level_owner(out) {
             Ok(()) => {}
             Err(OwnerError::TooMany) => return Err(Error::LimitReached),
@@ -103,15 +97,9 @@ impl<H: ResetHook> Session<H> {
         ensures portals { OnOk result (portals_of self.new.portals ≡ portals_of self.old.portals) }
         ensures begun { OnOk result (HasBegun name implicit (levels_of self.old.levels) (levels_of self.new.levels)) }
     {
-        if let Err(error) = self.make_level(name, implicit, shared, out) {
-            return Err(error);
-        }
-        if let Err(error) = self.make_context_of_level(shared, out) {
-            return Err(error);
-        }
-        if let Err(error) = self.make_owner_of_level(shared, out) {
-            return Err(error);
-        }
+        self.make_level(name, implicit, shared, out)?;
+        self.make_context_of_level(shared, out)?;
+        self.make_owner_of_level(shared, out)?;
         self.store.level_stands();
         Ok(())
     }

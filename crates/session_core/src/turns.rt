@@ -3,7 +3,7 @@ ghost use Rattle.std.specs.Prelude.{◌≡◌, IfSome, option_copied};
 ghost use Rattle.pgs_command.specs.Ranges.{IsInRange};
 ghost use Rattle.session_rules.specs.Transcript.{is_want};
 ghost use Rattle.session_core.specs.Lines.{IsBetweenLines};
-ghost use Rattle.session_items.specs.Performed.{now, most_steps, HasRoom};
+ghost use Rattle.session_commands.specs.Performed.{now, most_steps, HasRoom};
 ghost use Rattle.session_core.specs.Turns.{Turned};
 
 use crate::session::Session;
@@ -11,7 +11,7 @@ use owner_kinds::ExtKind;
 use pgs_command::Command;
 use pgs_step::{Emit, Error};
 use reset_callbacks::ResetHook;
-use session_items::Shared;
+use session_commands::Shared;
 
 impl<H: ResetHook> Session<H> {
     /// Performs what a line says, and recovers where that fails; a bad line is nothing but its error.

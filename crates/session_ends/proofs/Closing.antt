@@ -15,7 +15,7 @@ use Rattle.session_rules.specs.World.{Scene}
 use Rattle.session_rules.specs.Acts.{Ended, context_gone, in_order, switched}
 use Rattle.session_rules.specs.Standing.{Stands}
 use Rattle.session_rules.proofs.ContextsKept.{nothing_left}
-use Rattle.session_tables.specs.Placing.{contexts_of}
+use Rattle.session_owners.specs.Placing.{contexts_of}
 use Rattle.session_owners.specs.Commons.{CommonState}
 use Rattle.session_owners.proofs.Balances.{balances_more}
 use Rattle.session_store.specs.State.{StoreState, scene_of, session_of}

@@ -31,11 +31,12 @@ use Rattle.session_rules.specs.Lookup.{portal_changed, portals_but}
 use Rattle.session_rules.specs.Acts.{Ended, nothing, portal_becomes, portal_gone, where_so}
 use Rattle.session_rules.specs.Portals.{executor_ended, is_ready}
 use Rattle.session_rules.specs.Standing.{AreContexts, AreDifferent, AreLevels, IsAttached, IsOwner, IsPlace, IsPortal}
+use Rattle.session_rules.specs.Ending.{Ending}
 use Rattle.session_rules.proofs.ContextsKept.{protected_has}
 use Rattle.session_rules.proofs.Stacked.{depth_still}
 use Rattle.session_rules.proofs.PortalLists.{but_one, changed_one}
 use Rattle.session_rules.proofs.Ending as ending
-use Rattle.session_rules.proofs.Ending.{Ending, Leads, below_place}
+use Rattle.session_rules.proofs.Ending.{Leads, below_place}
 use Rattle.session_rules.proofs.Replacing.{executor_goes, first_of_rest}
 use Rattle.session_store.specs.State.{StoreState, contexts_in, levels_of, portal_state, portals_of, scene_of, session_of}
 use Rattle.session_store.specs.Placed.{Lies, OwnerLies, PortalLies}

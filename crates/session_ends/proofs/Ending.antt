@@ -17,7 +17,7 @@ use Rattle.context_tree.proofs.Composed.{tree_more}
 use Rattle.plan_store.specs.Plans.{Plans}
 use Rattle.portal_store.specs.declared.portal.Portal.{Portal}
 use Rattle.session_owners.specs.ResourceState.{AllAt, HoldsNothing, ResourceState, Roomy, owners_of}
-use Rattle.session_tables.specs.Placing.{contexts_of}
+use Rattle.session_owners.specs.Placing.{contexts_of}
 use Rattle.subxact_stack.specs.declared.levels.Level.{Level}
 use Rattle.session_rules.specs.State.{LevelState, context_of, first_of, owner_of}
 use Rattle.session_rules.specs.World.{Scene}

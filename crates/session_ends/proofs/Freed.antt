@@ -25,12 +25,11 @@ use Rattle.session_rules.specs.Acts.{where_there}
 use Rattle.session_rules.specs.Making.{level_parent}
 use Rattle.session_rules.specs.Releases.{owner_released}
 use Rattle.session_rules.specs.Standing.{AreContexts, AreHooks, AreLevels, AreOuter, IsPlan, IsPortal, Stands, referred}
+use Rattle.session_rules.specs.Ending.{AreEnding, Ending, IsDone, gone_levels}
 use Rattle.session_rules.proofs.ContextsKept.{own}
-use Rattle.session_rules.proofs.Ending.{Ending, IsDone}
 use Rattle.session_rules.proofs.EndsStand.{MayEnd, begins, left_idle, left_lone, may_end, settled}
-use Rattle.session_rules.proofs.Failing.{gone_levels}
 use Rattle.session_rules.proofs.Guarded.{top_parent}
-use Rattle.session_rules.proofs.LevelsKept.{AreEnding, HasLeft, is_there, left_still, levels_stay, outer_contexts, owners_aborted, owners_end}
+use Rattle.session_rules.proofs.LevelsKept.{HasLeft, is_there, left_still, levels_stay, outer_contexts, owners_aborted, owners_end}
 use Rattle.session_rules.proofs.PortalsAmong.{attached_by, place_spared}
 use Rattle.session_rules.proofs.PlansAmong.{levels_apart}
 use Rattle.session_rules.proofs.Releasing.{with_owners}

@@ -14,7 +14,7 @@ use Rattle.context_tree.specs.Calls.{Did}
 use Rattle.context_tree.specs.State.{TreeState, Agrees, HooksFit, stands_for}
 use Rattle.plan_store.specs.declared.plan.Plan.{Plan}
 use Rattle.session_owners.specs.ResourceState.{ResourceState, owners_of, plan_state, plans_of}
-use Rattle.session_tables.specs.Placing.{AreLeft, PlansFit, contexts_of}
+use Rattle.session_owners.specs.Placing.{AreLeft, PlansFit, contexts_of}
 use Rattle.session_owners.specs.Commons.{CommonState}
 use Rattle.session_rules.specs.Standing.{AreApart, IsPlan, Stands}
 use Rattle.session_rules.proofs.ContextsKept.{protected_has}

@@ -17,3 +17,7 @@ pub mod Marked
 pub mod Ended
 pub mod Went
 pub mod Closing
+pub mod Naming
+pub mod Becoming
+pub mod Living
+pub mod Equipping

@@ -16,8 +16,8 @@ use Rattle.session_rules.specs.State.{LevelState, OpenPortal, abort_context, dee
 use Rattle.session_rules.specs.World.{Scene}
 use Rattle.session_rules.specs.Acts.{changes}
 use Rattle.session_rules.specs.Standing.{IsMade, IsPortal, Stands, referred}
+use Rattle.session_rules.specs.Ending.{Ending}
 use Rattle.session_rules.proofs.ContextsKept.{protected_has}
-use Rattle.session_rules.proofs.Ending.{Ending}
 use Rattle.session_rules.proofs.EndsStand.{settled}
 use Rattle.session_rules.proofs.PlansAmong.{own_other, plans_current}
 use Rattle.session_rules.proofs.PortalsAmong.{place_own}

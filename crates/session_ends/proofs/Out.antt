@@ -13,7 +13,7 @@ use Rattle.plan_store.specs.Plans.{Plans}
 use Rattle.portal_store.specs.declared.portal.Portal.{Portal}
 use Rattle.session_owners.specs.ResourceState as owners
 use Rattle.session_owners.specs.ResourceState.{ResourceState, Roomy, owners_of}
-use Rattle.session_tables.specs.Placing.{AreLeft, contexts_of}
+use Rattle.session_owners.specs.Placing.{AreLeft, contexts_of}
 use Rattle.subxact_stack.specs.declared.levels.Level.{Level}
 use Rattle.session_rules.proofs.Forests.{times_emptied}
 use Rattle.session_store.specs.State.{StoreState}

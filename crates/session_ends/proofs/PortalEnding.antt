@@ -26,7 +26,7 @@ use Rattle.session_rules.specs.Acts.{in_order, nothing, where_so, where_there}
 use Rattle.session_rules.specs.Portals.{executor_ended, is_ready, portal_ended, portal_owner_ended}
 use Rattle.session_rules.specs.Parts.{at_portal}
 use Rattle.session_rules.specs.Releases.{owner_gone, owner_released}
-use Rattle.session_rules.specs.Standing.{AreContexts, AreDifferent, AreHooks, FitLevels, IsAttached, IsLive as IsLivePortal, IsPlace, IsPortal, Stands, owner_at}
+use Rattle.session_rules.specs.Standing.{AreContexts, AreDifferent, AreHooks, FitLevels, IsAttached, IsLive as IsLivePortal, IsPlace, IsPortal, IsWorking, Stands, owner_at}
 use Rattle.session_rules.proofs.ContextsKept.{protected_has}
 use Rattle.session_rules.proofs.EndsStand.{owner_made}
 use Rattle.session_rules.proofs.LevelsKept.{is_there}
@@ -36,7 +36,7 @@ use Rattle.session_rules.proofs.PortalsStand.{Named, named_in, split_portals, th
 use Rattle.session_rules.proofs.PortalWorks.{Beside, nothing_beside}
 use Rattle.session_rules.proofs.Settling.{HasSettled, besides_of, release_settles}
 use Rattle.session_rules.proofs.Stacked.{depth_small}
-use Rattle.session_rules.proofs.StepsStand.{IsWorking, not_released}
+use Rattle.session_rules.proofs.StepsStand.{not_released}
 use Rattle.session_store.specs.State.{StoreState, contexts_in, levels_of, portal_state, portals_of, scene_of, session_of}
 use Rattle.session_store.specs.Placed.{Lies, OwnerLies, PortalLies}
 use Rattle.session_store.specs.Calls.{Acted}

@@ -17,10 +17,11 @@ use Rattle.session_store.specs.Calls.{Acted}
 use Rattle.session_ends.specs.Portals.{EndsSo, GoesOut, IsEnding, left_by, none_left, number_in, owner_to, portal_after}
 use Rattle.session_rules.specs.Portals.{portal_aborted, portal_closed, portal_passed}
 use Rattle.session_rules.specs.Standing.{IsLive, IsMade}
-use Rattle.session_rules.proofs.Ending.{Ending, Leads}
+use Rattle.session_rules.specs.Ending.{Ending, gone_levels}
+use Rattle.session_rules.proofs.Ending.{Leads}
 use Rattle.session_rules.proofs.EndsStand.{owner_when_active}
 use Rattle.session_rules.proofs.Replacing.{closed_leads, swept_leads}
-use Rattle.session_rules.proofs.Failing.{aborted_leads, gone_levels}
+use Rattle.session_rules.proofs.Failing.{aborted_leads}
 use Rattle.session_rules.proofs.Passing.{passed_leads}
 use Rattle.session_store.proofs.Depths.{levels_long}
 use Rattle.session_ends.specs.declared.portals.LevelEnd.{LevelEnd}

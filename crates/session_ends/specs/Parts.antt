@@ -6,7 +6,7 @@ use Rattle.pgs_step.specs.declared.ids.CtxId.{CtxId}
 use Rattle.reset_callbacks.specs.ShelfState.{ShelfState}
 use Rattle.context_rules.specs.Contexts.{Contexts}
 use Rattle.session_owners.specs.ResourceState.{AllAt, HoldsNothing, owners_of}
-use Rattle.session_tables.specs.Placing.{contexts_of}
+use Rattle.session_owners.specs.Placing.{contexts_of}
 use Rattle.session_rules.specs.State.{is_aborted, level_owner}
 use Rattle.session_rules.specs.World.{Scene}
 use Rattle.session_rules.specs.Acts.{Ended, in_order}

@@ -10,7 +10,7 @@ use Rattle.context_rules.specs.Contexts.{Contexts}
 use Rattle.context_tree.specs.State.{HooksFit, IsLive, Moves}
 use Rattle.session_owners.specs.ResourceState as owners
 use Rattle.session_owners.specs.ResourceState.{owners_of}
-use Rattle.session_tables.specs.Placing.{PlansFit}
+use Rattle.session_owners.specs.Placing.{PlansFit}
 use Rattle.session_owners.specs.Commons.{CommonState}
 use Rattle.exec_core.specs.declared.scan.Scan.{Scan}
 use Rattle.session_rules.specs.State.{LevelState, OpenPortal, buffer_pin, first_of, owner_of, relcache_reference, snapshot_reference}
@@ -19,8 +19,7 @@ use Rattle.session_rules.specs.World.{Scene}
 use Rattle.session_rules.specs.Acts.{Ended, context_gone, in_order, portal_gone, where_so, where_there}
 use Rattle.session_rules.specs.Portals.{portal_aborted, portal_passed}
 use Rattle.session_rules.specs.Standing.{IsMade}
-use Rattle.session_rules.proofs.Ending.{Ending}
-use Rattle.session_rules.proofs.Failing.{gone_levels}
+use Rattle.session_rules.specs.Ending.{Ending, gone_levels}
 use Rattle.session_store.specs.State.{StoreState, contexts_in, levels_of, scene_of}
 use Rattle.session_store.specs.Calls.{Keeps}
 use Rattle.session_store.proofs.Kept.{nowhere}

@@ -6,7 +6,7 @@ ghost use Rattle.owner_items.specs.ItemList.{is_of};
 ghost use Rattle.plan_store.specs.Plans.{is_usable};
 ghost use Rattle.owner_core.specs.Owners.{forgotten};
 ghost use Rattle.session_owners.specs.ResourceState.{IsLive, has_begun, items_of, owners_of, spare_of};
-ghost use Rattle.session_tables.specs.Placing.{plan_dropped};
+ghost use Rattle.session_owners.specs.Placing.{plan_dropped};
 ghost use Rattle.session_owners.specs.Commons.{CommonState, Serves};
 ghost use Rattle.session_rules.specs.Releases.{item_released};
 ghost use Rattle.session_store.specs.Calls.{Acted, BothAlone, Keeps, Refused, StandsIn};

@@ -10,7 +10,7 @@ ghost use Rattle.context_tree.specs.Calls.{Did, DidNothing};
 ghost use Rattle.context_tree.specs.State.{Agrees, HooksFit, IsLive, Moves, place_of, stands_for};
 ghost use Rattle.session_owners.specs.ResourceState as owners;
 ghost use Rattle.session_owners.specs.ResourceState.{AllAt, HoldsNothing, owners_of};
-ghost use Rattle.session_tables.specs.Placing.{AreLeft, PlansFit};
+ghost use Rattle.session_owners.specs.Placing.{AreLeft, PlansFit};
 ghost use Rattle.session_owners.specs.Fitting.{Acted, ActedOn};
 ghost use Rattle.session_owners.specs.Commons.{Balances, CommonState, Serves};
 ghost use Rattle.session_rules.specs.Acts.{where_there};

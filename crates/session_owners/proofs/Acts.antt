@@ -23,7 +23,7 @@ use Rattle.snap_table.specs.declared.active.Active.{Active}
 use Rattle.snap_table.specs.Snapshots.{kept_below, lowered, pops}
 use Rattle.plan_store.specs.Plans.{Plans}
 use Rattle.plan_store.specs.declared.plan.Plan.{Plan}
-use Rattle.session_tables.specs.Hosting.{Contexts}
+use Rattle.session_owners.specs.Hosting.{Contexts}
 use Rattle.reset_callbacks.specs.ShelfState.{ShelfState}
 use Rattle.session_rules.specs.State.{StandingPlan, buffer_pin, file_kind, last_of, plan_reference}
 use Rattle.session_rules.specs.Lookup.{plan_changed}
@@ -38,8 +38,8 @@ use Rattle.session_rules.specs.Releases.{Keeper, NoOne, TheKind, given_back, ite
 use Rattle.file_table.specs.Files.{Files, touch_events, touched_file}
 use Rattle.session_owners.specs.ResourceState.{OwnerTree, ResourceState, created, files_of, forgotten, items_of, locks_of, owners_of, plan_state, plans_of, remembered}
 use Rattle.session_owners.specs.Commons.{CommonState, LocksBalance, pinned_beside, pinned_once}
-use Rattle.session_tables.specs.Tables.{Lending, TablesDo, TablesFit}
-use Rattle.session_tables.specs.Placing.{PlansDo, plan_added, with_plans}
+use Rattle.session_owners.specs.Tables.{Lending, TablesDo, TablesFit}
+use Rattle.session_owners.specs.Placing.{PlansDo, plan_added, with_plans}
 use Rattle.session_owners.specs.Fitting.{Acted, ActedOn, Hosting, HostsFit, OwnersFit, hosting_of, with_hosting, with_owners}
 use Rattle.session_owners.proofs.Counts.{held_created}
 use Rattle.session_owners.proofs.OwnPins.{beside_same, beside_still, pinned_remembered, pinned_same}

@@ -35,7 +35,7 @@ use Rattle.session_rules.proofs.HeldItems.{held_moved}
 use Rattle.forest.proofs.Trees.{Moves}
 use Rattle.session_rules.proofs.Releasing.{phase_items}
 use Rattle.session_owners.specs.ResourceState.{ResourceState, locks_of, owners_of}
-use Rattle.session_tables.specs.Tables.{ArePinsShared, Held, Lending, PinsBalance, once_in, times_lent}
+use Rattle.session_owners.specs.Tables.{ArePinsShared, Held, Lending, PinsBalance, once_in, times_lent}
 use Rattle.session_owners.specs.Commons.{Balances, CommonState, LocksBalance, PinsServe, Serves, pinned_beside, pinned_once, seen_by}
 use Rattle.session_owners.specs.Fitting.{OwnersFit}
 use Rattle.session_owners.specs.LockLaws.{LocksBalance-more, LocksBalance-nothing}
@@ -43,7 +43,7 @@ use Rattle.session_owners.specs.Counted.{IsCounted}
 use Rattle.session_owners.proofs.Counts.{held_created, held_remembered, held_removed, lent_high}
 use Rattle.session_owners.proofs.Kept.{held_found, there}
 use Rattle.session_owners.proofs.OwnPins.{at_most_once, beside_same, pinned_own, pinned_same, pins_balance}
-use Rattle.session_tables.proofs.TableSteps.{limits_opened}
+use Rattle.session_owners.proofs.TableSteps.{limits_opened}
 
 pub balances_none : (a : ResourceState) (c : CommonState) → Balances a a c c
 balances_none a c = record {

@@ -27,7 +27,7 @@ use Rattle.file_table.specs.Files.{OpensOneMore, opens}
 use Rattle.plan_store.specs.Plans.{RefersAlike, RefersOneMore, references_to}
 use Rattle.plan_store.specs.declared.plan.Plan.{Plan}
 use Rattle.owner_kinds.specs.KindShelf as shelf
-use Rattle.session_tables.specs.Tables.{Held, Lending, times_held, times_lent}
+use Rattle.session_owners.specs.Tables.{Held, Lending, times_held, times_lent}
 
 module _ (kind : KindId) (key : ℕ) where
   used : Owner → ℕ

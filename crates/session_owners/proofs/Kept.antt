@@ -31,7 +31,7 @@ use Rattle.plan_store.specs.Plans as plans
 use Rattle.plan_store.specs.Plans.{Plans}
 use Rattle.snap_table.specs.declared.active.Active.{Active}
 use Rattle.owner_kinds.specs.KindShelf as shelf
-use Rattle.session_tables.specs.Tables.{Held, Lending, times_held, times_lent}
+use Rattle.session_owners.specs.Tables.{Held, Lending, times_held, times_lent}
 use Rattle.session_owners.specs.Counted.{HoldsCounted, IsCounted, IsHeld}
 use Rattle.session_owners.proofs.Counts.{lent_high, lent_low, held_created, held_forgotten, held_released, held_remembered, held_removed, held_subtree, none_held, times_held-opened, times_held-pinned, times_held-referred, times_held-same}
 use Rattle.session_owners.proofs.Left.{items_left}

@@ -11,4 +11,8 @@ pub mod LockActs
 pub mod OwnPins
 pub mod Stack
 pub mod Stat
-pub mod Plans
+pub mod PlanLemmas
+pub mod TableSteps
+pub mod PlanSteps
+pub mod Classes
+pub mod OpenCounts

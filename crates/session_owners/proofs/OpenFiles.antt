@@ -20,7 +20,7 @@ use Rattle.file_table.proofs.Sound.{no_descriptor}
 use Rattle.session_rules.specs.State.{file_kind}
 use Rattle.session_rules.specs.Counts.{all_items, distinct, keys_of}
 use Rattle.session_owners.specs.Counted.{files_held, holds_file}
-use Rattle.session_tables.proofs.OpenCounts.{any_counts}
+use Rattle.session_owners.proofs.OpenCounts.{any_counts}
 
 -- how often owners hold a kind and key, by all their items
 pub held_all : (kind : KindId) (key : ℕ) (owners : OwnerTree) → held kind key owners ≡ uses kind key (all_items owners)

@@ -13,9 +13,9 @@ use Rattle.session_rules.specs.State.{buffer_pin}
 use Rattle.session_rules.specs.Counts.{all_items}
 use Rattle.session_rules.specs.World.{for_buffers}
 use Rattle.session_owners.specs.Commons.{pinned_beside, pinned_once}
-use Rattle.session_tables.specs.Tables.{ArePinsShared, PinsBalance, once_in}
+use Rattle.session_owners.specs.Tables.{ArePinsShared, PinsBalance, once_in}
 use Rattle.session_owners.proofs.OpenFiles.{held_all}
-use Rattle.session_tables.proofs.OpenCounts.{any_counts}
+use Rattle.session_owners.proofs.OpenCounts.{any_counts}
 
 -- one where a number is more than none
 once : ℕ → ℕ

@@ -13,7 +13,7 @@ use Rattle.std.specs.declared.cmp.Ordering.{Ordering}
 use Rattle.std.specs.declared.cmp.Ordering.TheVariants.{Less, Equal, Greater}
 use Rattle.counts.specs.Counts.{Tallies, count_of}
 use Rattle.ref_table.specs.References.{pair_cmp}
-use Rattle.session_tables.specs.Tables.{Held, is_class, times_held}
+use Rattle.session_owners.specs.Tables.{Held, is_class, times_held}
 use Rattle.session_owners.specs.Counted.{IsCounted}
 use Rattle.pgs_step.specs.declared.ids.Item.{Item}
 use Rattle.pgs_step.specs.declared.ids.KindId.{KindId}
@@ -28,7 +28,7 @@ use Rattle.file_table.proofs.FileCounts.{different_length}
 use Rattle.session_rules.specs.State.{SessionState}
 use Rattle.session_rules.specs.Counts.{all_items, count, counts, distinct, keys_of}
 use Rattle.session_owners.proofs.OpenFiles.{distinct_length, held_all, keys_among}
-use Rattle.session_tables.proofs.OpenCounts.{any_counts}
+use Rattle.session_owners.proofs.OpenCounts.{any_counts}
 
 -- The places of numbers that are more than 0, in a list that begins at a place.
 abbrev places_from : ℕ → List ℕ → List ℕ

@@ -14,8 +14,8 @@ use Rattle.owner_core.specs.Released.{released}
 use Rattle.owner_core.specs.Sound.{IsSoundTable}
 use Rattle.session_rules.specs.State.{file_kind}
 use Rattle.session_rules.specs.Counts.{all_items, distinct, keys_of}
-use Rattle.session_tables.specs.Tables.{Held, times_held}
-pub use Rattle.session_tables.specs.Tables.{IsReference}
+use Rattle.session_owners.specs.Tables.{Held, times_held}
+pub use Rattle.session_owners.specs.Tables.{IsReference}
 
 -- the item is a pin of one of the buffers
 pub record IsPin (item : Item) : Type 0 where

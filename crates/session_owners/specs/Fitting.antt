@@ -6,8 +6,8 @@ use Rattle.session_rules.specs.World.{Scene}
 use Rattle.session_rules.specs.Acts.{Ended}
 use Rattle.session_owners.specs.ResourceState.{ResourceState, owners_of, plans_of}
 use Rattle.session_owners.specs.Commons.{CommonState, pinned_beside, seen_by}
-pub use Rattle.session_tables.specs.Hosting.{Hosting, HostsFit, hosting_of, with_hosting}
-pub use Rattle.session_tables.specs.Placing.{AreLeft, contexts_of}
+pub use Rattle.session_owners.specs.Hosting.{Hosting, HostsFit, hosting_of, with_hosting}
+pub use Rattle.session_owners.specs.Placing.{AreLeft, contexts_of}
 
 -- The owners of a scene, its files that have a descriptor, its locks, its active snapshots and its plans are these, as many descriptors
 -- are its share, and its kinds, what others have locked and how many others pin each buffer are those of the commons.

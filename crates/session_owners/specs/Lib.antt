@@ -3,3 +3,8 @@ pub mod Commons
 pub mod LockLaws
 pub mod Fitting
 pub mod Counted
+pub mod PlanStates
+pub mod Hosting
+pub mod Placing
+pub mod Tables
+pub mod TableLaws

@@ -13,8 +13,8 @@ use Rattle.lock_local.specs.Locks.{Lock, SessionLocks}
 use Rattle.lock_local.specs.Code.{lock_code}
 use Rattle.owner_core.specs.TableCode.{roomy_code}
 use Rattle.session_rules.specs.State.{StandingPlan}
-use Rattle.session_tables.specs.PlanStates.{plans_code}
-pub use Rattle.session_tables.specs.PlanStates.{plan_state}
+use Rattle.session_owners.specs.PlanStates.{plans_code}
+pub use Rattle.session_owners.specs.PlanStates.{plan_state}
 pub use Rattle.owner_core.specs.Owners.{Owner, OwnerTree, Roomy, AllAt, HoldsNothing, created, entered, forgotten, has_begun, held, items_of, remembered, tree_of}
 
 -- the owners with their room, where each lies, the numbers that the next owner and the next item get, the files that have a

@@ -5,16 +5,16 @@ ghost use Rattle.lock_local.specs.Locks.{Agrees};
 ghost use Rattle.owner_kinds.specs.KindShelf.{table_of};
 ghost use Rattle.std.proofs.Common.{◌∙◌};
 ghost use Rattle.session_owners.specs.Commons.{LocksBalance};
-ghost use Rattle.session_tables.specs.Placing.{PlansFit};
-ghost use Rattle.session_tables.specs.Tables.{lending_of, times_lent, ArePinsShared, PinsBalance, TablesDo};
+ghost use Rattle.session_owners.specs.Placing.{PlansFit};
+ghost use Rattle.session_owners.specs.Tables.{lending_of, times_lent, ArePinsShared, PinsBalance, TablesDo};
 
+use crate::{PlanContexts, Tables};
 use lock_local::LockTable;
 use lock_shared::SharedLocks;
 use owner_core::Release;
 use owner_kinds::{ExtKind, KindShelf};
 use pgs_step::{Emit, Item, KindId, OwnerId};
 use pin_table::SharedPins;
-use session_tables::{PlanContexts, Tables};
 
 /// The tables and locks of a session and the contexts of its plans, and the extension kinds of the run and the locks and pins of
 /// all sessions, for one release.
@@ -67,7 +67,7 @@ impl<'a, K: ExtKind, P: PlanContexts> Release for Lent<'a, K, P> {
     }
 
     ghost use Rattle.session_owners.specs.LockLaws.{LocksBalance-nothing, LocksBalance-more};
-    ghost use Rattle.session_tables.specs.TableLaws.{PinsBalance-nothing, PinsBalance-more, TablesDo-nothing, TablesDo-said, TablesDo-more};
+    ghost use Rattle.session_owners.specs.TableLaws.{PinsBalance-nothing, PinsBalance-more, TablesDo-nothing, TablesDo-said, TablesDo-more};
 
     ghost does_nothing = { λ a. (refl, refl, refl, refl, refl, refl, LocksBalance-nothing a.locks.now a.shared.now, PinsBalance-nothing a.tables.now.pins a.pins.now, P.went_nothing a.place.now, TablesDo-nothing (lending_of a.tables.now a.kinds.now a.locks.now.locks (P.contexts a.place.now) (P.shelf a.place.now))) };
 

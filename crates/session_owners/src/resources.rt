@@ -28,17 +28,17 @@ ghost use Rattle.session_owners.specs.Counted.{HoldsCounted, IsReference, all_re
 ghost use Rattle.session_owners.specs.ResourceState.{owners_of, IsLive, has_begun, items_of, plans_of, spare_of, created, entered, forgotten, remembered, AllAt, HoldsNothing};
 ghost use Rattle.session_owners.specs.Commons.{Balances, CommonState, Serves};
 ghost use Rattle.session_owners.specs.Fitting.{hosting_of, Acted, ActedOn, OwnersFit};
-ghost use Rattle.session_tables.specs.Placing.{plan_added, plan_dropped, AreLeft, PlansFit};
+ghost use Rattle.session_owners.specs.Placing.{plan_added, plan_dropped, AreLeft, PlansFit};
 
 use crate::commons::Commons;
 use crate::lent::Lent;
+use crate::{PlanContexts, Tables};
 use file_table::FileError;
 use lock_local::{LockError, LockTable};
 use owner_core::{OwnerError, Owners, Release};
 use owner_kinds::{ExtKind, KindError};
 use pgs_step::{CtxId, Emit, Item, KindId, Mode, OwnerId, Phase, SessionCounts};
 use plan_store::PlanError;
-use session_tables::{PlanContexts, Tables};
 use snap_table::SnapError;
 use std::alloc::{AllocError, Global};
 use std::marker::Model;
@@ -653,7 +653,7 @@ impl Resources {
         self.tables.pop(level, out)
     }
 
-    /// Takes each active snapshot of that level or of a deeper one off the stack, the newest first: `AtEOSubXact_Snapshot` at
+    /// Takes each active snapshot of that level or of a deeper one off the stack, the newest first: `AtSubAbort_Snapshot` at
     /// an abort.
     pub fn pop_from<E: Emit>(&mut self, level: u32, out: &mut E)
         ensures stack_alone { self.new ≡ record self.old { stack = self.new.stack } }

@@ -19,7 +19,7 @@ use Rattle.plan_store.specs.declared.plan.Plan.{Plan}
 use Rattle.plan_store.specs.declared.plan.PlanError.{PlanError}
 use Rattle.plan_store.specs.declared.plan.PlanError.TheVariants.{TooMany}
 use Rattle.context_rules.specs.Refusals.{create_refusal}
-use Rattle.session_owners.proofs.Plans.{at_found}
+use Rattle.session_owners.proofs.PlanLemmas.{at_found}
 use Rattle.session_rules.specs.Lookup.{plan_at}
 use Rattle.session_store.specs.Plans.{plan_refusal}
 use Rattle.session_owners.specs.ResourceState.{ResourceState, owners_of, plan_state, plans_of}

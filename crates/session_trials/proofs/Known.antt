@@ -8,7 +8,7 @@ use Rattle.addr_space.specs.Space.{Region, Space, Changes, HasBytes, IsInside, b
 use Rattle.context_rules.specs.Contexts.{Contexts, Found, found}
 use Rattle.context_rules.specs.Refusals.{bytes_refusal, where_so}
 use Rattle.context_rules.specs.declared.errors.TreeError.TheVariants.{NoName, Range}
-use Rattle.session_items.specs.Performed.{Grows, HasRoom, Now, most_steps}
+use Rattle.session_commands.specs.Performed.{Grows, HasRoom, Now, most_steps}
 
 -- a chunk that was found, of which at least so many bytes are known
 pub record HasKnown (least : ℕ) (o : Option Found) : Type 0 where

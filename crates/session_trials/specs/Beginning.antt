@@ -1,5 +1,5 @@
 -- A session that has started, where a call meets it.
-use Rattle.session_items.specs.Performed.{Now}
+use Rattle.session_commands.specs.Performed.{Now}
 use Rattle.session_trials.specs.declared.playing.Started.{Started}
 
 abbrev pub now_at : Started → Now

@@ -9,8 +9,8 @@ ghost use Rattle.context_rules.specs.Chunks.{written};
 ghost use Rattle.session_rules.specs.Parts.{contexts_become};
 ghost use Rattle.session_owners.specs.Commons.{CommonState};
 ghost use Rattle.session_store.specs.Calls.{Acted, IsSilent, Keeps};
-ghost use Rattle.session_items.specs.declared.calls.Calls.{Calls};
-ghost use Rattle.session_items.specs.Performed.{now, most_steps, Grows, HasRoom};
+ghost use Rattle.session_commands.specs.declared.calls.Calls.{Calls};
+ghost use Rattle.session_commands.specs.Performed.{now, most_steps, Grows, HasRoom};
 ghost use Rattle.session_core.specs.Lines.{IsBetweenLines};
 ghost use Rattle.session_trials.specs.Beginning.{now_at};
 

@@ -6,9 +6,10 @@ use Rattle.session_rules.specs.Checks.{has_failed}
 use Rattle.session_rules.specs.Elements as element
 use Rattle.session_rules.specs.State.{OpenPortal, depth}
 use Rattle.session_rules.specs.World.{Scene}
-use Rattle.session_items.specs.Performed.{now}
-use Rattle.session_items.proofs.Pinning.{room_left}
-use Rattle.portal_commands.proofs.Chains.{alone_done, less_room}
+use Rattle.session_commands.specs.Performed.{now}
+use Rattle.session_commands.proofs.Chains.{less_room, room_left}
+use Rattle.portal_commands.proofs.Chains.{alone_done}
+use Rattle.session_commands.proofs.Refusing.{handed}
 use Rattle.portal_commands.proofs.FetchSteps.{fetching_begins}
 use Rattle.portal_commands.proofs.OnCommands.{does_begin, fetch_done, fetch_of_failed, fetch_of_none, fetch_refused, not_failed, scan_of_it}
 use Rattle.portal_commands.proofs.Places.{at_becomes, at_there}
@@ -39,19 +40,20 @@ fetch_rows-requires g c = record {
       (let begun = (alone_done (element.FetchBegins c.args.name) (λ scene. portal_becomes c.args.name (λ p. record p { active = depth scene.session }) scene) (now c.args.store.now c.args.shared.now) c.begin_fetch.new.store (does_begin c.args.name) (λ s. refl) (λ s. refl) (c.begin_fetch.ensures.acted c.args.name (sym c.in-Some.ensures) c.args.shared.now.space.now c.args.shared.now.shelf.now c.args.shared.now.commons.now) c.begin_fetch.ensures.alone c.requires.between.keeps) in begun.grows);
 }
 
-pub returns-in-Err : goal.returns-in-Err
-returns-in-Err g c = record {
+pub returns-in_err-rows : goal.returns-in_err-rows
+returns-in_err-rows g c = record {
   performed =
-      fetch_refused c.args.name c.args.count (now c.args.store.now c.args.shared.now) _ c.requires.between.keeps c.in-Some-portal_at.portal.now (sym (c.in-Some-portal_at.ensures.portal c.args.name (sym c.in-Some.ensures))) (not_failed c.in-Some-portal_at.portal.now.state c.in_default-state.not-Failed) c.requires.range.1 _ _
+      handed _ _ c.from_residual.ensures.1
+      (fetch_refused c.args.name c.args.count (now c.args.store.now c.args.shared.now) _ c.requires.between.keeps c.in-Some-portal_at.portal.now (sym (c.in-Some-portal_at.ensures.portal c.args.name (sym c.in-Some.ensures))) (not_failed c.in-Some-portal_at.portal.now.state c.in_default-state.not-Failed) c.requires.range.1 _ _
       (alone_done (element.FetchBegins c.args.name) (λ scene. portal_becomes c.args.name (λ p. record p { active = depth scene.session }) scene) (now c.args.store.now c.args.shared.now) c.begin_fetch.new.store (does_begin c.args.name) (λ s. refl) (λ s. refl) (c.begin_fetch.ensures.acted c.args.name (sym c.in-Some.ensures) c.args.shared.now.space.now c.args.shared.now.shelf.now c.args.shared.now.commons.now) c.begin_fetch.ensures.alone c.requires.between.keeps)
-      c.in-Err.error (c.in-Err.ensures.refused c.in-Some-portal_at.portal.now.scan (fetching_begins c.args.name c.in-Some-portal_at.portal.now.scan (now c.args.store.now c.args.shared.now) c.begin_fetch.new.store c.requires.between c.requires.active (scan_of_it c.args.name c.args.count (now c.args.store.now c.args.shared.now) (λ (events : List What). events ≡ []) c.requires.between.keeps c.in-Some-portal_at.portal.now (sym (c.in-Some-portal_at.ensures.portal c.args.name (sym c.in-Some.ensures)))) (c.begin_fetch.ensures.acted c.args.name (sym c.in-Some.ensures) c.args.shared.now.space.now c.args.shared.now.shelf.now c.args.shared.now.commons.now) c.begin_fetch.ensures.alone));
+      _ (c.in_err-rows.ensures.refused c.in-Some-portal_at.portal.now.scan (fetching_begins c.args.name c.in-Some-portal_at.portal.now.scan (now c.args.store.now c.args.shared.now) c.begin_fetch.new.store c.requires.between c.requires.active (scan_of_it c.args.name c.args.count (now c.args.store.now c.args.shared.now) (λ (events : List What). events ≡ []) c.requires.between.keeps c.in-Some-portal_at.portal.now (sym (c.in-Some-portal_at.ensures.portal c.args.name (sym c.in-Some.ensures)))) (c.begin_fetch.ensures.acted c.args.name (sym c.in-Some.ensures) c.args.shared.now.space.now c.args.shared.now.shelf.now c.args.shared.now.commons.now) c.begin_fetch.ensures.alone)));
 }
 
 pub returns : goal.returns
 returns g c = record {
   performed =
-      let f = c.in-Ok.ensures.fetched c.in-Some-portal_at.portal.now.scan (fetching_begins c.args.name c.in-Some-portal_at.portal.now.scan (now c.args.store.now c.args.shared.now) c.begin_fetch.new.store c.requires.between c.requires.active (scan_of_it c.args.name c.args.count (now c.args.store.now c.args.shared.now) (λ (events : List What). events ≡ []) c.requires.between.keeps c.in-Some-portal_at.portal.now (sym (c.in-Some-portal_at.ensures.portal c.args.name (sym c.in-Some.ensures)))) (c.begin_fetch.ensures.acted c.args.name (sym c.in-Some.ensures) c.args.shared.now.space.now c.args.shared.now.shelf.now c.args.shared.now.commons.now) c.begin_fetch.ensures.alone) in
+      let f = c.in_ok-rows.ensures.fetched c.in-Some-portal_at.portal.now.scan (fetching_begins c.args.name c.in-Some-portal_at.portal.now.scan (now c.args.store.now c.args.shared.now) c.begin_fetch.new.store c.requires.between c.requires.active (scan_of_it c.args.name c.args.count (now c.args.store.now c.args.shared.now) (λ (events : List What). events ≡ []) c.requires.between.keeps c.in-Some-portal_at.portal.now (sym (c.in-Some-portal_at.ensures.portal c.args.name (sym c.in-Some.ensures)))) (c.begin_fetch.ensures.acted c.args.name (sym c.in-Some.ensures) c.args.shared.now.space.now c.args.shared.now.shelf.now c.args.shared.now.commons.now) c.begin_fetch.ensures.alone) in
       fetch_done c.args.name c.args.count (now c.args.store.now c.args.shared.now) _ c.requires.between.keeps c.in-Some-portal_at.portal.now (sym (c.in-Some-portal_at.ensures.portal c.args.name (sym c.in-Some.ensures))) (not_failed c.in-Some-portal_at.portal.now.state c.in_default-state.not-Failed) c.requires.range.1 _ _
       (alone_done (element.FetchBegins c.args.name) (λ scene. portal_becomes c.args.name (λ p. record p { active = depth scene.session }) scene) (now c.args.store.now c.args.shared.now) c.begin_fetch.new.store (does_begin c.args.name) (λ s. refl) (λ s. refl) (c.begin_fetch.ensures.acted c.args.name (sym c.in-Some.ensures) c.args.shared.now.space.now c.args.shared.now.shelf.now c.args.shared.now.commons.now) c.begin_fetch.ensures.alone c.requires.between.keeps)
-      c.in-Ok.rows (λ (events : List What). g.E.Emit.emits c.args.out.now events c.fetch_rows.new.out) _ f.0 f.1 f.2 (let x = f.2 in x.keeps) c.emit.ensures.emitted (λ us vs x y. g.met.E.Emit.emits_more _ _ _ _ _ _ x y refl);
+      c.in_ok-rows.rows (λ (events : List What). g.E.Emit.emits c.args.out.now events c.fetch_rows.new.out) _ f.0 f.1 f.2 (let x = f.2 in x.keeps) c.emit.ensures.emitted (λ us vs x y. g.met.E.Emit.emits_more _ _ _ _ _ _ x y refl);
 }

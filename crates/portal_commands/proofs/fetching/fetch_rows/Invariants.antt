@@ -1,6 +1,6 @@
 use Rattle.std.proofs.Common.{◌-◌}
 use Rattle.exec_core.specs.declared.scan.Scan.{Scan}
-use Rattle.session_items.specs.Performed.{now}
+use Rattle.session_commands.specs.Performed.{now}
 use Rattle.portal_commands.specs.Fetching.{IsAt, IsFetching}
 use Rattle.portal_commands.proofs.Turning.{IsRunning}
 use Rattle.portal_commands.proofs.fetching.fetch_rows.Given as goal

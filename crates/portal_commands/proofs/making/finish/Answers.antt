@@ -2,32 +2,35 @@ use Rattle.std.proofs.Common.{true, refl, arith}
 use Rattle.portal_store.specs.declared.portal.PortalState.TheVariants.{Ready}
 use Rattle.session_rules.specs.Acts.{portal_becomes}
 use Rattle.session_rules.specs.Elements as element
-use Rattle.session_items.specs.Performed.{now}
-use Rattle.session_items.proofs.Performing.{performed_both}
-use Rattle.portal_commands.proofs.Chains.{alone_done, stops, then_silent}
+use Rattle.session_commands.specs.Performed.{now}
+use Rattle.session_commands.proofs.Performing.{performed_both}
+use Rattle.session_commands.proofs.Chains.{stops, then_silent}
+use Rattle.portal_commands.proofs.Chains.{alone_done}
 use Rattle.portal_commands.proofs.OnCommands.{does_ready}
 use Rattle.portal_commands.proofs.OnItsWay.{has_name}
+use Rattle.session_commands.proofs.Refusing.{handed}
 use Rattle.portal_commands.proofs.making.finish.Goals as goal
 
-pub returns-in-Err : goal.returns-in-Err
-returns-in-Err g c = record { performed = stops 1 2 _ _ _ _ _ c.in-Err.error (omega arith) c.in-Err.ensures.performed }
+pub returns-in_err-take_memory : goal.returns-in_err-take_memory
+returns-in_err-take_memory g c = record { performed = handed _ _ c.from_residual.ensures.1 (stops 1 2 _ _ _ _ _ _ (omega arith) c.in_err-take_memory.ensures.performed) }
 
-pub returns-in-Err-make_row : goal.returns-in-Err-make_row
-returns-in-Err-make_row g c = record {
+pub returns-in_err-make_row : goal.returns-in_err-make_row
+returns-in_err-make_row g c = record {
   performed =
-      performed_both 1 1 _ _ _ _ _ _ _ _ _ c.in_default.ensures.performed (stops 1 1 _ _ _ _ _ c.in-Err-make_row.error (omega arith) c.in-Err-make_row.ensures.performed)
-      (λ us vs first second. g.met.E.Emit.emits_more _ _ _ _ _ _ first second refl);
+      handed _ _ c.from_residual-in_err-make_row.ensures.1
+      (performed_both 1 1 _ _ _ _ _ _ _ _ _ c.in_ok-take_memory.ensures.performed (stops 1 1 _ _ _ _ _ _ (omega arith) c.in_err-make_row.ensures.performed)
+      (λ us vs first second. g.met.E.Emit.emits_more _ _ _ _ _ _ first second refl));
 }
 
 pub portal_ready-requires : goal.portal_ready-requires
-portal_ready-requires g c = record { there = has_name _ c.make_row.new.shared.space.now c.args.name.now true true true c.in_default-make_row.ensures.making.way }
+portal_ready-requires g c = record { there = has_name _ c.make_row.new.shared.space.now c.args.name.now true true true c.in_ok-make_row.ensures.making.way }
 
 pub returns : goal.returns
 returns g c = record {
   performed =
-      performed_both 1 1 _ _ _ _ _ _ _ _ _ c.in_default.ensures.performed
-      (then_silent 1 0 _ _ _ _ _ _ _ c.in_default-make_row.ensures.performed
+      performed_both 1 1 _ _ _ _ _ _ _ _ _ c.in_ok-take_memory.ensures.performed
+      (then_silent 1 0 _ _ _ _ _ _ _ c.in_ok-make_row.ensures.performed
       (alone_done (element.PortalReady c.args.name.now) (portal_becomes c.args.name.now (λ p. record p { state = Ready })) (now c.make_row.new.store c.make_row.new.shared) c.portal_ready.new.store (does_ready c.args.name.now) (λ s. refl) (λ s. refl)
-      (c.portal_ready.ensures.acted c.make_row.new.shared.space.now c.make_row.new.shared.shelf.now c.make_row.new.shared.commons.now) c.portal_ready.ensures.alone c.in_default-make_row.ensures.making.between.keeps))
+      (c.portal_ready.ensures.acted c.make_row.new.shared.space.now c.make_row.new.shared.shelf.now c.make_row.new.shared.commons.now) c.portal_ready.ensures.alone c.in_ok-make_row.ensures.making.between.keeps))
       (λ us vs first second. g.met.E.Emit.emits_more _ _ _ _ _ _ first second refl);
 }

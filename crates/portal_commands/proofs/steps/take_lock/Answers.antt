@@ -1,8 +1,8 @@
 use Rattle.std.proofs.Common.{true, false}
 use Rattle.pgs_step.specs.declared.lock_modes.Mode.TheVariants.{AccessShareLock}
 use Rattle.session_rules.specs.Elements.{OfPortal}
-use Rattle.session_items.specs.Performed.{now}
-use Rattle.session_items.proofs.Standing.{where_done}
+use Rattle.session_commands.specs.Performed.{now}
+use Rattle.session_commands.proofs.Standing.{where_done}
 use Rattle.portal_commands.proofs.OnItsWay.{has_owner, lock_on}
 use Rattle.portal_commands.proofs.steps.take_lock.Goals as goal
 

@@ -1,8 +1,8 @@
 use Rattle.std.proofs.Common.{true, false}
 use Rattle.session_rules.specs.Elements.{OfPortal}
-use Rattle.session_items.specs.Performed.{now}
-use Rattle.session_items.proofs.Pinning.{owner_unbegun}
-use Rattle.session_items.proofs.Standing.{in_active, where_done}
+use Rattle.session_commands.specs.Performed.{now}
+use Rattle.session_commands.proofs.Pinning.{owner_unbegun}
+use Rattle.session_commands.proofs.Standing.{where_done}
 use Rattle.portal_commands.proofs.OnItsWay.{has_owner, portals_owner, reference_on}
 use Rattle.portal_commands.proofs.steps.take_reference.Goals as goal
 
@@ -27,4 +27,4 @@ pub hold_reference-requires-clause-there : goal.hold_reference-requires-clause-t
 hold_reference-requires-clause-there g c = portals_owner c.args.name.now (now c.args.store.now c.args.shared.now) c.owner_of-owner.result c.requires.making.between c.requires.making.working c.owner_of-owner.ensures.owner
 
 pub hold_reference-requires-clause-not_begun : goal.hold_reference-requires-clause-not_begun
-hold_reference-requires-clause-not_begun g c = owner_unbegun (now c.args.store.now c.args.shared.now) c.requires.making.between (in_active _ c.requires.making.working) c.owner_of-owner.result.number
+hold_reference-requires-clause-not_begun g c = owner_unbegun (now c.args.store.now c.args.shared.now) c.requires.making.between c.requires.making.working c.owner_of-owner.result.number

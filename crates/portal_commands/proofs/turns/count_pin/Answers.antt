@@ -1,14 +1,16 @@
-use Rattle.session_items.specs.Performed.{now}
+use Rattle.session_commands.specs.Performed.{now}
 use Rattle.portal_commands.proofs.PinSteps.{no_pin, no_room}
+use Rattle.session_commands.proofs.Refusing.{handed}
 use Rattle.portal_commands.proofs.turns.count_pin.Goals as goal
 
-pub returns-in-Err : goal.returns-in-Err
-returns-in-Err g c = record {
-  counted = λ role page store keeps none. no_room role page (now store c.args.shared.now) keeps _ c.next.ensures.counted c.in-Err.error c.in-Err.ensures.injected;
+pub returns-in_err-next : goal.returns-in_err-next
+returns-in_err-next g c = record {
+  counted = λ role page store keeps none. handed _ _ c.from_residual.ensures.1
+      (no_room role page (now store c.args.shared.now) keeps _ c.next.ensures.counted _ c.in_err-next.ensures.injected);
 }
 
 pub returns : goal.returns
 returns g c = record {
   counted = λ role page store keeps none.
-      no_pin role page (now store c.args.shared.now) keeps none _ _ c.next.ensures.counted c.in_default.ensures.goes c.next-2.ensures.counted c.next-2.result (c.next-2.ensures.goes, c.next-2.ensures.injected);
+      no_pin role page (now store c.args.shared.now) keeps none _ _ c.next.ensures.counted c.in_ok-next.ensures.goes c.next-2.ensures.counted c.next-2.result (c.next-2.ensures.goes, c.next-2.ensures.injected);
 }

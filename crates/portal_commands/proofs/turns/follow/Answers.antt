@@ -1,5 +1,5 @@
 use Rattle.exec_core.specs.declared.steps.ScanStep.TheVariants as step
-use Rattle.session_items.specs.Performed.{now, scene_in}
+use Rattle.session_commands.specs.Performed.{now, scene_in}
 use Rattle.portal_commands.proofs.FetchSteps.{follows_as, follows_nothing, other_part, row_told}
 use Rattle.portal_commands.proofs.turns.follow.Goals as goal
 

@@ -1,9 +1,9 @@
 use Rattle.std.proofs.Common.{◌≡◌, sym, subst, [], List}
 use Rattle.pgs_step.specs.declared.events.What.{What}
 use Rattle.session_rules.specs.Elements.{OfPortal}
-use Rattle.session_items.specs.Performed.{now}
-use Rattle.session_items.proofs.Pinning.{owner_unbegun, performed_said}
-use Rattle.session_items.proofs.Standing.{in_active}
+use Rattle.session_commands.specs.Performed.{now}
+use Rattle.session_commands.proofs.Pinning.{owner_unbegun}
+use Rattle.session_commands.proofs.Performing.{performed_said}
 use Rattle.portal_commands.proofs.FetchSteps.{fetched_owner}
 use Rattle.portal_commands.proofs.turns.pin_page.Goals as goal
 
@@ -11,7 +11,7 @@ pub hold_pin-requires-clause-there : goal.hold_pin-requires-clause-there
 hold_pin-requires-clause-there g c = fetched_owner c.args.portal.now.name c.requires.fetching.0 (now c.args.store.now c.args.shared.now) c.in-Some.owner c.requires.fetching.1 (c.in-Some.ensures.owner c.args.portal.now.name c.requires.place)
 
 pub hold_pin-requires-clause-not_begun : goal.hold_pin-requires-clause-not_begun
-hold_pin-requires-clause-not_begun g c = owner_unbegun (now c.args.store.now c.args.shared.now) c.requires.fetching.1.between (in_active _ c.requires.fetching.1.working) c.in-Some.owner.number
+hold_pin-requires-clause-not_begun g c = owner_unbegun (now c.args.store.now c.args.shared.now) c.requires.fetching.1.between c.requires.fetching.1.working c.in-Some.owner.number
 
 pub returns-in-Some : goal.returns-in-Some
 returns-in-Some g c = record { performed = c.hold_pin.ensures.performed (OfPortal c.args.portal.now.name) (c.in-Some.ensures.owner c.args.portal.now.name c.requires.place) }

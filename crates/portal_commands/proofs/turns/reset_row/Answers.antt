@@ -1,5 +1,5 @@
 use Rattle.std.proofs.Common.{refl}
-use Rattle.session_items.specs.Performed.{now}
+use Rattle.session_commands.specs.Performed.{now}
 use Rattle.portal_commands.proofs.FetchSteps.{follows_nothing, no_row, row_reset}
 use Rattle.portal_commands.proofs.turns.reset_row.Goals as goal
 

@@ -1,7 +1,7 @@
 use Rattle.std.proofs.Common.{refl, ap, arith, List}
 use Rattle.exec_core.specs.Turn.{taken}
 use Rattle.pgs_step.specs.declared.events.What.{What}
-use Rattle.session_items.specs.Performed.{now}
+use Rattle.session_commands.specs.Performed.{now}
 use Rattle.portal_commands.proofs.FetchSteps.{served_good, there_scan}
 use Rattle.portal_commands.proofs.TurnLists.{closing, next_page, unclosed}
 use Rattle.portal_commands.proofs.Turning.{ended_end, ended_row, ended_scan, fewer_left, step_room, turning_ended, turning_on, turning_refused, turning_start}

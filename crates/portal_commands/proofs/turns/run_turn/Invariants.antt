@@ -1,5 +1,5 @@
 use Rattle.exec_core.specs.declared.scan.Scan.{Scan}
-use Rattle.session_items.specs.Performed.{now}
+use Rattle.session_commands.specs.Performed.{now}
 use Rattle.portal_commands.specs.Fetching.{IsAt, IsFetching}
 use Rattle.portal_commands.proofs.Turning.{IsTurning, steps_left}
 use Rattle.portal_commands.proofs.turns.run_turn.Given as goal

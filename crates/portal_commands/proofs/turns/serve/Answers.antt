@@ -1,5 +1,5 @@
 use Rattle.exec_core.specs.declared.steps.ScanStep.TheVariants as step
-use Rattle.session_items.specs.Performed.{now}
+use Rattle.session_commands.specs.Performed.{now}
 use Rattle.portal_commands.proofs.FetchSteps.{at_on, bad_performed, fetching_on, needs_nothing, other_performed, serves_as, serves_beside}
 use Rattle.portal_commands.proofs.turns.serve.Goals as goal
 

@@ -1,7 +1,7 @@
 use Rattle.std.proofs.Common.{refl}
 use Rattle.exec_core.specs.Turn.{taken}
 use Rattle.session_rules.specs.State.{OpenPortal}
-use Rattle.session_items.specs.Performed.{now}
+use Rattle.session_commands.specs.Performed.{now}
 use Rattle.portal_commands.proofs.FetchSteps.{at_follows, fetching_follows, fetching_step, scan_done, step_named}
 use Rattle.portal_commands.proofs.Places.{at_becomes}
 use Rattle.portal_commands.proofs.turns.take_step.Goals as goal

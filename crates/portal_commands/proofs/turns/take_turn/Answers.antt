@@ -1,4 +1,4 @@
-use Rattle.session_items.specs.Performed.{now}
+use Rattle.session_commands.specs.Performed.{now}
 use Rattle.portal_commands.proofs.TurnElements.{turn_as, turn_done, turn_failed}
 use Rattle.portal_commands.proofs.turns.take_turn.Goals as goal
 

@@ -1,9 +1,8 @@
 use Rattle.std.proofs.Common.{refl}
-use Rattle.session_items.specs.Performed.{now}
-use Rattle.session_items.proofs.HeldItems.{missing_item}
-use Rattle.session_items.proofs.Pinning.{owner_unbegun}
-use Rattle.session_items.proofs.Stepping.{said_nothing}
-use Rattle.session_items.proofs.Standing.{in_active}
+use Rattle.session_commands.specs.Performed.{now}
+use Rattle.session_commands.proofs.HeldItems.{missing_item}
+use Rattle.session_commands.proofs.Pinning.{owner_unbegun}
+use Rattle.session_commands.proofs.Stepping.{said_nothing}
 use Rattle.portal_commands.proofs.FetchSteps.{follows_nothing, no_owner, page_not_held, page_unpinned}
 use Rattle.portal_commands.proofs.turns.unpin_page.Goals as goal
 
@@ -18,7 +17,7 @@ pub returns-in-Err : goal.returns-in-Err
 returns-in-Err g c = record {
   follows =
       page_not_held c.args.portal.now.name (now c.args.store.now c.args.shared.now) _ _ refl c.release_item.ensures.asked c.args.page c.in-Some.owner (c.in-Some.ensures.owner c.args.portal.now.name c.requires.place)
-      (missing_item _ c.release_item.result _ c.in-Err.is (c.release_item.ensures.item (owner_unbegun (now c.args.store.now c.args.shared.now) c.requires.fetching.1.between (in_active _ c.requires.fetching.1.working) c.in-Some.owner.number)))
+      (missing_item _ c.release_item.result _ c.in-Err.is (c.release_item.ensures.item (owner_unbegun (now c.args.store.now c.args.shared.now) c.requires.fetching.1.between c.requires.fetching.1.working c.in-Some.owner.number)))
       c.in-Err.ensures.refused c.release_item.ensures.alone (said_nothing g.E.Emit.emits _ _ (g.met.E.Emit.emits_none c.args.out.now) c.in-Err.ensures.silent);
 }
 

@@ -1,13 +1,14 @@
-use Rattle.session_items.specs.Performed.{most_work}
-use Rattle.session_items.proofs.Standing.{in_active, where_done, work_levels, work_stands}
-use Rattle.portal_commands.proofs.OnCommands.{is_work}
+use Rattle.pgs_command.specs.declared.commands.PortalCommand.{PortalCommand}
+use Rattle.session_rules.specs.Works.{portal_row}
+use Rattle.session_store.specs.State.{portals_of}
+use Rattle.session_commands.proofs.Commands.{as_row}
 use Rattle.portal_commands.proofs.works.work_on_portals.Goals as goal
 
-pub returns-clause-between : goal.returns-clause-between
-returns-clause-between g c =
-    work_stands most_work c.args.command.now _ (is_work c.args.command.now c.requires.work) _ _ _ _ c.requires.between (in_active _ c.requires.active) c.requires.rest c.work_by_kind.ensures.performed
+pub returns-in-Open : goal.returns-in-Open
+returns-in-Open g c = record { performed = as_row (λ (x : PortalCommand). portal_row x (portals_of c.args.store.now.portals)) _ _ c.in-Open.is c.make_portal.ensures.performed }
 
-pub returns-clause-levels : goal.returns-clause-levels
-returns-clause-levels g c =
-    where_done c.work_by_kind.result
-    (work_levels most_work c.args.command.now _ (is_work c.args.command.now c.requires.work) _ _ _ _ c.requires.between (in_active _ c.requires.active) c.requires.rest c.work_by_kind.ensures.performed)
+pub returns-in-Fetch : goal.returns-in-Fetch
+returns-in-Fetch g c = record { performed = as_row (λ (x : PortalCommand). portal_row x (portals_of c.args.store.now.portals)) _ _ c.in-Fetch.is c.fetch.ensures.performed }
+
+pub returns-in-End : goal.returns-in-End
+returns-in-End g c = record { performed = as_row (λ (x : PortalCommand). portal_row x (portals_of c.args.store.now.portals)) _ _ c.in-End.is c.end_portal.ensures.performed }

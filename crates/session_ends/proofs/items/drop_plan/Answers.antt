@@ -5,7 +5,7 @@ use Rattle.reset_callbacks.specs.ShelfState.{ShelfState}
 use Rattle.forest.specs.Forest.{at}
 use Rattle.plan_store.specs.Plans.{is_usable}
 use Rattle.session_owners.specs.ResourceState.{ResourceState}
-use Rattle.session_tables.specs.Placing.{plan_dropped}
+use Rattle.session_owners.specs.Placing.{plan_dropped}
 use Rattle.session_store.specs.State.{StoreState}
 use Rattle.session_store.specs.Calls.{Acted, BothAlone}
 use Rattle.session_store.proofs.Planned.{both_alone}

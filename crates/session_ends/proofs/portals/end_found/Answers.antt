@@ -14,8 +14,7 @@ use Rattle.session_rules.specs.World.{Scene}
 use Rattle.session_rules.specs.Lookup as rules
 use Rattle.session_rules.specs.Acts.{Ended, context_gone, in_order, portal_gone, where_so, where_there}
 use Rattle.session_rules.specs.Portals.{executor_ended, is_ready, portal_owner_ended}
-use Rattle.session_rules.specs.Standing.{Stands}
-use Rattle.session_rules.proofs.StepsStand.{IsWorking}
+use Rattle.session_rules.specs.Standing.{IsWorking, Stands}
 use Rattle.session_store.specs.State.{StoreState, levels_of, portal_state, portals_of, scene_of}
 use Rattle.session_store.proofs.Kept.{nowhere}
 use Rattle.session_store.proofs.Owned.{acted_as}

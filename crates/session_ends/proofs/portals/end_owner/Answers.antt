@@ -9,7 +9,7 @@ use Rattle.session_owners.specs.ResourceState as owners
 use Rattle.session_owners.specs.ResourceState.{ResourceState, owners_of}
 use Rattle.session_owners.specs.Commons.{Serves}
 use Rattle.session_owners.proofs.Balances.{serves_still}
-use Rattle.session_tables.specs.Placing.{AreLeft}
+use Rattle.session_owners.specs.Placing.{AreLeft}
 use Rattle.session_rules.specs.World.{Scene}
 use Rattle.session_rules.specs.Acts.{Ended, in_order, where_there}
 use Rattle.session_rules.specs.Releases.{owner_gone, owner_released}

@@ -1,7 +1,7 @@
 -- Behind each command the session is between two lines, and none raised a counter by more than a line may.
 use Rattle.std.proofs.Common.{◌≡◌, ◌*◌}
 use Rattle.session_core.specs.Lines.{IsBetweenLines}
-use Rattle.session_items.specs.Performed.{now, Grows, most_steps}
+use Rattle.session_commands.specs.Performed.{now, Grows, most_steps}
 use Rattle.session_trials.proofs.playing.play.Given as goal
 
 abbrev pub invariant-loop-command : goal.invariant-loop-command

@@ -5,7 +5,7 @@ use Rattle.lock_shared.specs.declared.shared_locks.Holding.{Holding}
 use Rattle.owner_kinds.specs.KindShelf.{table_of}
 use Rattle.owner_kinds.specs.KindTable.{IsSound}
 use Rattle.session_owners.specs.Commons.{CommonState}
-use Rattle.session_items.specs.Performed.{Now}
+use Rattle.session_commands.specs.Performed.{Now}
 use Rattle.session_core.proofs.Opened.{none_held, none_pinned, opened_lines, opened_room, opened_serves}
 use Rattle.session_trials.proofs.playing.start.Goals as goal
 

@@ -2,7 +2,7 @@ use Rattle.std.proofs.Common.{◌≡◌, IfSome, false, refl, subst}
 use Rattle.session_rules.specs.State.{first_of}
 use Rattle.session_rules.specs.Standing.{IsOpen}
 use Rattle.session_store.specs.State.{StoreState, levels_of}
-use Rattle.session_items.specs.Performed.{IsBetweenSteps, now}
+use Rattle.session_commands.specs.Performed.{IsBetweenSteps, now}
 use Rattle.session_core.proofs.Between.{abort_between, between_of}
 use Rattle.session_core.proofs.OnLevels.{abort_performed}
 use Rattle.session_core.proofs.Seen.{seen, serves_of, stands_of}

@@ -1,10 +1,10 @@
 use Rattle.std.proofs.Common.{refl}
-use Rattle.session_core.proofs.LevelsBegin.{room_behind}
-use Rattle.session_items.proofs.Performing.{performed_both}
+use Rattle.session_commands.proofs.Chains.{room_left}
+use Rattle.session_commands.proofs.Performing.{performed_both}
 use Rattle.session_core.proofs.session.Session.begin_again.Goals as goal
 
 pub start_level-requires-clause-room : goal.start_level-requires-clause-room
-start_level-requires-clause-room g c = room_behind 0 3 _ _ c.requires.room c.roll_back_to.ensures.performed.grows
+start_level-requires-clause-room g c = room_left 0 3 _ _ c.requires.room c.roll_back_to.ensures.performed.grows
 
 pub returns-clause-performed : goal.returns-clause-performed
 returns-clause-performed g c =

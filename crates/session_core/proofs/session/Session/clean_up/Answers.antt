@@ -1,7 +1,7 @@
 use Rattle.std.proofs.Common.{◌≡◌, ◌<◌, true, length, refl, subst, sym}
 use Rattle.session_rules.specs.State.{is_aborted}
 use Rattle.session_store.specs.State.{StoreState, levels_of}
-use Rattle.session_items.specs.Performed.{Now, now}
+use Rattle.session_commands.specs.Performed.{Now, now}
 use Rattle.session_core.proofs.Between.{between_of, clean_between, clean_rest}
 use Rattle.session_core.proofs.OnLevels.{cleanup_performed}
 use Rattle.session_core.proofs.Seen.{seen, stands_of}

@@ -3,7 +3,7 @@ use Rattle.session_rules.specs.Acts.{in_order}
 use Rattle.session_rules.specs.Ends.{aborted, cleaned_up, given_up}
 use Rattle.session_store.proofs.Depths.{levels_long}
 use Rattle.session_store.specs.State.{StoreState, levels_of}
-use Rattle.session_items.specs.Performed.{Now, now}
+use Rattle.session_commands.specs.Performed.{Now, now}
 use Rattle.session_core.proofs.Between.{between_of, roll_between}
 use Rattle.session_core.proofs.Numbers.{aborts, rolls}
 use Rattle.session_core.proofs.Recovered.{ended, ends_as, ends_both, ends_seen, gives_start, gives_start_alone, starting_some}

@@ -1,31 +1,39 @@
-use Rattle.std.proofs.Common.{refl}
+use Rattle.std.proofs.Common.{codes, refl}
+use Rattle.any_ctx.specs.declared.any.CtxKind.TheVariants as kind
+use Rattle.session_rules.specs.Elements as element
+use Rattle.session_rules.specs.Elements.{LevelContext}
+use Rattle.session_rules.specs.Making.{new_context_made, new_context_refused}
+use Rattle.session_commands.specs.Performed.{now}
+use Rattle.session_commands.proofs.Making.{context_done, context_not_made, does_make_context}
 use Rattle.session_core.proofs.Seen.{seen, stands_of}
-use Rattle.session_core.proofs.Starting.{context_injected, context_made_for, context_not_made}
-use Rattle.session_items.proofs.Stepping.{said_nothing}
+use Rattle.session_core.proofs.Starting.{level_is_new}
+use Rattle.session_commands.proofs.Stepping.{said_nothing, still_injected}
+use Rattle.session_commands.proofs.Refusing.{handed}
 use Rattle.session_core.proofs.session.Session.make_context_of_level.Goals as goal
 
-pub returns-in-Err : goal.returns-in-Err
-returns-in-Err g c = record {
+pub returns-in_err-next : goal.returns-in_err-next
+returns-in_err-next g c = record {
   performed =
-      context_injected _ _ _ c.next.ensures.counted refl refl c.requires.between.keeps refl (g.met.E.Emit.emits_none c.args.out.now) c.in-Err.error c.in-Err.ensures.injected;
+      handed _ _ c.from_residual.ensures.1
+      (still_injected (element.MakeContext LevelContext) (new_context_refused LevelContext) (new_context_made LevelContext) (does_make_context LevelContext) _ _ _ c.next.ensures.counted refl c.requires.between.keeps refl (g.met.E.Emit.emits_none c.args.out.now) refl _ c.in_err-next.ensures.injected);
 }
 
 pub returns : goal.returns
 returns g c = record {
   performed =
       seen c.self.inside.store c.args.self.now c.self.view_is 1 _ c.args.shared.now _ _ _
-      (context_made_for _ _ _ c.next.ensures.counted c.in_default.ensures.goes c.make_level_context.ensures.keeps c.make_level_context.ensures.moves _ c.make_level_context.result c.in_default-make_level_context.is
-      c.in_default-make_level_context.ensures.served (c.in_default-make_level_context.ensures.acted c.args.shared.now.shelf.now c.args.shared.now.commons.now) c.in_default-make_level_context.ensures.asked);
+      (context_done LevelContext (codes "CurTransactionContext") kind.Default (now c.self.inside.store c.args.shared.now) _ (level_is_new (now c.self.inside.store c.args.shared.now)) _ c.next.ensures.counted c.in_ok-next.ensures.goes c.make_level_context.ensures.keeps c.make_level_context.ensures.moves
+      c.in_default.ensures.served (c.in_default.ensures.acted c.args.shared.now.shelf.now c.args.shared.now.commons.now) c.in_default.ensures.asked);
 }
 
-pub returns-in-Err-make_level_context : goal.returns-in-Err-make_level_context
-returns-in-Err-make_level_context g c = record {
+pub returns-in-Err : goal.returns-in-Err
+returns-in-Err g c = record {
   performed =
       seen c.self.inside.store c.args.self.now c.self.view_is 1 _ c.args.shared.now _ _ _
-      (context_not_made _ _ _ c.next.ensures.counted c.in_default.ensures.goes c.make_level_context.ensures.keeps c.make_level_context.ensures.moves
-      (c.in-Err-make_level_context.ensures.refused c.args.shared.now.shelf.now c.args.shared.now.commons.now)
-      (said_nothing g.E.Emit.emits c.args.out.now c.make_level_context.new.out (g.met.E.Emit.emits_none c.args.out.now) c.in-Err-make_level_context.ensures.silent)
-      _ _ c.in-Err-make_level_context.ensures.cause c.call_error.ensures.memory c.call_error.ensures.own c.in-Err-make_level_context.ensures.err_asked);
+      (context_not_made LevelContext (codes "CurTransactionContext") kind.Default (now c.self.inside.store c.args.shared.now) _ (level_is_new (now c.self.inside.store c.args.shared.now)) _ c.next.ensures.counted c.in_ok-next.ensures.goes c.make_level_context.ensures.keeps c.make_level_context.ensures.moves
+      (c.in-Err.ensures.refused c.args.shared.now.shelf.now c.args.shared.now.commons.now)
+      (said_nothing g.E.Emit.emits c.args.out.now c.make_level_context.new.out (g.met.E.Emit.emits_none c.args.out.now) c.in-Err.ensures.silent)
+      _ _ c.in-Err.ensures.cause c.call_error.ensures.memory c.call_error.ensures.own c.in-Err.ensures.err_asked);
 }
 
 pub make_level_context-requires-clause-stands : goal.make_level_context-requires-clause-stands

@@ -1,13 +1,17 @@
 use Rattle.std.proofs.Common.{◌≤◌, Err, refl, ap, ◌∙◌}
+use Rattle.session_store.specs.State.{StoreState}
+use Rattle.session_commands.specs.Performed.{now}
 use Rattle.session_core.proofs.Seen.{keeps_of, levels_seen, seen}
-use Rattle.session_core.proofs.Starting.{level_injected, level_pushed, level_refused, level_wants}
-use Rattle.session_items.proofs.Stepping.{said_nothing}
+use Rattle.session_core.proofs.Starting.{few_levels, make_level, many_levels}
+use Rattle.session_commands.proofs.Stepping.{call_done, call_injected, call_refused, call_wants, said_nothing}
+use Rattle.session_commands.proofs.Refusing.{handed}
 use Rattle.session_core.proofs.session.Session.make_level.Goals as goal
 
-pub returns-in-Err : goal.returns-in-Err
-returns-in-Err g c = record {
+pub returns-in_err-next : goal.returns-in_err-next
+returns-in_err-next g c = record {
   performed =
-      level_injected c.args.name c.args.implicit _ _ _ c.next.ensures.counted refl refl c.requires.between.keeps refl (g.met.E.Emit.emits_none c.args.out.now) c.in-Err.error c.in-Err.ensures.injected;
+      handed _ _ c.from_residual.ensures.1
+      (call_injected (make_level c.args.name c.args.implicit) _ _ _ c.next.ensures.counted refl c.requires.between.keeps refl (g.met.E.Emit.emits_none c.args.out.now) refl _ c.in_err-next.ensures.injected);
 }
 
 pub returns-in-Err-TooMany : goal.returns-in-Err-TooMany
@@ -15,9 +19,9 @@ returns-in-Err-TooMany g c = record {
   performed =
       let keeps = keeps_of c.self.inside.store c.args.self.now c.self.view_is c.args.shared.now.space.now c.requires.between.keeps in
       seen c.self.inside.store c.args.self.now c.self.view_is 1 _ c.args.shared.now _ _ _
-      (level_refused c.args.name c.args.implicit _ _ _ c.next.ensures.counted refl refl keeps c.in-Err-TooMany.ensures.err
-      (said_nothing g.E.Emit.emits c.args.out.now c.begin_level.new.out (g.met.E.Emit.emits_none c.args.out.now) c.in-Err-TooMany.ensures.silent) c.in_default.ensures.goes
-      (c.begin_level.ensures.too_many.0 (c.in-Err-TooMany.is ∙ ap Err c.in-Err-TooMany.field-0-is)));
+      (call_refused (make_level c.args.name c.args.implicit) _ _ _ c.next.ensures.counted refl keeps refl
+      (said_nothing g.E.Emit.emits c.args.out.now c.begin_level.new.out (g.met.E.Emit.emits_none c.args.out.now) c.in-Err-TooMany.ensures.silent) c.in-Err-TooMany.ensures.err _ c.in_ok-next.ensures.goes refl
+      (many_levels (now c.self.inside.store c.args.shared.now) c.begin_level.result c.begin_level.ensures.too_many (c.in-Err-TooMany.is ∙ ap Err c.in-Err-TooMany.field-0-is)));
 }
 
 pub returns-in-Err-Memory : goal.returns-in-Err-Memory
@@ -25,8 +29,8 @@ returns-in-Err-Memory g c = record {
   performed =
       let keeps = keeps_of c.self.inside.store c.args.self.now c.self.view_is c.args.shared.now.space.now c.requires.between.keeps in
       seen c.self.inside.store c.args.self.now c.self.view_is 1 _ c.args.shared.now _ _ _
-      (level_wants c.args.name c.args.implicit _ _ _ c.next.ensures.counted refl refl keeps c.in-Err-Memory.ensures.err
-      (said_nothing g.E.Emit.emits c.args.out.now c.begin_level.new.out (g.met.E.Emit.emits_none c.args.out.now) c.in-Err-Memory.ensures.silent) c.in_default.ensures.goes);
+      (call_wants (make_level c.args.name c.args.implicit) _ _ _ c.next.ensures.counted refl keeps refl
+      (said_nothing g.E.Emit.emits c.args.out.now c.begin_level.new.out (g.met.E.Emit.emits_none c.args.out.now) c.in-Err-Memory.ensures.silent) c.in-Err-Memory.ensures.err c.in_ok-next.ensures.goes);
 }
 
 pub returns : goal.returns
@@ -34,8 +38,9 @@ returns g c = record {
   performed =
       let keeps = keeps_of c.self.inside.store c.args.self.now c.self.view_is c.args.shared.now.space.now c.requires.between.keeps in
       seen c.self.inside.store c.args.self.now c.self.view_is 1 _ c.args.shared.now _ _ _
-      (level_pushed c.args.name c.args.implicit _ _ _ c.next.ensures.counted refl refl keeps c.begin_level.result _ c.in_default.ensures.goes c.in-Ok.is c.begin_level.ensures.too_many
-      (levels_seen c.self.inside.store c.args.self.now (λ n. n ≤ 1000) c.self.view_is c.requires.most) _ c.in-Ok.ensures.store
+      (call_done (make_level c.args.name c.args.implicit) _ _ _ c.next.ensures.counted refl keeps c.in_ok-next.ensures.goes
+      (few_levels (now c.self.inside.store c.args.shared.now) c.begin_level.result c.begin_level.ensures.too_many _ c.in-Ok.is
+      (levels_seen c.self.inside.store c.args.self.now (λ n. n ≤ 1000) c.self.view_is c.requires.most)) (ap (λ (store : StoreState). store.tree) c.in-Ok.ensures.store)
       (c.begin_level.ensures.keeps c.args.shared.now.space.now keeps)
       (c.in-Ok.ensures.acted c.args.shared.now.space.now c.args.shared.now.shelf.now c.args.shared.now.commons.now));
 }

@@ -1,13 +1,17 @@
 use Rattle.std.proofs.Common.{Err, refl, ap, ◌∙◌}
 use Rattle.session_core.proofs.Seen.{keeps_of, seen, stands_of}
-use Rattle.session_core.proofs.Starting.{owner_injected, owner_made_for, owner_refused, owner_wants}
-use Rattle.session_items.proofs.Stepping.{said_nothing}
+use Rattle.session_rules.specs.Elements.{OfLevel}
+use Rattle.session_commands.specs.Performed.{now}
+use Rattle.session_commands.proofs.Making.{few_owners, make_owner, many_owners}
+use Rattle.session_commands.proofs.Stepping.{call_done, call_injected, call_refused, call_wants, said_nothing}
+use Rattle.session_commands.proofs.Refusing.{handed}
 use Rattle.session_core.proofs.session.Session.make_owner_of_level.Goals as goal
 
-pub returns-in-Err : goal.returns-in-Err
-returns-in-Err g c = record {
+pub returns-in_err-next : goal.returns-in_err-next
+returns-in_err-next g c = record {
   performed =
-      owner_injected _ _ _ c.next.ensures.counted refl refl c.requires.between.keeps refl (g.met.E.Emit.emits_none c.args.out.now) c.in-Err.error c.in-Err.ensures.injected;
+      handed _ _ c.from_residual.ensures.1
+      (call_injected (make_owner OfLevel) _ _ _ c.next.ensures.counted refl c.requires.between.keeps refl (g.met.E.Emit.emits_none c.args.out.now) refl _ c.in_err-next.ensures.injected);
 }
 
 pub returns-in-Err-TooMany : goal.returns-in-Err-TooMany
@@ -15,18 +19,18 @@ returns-in-Err-TooMany g c = record {
   performed =
       let keeps = keeps_of c.self.inside.store c.args.self.now c.self.view_is c.args.shared.now.space.now c.requires.between.keeps in
       seen c.self.inside.store c.args.self.now c.self.view_is 1 _ c.args.shared.now _ _ _
-      (owner_refused _ _ _ c.next.ensures.counted refl refl keeps c.in-Err-TooMany.ensures.err
-      (said_nothing g.E.Emit.emits c.args.out.now c.make_level_owner.new.out (g.met.E.Emit.emits_none c.args.out.now) c.in-Err-TooMany.ensures.silent) c.in_default.ensures.goes
-      (c.make_level_owner.ensures.too_many.0 (c.in-Err-TooMany.is ∙ ap Err c.in-Err-TooMany.field-0-is)));
+      (call_refused (make_owner OfLevel) _ _ _ c.next.ensures.counted refl keeps refl
+      (said_nothing g.E.Emit.emits c.args.out.now c.make_level_owner.new.out (g.met.E.Emit.emits_none c.args.out.now) c.in-Err-TooMany.ensures.silent) c.in-Err-TooMany.ensures.err _ c.in_ok-next.ensures.goes refl
+      (many_owners (now c.self.inside.store c.args.shared.now) c.make_level_owner.result c.make_level_owner.ensures.too_many (c.in-Err-TooMany.is ∙ ap Err c.in-Err-TooMany.field-0-is)));
 }
 
-pub returns-in-Err-make_level_owner : goal.returns-in-Err-make_level_owner
-returns-in-Err-make_level_owner g c = record {
+pub returns-in-Err : goal.returns-in-Err
+returns-in-Err g c = record {
   performed =
       let keeps = keeps_of c.self.inside.store c.args.self.now c.self.view_is c.args.shared.now.space.now c.requires.between.keeps in
       seen c.self.inside.store c.args.self.now c.self.view_is 1 _ c.args.shared.now _ _ _
-      (owner_wants _ _ _ c.next.ensures.counted refl refl keeps c.in-Err-make_level_owner.ensures.err
-      (said_nothing g.E.Emit.emits c.args.out.now c.make_level_owner.new.out (g.met.E.Emit.emits_none c.args.out.now) c.in-Err-make_level_owner.ensures.silent) c.in_default.ensures.goes);
+      (call_wants (make_owner OfLevel) _ _ _ c.next.ensures.counted refl keeps refl
+      (said_nothing g.E.Emit.emits c.args.out.now c.make_level_owner.new.out (g.met.E.Emit.emits_none c.args.out.now) c.in-Err.ensures.silent) c.in-Err.ensures.err c.in_ok-next.ensures.goes);
 }
 
 pub returns : goal.returns
@@ -34,7 +38,8 @@ returns g c = record {
   performed =
       let keeps = keeps_of c.self.inside.store c.args.self.now c.self.view_is c.args.shared.now.space.now c.requires.between.keeps in
       seen c.self.inside.store c.args.self.now c.self.view_is 1 _ c.args.shared.now _ _ _
-      (owner_made_for _ _ _ c.next.ensures.counted refl refl keeps _ c.make_level_owner.result c.in_default.ensures.goes c.in-Ok.is c.make_level_owner.ensures.too_many c.make_level_owner.ensures.tree
+      (call_done (make_owner OfLevel) _ _ _ c.next.ensures.counted refl keeps c.in_ok-next.ensures.goes
+      (few_owners (now c.self.inside.store c.args.shared.now) c.make_level_owner.result c.make_level_owner.ensures.too_many _ c.in-Ok.is) c.make_level_owner.ensures.tree
       (c.make_level_owner.ensures.keeps c.args.shared.now.space.now keeps)
       (c.in-Ok.ensures.acted c.args.shared.now.space.now c.args.shared.now.shelf.now c.args.shared.now.commons.now));
 }

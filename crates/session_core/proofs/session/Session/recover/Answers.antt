@@ -3,7 +3,7 @@ use Rattle.session_rules.specs.State.{first_of}
 use Rattle.session_store.specs.State.{StoreState, level_state, levels_of}
 use Rattle.session_core.proofs.Between.{recovery_lines}
 use Rattle.session_core.proofs.Numbers.{aborts, nothing_keeps, rolls}
-use Rattle.session_items.proofs.Performing.{moves_nothing}
+use Rattle.session_commands.proofs.Performing.{moves_nothing}
 use Rattle.session_core.proofs.Recovered.{acted_nothing, ended, ends_same, ends_seen, gives_aborted, gives_implicit, gives_none, gives_open, gives_up, recovery_ends}
 use Rattle.session_core.proofs.Seen.{keeps_of, serves_of, stands_of}
 use Rattle.session_core.proofs.session.Session.recover.Goals as goal

@@ -1,7 +1,7 @@
-use Rattle.std.proofs.Common.{◌≡◌, None, Some, ap, ◌∙◌, refl, arith}
+use Rattle.std.proofs.Common.{◌≡◌, None, Some, ap, ◌∙◌, refl}
 use Rattle.session_rules.specs.Commands.{committed_to, savepoint, then_ok}
 use Rattle.session_store.specs.State.{StoreState, levels_of}
-use Rattle.session_core.proofs.ByState.{as_elements, performed_ok, refused_missing}
+use Rattle.session_core.proofs.ByState.{as_elements, performed_ok, performed_refused}
 use Rattle.session_core.proofs.Rolling.{at_found, at_missing}
 use Rattle.session_core.proofs.session.Session.release.Goals as goal
 
@@ -9,7 +9,7 @@ pub returns-in_default-clause-performed : goal.returns-in_default-clause-perform
 returns-in_default-clause-performed g c =
     let none : None ≡ savepoint c.args.name.now (levels_of c.args.self.now.levels) = c.in_default.ensures.found ∙ ap (λ (v : StoreState). savepoint c.args.name.now (levels_of v.levels)) c.self.view_is in
     as_elements 0 _ _ _ _ _ _ (ap then_ok (at_missing c.args.name.now c.args.self.now.levels (λ n. committed_to n (levels_of c.args.self.now.levels)) c.requires.level none))
-    (refused_missing _ _ c.requires.between.keeps (g.met.E.Emit.emits_none c.args.out.now))
+    (performed_refused 0 _ _ _ _ c.requires.between.keeps (g.met.E.Emit.emits_none c.args.out.now) refl)
 
 pub returns-clause-performed : goal.returns-clause-performed
 returns-clause-performed g c =

@@ -1,9 +1,10 @@
-use Rattle.std.proofs.Common.{◌≡◌, ◌≤◌, ◌++◌, false, None, Some, length, ap, ◌∙◌, refl, subst, arith}
+use Rattle.std.proofs.Common.{◌≡◌, ◌≤◌, ◌++◌, false, None, Some, length, ap, ◌∙◌, refl, subst}
 use Rattle.session_rules.specs.Commands.{rolled_back_to, savepoint, start, then_ok}
 use Rattle.session_store.specs.State.{StoreState, levels_of}
-use Rattle.session_core.proofs.ByState.{as_elements, error_told, none_told, performed_ok, refused_missing}
-use Rattle.session_items.proofs.Performing.{performed_more, performed_stop}
+use Rattle.session_core.proofs.ByState.{as_elements, performed_ok, performed_refused}
+use Rattle.session_commands.proofs.Performing.{performed_stop}
 use Rattle.session_core.proofs.Rolling.{at_found, at_missing}
+use Rattle.session_commands.proofs.Refusing.{handed}
 use Rattle.session_core.proofs.session.Session.return_to.Goals as goal
 
 pub begin_again-requires-clause-within : goal.begin_again-requires-clause-within
@@ -15,15 +16,16 @@ returns-in_default-clause-performed g c =
     as_elements 3 _ _ _ _ _ _
     (ap then_ok
     (at_missing c.args.name.now c.args.self.now.levels (λ n. rolled_back_to n (levels_of c.args.self.now.levels) ++ start (Some c.args.name.now) false) c.requires.level none))
-    (performed_more 0 3 _ _ _ _ _ (omega arith) (refused_missing _ _ c.requires.between.keeps (g.met.E.Emit.emits_none c.args.out.now)))
+    (performed_refused 3 _ _ _ _ c.requires.between.keeps (g.met.E.Emit.emits_none c.args.out.now) refl)
 
-pub returns-in-Err-clause-performed : goal.returns-in-Err-clause-performed
-returns-in-Err-clause-performed g c =
+pub returns-in_err-begin_again-clause-performed : goal.returns-in_err-begin_again-clause-performed
+returns-in_err-begin_again-clause-performed g c =
     let found : Some c.in-Some.level ≡ savepoint c.args.name.now (levels_of c.args.self.now.levels) = c.in-Some.ensures.found ∙ ap (λ (v : StoreState). savepoint c.args.name.now (levels_of v.levels)) c.self.view_is in
-    as_elements 3 _ _ _ _ _ _
+    handed _ _ c.from_residual.ensures.1
+    (as_elements 3 _ _ _ _ _ _
     (ap then_ok
     (at_found c.args.name.now (levels_of c.args.self.now.levels) (λ n. rolled_back_to n (levels_of c.args.self.now.levels) ++ start (Some c.args.name.now) false) c.in-Some.level found))
-    (performed_stop 3 _ _ _ _ _ _ (error_told 3 _ _ _ _ c.begin_again.result _ c.in-Err.is c.begin_again.ensures.performed))
+    (performed_stop 3 _ _ _ _ _ _ c.in_err-begin_again.ensures.performed))
 
 pub returns-clause-performed : goal.returns-clause-performed
 returns-clause-performed g c =
@@ -31,5 +33,5 @@ returns-clause-performed g c =
     as_elements 3 _ _ _ _ _ _
     (ap then_ok
     (at_found c.args.name.now (levels_of c.args.self.now.levels) (λ n. rolled_back_to n (levels_of c.args.self.now.levels) ++ start (Some c.args.name.now) false) c.in-Some.level found))
-    (performed_ok 3 _ _ _ _ _ _ (none_told 3 _ _ _ _ c.begin_again.result _ c.in_default-begin_again.is c.begin_again.ensures.performed) c.emit.ensures.emitted
+    (performed_ok 3 _ _ _ _ _ _ c.in_ok-begin_again.ensures.performed c.emit.ensures.emitted
     (λ us vs first second. g.met.E.Emit.emits_more _ _ _ _ _ _ first second refl))

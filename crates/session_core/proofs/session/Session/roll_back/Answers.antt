@@ -1,6 +1,6 @@
 use Rattle.std.proofs.Common.{◌<◌, length, refl, subst, sym}
 use Rattle.session_store.specs.State.{StoreState}
-use Rattle.session_items.specs.Performed.{Now, now}
+use Rattle.session_commands.specs.Performed.{Now, now}
 use Rattle.session_core.proofs.Between.{between_of, roll_between, roll_rest}
 use Rattle.session_core.proofs.OnLevels.{roll_performed}
 use Rattle.session_core.proofs.Seen.{seen, serves_of, stands_of}

@@ -1,5 +1,5 @@
 use Rattle.std.proofs.Common.{length}
-use Rattle.session_items.specs.Performed.{now}
+use Rattle.session_commands.specs.Performed.{now}
 use Rattle.session_core.proofs.Rolling.{IsRolling}
 use Rattle.session_core.proofs.session.Session.roll_back_to.Given as goal
 

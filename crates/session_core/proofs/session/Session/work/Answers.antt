@@ -1,22 +1,16 @@
-use Rattle.std.proofs.Common.{arith}
-use Rattle.session_rules.specs.Works.{work_of}
-use Rattle.session_store.specs.State.{StoreState, session_of}
-use Rattle.session_items.specs.Performed.{most_work}
-use Rattle.session_items.proofs.Performing.{performed_more}
-use Rattle.session_core.proofs.ByState.{works_beside}
-use Rattle.session_core.proofs.Seen.{seen, seen_from}
+use Rattle.session_rules.specs.Works.{elements, row_of}
+use Rattle.session_store.specs.State.{StoreState, portals_of}
+use Rattle.session_commands.specs.Performed.{most_work}
+use Rattle.session_commands.proofs.Standing.{where_done, work_levels, work_stands}
+use Rattle.session_core.proofs.Seen.{seen_from}
 use Rattle.session_core.proofs.session.Session.work.Goals as goal
 
-pub returns-in_default-clause-performed : goal.returns-in_default-clause-performed
-returns-in_default-clause-performed g c =
-    performed_more 2 most_work _ _ _ _ _ (omega arith)
-    (seen c.self.inside.store c.args.self.now c.self.view_is 2 _ c.args.shared.now _ _ _ (c.work.ensures.performed (session_of c.args.self.now c.args.shared.now.space.now)))
+pub returns-clause-performed : goal.returns-clause-performed
+returns-clause-performed g c =
+    seen_from c.self.inside.store c.args.self.now c.self.view_is most_work (λ (store : StoreState). elements (row_of c.args.work.now (portals_of store.portals))) c.args.shared.now _ _ _ c.do_work.ensures.performed
 
-pub returns-in-Portal-clause-performed : goal.returns-in-Portal-clause-performed
-returns-in-Portal-clause-performed g c =
-    seen_from c.self.inside.store c.args.self.now c.self.view_is most_work (λ (store : StoreState). work_of c.args.command.now (session_of store c.args.shared.now.space.now)) c.args.shared.now _ _ _
-    c.work_on_portals.ensures.performed
+pub returns-clause-between : goal.returns-clause-between
+returns-clause-between g c = work_stands most_work c.args.work.now _ _ _ _ _ c.requires.between c.requires.active c.requires.rest (returns-clause-performed g c)
 
-pub work-requires-clause-work : goal.work-requires-clause-work
-work-requires-clause-work g c =
-    works_beside c.args.command.now c.requires.work c.in_default.not-Portal c.in_default.not-Fetch c.in_default.not-EndPortal
+pub returns-clause-levels : goal.returns-clause-levels
+returns-clause-levels g c = where_done c.do_work.result (work_levels most_work c.args.work.now _ _ _ _ _ c.requires.between c.requires.active c.requires.rest (returns-clause-performed g c))

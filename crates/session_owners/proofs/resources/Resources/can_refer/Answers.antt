@@ -5,7 +5,7 @@ use Rattle.std.specs.Prelude.{not}
 use Rattle.session_rules.specs.State.{StandingPlan}
 use Rattle.session_rules.specs.Lookup.{plan_at}
 use Rattle.session_owners.specs.ResourceState.{ResourceState, plans_of}
-use Rattle.session_tables.proofs.PlanSteps.{at_found, usable_state}
+use Rattle.session_owners.proofs.PlanSteps.{at_found, usable_state}
 use Rattle.session_owners.proofs.resources.Resources.can_refer.Goals as goal
 
 pub returns-clause-standing : goal.returns-clause-standing

@@ -1,9 +1,9 @@
 use Rattle.std.proofs.Common.{List, ap, refl, subst}
 use Rattle.pgs_step.specs.declared.events.What.{What}
 use Rattle.session_owners.specs.Fitting.{ActedOn, Hosting, hosting_of}
-use Rattle.session_tables.specs.Placing.{AreLeft, plan_dropped}
+use Rattle.session_owners.specs.Placing.{AreLeft, plan_dropped}
 use Rattle.session_owners.specs.ResourceState.{ResourceState, owners_of}
-use Rattle.session_tables.specs.Tables.{Held}
+use Rattle.session_owners.specs.Tables.{Held}
 use Rattle.session_owners.proofs.Acts.{acted_dropped, state_of}
 use Rattle.session_owners.proofs.Balances.{balances_same, locks_stay}
 use Rattle.session_owners.proofs.resources.Resources.drop_plan.Goals as goal

@@ -3,9 +3,9 @@ use Rattle.pgs_step.specs.declared.events.What.{What}
 use Rattle.session_rules.specs.Releases.{item_released}
 use Rattle.session_owners.specs.Commons.{CommonState}
 use Rattle.session_owners.specs.Fitting.{ActedOn, Hosting, hosting_of}
-use Rattle.session_tables.specs.Placing.{AreLeft, PlansFit}
+use Rattle.session_owners.specs.Placing.{AreLeft, PlansFit}
 use Rattle.session_owners.specs.ResourceState.{ResourceState, owners_of}
-use Rattle.session_tables.specs.Tables.{lending_of}
+use Rattle.session_owners.specs.Tables.{lending_of}
 use Rattle.session_owners.proofs.Acts.{acted_given, state_of}
 use Rattle.session_owners.proofs.Balances.{agrees_fit, balances_given, beside_counted, locks_moved, pins_moved, served, serves_still, shared_fit}
 use Rattle.session_owners.proofs.Kept.{counted_given, found_given, is_counted}

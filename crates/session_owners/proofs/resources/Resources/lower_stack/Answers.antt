@@ -2,7 +2,7 @@ use Rattle.std.proofs.Common.{◌≡◌, List, [], map, ap, refl, ◌∙◌}
 use Rattle.pgs_step.specs.declared.events.What.{What}
 use Rattle.snap_table.specs.Snapshots.{lowered}
 use Rattle.session_owners.specs.ResourceState.{ResourceState, owners_of}
-use Rattle.session_tables.specs.Tables.{Held}
+use Rattle.session_owners.specs.Tables.{Held}
 use Rattle.session_owners.proofs.Acts.{acted_lowered, state_of}
 use Rattle.session_owners.proofs.Balances.{balances_same, locks_stay}
 use Rattle.session_owners.proofs.resources.Resources.lower_stack.Goals as goal

@@ -2,7 +2,7 @@ use Rattle.std.proofs.Common.{◌∷◌, ◌++◌, None, ap, false, refl, [], Li
 use Rattle.pgs_step.specs.declared.events.What.{What}
 use Rattle.plan_store.specs.declared.plan.Plan.{Plan}
 use Rattle.session_owners.specs.ResourceState.{ResourceState, owners_of}
-use Rattle.session_tables.specs.Tables.{Held}
+use Rattle.session_owners.specs.Tables.{Held}
 use Rattle.session_owners.proofs.Acts.{acted_added, state_of}
 use Rattle.session_owners.proofs.Balances.{balances_same, locks_stay}
 use Rattle.session_owners.proofs.resources.Resources.make_plan.Goals as goal

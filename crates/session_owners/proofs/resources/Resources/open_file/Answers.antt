@@ -16,7 +16,7 @@ use Rattle.pgs_step.specs.declared.ids.Item.{Item}
 use Rattle.file_table.specs.Descriptors.{is_among}
 use Rattle.file_table.specs.Files.{Files}
 use Rattle.session_rules.specs.Taking.{item_taken}
-use Rattle.session_tables.specs.Tables.{Held}
+use Rattle.session_owners.specs.Tables.{Held}
 use Rattle.session_owners.proofs.resources.Resources.open_file.Goals as goal
 
 pub returns-in-Err-clause-too_many : goal.returns-in-Err-clause-too_many

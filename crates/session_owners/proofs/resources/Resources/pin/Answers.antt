@@ -6,7 +6,7 @@ use Rattle.session_owners.specs.Commons.{CommonState}
 use Rattle.session_owners.specs.Fitting.{Acted}
 use Rattle.session_owners.specs.ResourceState.{ResourceState, owners_of, spare_of}
 use Rattle.session_owners.specs.LockLaws.{LocksBalance-nothing}
-use Rattle.session_tables.specs.Tables.{Held}
+use Rattle.session_owners.specs.Tables.{Held}
 use Rattle.session_owners.proofs.Kept.{counted_pinned}
 use Rattle.session_owners.proofs.Acts.{acted_pinned, state_of}
 use Rattle.session_owners.proofs.Balances.{balances_pinned, few_sessions, locks_moved, pins_counted, pins_moved, serves_still}

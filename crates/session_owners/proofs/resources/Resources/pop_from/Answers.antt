@@ -2,7 +2,7 @@ use Rattle.std.proofs.Common.{List, reverse, ap, refl, subst, ◌∙◌}
 use Rattle.pgs_step.specs.declared.events.What.{What}
 use Rattle.snap_table.specs.Snapshots.{kept_below, pops}
 use Rattle.session_owners.specs.ResourceState.{ResourceState, owners_of}
-use Rattle.session_tables.specs.Tables.{Held}
+use Rattle.session_owners.specs.Tables.{Held}
 use Rattle.session_owners.proofs.Acts.{acted_popped_from, state_of}
 use Rattle.session_owners.proofs.Balances.{balances_same, locks_stay}
 use Rattle.session_owners.proofs.resources.Resources.pop_from.Goals as goal

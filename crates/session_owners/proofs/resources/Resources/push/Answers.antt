@@ -1,7 +1,7 @@
 use Rattle.std.proofs.Common.{List, [], ◌∷◌, ◌++◌, ap, refl, ◌∙◌}
 use Rattle.pgs_step.specs.declared.events.What.{What}
 use Rattle.session_owners.specs.ResourceState.{ResourceState, owners_of}
-use Rattle.session_tables.specs.Tables.{Held}
+use Rattle.session_owners.specs.Tables.{Held}
 use Rattle.session_owners.proofs.Acts.{acted_pushed, state_of}
 use Rattle.session_owners.proofs.Balances.{balances_same, locks_stay}
 use Rattle.session_owners.proofs.LockActs.{both_ok}

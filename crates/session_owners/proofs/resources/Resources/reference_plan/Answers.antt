@@ -3,9 +3,9 @@ use Rattle.pgs_step.specs.declared.events.What.{What}
 use Rattle.session_rules.specs.State.{plan_reference}
 use Rattle.session_rules.specs.Taking.{item_taken}
 use Rattle.session_owners.specs.Fitting.{Acted}
-use Rattle.session_tables.specs.Placing.{AreLeft}
+use Rattle.session_owners.specs.Placing.{AreLeft}
 use Rattle.session_owners.specs.ResourceState.{ResourceState, owners_of, spare_of}
-use Rattle.session_tables.specs.Tables.{Held}
+use Rattle.session_owners.specs.Tables.{Held}
 use Rattle.session_owners.proofs.Acts.{acted_referred, state_of}
 use Rattle.session_owners.proofs.Balances.{balances_same, balances_taken, locks_stay}
 use Rattle.session_owners.proofs.Kept.{counted_referred}

@@ -10,10 +10,10 @@ use Rattle.session_rules.specs.Releases.{phase_released}
 use Rattle.session_rules.proofs.Standings.{items_known}
 use Rattle.session_owners.specs.Commons.{CommonState}
 use Rattle.session_owners.specs.Fitting.{ActedOn, Hosting, hosting_of}
-use Rattle.session_tables.specs.Placing.{AreLeft, PlansFit}
+use Rattle.session_owners.specs.Placing.{AreLeft, PlansFit}
 use Rattle.session_owners.specs.ResourceState as state
 use Rattle.session_owners.specs.ResourceState.{ResourceState}
-use Rattle.session_tables.specs.Tables.{lending_of}
+use Rattle.session_owners.specs.Tables.{lending_of}
 use Rattle.session_owners.proofs.Acts.{acted_phase, state_of}
 use Rattle.session_owners.proofs.Balances.{agrees_fit, balances_released, beside_counted, known_items, locks_moved, pins_moved, served, serves_still, shared_fit}
 use Rattle.session_owners.proofs.Kept.{asked_counts, counted_released}

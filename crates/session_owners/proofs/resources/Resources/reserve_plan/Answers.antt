@@ -2,7 +2,7 @@ use Rattle.std.proofs.Common.{List, Option, Some, Result, Ok, Err, OnOk, OnErr, 
 use Rattle.pgs_step.specs.declared.events.What.{What}
 use Rattle.plan_store.specs.declared.plan.PlanError.{PlanError}
 use Rattle.session_owners.specs.ResourceState.{ResourceState, owners_of}
-use Rattle.session_tables.specs.Tables.{Held}
+use Rattle.session_owners.specs.Tables.{Held}
 use Rattle.session_owners.proofs.Acts.{acted_silent, state_of}
 use Rattle.session_owners.proofs.Balances.{balances_same, locks_stay}
 use Rattle.session_owners.proofs.resources.Resources.reserve_plan.Goals as goal

@@ -9,7 +9,7 @@ use Rattle.session_owners.proofs.OpenFiles.{descriptors_kept, recent_alone, touc
 use Rattle.pgs_step.specs.declared.events.What.{What}
 use Rattle.session_owners.specs.Fitting.{Acted}
 use Rattle.session_rules.specs.Taking.{descriptor_given}
-use Rattle.session_tables.specs.Tables.{Held}
+use Rattle.session_owners.specs.Tables.{Held}
 use Rattle.session_owners.proofs.LockActs.{both_ok}
 use Rattle.session_owners.proofs.resources.Resources.touch.Goals as goal
 

@@ -1,6 +1,0 @@
-use Rattle.std.proofs.Common.{◌%◌, Some, ap, arith}
-use Rattle.pgs_generator.proofs.LineLemmas.{ref_read}
-use Rattle.pgs_generator.proofs.lines.command_at.Goals as goal
-
-pub returns-in-7-clause-read : goal.returns-in-7-clause-read
-returns-in-7-clause-read c = rw c.in-7.is (ap Some (ref_read (c.args.round % 100) (omega arith)))

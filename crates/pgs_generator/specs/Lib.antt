@@ -1,4 +1,0 @@
-pub mod Counting
-pub mod Summary
-pub mod Made
-pub mod Generating

@@ -1,4 +1,0 @@
-pub mod Parts
-pub mod Reading
-pub mod Numbers
-pub mod Rows

@@ -1,3 +1,0 @@
--- What the words of a command line ask for.
-pub mod Options
-pub mod Parts

@@ -1,0 +1,55 @@
+-- One made line more.
+use Rattle.std.proofs.Common.{◌≡◌, ℕ, suc, ◌+◌, ◌*◌, ◌/◌, ◌%◌, ◌<◌, ◌≤◌, Bool, false, List, [], ◌∷◌, ◌++◌, take, Option, Some, None, refl, ◌∙◌, ap, subst, arith}
+use Rattle.std.specs.Prelude.{slice_get}
+use Rattle.std.specs.Option.{option_map}
+use Rattle.pgs_step.specs.declared.events.Event.{Event}
+use Rattle.session_rules.specs.Modes.{made_lines, made_script}
+use Rattle.pgs_turns.specs.declared.lines.Said.{Said}
+use Rattle.pgs_command.specs.Lines.{read_line}
+use Rattle.pgs_turns.specs.Script.{said_in}
+use Rattle.pgs_turns.specs.Courses.{HasPerformed, IsOver}
+use Rattle.pgs_turns.specs.Turns.{AllExit, HaveRoom, TakesTurn}
+use Rattle.pgs_turns.specs.World.{IsOpening, Run}
+use Rattle.pgs_turns.proofs.OverLemmas.{run_over}
+use Rattle.pgs_turns.proofs.PlayLemmas.{performed_line, room_behind}
+use Rattle.pgs_turns.specs.declared.counter.Counter.{Counter}
+use Rattle.pgs_turns.specs.Counting.{TakesEvents, TakesEvents-both}
+use Rattle.pgs_turns.specs.Made.{asked_at, read_at}
+use Rattle.pgs_turns.proofs.MadeLemmas.{made_at, take_more}
+use Rattle.pgs_turns.proofs.ToldLemmas.{few_lines}
+
+-- what is made of a value is made of one that is there
+mapped : {A B : Type 0} (f : A → B) (o : Option A) (b : B) → option_map f o ≡ Some b → (a : A) × (o ≡ Some a) × (b ≡ f a)
+mapped f None b e = absurd (cc e)
+mapped f (Some a) b e = (a, refl, cc e)
+
+-- the line of the rules that asks for this
+line_of : (round place : ℕ) (said : Said) → asked_at round place ≡ Some said → (line : List ℕ) × (slice_get (made_lines round) place ≡ Some line) × (said ≡ said_in (read_line line))
+line_of round place said asked =
+    let heard = mapped said_in (read_at round place) said asked in
+    let line = mapped read_line (slice_get (made_lines round) place) heard.0 heard.1 in
+    (line.0, line.1, heard.2 ∙ ap said_in line.2)
+
+pub made_turn : (descriptors : ℕ) (first old new : Run) (a b c : Counter) (rounds place : ℕ) (said : Said) (wanted : Bool)
+    → HasPerformed descriptors first old (λ events. TakesEvents a events b) (take place (made_script rounds)) false → place < 13 * rounds → asked_at (place / 13 + 1) (place % 13) ≡ Some said
+    → TakesTurn said old new (λ events. TakesEvents b events c) wanted
+    → HasPerformed descriptors first new (λ events. TakesEvents a events c) (take (place + 1) (made_script rounds)) wanted
+made_turn descriptors first old new a b c rounds place said wanted s less asked t =
+    let of_rules = line_of (place / 13 + 1) (place % 13) said asked in
+    let line : List ℕ = of_rules.0 in
+    let next_place : suc place ≡ place + 1 = omega arith in
+    let next : take place (made_script rounds) ++ line ∷ [] ≡ take (place + 1) (made_script rounds) =
+    take_more (made_script rounds) place line (made_at rounds place less ∙ of_rules.1) ∙ ap (λ (k : ℕ). take k (made_script rounds)) next_place in
+    subst (λ (lines : List (List ℕ)). HasPerformed descriptors first new (λ events. TakesEvents a events c) lines wanted) next
+    (performed_line descriptors first old new (λ events. TakesEvents a events b) (λ events. TakesEvents b events c) (λ events. TakesEvents a events c) (take place (made_script rounds)) line wanted s
+    (subst (λ (z : Said). TakesTurn z old new (λ events. TakesEvents b events c) wanted) of_rules.2 t) (λ xs ys p q. TakesEvents-both a b c xs ys p q))
+
+pub made_room : (descriptors : ℕ) (first run : Run) (emitted : List Event → Type 0) (rounds place : ℕ) → rounds ≤ 10000 → place < 13 * rounds → HasPerformed descriptors first run emitted (take place (made_script rounds)) false → HaveRoom run
+made_room descriptors first run emitted rounds place few less s =
+    room_behind descriptors first run emitted (take place (made_script rounds)) false s (omega (arith, few, less, few_lines rounds place (omega (arith, less))))
+
+-- behind the ends of all sessions
+pub made_over : (descriptors : ℕ) (first behind last : Run) (a b c : Counter) (lines : List (List ℕ)) (wanted : Bool) → IsOpening first → HasPerformed descriptors first behind (λ events. TakesEvents a events b) lines wanted
+    → AllExit behind last (λ events. TakesEvents b events c) → IsOver descriptors first last (λ events. TakesEvents a events c) lines wanted
+made_over descriptors first behind last a b c lines wanted opens performed ends =
+    run_over descriptors first behind last (λ events. TakesEvents a events b) (λ events. TakesEvents b events c) (λ events. TakesEvents a events c) lines wanted opens performed ends (λ xs ys p q. TakesEvents-both a b c xs ys p q)

@@ -1,0 +1,124 @@
+-- What is told of a run that is over.
+use Rattle.std.proofs.Common.{◌≡◌, ℕ, zero, suc, ◌∷◌, ◌+◌, ◌-◌, ◌*◌, ◌^◌, ◌<◌, ◌≤◌, min, Bool, true, false, not, List, [], ◌++◌, length, take, Option, Some, None, refl, sym, ◌∙◌, ap, subst, arith}
+use Rattle.std.proofs.lemmas.List.{take_all}
+use Rattle.std.specs.Io.KnownBytes.{append_known}
+use Rattle.session_rules.specs.Modes.{made_script, summary}
+use Rattle.session_rules.specs.Transcript.{Course, course_by, ended, errors_in, transcript_by}
+use Rattle.pgs_turns.specs.Turns.{Fits}
+use Rattle.pgs_turns.specs.Courses.{IsOver}
+use Rattle.pgs_turns.specs.Transcript.{Setting, course_of, transcript}
+use Rattle.pgs_turns.specs.World.{Run, setting_of}
+use Rattle.pgs_turns.proofs.ErrorLemmas.{few_errors}
+use Rattle.pgs_turns.proofs.OverLemmas.{fits_none}
+use Rattle.pgs_turns.specs.declared.counter.Counter.{Counter}
+use Rattle.pgs_turns.specs.Counting.{TakesEvents}
+use Rattle.pgs_turns.specs.Generating.{IsFront, Tells, text_for}
+use Rattle.pgs_turns.specs.Summary.{generated_by, numbers, told}
+use Rattle.pgs_turns.proofs.MadeLemmas.{made_length}
+
+-- where the events are fewer than 2^64, the rules' summary is told
+pub told_whole : (course : Course) → length course.events < 2 ^ 64 → told course ≡ summary course
+told_whole course few =
+    let all : min (length course.events) (2 ^ 64 - 1) ≡ length course.events = omega (arith, few) in
+    ap (λ (events : ℕ). numbers course.performed events (errors_in course.events) course.world.calls) all
+
+-- not all of the script has more lines than were made
+pub few_lines : (n k : ℕ) → k ≤ 13 * n → length (take k (made_script n)) ≡ k
+few_lines n k within = taken (made_script n) k (omega (arith, within, made_length n))
+  where
+    taken : {A : Type 0} (xs : List A) (k : ℕ) → k ≤ length xs → length (take k xs) ≡ k
+    taken xs zero less = refl
+    taken [] (suc k) less = absurd (omega (arith, less))
+    taken (x ∷ xs) (suc k) less = ap suc (taken xs k (omega (arith, less)))
+
+pub all_lines : (n k : ℕ) → k ≡ 13 * n → take k (made_script n) ≡ made_script n
+all_lines n k whole = ap (λ (j : ℕ). take j (made_script n)) (whole ∙ sym (made_length n)) ∙ take_all (length (made_script n)) (made_script n) (omega arith)
+
+module _ (descriptors : ℕ) (first last : Run) (rounds k : ℕ) (wanted : Bool) (none counter : Counter) (no_events : none.events ≡ 0) (no_errors : none.errors ≡ 0) (small : counter.errors < 2 ^ 64) (fits : counter.events < 2 ^ 64)
+    (within : k ≤ 13 * rounds) (few : rounds ≤ 10000)
+    (over : IsOver descriptors first last (λ events. TakesEvents none events counter) (take k (made_script rounds)) wanted) where
+  -- the counter counts the ERROR events
+  pub counted_errors : (w : Option ℕ) → Fits wanted last.calls.count w → counter.errors ≡ errors_in (transcript (setting_of descriptors first) w (take k (made_script rounds)))
+  counted_errors w f = omega (
+    arith,
+    (over.emits w f).errors_are,
+    no_errors,
+    small,
+    few_errors (setting_of descriptors first) w (take k (made_script rounds)),
+    few_lines rounds k within,
+    within,
+    few,
+  )
+
+  pub counted_over : IsOver descriptors first last (λ events. counter.errors ≡ errors_in events) (take k (made_script rounds)) wanted
+  counted_over = record {
+    emits = counted_errors;
+    shelf = over.shelf;
+    told = over.told;
+    kinds = over.kinds;
+    calls = over.calls;
+    performed = over.performed;
+    stopped = over.stopped;
+    called = over.called;
+    same = over.same;
+    kept = over.kept;
+    given_back = over.given_back;
+    taken = over.taken;
+  }
+
+  -- its numbers are those of the run, where no line met a want of memory
+  pub numbers_told : wanted ≡ false → k ≡ 13 * rounds → numbers k counter.events counter.errors last.calls.count ≡ text_for rounds (setting_of descriptors first)
+  unfolding generated_by transcript transcript_by course_of counted_errors
+  numbers_told goes whole =
+      let f : Fits wanted last.calls.count None = fits_none wanted last.calls.count goes in
+      let lines : take k (made_script rounds) ≡ made_script rounds = all_lines rounds k whole in
+      let course : Course = ended (course_of (setting_of descriptors first) None (take k (made_script rounds))) in
+      let events : counter.events ≡ min (length course.events) (2 ^ 64 - 1) = omega (arith, (over.emits None f).counted, no_events, fits) in
+      let performed : k ≡ course.performed = sym (over.performed None f ∙ few_lines rounds k within) in
+      ap (λ (n : ℕ). numbers n counter.events counter.errors last.calls.count) performed
+      ∙ ap (λ (n : ℕ). numbers course.performed n counter.errors last.calls.count) events
+      ∙ ap (λ (n : ℕ). numbers course.performed (min (length course.events) (2 ^ 64 - 1)) n last.calls.count) (counted_errors None f)
+      ∙ ap (λ (n : ℕ). numbers course.performed (min (length course.events) (2 ^ 64 - 1)) (errors_in course.events) n) (sym (over.calls None f))
+      ∙ ap (λ (all : List (List ℕ)). told (ended (course_of (setting_of descriptors first) None all))) lines
+
+  apart : (b : Bool) → b ≡ true → b ≡ false → ⊥
+  apart true h k = cc k
+  apart false h k = cc h
+
+  unturned : (b : Bool) → not b ≡ true → b ≡ false
+  unturned false h = refl
+  unturned true h = sym h
+
+  -- all of it was written, or a front
+  pub written_tells : wanted ≡ false → k ≡ 13 * rounds → (events errors : ℕ) → events ≡ counter.events → errors ≡ counter.errors → (done : Bool) (w w' : Option (List ℕ))
+      → (done ≡ true → w' ≡ append_known w (numbers k events errors last.calls.count)) → (done ≡ false → IsFront (numbers k events errors last.calls.count) w w')
+      → Tells descriptors first last rounds (record { lines = k; errors = errors; wanted = wanted; failed = not done }) w w'
+  written_tells goes whole events errors events_are errors_are done w w' all front = record {
+    over = subst (λ (n : ℕ). IsOver descriptors first last (λ es. n ≡ errors_in es) (take k (made_script rounds)) wanted) (sym errors_are) counted_over;
+    lines = within;
+    whole = λ h. whole;
+    text = λ h f. all (is_done done f) ∙ ap (append_known w) line;
+    front = λ f. subst (λ (text : List ℕ). IsFront text w w') line (front (unturned done f));
+    failed = λ f. goes;
+    silent = λ h. absurd (apart wanted h goes);
+  }
+    where
+      line : numbers k events errors last.calls.count ≡ text_for rounds (setting_of descriptors first)
+      line =
+          ap (λ (n : ℕ). numbers k n errors last.calls.count) events_are ∙ ap (λ (n : ℕ). numbers k counter.events n last.calls.count) errors_are ∙ numbers_told goes whole
+
+      is_done : (b : Bool) → not b ≡ false → b ≡ true
+      is_done true h = refl
+      is_done false h = sym h
+
+  -- where a line met a want of memory, nothing was
+  pub silent_tells : wanted ≡ true → (errors : ℕ) → errors ≡ counter.errors → (w : Option (List ℕ)) → Tells descriptors first last rounds (record { lines = k; errors = errors; wanted = wanted; failed = not wanted }) w w
+  silent_tells stops errors errors_are w = record {
+    over = subst (λ (n : ℕ). IsOver descriptors first last (λ es. n ≡ errors_in es) (take k (made_script rounds)) wanted) (sym errors_are) counted_over;
+    lines = within;
+    whole = λ h. absurd (apart wanted stops h);
+    text = λ h f. absurd (apart wanted stops h);
+    front = λ f. absurd (apart wanted stops (unturned wanted f));
+    failed = λ f. unturned wanted f;
+    silent = λ h. refl;
+  }

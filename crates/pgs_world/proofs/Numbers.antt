@@ -1,0 +1,237 @@
+-- What the options say in rows.
+use Rattle.std.proofs.Common.{zero, suc, ℕ, ◌≡◌, ◌⊎◌, ◌<◌, ◌≤◌, ◌^◌, ◌∙◌, inl, inr, ap, sym, refl, subst, arith, Bool, true, List, [], ◌∷◌, length, codes, Option, Some, None, Result, Ok, slice_index, slice_index_or, pos}
+use Rattle.std.specs.Prelude.{option_map, unwrap_or, ◌==◌, if◌then◌else◌}
+use Rattle.std.specs.Str.{bytes_eq}
+use Rattle.std.specs.Str.Parse.{ParsesUnsigned, digits_value, without_leading_plus}
+use Rattle.std.proofs.lemmas.Slice.Eq.{bytes_eq-Decides}
+use Rattle.clap.specs.Words.{App, Kinds, Row, Text, IsAmong, fault_of, found_of, is_simple, is_simple_and_free, matches_of, HasMatchesOf, one_text, rows_of, ReadsOne}
+use Rattle.clap.specs.Facts.{args_of}
+use Rattle.clap.specs.Built.{IsParsedFrom}
+use Rattle.clap.proofs.CallerReads.{signed_reads}
+use Rattle.clap.proofs.WalkLemmas.{one_text-rows}
+use Rattle.clap.specs.declared.builder.arg.Arg.{Arg}
+use Rattle.clap.specs.declared.builder.command.Command.{Command}
+use Rattle.clap.specs.declared.error.kind.ErrorKind.{ErrorKind}
+use Rattle.clap.specs.declared.builder.value_parser.ValueParser.TheVariants.{Signed}
+use Rattle.clap.specs.declared.parser.matches.ArgMatches.{ArgMatches}
+use Rattle.clap.specs.declared.parser.matches.Found.{Found}
+use Rattle.clap.proofs.OnLiterals.{clap_on_literals}
+use Rattle.pgs_world.specs.Options.{number_in, options_in, options_of, the_app, where_fitting, where_no_fault}
+use Rattle.pgs_world.specs.Parts.{HasOptions, IsNumber}
+use Rattle.pgs_world.proofs.Reading.{IsOption, WasRead, option_read}
+
+-- nothing is no number
+none_some : (n : ℕ) → None ≡ Some n → ⊥
+none_some n e = cc
+
+-- what a text gives as a number of so many bits
+abbrev pub GivesNumber : {E : Type 0} → ℕ → (Text → Result ℕ E → Type 0) → Type 0
+GivesNumber {E} bits gives = (t : Text) (r : Result ℕ E) → gives t r → ParsesUnsigned bits 10 t r
+
+-- a number that an option has is told, and it is in the range
+pub record Told (low high : ℕ) (id : Text) (rows : List Row) (r : Option ℕ) : Type 0 where
+  pub told : r ≡ number_in id rows
+  pub within : (n : ℕ) → r ≡ Some n → (low ≤ n) × (n ≤ high)
+
+module _ {E : Type 0} (bits : ℕ) (gives : Text → Result ℕ E → Type 0) (number : GivesNumber bits gives) (low high : ℕ) (fits : high < 2 ^ bits) where
+  of_text : (ignore_case : Bool) (t : Text) (r : Option ℕ) → WasRead (Signed (pos low) (pos high)) ignore_case t → ReadsOne gives t r
+      → (n : ℕ) × (r ≡ Some n) × (n ≡ digits_value 10 (without_leading_plus t)) × (low ≤ n) × (n ≤ high)
+  of_text ignore_case t r was reads =
+      let got = signed_reads E gives bits low high was.written r (subst (λ (u : Text). ReadsOne gives u r) was.read reads) number fits was.accepted in
+      (got.0, got.1, (number t (Ok got.0) (subst (λ (o : Option ℕ). ReadsOne gives t o) got.1 reads)).1, got.2, got.3)
+
+  pub told_by : (f : Found) (id : Text) (ignore_case : Bool) (r : Option ℕ) → (one_text f id ≡ None → r ≡ None) → ((t : Text) → one_text f id ≡ Some t → ReadsOne gives t r)
+      → ((t : Text) → one_text f id ≡ Some t → WasRead (Signed (pos low) (pos high)) ignore_case t) → Told low high id (rows_of f) r
+  told_by f id ignore_case r none some was = go (one_text f id) refl
+    where
+      go : (o : Option Text) → one_text f id ≡ o → Told low high id (rows_of f) r
+      go None e = record {
+        told = none e ∙ ap (option_map (λ t. digits_value 10 (without_leading_plus t))) (sym e ∙ one_text-rows f id);
+        within = λ n is. absurd (none_some n (sym (none e) ∙ is));
+      }
+      go (Some t) e =
+          let got = of_text ignore_case t r (was t e) (some t e) in
+          record {
+            told = got.1 ∙ ap (λ (n : ℕ). Some n) got.2 ∙ ap (option_map (λ t. digits_value 10 (without_leading_plus t))) (sym e ∙ one_text-rows f id);
+            within = λ n is.
+                let same : got.0 ≡ n = ap (λ (o : Option ℕ). unwrap_or o 0) (sym got.1 ∙ is) in
+                (subst (λ (x : ℕ). low ≤ x) same got.3, subst (λ (x : ℕ). x ≤ high) same got.4);
+          }
+
+-- two texts that begin with different bytes are different
+differ : (t u : Text) (a b : ℕ) → slice_index t 0 ≡ a → slice_index u 0 ≡ b → (a ≡ b → ⊥) → t ≡ u → ⊥
+differ t u a b first second apart e = apart (sym first ∙ ap (λ (w : Text). slice_index w 0) e ∙ second)
+
+-- an option whose name begins with another letter than "help" and "version"
+not_auto : (t : Text) (a : ℕ) → slice_index t 0 ≡ a → (a ≡ 104 → ⊥) → (a ≡ 118 → ⊥) → (t ≡ codes "help") ⊎ (t ≡ codes "version") → ⊥
+not_auto t a first help version (inl e) = differ t (codes "help") a 104 first refl help e
+not_auto t a first help version (inr e) = differ t (codes "version") a 118 first refl version e
+
+first_byte : (t u : Text) → t ≡ u → slice_index t 0 ≡ slice_index u 0
+first_byte t u e = ap (λ (w : Text). slice_index w 0) e
+
+-- the options by their places: the name of each, and the least and the most number that it takes
+abbrev name_at : ℕ → Text
+name_at zero = codes "space"
+name_at (suc zero) = codes "sessions"
+name_at (suc (suc zero)) = codes "descriptors"
+name_at (suc (suc (suc zero))) = codes "fail"
+name_at (suc (suc (suc (suc k)))) = codes "generate"
+
+abbrev least_at : ℕ → ℕ
+least_at zero = 131072
+least_at (suc zero) = 1
+least_at (suc (suc zero)) = 8
+least_at (suc (suc (suc k))) = 0
+
+abbrev most_at : ℕ → ℕ
+most_at zero = 1073741824
+most_at (suc zero) = 64
+most_at (suc (suc zero)) = 64
+most_at (suc (suc (suc zero))) = 4294967295
+most_at (suc (suc (suc (suc k)))) = 10000
+
+-- names are told apart by their lengths, and two of them by their first letters
+place_of : Text → ℕ
+place_of t = if length t == 5 then 0 else (if length t == 11 then 2 else (if length t == 4 then 3 else (if slice_index t 0 == 115 then 1 else 4)))
+
+placed : (k : ℕ) → k < 5 → place_of (name_at k) ≡ k
+unfolding place_of
+placed zero lt = refl
+placed (suc zero) lt = refl
+placed (suc (suc zero)) lt = refl
+placed (suc (suc (suc zero))) lt = refl
+placed (suc (suc (suc (suc zero)))) lt = refl
+placed (suc (suc (suc (suc (suc k))))) lt = absurd (omega (arith, lt))
+
+-- no name is that of an option that the command makes itself, or empty
+not_own : (k : ℕ) (t : Text) → t ≡ name_at k → (t ≡ codes "help") ⊎ (t ≡ codes "version") → ⊥
+not_own zero t e = not_auto t 115 (first_byte t (codes "space") e) (λ z. omega (arith, z)) (λ z. omega (arith, z))
+not_own (suc zero) t e = not_auto t 115 (first_byte t (codes "sessions") e) (λ z. omega (arith, z)) (λ z. omega (arith, z))
+not_own (suc (suc zero)) t e = not_auto t 100 (first_byte t (codes "descriptors") e) (λ z. omega (arith, z)) (λ z. omega (arith, z))
+not_own (suc (suc (suc zero))) t e = not_auto t 102 (first_byte t (codes "fail") e) (λ z. omega (arith, z)) (λ z. omega (arith, z))
+not_own (suc (suc (suc (suc k)))) t e = not_auto t 103 (first_byte t (codes "generate") e) (λ z. omega (arith, z)) (λ z. omega (arith, z))
+
+is_named : (k : ℕ) → name_at k ≡ [] → ⊥
+is_named zero e = differ (codes "space") [] 115 0 refl refl (λ z. omega (arith, z)) e
+is_named (suc zero) e = differ (codes "sessions") [] 115 0 refl refl (λ z. omega (arith, z)) e
+is_named (suc (suc zero)) e = differ (codes "descriptors") [] 100 0 refl refl (λ z. omega (arith, z)) e
+is_named (suc (suc (suc zero))) e = differ (codes "fail") [] 102 0 refl refl (λ z. omega (arith, z)) e
+is_named (suc (suc (suc (suc k)))) e = differ (codes "generate") [] 103 0 refl refl (λ z. omega (arith, z)) e
+
+module _ (c : Command) (h : HasOptions c) where
+  abbrev arg_at : ℕ → Arg
+  arg_at zero = h.space
+  arg_at (suc zero) = h.sessions
+  arg_at (suc (suc zero)) = h.descriptors
+  arg_at (suc (suc (suc zero))) = h.fail
+  arg_at (suc (suc (suc (suc k)))) = h.generate
+
+  five : length (args_of c) ≡ 5
+  five = ap (λ (xs : List Arg). length xs) h.args
+
+  is_at : (k : ℕ) (d : Arg) → k < 5 → slice_index_or (args_of c) k d ≡ arg_at k
+  is_at zero d lt = ap (λ (xs : List Arg). slice_index_or xs 0 d) h.args
+  is_at (suc zero) d lt = ap (λ (xs : List Arg). slice_index_or xs 1 d) h.args
+  is_at (suc (suc zero)) d lt = ap (λ (xs : List Arg). slice_index_or xs 2 d) h.args
+  is_at (suc (suc (suc zero))) d lt = ap (λ (xs : List Arg). slice_index_or xs 3 d) h.args
+  is_at (suc (suc (suc (suc zero)))) d lt = ap (λ (xs : List Arg). slice_index_or xs 4 d) h.args
+  is_at (suc (suc (suc (suc (suc k))))) d lt = absurd (omega (arith, lt))
+
+  takes_at : (k : ℕ) → IsNumber (name_at k) (Signed (pos (least_at k)) (pos (most_at k))) (arg_at k)
+  takes_at zero = h.takes_space
+  takes_at (suc zero) = h.takes_sessions
+  takes_at (suc (suc zero)) = h.takes_descriptors
+  takes_at (suc (suc (suc zero))) = h.takes_fail
+  takes_at (suc (suc (suc (suc k)))) = h.takes_generate
+
+  id_at : (k : ℕ) (d : Arg) → k < 5 → (slice_index_or (args_of c) k d).id.now ≡ name_at k
+  id_at k d lt = ap (λ (a : Arg). a.id.now) (is_at k d lt) ∙ (takes_at k).id
+
+  -- no two options have one name
+  only_at : (k : ℕ) (d : Arg) → k < 5 → (j : ℕ) (e : Arg) → j < length (args_of c)
+      → bytes_eq (slice_index_or (args_of c) j e).id.now (slice_index_or (args_of c) k d).id.now ≡ true → j ≡ k
+  only_at k d lt j e less same =
+      let few : j < 5 = omega (arith, less, five) in
+      sym (placed j few)
+      ∙ ap place_of (sym (id_at j e few) ∙ (bytes_eq-Decides (slice_index_or (args_of c) j e).id.now (slice_index_or (args_of c) k d).id.now).0 same ∙ id_at k d lt)
+      ∙ placed k lt
+
+  option_at : (k : ℕ) → k < 5 → IsOption c k (arg_at k) (Signed (pos (least_at k)) (pos (most_at k)))
+  option_at k lt = record {
+    listed = omega (arith, lt, five);
+    only = only_at k (arg_at k) lt;
+    own = not_own k (slice_index_or (args_of c) k (arg_at k)).id.now (id_at k (arg_at k) lt);
+    named = λ e. is_named k (sym (id_at k (arg_at k) lt) ∙ e);
+    by = ap (λ (a : Arg). a.value_parser) (is_at k (arg_at k) lt) ∙ (takes_at k).by;
+  }
+
+  -- what is read of an option is what the rows say
+  module _ {E : Type 0} (bits : ℕ) (gives : Text → Result ℕ E → Type 0) (number : GivesNumber bits gives) (m : ArgMatches) (p : IsParsedFrom c m) where
+    told_at : (k : ℕ) → k < 5 → most_at k < 2 ^ bits → (r : Option ℕ) → (one_text (found_of m) (name_at k) ≡ None → r ≡ None)
+        → ((t : Text) → one_text (found_of m) (name_at k) ≡ Some t → ReadsOne gives t r)
+        → Told (least_at k) (most_at k) (name_at k) (rows_of (found_of m)) r
+    told_at k lt fits r none some =
+        told_by bits gives number (least_at k) (most_at k) fits (found_of m) (name_at k) (slice_index_or (args_of c) k (arg_at k)).ignore_case r none some
+        (λ t e. option_read c m p k (arg_at k) (Signed (pos (least_at k)) (pos (most_at k))) (option_at k lt) h.plain (h.parsed m p) t
+        (subst (λ (w : Text). one_text (found_of m) w ≡ Some t) (sym (id_at k (arg_at k) lt)) e))
+
+  module _ {E : Type 0} (gives : Text → Result ℕ E → Type 0) (number : GivesNumber 32 gives) (m : ArgMatches) (p : IsParsedFrom c m) where
+    pub space_told : (r : Option ℕ) → (one_text (found_of m) (codes "space") ≡ None → r ≡ None) → ((t : Text) → one_text (found_of m) (codes "space") ≡ Some t → ReadsOne gives t r)
+        → Told 131072 1073741824 (codes "space") (rows_of (found_of m)) r
+    space_told r none some = told_at 32 gives number m p 0 (omega arith) (omega arith) r none some
+
+    pub fail_told : (r : Option ℕ) → (one_text (found_of m) (codes "fail") ≡ None → r ≡ None) → ((t : Text) → one_text (found_of m) (codes "fail") ≡ Some t → ReadsOne gives t r)
+        → Told 0 4294967295 (codes "fail") (rows_of (found_of m)) r
+    fail_told r none some = told_at 32 gives number m p 3 (omega arith) (omega arith) r none some
+
+  module _ {E : Type 0} (gives : Text → Result ℕ E → Type 0) (number : GivesNumber 8 gives) (m : ArgMatches) (p : IsParsedFrom c m) where
+    pub sessions_told : (r : Option ℕ) → (one_text (found_of m) (codes "sessions") ≡ None → r ≡ None) → ((t : Text) → one_text (found_of m) (codes "sessions") ≡ Some t → ReadsOne gives t r)
+        → Told 1 64 (codes "sessions") (rows_of (found_of m)) r
+    sessions_told r none some = told_at 8 gives number m p 1 (omega arith) (omega arith) r none some
+
+    pub descriptors_told : (r : Option ℕ) → (one_text (found_of m) (codes "descriptors") ≡ None → r ≡ None) → ((t : Text) → one_text (found_of m) (codes "descriptors") ≡ Some t → ReadsOne gives t r)
+        → Told 8 64 (codes "descriptors") (rows_of (found_of m)) r
+    descriptors_told r none some = told_at 8 gives number m p 2 (omega arith) (omega arith) r none some
+
+  module _ {E : Type 0} (gives : Text → Result ℕ E → Type 0) (number : GivesNumber 16 gives) (m : ArgMatches) (p : IsParsedFrom c m) where
+    pub generate_told : (r : Option ℕ) → (one_text (found_of m) (codes "generate") ≡ None → r ≡ None) → ((t : Text) → one_text (found_of m) (codes "generate") ≡ Some t → ReadsOne gives t r)
+        → Told 0 10000 (codes "generate") (rows_of (found_of m)) r
+    generate_told r none some = told_at 16 gives number m p 4 (omega arith) (omega arith) r none some
+
+-- the command line is one whose matches and faults are known
+simple : is_simple the_app ≡ true
+unfolding clap_on_literals
+simple = refl
+
+pub free : (a : App) → a ≡ the_app → is_simple_and_free a ≡ true
+unfolding clap_on_literals
+free a e = ap is_simple_and_free e
+
+pub rows_told : (a : App) (words : List Text) (m : ArgMatches) → a ≡ the_app → HasMatchesOf a words m → rows_of (found_of m) ≡ matches_of the_app words
+rows_told a words m e has = (subst (λ (x : App). HasMatchesOf x words m) e has simple).0
+
+pub no_faults : (a : App) (words : List Text) → a ≡ the_app → fault_of a words ≡ [] → fault_of the_app words ≡ []
+no_faults a words e none = ap (λ (x : App). fault_of x words) (sym e) ∙ none
+
+-- what the options are where there is no fault
+pub options_told : (words : List Text) (rows : List Row) (a b c d e : Option ℕ) → fault_of the_app words ≡ [] → rows ≡ matches_of the_app words
+    → Told 131072 1073741824 (codes "space") rows a → Told 1 64 (codes "sessions") rows b → Told 8 64 (codes "descriptors") rows c → Told 0 4294967295 (codes "fail") rows d → Told 0 10000 (codes "generate") rows e
+    → options_of words ≡ where_fitting (record { space = unwrap_or a 16777216; sessions = unwrap_or b 1; descriptors = unwrap_or c 16; fail = unwrap_or d 0; generate = unwrap_or e 0 })
+options_told words rows a b c d e none is space sessions descriptors fail generate =
+    let told : options_in rows ≡ record { space = unwrap_or a 16777216; sessions = unwrap_or b 1; descriptors = unwrap_or c 16; fail = unwrap_or d 0; generate = unwrap_or e 0 } =
+    rw (space.told, sessions.told, descriptors.told, fail.told, generate.told) refl in
+    ap (λ (faults : Kinds). where_no_fault faults (matches_of the_app words)) none ∙ ap (λ (r : List Row). where_fitting (options_in r)) (sym is) ∙ ap where_fitting told
+
+-- an option that isn't given has its default, which is in the range
+pub within : (low high default : ℕ) (id : Text) (rows : List Row) (r : Option ℕ) → low ≤ default → default ≤ high → Told low high id rows r → (low ≤ unwrap_or r default) × (unwrap_or r default ≤ high)
+within low high default id rows None least most t = (least, most)
+within low high default id rows (Some n) least most t = t.within n refl
+
+-- where the command found a fault, the words ask for nothing
+pub nothing_asked : (a : App) (words : List Text) (kind : ErrorKind) → a ≡ the_app → IsAmong kind (fault_of a words) → options_of words ≡ None
+nothing_asked a words kind e among = go (fault_of the_app words) refl
+  where
+    go : (faults : Kinds) → fault_of the_app words ≡ faults → options_of words ≡ None
+    go [] none = absurd (subst (λ (k : Kinds). IsAmong kind k) none (subst (λ (x : App). IsAmong kind (fault_of x words)) e among))
+    go (fault ∷ faults) some = ap (λ (k : Kinds). where_no_fault k (matches_of the_app words)) some

@@ -1,0 +1,88 @@
+-- The contexts and the owners that steps make.
+use Rattle.std.proofs.Common.{◌≡◌, ◌≢◌, ◌⊎◌, ◌↔◌, ℕ, ◌+◌, ◌<◌, ◌≤◌, ◌==◌, true, false, List, [], ◌∷◌, Option, Some, None, Result, Ok, Err, refl, sym, ◌∙◌, ap, subst, arith}
+use Rattle.std.specs.Option.{option_map}
+use Rattle.addr_space.specs.Space.{Asks}
+use Rattle.any_ctx.specs.Kinds.{first_size}
+use Rattle.any_ctx.specs.declared.any.CtxKind.{CtxKind}
+use Rattle.context_rules.specs.declared.errors.TreeError.{TreeError}
+use Rattle.context_rules.specs.declared.errors.TreeError.TheVariants as tree
+use Rattle.context_rules.specs.Refusals.{create_refusal}
+use Rattle.context_tree.specs.Making.{AsksInVain}
+use Rattle.context_tree.specs.State.{Moves}
+use Rattle.forest.specs.Forest.{size}
+use Rattle.owner_core.specs.declared.errors.OwnerError.{OwnerError}
+use Rattle.owner_core.specs.declared.errors.OwnerError.TheVariants as owner
+use Rattle.pgs_step.specs.declared.errors.Error.{Error}
+use Rattle.pgs_step.specs.declared.errors.Error.TheVariants.{LimitReached, NoMemory}
+use Rattle.pgs_step.specs.declared.events.What.{What}
+use Rattle.session_owners.specs.ResourceState.{owners_of}
+use Rattle.session_rules.specs.World.{Around, Moment, Scene}
+use Rattle.session_rules.specs.Asked.{asks_in}
+use Rattle.session_rules.specs.Elements.{NewContext, OfLevel, OfPortal, OwnerRole, Text}
+use Rattle.session_rules.specs.Elements as element
+use Rattle.session_rules.specs.Calls.{fallible}
+use Rattle.session_rules.specs.Checks.{tree_error}
+use Rattle.session_rules.specs.Does.{does}
+use Rattle.session_rules.specs.Making.{left, limit, new_context_made, new_context_refused, new_owner_made}
+use Rattle.session_store.specs.State.{contexts_in, left_in, session_of}
+use Rattle.session_store.specs.Calls.{Acted, Keeps, Refused}
+use Rattle.session_commands.specs.Performed.{Now, Performed, scene_in}
+use Rattle.session_commands.proofs.Performing.{performed_made}
+use Rattle.session_commands.proofs.Stepping.{Call, Rises, count_behind, grown, limit_free, limit_reached, step_tree}
+
+pub does_make_context : (new : NewContext) (w : Option ℕ) (m : Moment) → does w (element.MakeContext new) m ≡ fallible w m (new_context_refused new m.scene) (new_context_made new)
+unfolding does
+does_make_context new w m = refl
+
+-- a context of the program's own, by its name and kind
+pub record IsNew (new : NewContext) (title : Text) (kind : CtxKind) (a : Now) : Type 0 where
+  pub refused : (s : Scene) → new_context_refused new s ≡ option_map tree_error (create_refusal (left s) title kind true s.session.contexts)
+  pub rises : (s : Scene) → Rises 1 s (new_context_made new s).scene
+  pub asks : (around : Around) → asks_in (element.MakeContext new) (scene_in a around) ≡ first_size kind
+
+module _ (new : NewContext) (title : Text) (kind : CtxKind) (a b : Now) (is : IsNew new title kind a) (P : List What → Type 0) (counted : b.calls ≡ record a.calls { count = a.calls.count + 1 })
+    (goes : (a.calls.count + 1 == a.calls.fail) ≡ false) (keeps : Keeps b.store b.space) (moves : Moves a.store.tree b.store.tree a.space b.space) where
+  pub context_done : create_refusal (left_in a.store a.space) title kind true (contexts_in a.store a.space) ≡ None
+      → Acted (new_context_made new) a.store b.store a.space b.space a.shelf b.shelf a.commons b.commons P → Asks a.store.tree.account (first_size kind) a.space b.space → Performed 1 (element.MakeContext new ∷ []) a b P None
+  context_done free acted asks =
+      performed_made (element.MakeContext new) (new_context_refused new) (new_context_made new) (does_make_context new) a b P counted 1 goes
+      (λ around. is.refused (scene_in a around) ∙ ap (option_map tree_error) free) acted keeps moves
+      (grown 1 (new_context_made new) a b P is.rises acted (omega (arith, count_behind a b counted))) (λ around. subst (λ (n : ℕ). Asks a.store.tree.account n a.space b.space) (sym (is.asks around)) asks)
+
+  pub context_not_made : Refused a.store b.store a.space b.space a.shelf b.shelf a.commons b.commons → P [] → (e : TreeError) (t : Error)
+      → (e ≡ tree.Memory) ⊎ (create_refusal (left_in a.store a.space) title kind true (contexts_in a.store a.space) ≡ Some e)
+      → (e ≡ tree.Memory → t ≡ NoMemory b.calls.count) → (e ≢ tree.Memory → t ≡ tree_error e) → AsksInVain e a.store.tree.account (first_size kind) a.space b.space → Performed 1 (element.MakeContext new ∷ []) a b P (Some t)
+  context_not_made same silent =
+      step_tree (element.MakeContext new) (new_context_refused new) (new_context_made new) (does_make_context new) a b P counted same keeps moves silent goes
+      (create_refusal (left_in a.store a.space) title kind true (contexts_in a.store a.space)) (λ around. is.refused (scene_in a around)) (first_size kind)
+
+-- an owner is made
+pub does_make_owner : (role : OwnerRole) (w : Option ℕ) (m : Moment) → does w (element.MakeOwner role) m ≡ fallible w m (limit 65536 (size m.scene.session.owners)) (new_owner_made role)
+unfolding does
+does_make_owner role w m = refl
+
+pub owner_rises : (role : OwnerRole) (s : Scene) → Rises 1 s (new_owner_made role s).scene
+owner_rises OfLevel s = record { contexts = omega arith; owners = omega arith; serials = omega arith; descriptors = refl }
+owner_rises (OfPortal name) s = record { contexts = omega arith; owners = omega arith; serials = omega arith; descriptors = refl }
+
+abbrev pub make_owner : OwnerRole → Call
+make_owner role = record {
+  step = element.MakeOwner role;
+  own = λ scene. limit 65536 (size scene.session.owners);
+  act = new_owner_made role;
+  is = does_make_owner role;
+  rises = owner_rises role;
+  quiet = λ s. refl;
+}
+
+-- how many owners a session has decides whether it gets one more
+module _ (a : Now) (r : Result (Unit {0}) OwnerError) (much : (r ≡ Err owner.TooMany) ↔ (65536 ≤ size (owners_of a.store.owners))) where
+  pub few_owners : (u : Unit {0}) → r ≡ Ok u → (around : Around) → limit 65536 (size (scene_in a around).session.owners) ≡ None
+  unfolding session_of
+  few_owners u ok around =
+      let never : 65536 ≤ size (owners_of a.store.owners) → ⊥ = λ more. let z : Ok u ≡ Err owner.TooMany = sym ok ∙ much.1 more in cc z in
+      limit_free 65536 (size (owners_of a.store.owners)) (omega (arith, never))
+
+  pub many_owners : r ≡ Err owner.TooMany → (around : Around) → limit 65536 (size (scene_in a around).session.owners) ≡ Some LimitReached
+  unfolding session_of
+  many_owners full around = limit_reached 65536 (size (owners_of a.store.owners)) (much.0 full)

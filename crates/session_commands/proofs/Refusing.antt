@@ -1,0 +1,75 @@
+-- The refusals of calls on a store, as answers of commands.
+use Rattle.std.proofs.Common.{◌≡◌, ℕ, List, [], Some, None, OnErr, OnOk, Result, Ok, Err, refl, sym, ap, subst}
+use Rattle.std.specs.Option.{option_map}
+use Rattle.std.specs.Result.{IsErrAnd, MatchResult}
+use Rattle.std.proofs.lemmas.Result.{err_from_is_err_and}
+use Rattle.pgs_step.specs.declared.errors.Error.{Error}
+use Rattle.pgs_step.specs.declared.events.What.{What}
+use Rattle.addr_space.specs.Space.{Space}
+use Rattle.reset_callbacks.specs.ShelfState.{ShelfState}
+use Rattle.context_rules.specs.declared.errors.TreeError.{TreeError}
+use Rattle.context_tree.specs.State.{error_of}
+use Rattle.session_rules.specs.Elements.{Element}
+use Rattle.session_rules.specs.Checks.{tree_error}
+use Rattle.session_owners.specs.Commons.{CommonState}
+use Rattle.session_store.specs.State.{StoreState, session_of}
+use Rattle.session_store.specs.Calls.{ContextsAlone, Keeps, Refused}
+use Rattle.session_commands.specs.Answers.{refusal_of}
+use Rattle.session_commands.specs.Performed.{Now, Performed}
+use Rattle.session_commands.proofs.Performing.{moves_nothing}
+
+module _ {A : Type 0} {k : ℕ} {es : List Element} {a b : Now} {P : List What → Type 0} where
+  -- the error that `?` hands on
+  pub handed : (told : Result A Error) (e : Error) → IsErrAnd told (λ d. d ≡ e) → Performed k es a b P (Some e) → Performed k es a b P (refusal_of told)
+  handed told e is h =
+      let p = err_from_is_err_and told is in
+      subst (λ (z : Result A Error). Performed k es a b P (refusal_of z)) (sym p.1) (subst (λ (c : Error). Performed k es a b P (Some c)) (sym p.2) h)
+
+  -- the answer of a call on contexts, whose refusal is told as an error
+  pub told_errors : (r : Result A TreeError) (told : Result A Error) → MatchResult r (λ x. told ≡ Ok x) (λ e. IsErrAnd told (λ d. d ≡ tree_error e))
+      → Performed k es a b P (option_map tree_error (error_of r)) → Performed k es a b P (refusal_of told)
+  told_errors (Ok x) told is h = subst (λ (z : Result A Error). Performed k es a b P (refusal_of z)) (sym is) h
+  told_errors (Err e) told is h = handed told (tree_error e) is h
+
+-- nothing was said where the call was refused
+pub silent_where : {A E O : Type 0} (emits : O → List What → O → Type 0) (r : Result A E) (x y : O) → emits x [] x → OnErr r (y ≡ x) → OnErr r (emits x [] y)
+silent_where emits (Ok a) x y nothing same = same
+silent_where emits (Err e) x y nothing same = subst (λ o. emits x [] o) (sym same) nothing
+
+-- nothing changed
+pub nothing_changed : (a b : StoreState) (s : Space) (x : ShelfState) (c : CommonState) → b ≡ a → Refused a b s s x x c c
+nothing_changed a b s x c same = record { store = same; shelf = refl; commons = refl; session = ap (λ (z : StoreState). session_of z s) same; limit = refl }
+
+-- where the store is as it was the call changed nothing
+pub refused_still : {A E : Type 0} (r : Result A E) (a b : StoreState) (s : Space) (x : ShelfState) (c : CommonState) → OnErr r (b ≡ a) → OnErr r (Refused a b s s x x c c)
+refused_still (Ok u) a b s x c same = same
+refused_still (Err e) a b s x c same = nothing_changed a b s x c same
+
+-- contexts that didn't change
+pub alone_same : (a : StoreState) (s : Space) (c : CommonState) → Keeps a s → ContextsAlone a a s s c c
+alone_same a s c keeps = record { keeps = keeps; moves = moves_nothing a.tree s keeps.agrees; owners = refl; commons = refl; levels = refl; portals = refl; stays = λ id live had has. live }
+
+-- an error by another name
+pub told_as : (k : ℕ) (es : List Element) (a b : Now) (P : List What → Type 0) (e t : Error) → t ≡ e → Performed k es a b P (Some e) → Performed k es a b P (Some t)
+told_as k es a b P e t is h = subst (λ (x : Error). Performed k es a b P (Some x)) (sym is) h
+
+-- what holds where a call was refused
+pub err_of : {A E P : Type 0} (r : Result A E) (e : E) → r ≡ Err e → OnErr r P → P
+err_of (Err d) e is p = p
+err_of (Ok a) e is p = absurd (other is)
+  where
+    other : Ok a ≡ Err e → ⊥
+    other z = cc z
+
+-- the store and the shelf are as they were
+pub both_still : (a b : StoreState) (s : Space) (x y : ShelfState) (c : CommonState) → b ≡ a → y ≡ x → Refused a b s s x y c c
+both_still a b s x y c store shelf = record { store = store; shelf = shelf; commons = refl; session = ap (λ (z : StoreState). session_of z s) store; limit = refl }
+
+-- what was answered of any commons, of these
+pub ok_with : {A E : Type 0} (F : CommonState → Type 0) (r : Result A E) (c : CommonState) → OnOk r ((d : CommonState) → F d) → OnOk r (F c)
+ok_with F (Ok a) c h = h c
+ok_with F (Err e) c h = tt
+
+pub err_with : {A E : Type 0} (F : CommonState → Type 0) (r : Result A E) (c : CommonState) → OnErr r ((d : CommonState) → F d) → OnErr r (F c)
+err_with F (Ok a) c h = tt
+err_with F (Err e) c h = h c

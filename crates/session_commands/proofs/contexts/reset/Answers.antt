@@ -1,0 +1,30 @@
+use Rattle.std.proofs.Common.{refl, sym}
+use Rattle.session_commands.proofs.Commands.{on_no_context}
+use Rattle.session_commands.proofs.OnContexts.{reset_performed}
+use Rattle.session_commands.proofs.Refusing.{err_with, ok_with, silent_where, told_errors}
+use Rattle.session_commands.proofs.contexts.reset.Goals as goal
+
+pub returns-in_default : goal.returns-in_default
+returns-in_default g c = record {
+  performed =
+      on_no_context c.args.name.now _ _ _ (sym (c.in_default.ensures.named c.args.shared.now.space.now))
+      c.requires.between.keeps (g.met.E.Emit.emits_none c.args.out.now);
+}
+
+pub returns : goal.returns
+returns g c = record {
+  performed =
+      told_errors _ _ c.map_err.ensures.cases
+      (reset_performed c.args.name.now _ _ c.in-Some.at.number _ c.reset.result (sym (c.in-Some.ensures.named c.args.shared.now.space.now))
+      c.requires.between.keeps refl
+      (c.reset.ensures.alone c.args.shared.now.commons.now) (err_with _ c.reset.result c.args.shared.now.commons.now c.reset.ensures.refused) (silent_where g.E.Emit.emits c.reset.result c.args.out.now c.reset.new.out (g.met.E.Emit.emits_none c.args.out.now) c.reset.ensures.silent) c.reset.ensures.asked
+      c.reset.ensures.answer (ok_with _ c.reset.result c.args.shared.now.commons.now c.reset.ensures.acted));
+}
+
+pub reset-requires-clause-stands : goal.reset-requires-clause-stands
+reset-requires-clause-stands g c = (c.args.shared.now.commons.now, c.requires.between.stands)
+
+pub reset-requires-clause-live : goal.reset-requires-clause-live
+reset-requires-clause-live g c =
+    c.in-Some.ensures.live c.args.shared.now.space.now c.args.shared.now.shelf.now c.args.shared.now.commons.now
+    c.requires.between.stands

@@ -1,0 +1,43 @@
+use Rattle.std.proofs.Common.{ap, ◌∙◌}
+use Rattle.forest.specs.Forest.{has}
+use Rattle.session_owners.specs.ResourceState.{has_begun}
+use Rattle.session_owners.proofs.Balances.{serves_still}
+use Rattle.session_rules.specs.State.{buffer_pin}
+use Rattle.session_rules.specs.Elements.{OfLevel}
+use Rattle.session_commands.specs.Performed.{now}
+use Rattle.session_commands.proofs.HeldItems.{no_room_for, taken_in_room}
+use Rattle.session_commands.proofs.Pinning.{owners_same, still_owner}
+use Rattle.session_commands.proofs.Chains.{room_left}
+use Rattle.session_commands.proofs.Refusing.{handed}
+use Rattle.session_commands.proofs.steps.hold_pin.Goals as goal
+
+pub returns-in_err-enlarge : goal.returns-in_err-enlarge
+returns-in_err-enlarge g c = record {
+  performed = λ role is. handed _ _ c.from_residual.ensures.1
+      (no_room_for role buffer_pin c.args.buffer _ _ _ (g.met.E.Emit.emits_none c.args.out.now) _ (c.in_err-enlarge.ensures.performed role));
+}
+
+pub returns : goal.returns
+returns g c = record {
+  performed = λ role is. taken_in_room role buffer_pin c.args.buffer _ _ _ _ _ (c.in_ok-enlarge.ensures.performed role) (c.take_pin.ensures.performed role (still_owner role c.args.owner c.args.store.now c.enlarge.new.store is c.in_ok-enlarge.ensures.session));
+}
+
+pub take_pin-requires-clause-not_begun : goal.take_pin-requires-clause-not_begun
+take_pin-requires-clause-not_begun g c =
+    ap (has_begun c.args.owner.number) (owners_same c.args.store.now c.enlarge.new.store c.args.shared.now.space.now (c.in_ok-enlarge.ensures.session c.args.shared.now.space.now))
+    ∙ c.requires.not_begun
+
+pub take_pin-requires-clause-live : goal.take_pin-requires-clause-live
+take_pin-requires-clause-live g c =
+    c.in_ok-enlarge.ensures.alone.stays c.args.owner c.requires.live
+    (ap (has c.args.owner.number) (owners_same c.args.store.now c.enlarge.new.store c.args.shared.now.space.now (c.in_ok-enlarge.ensures.session c.args.shared.now.space.now))
+    ∙ c.requires.there)
+
+pub take_pin-requires-clause-serves : goal.take_pin-requires-clause-serves
+take_pin-requires-clause-serves g c = serves_still _ _ _ _ c.requires.between.serves c.in_ok-enlarge.ensures.alone.balances
+
+pub take_pin-requires-clause-keeps : goal.take_pin-requires-clause-keeps
+take_pin-requires-clause-keeps g c = (c.in_ok-enlarge.ensures.performed OfLevel).keeps
+
+pub take_pin-requires-clause-room : goal.take_pin-requires-clause-room
+take_pin-requires-clause-room g c = room_left 1 1 (now c.args.store.now c.args.shared.now) _ c.requires.room (c.in_ok-enlarge.ensures.performed OfLevel).grows

@@ -1,0 +1,66 @@
+-- The new context is below the portal's, and the portal has it.
+use Rattle.std.proofs.Common.{◌≡◌, ◌⊎◌, true, ℕ, Some, None, refl, subst}
+use Rattle.std.specs.Prelude.{codes}
+use Rattle.any_ctx.specs.declared.any.CtxKind.TheVariants as kind
+use Rattle.context_rules.specs.Contexts.{Contexts}
+use Rattle.context_rules.specs.Refusals.{create_refusal}
+use Rattle.context_rules.specs.declared.errors.TreeError.TheVariants.{Memory}
+use Rattle.portal_store.specs.declared.portal.Portal.{Portal}
+use Rattle.session_rules.specs.Elements.{RowContext}
+use Rattle.session_rules.specs.Making.{new_context_made}
+use Rattle.session_store.specs.State.{StoreState}
+use Rattle.session_store.specs.Calls.{Acted, Refused}
+use Rattle.session_store.proofs.Kept.{goes_made}
+use Rattle.session_store.proofs.Sums.{keeps_on}
+use Rattle.session_store.proofs.Through.{keeps_in, left_through, placed_after}
+use Rattle.session_store.proofs.Led.{refused_regions}
+use Rattle.session_ends.proofs.Becoming.{placed_changed}
+use Rattle.session_ends.proofs.Equipping.{row_acted, keeps_open}
+use Rattle.session_ends.proofs.Living.{parent_live}
+use Rattle.session_ends.proofs.making.make_row_context.Goals as goal
+
+pub create-requires-clause-live : goal.create-requires-clause-live
+create-requires-clause-live g c =
+    parent_live _ _ _ _ c.store.invariant _ c.store.view_is c.args.space.now c.requires.stands.0 c.requires.stands.1.0 c.requires.stands.1.1 c.args.name.now c.context_of-parent.result c.context_of-parent.ensures
+
+pub invariant_of-store : goal.invariant_of-store
+invariant_of-store g c =
+    placed_changed _ _ _ c.store.inside.portals c.set_expr.new.self c.args.name.now (λ (p : Portal). record p { expr = Some c.in-Ok.context })
+    (placed_after _ _ _ _ _ c.store.view_is c.create.new.self c.args.space.now c.create.new.space c.requires.stands.0 c.requires.stands.1.0 c.requires.stands.1.1 c.store.invariant
+    (goes_made _ _ _ _ c.create.ensures.moves c.create.ensures.stays c.create.ensures.fresh c.create.ensures.current))
+    (λ p e lies. record { context = lies.context; expr = λ there. c.in-Ok.ensures.live; owner = lies.owner; scan = lies.scan }) c.set_expr.ensures.portals
+
+pub returns-in-Ok-clause-acted : goal.returns-in-Ok-clause-acted
+returns-in-Ok-clause-acted g c x commons =
+    let a : StoreState = record { tree = c.store.inside.tree; owners = c.store.inside.owners; levels = c.store.inside.levels; portals = c.store.inside.portals } in
+    subst (λ (v : StoreState). Acted (new_context_made (RowContext c.args.name.now)) v (record { tree = c.create.new.self; owners = a.owners; levels = a.levels; portals = c.set_expr.new.self }) c.args.space.now c.create.new.space x x commons commons (λ events. g.E.Emit.emits c.args.out.now events c.create.new.out)) c.store.view_is
+    (row_acted a c.create.new.self c.set_expr.new.self c.args.name.now c.own_name-title.result c.context_of-parent.result c.in-Ok.context c.args.space.now c.create.new.space x commons (λ events. g.E.Emit.emits c.args.out.now events c.create.new.out) c.set_expr.ensures.distinct
+    c.in-Ok.ensures.number c.in-Ok.ensures.contexts c.create.ensures.current c.in-Ok.ensures.next c.create.ensures.moves.limit c.in-Ok.ensures.emits
+    c.context_of-parent.ensures c.own_name-title.ensures c.set_expr.ensures.portals)
+
+pub returns-in-Ok-clause-keeps : goal.returns-in-Ok-clause-keeps
+returns-in-Ok-clause-keeps g c =
+    let a : StoreState = record { tree = c.store.inside.tree; owners = c.store.inside.owners; levels = c.store.inside.levels; portals = c.store.inside.portals } in
+    keeps_open (record a { tree = c.create.new.self }) a.owners c.set_expr.new.self c.create.new.space
+    (keeps_on a c.create.new.self c.args.space.now c.create.new.space (keeps_in _ _ _ _ _ c.store.view_is c.args.space.now c.requires.keeps) c.create.ensures.moves)
+
+pub returns-in-Err-clause-keeps : goal.returns-in-Err-clause-keeps
+returns-in-Err-clause-keeps g c =
+    let a : StoreState = record { tree = c.store.inside.tree; owners = c.store.inside.owners; levels = c.store.inside.levels; portals = c.store.inside.portals } in
+    keeps_on a c.create.new.self c.args.space.now c.create.new.space (keeps_in _ _ _ _ _ c.store.view_is c.args.space.now c.requires.keeps) c.create.ensures.moves
+
+pub returns-in-Ok-clause-served : goal.returns-in-Ok-clause-served
+returns-in-Ok-clause-served g c =
+    left_through _ _ _ _ _ c.store.view_is (λ (account n left : ℕ) (contexts : Contexts). create_refusal left (codes "ExprContext") kind.Small true contexts ≡ None) c.args.space.now _ refl c.requires.keeps
+    c.in-Ok.ensures.served
+
+pub returns-in-Err-clause-cause : goal.returns-in-Err-clause-cause
+returns-in-Err-clause-cause g c =
+    left_through _ _ _ _ _ c.store.view_is (λ (account n left : ℕ) (contexts : Contexts). (c.in-Err.error ≡ Memory) ⊎ (create_refusal left (codes "ExprContext") kind.Small true contexts ≡ Some c.in-Err.error)) c.args.space.now _ refl c.requires.keeps
+    c.in-Err.ensures.refused
+
+pub returns-in-Err-clause-refused : goal.returns-in-Err-clause-refused
+returns-in-Err-clause-refused g c x commons =
+    let a : StoreState = record { tree = c.store.inside.tree; owners = c.store.inside.owners; levels = c.store.inside.levels; portals = c.store.inside.portals } in
+    subst (λ (v : StoreState). Refused v (record { tree = c.create.new.self; owners = a.owners; levels = a.levels; portals = a.portals }) c.args.space.now c.create.new.space x x commons commons) c.store.view_is
+    (refused_regions a c.create.new.self c.args.space.now c.create.new.space x commons c.in-Err.ensures.err c.in-Err.ensures.err_space)

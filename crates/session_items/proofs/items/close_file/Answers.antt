@@ -1,4 +1,0 @@
-use Rattle.session_items.proofs.items.close_file.Goals as goal
-
-pub returns : goal.returns
-returns g c = record { performed = λ session. c.give_back.ensures.performed }

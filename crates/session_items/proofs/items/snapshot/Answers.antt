@@ -1,9 +1,0 @@
--- A reference to a snapshot is an item that only owners keep count of.
-use Rattle.session_items.proofs.HeldItems.{snapshot_counted}
-use Rattle.session_items.proofs.items.snapshot.Goals as goal
-
-pub refer-requires-clause-kind : goal.refer-requires-clause-kind
-refer-requires-clause-kind g c = snapshot_counted
-
-pub returns : goal.returns
-returns g c = record { performed = λ session. c.refer.ensures.performed }

@@ -1,5 +1,0 @@
-use Rattle.session_items.proofs.HeldItems.{give_as}
-use Rattle.session_items.proofs.items.unreference.Goals as goal
-
-pub returns : goal.returns
-returns g c = record { performed = λ session. give_as _ _ c.args.key _ _ _ _ c.kind.ensures c.give_back.ensures.performed }

@@ -1,5 +1,0 @@
--- It is an item of the snapshots' kind.
-use Rattle.session_items.proofs.items.unsnapshot.Goals as goal
-
-pub returns : goal.returns
-returns g c = record { performed = λ session. c.give_back.ensures.performed }

@@ -1,2 +1,0 @@
--- What is proved of plans below the owners, for those above them.
-pub use Rattle.session_tables.proofs.PlanSteps.{at_found}

@@ -1,4 +1,0 @@
-pub mod Naming
-pub mod Becoming
-pub mod Living
-pub mod Equipping

@@ -1,4 +1,0 @@
-pub mod TableSteps
-pub mod PlanSteps
-pub mod Classes
-pub mod OpenCounts

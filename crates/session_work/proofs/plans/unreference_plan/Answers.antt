@@ -1,5 +1,0 @@
--- A reference to a plan is an item that plans keep count of.
-use Rattle.session_work.proofs.plans.unreference_plan.Goals as goal
-
-pub returns : goal.returns
-returns g c = record { performed = λ session. c.give_back.ensures.performed }

@@ -1,5 +1,0 @@
-use Rattle.session_work.proofs.OnTelling.{reported}
-use Rattle.session_work.proofs.telling.tell_contexts.Goals as goal
-
-pub returns : goal.returns
-returns g c = record { performed = λ session. reported _ _ c.requires.between.keeps (c.report.ensures c.args.shared.now.space.now) }

@@ -1,5 +1,0 @@
-use Rattle.session_work.proofs.OnTelling.{counts_told}
-use Rattle.session_work.proofs.telling.tell_counts.Goals as goal
-
-pub returns : goal.returns
-returns g c = record { performed = λ session. counts_told _ _ c.requires.between.keeps c.counts.result (c.counts.ensures c.args.shared.now.space.now) c.emit.ensures.emitted }

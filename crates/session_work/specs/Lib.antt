@@ -1,2 +1,0 @@
--- Which commands work in a transaction.
-pub mod Works
