@@ -6,8 +6,8 @@ use Rattle.pgs_step.specs.declared.ids.Phase.TheVariants.{BeforeLocks, AfterLock
 use Rattle.owner_kinds.specs.Kind.{Kind}
 use Rattle.reset_callbacks.specs.Hook.{Hook}
 use Rattle.reset_callbacks.specs.ShelfState.{ShelfState}
-use Rattle.pgs_options.specs.Options.{options_of}
-use Rattle.pgs_options.specs.declared.options.Options.{Options}
+use Rattle.pgs_world.specs.Options.{options_of}
+use Rattle.pgs_world.specs.declared.options.Options.{Options}
 use Rattle.pgs_world.specs.declared.program.Outcome.{Outcome}
 use Rattle.pgs_turns.specs.Transcript.{Setting}
 use Rattle.pgs_world.specs.Generated.{IsGenerated, IsMade, IsStopped, IsUntold}

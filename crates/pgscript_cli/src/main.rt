@@ -1,5 +1,8 @@
-//! `pgscript`: reads a script on standard input and writes its transcript to standard output.
+//! `pgscript`: reads a script on standard input and writes its transcript to standard output. Where its
+//! status isn't 0 a line on standard error says why.
 #![tactic(auto)]
+
+mod told;
 
 ghost use Rattle.std.specs.Prelude.{◌≡◌, ◌≢◌, ℕ, [], drop, map, None, IfOk, IfErr};
 ghost use Rattle.std.specs.Prelude.{string_bytes as string_text};
@@ -7,7 +10,7 @@ ghost use Rattle.addr_space.specs.Space.{accounts, held};
 ghost use Rattle.pgs_step.specs.Name.{IsName};
 ghost use Rattle.reset_callbacks.specs.Hook.{AreDistinct};
 ghost use Rattle.reset_callbacks.specs.ShelfState as shelf_state;
-ghost use Rattle.pgs_options.specs.Options.{options_of};
+ghost use Rattle.pgs_world.specs.Options.{options_of};
 ghost use Rattle.std.specs.Process.{exit_status};
 ghost use Rattle.std.specs.Vec.Iter.{into_iter_items};
 ghost use Rattle.std.specs.IoError.{error_kind};
@@ -15,13 +18,15 @@ ghost use Rattle.std.specs.declared.io.ErrorKind.TheVariants.{OutOfMemory};
 ghost use Rattle.pgs_world.specs.declared.program.Outcome.{Outcome};
 ghost use Rattle.pgscript_cli.specs.Program.{Plays, fresh_hooks, the_kinds, the_shelf};
 
+use crate::told::{NO_START, Told};
 use addr_space::Space;
 use owner_kinds::{CountedKind, KindShelf};
 use pgs_io::{Sink, Source, StdSink, StdSource};
 use pgs_step::{Name, Phase};
-use pgs_world::run;
+use pgs_world::{Outcome, run};
 use reset_callbacks::{CountedHook, Shelf};
 use std::alloc::{AllocError, Global};
+use std::fmt::Display;
 use std::process::ExitCode;
 use std::{env, io, mem};
 
@@ -40,18 +45,20 @@ const NO_TEXT: u8 = 7;
 fn main(rt: HostRuntime) -> ExitCode {
     let mut source = StdSource::new(rt.reader());
     let mut sink = StdSink::new(io::writer(&rt));
-    play(rt.alloc(), env::args(&rt), &mut source, &mut sink)
+    play(rt.alloc(), env::args(&rt), &mut source, &mut sink, &rt)
 }
 
 /// Plays the script of the source with the words of the command line, and answers the status of that run.
 ///
 /// `args` are the program's name and then its words. Where they couldn't be read the status is 5 or 7, and
 /// where memory is wanted for the words, the space, the hooks or the kinds it is 5; nothing is read or written then.
-fn play<S: Source, K: Sink>(
+/// `err` is told in one line why the status isn't 0. A line that can't be written there is left out.
+fn play<S: Source, K: Sink, E: Eprint>(
     alloc: Global,
     args: io::Result<env::Args>,
     src: &mut S,
     out: &mut K,
+    err: &E,
 ) -> ExitCode
     ensures played { IfOk args (λ args. (outcome : Outcome) × (exit_status result ≡ outcome.status)
         × Plays (map string_text (drop 1 (into_iter_items args))) outcome (S.left src.old) (S.left src.new) (K.written out.old) (K.written out.new) (S.faults src.old) (S.faults src.new) (K.faults out.old) (K.faults out.new)) }
@@ -62,25 +69,38 @@ fn play<S: Source, K: Sink>(
 {
     let args = match args {
         Ok(args) => args,
-        Err(error) => return ExitCode::from(unread(error.kind())),
+        Err(error) => return unread(error.kind(), err),
     };
     let Ok(words) = words_of(alloc, args) else {
-        return ExitCode::from(NO_MEMORY);
+        return no_memory(err);
     };
     let Ok(mut space) = Space::new(alloc, ACCOUNTS, 0) else {
-        return ExitCode::from(NO_MEMORY);
+        return no_memory(err);
     };
     let Ok(mut shelf) = all_hooks(alloc) else {
-        return ExitCode::from(NO_MEMORY);
+        return no_memory(err);
     };
     let Ok(mut kinds) = both_kinds(alloc) else {
-        return ExitCode::from(NO_MEMORY);
+        return no_memory(err);
     };
     let outcome = run(alloc, &words, src, out, &mut space, &mut shelf, &mut kinds);
+    explain(err, &outcome, &words);
     let status = outcome.status;
     // Its memory goes with the process: giving back some thousand blocks one by one would take time for nothing.
     mem::forget(space);
     ExitCode::from(status)
+}
+
+/// Tells why the status of a run isn't 0.
+fn explain<E: Eprint>(err: &E, outcome: &Outcome, words: &[String]) {
+    if outcome.status != 0 {
+        tell(err, Told { outcome, words });
+    }
+}
+
+/// Writes a line on standard error, if that can be.
+fn tell<E: Eprint, D: Display + Drop>(err: &E, why: D) {
+    let _ = eprintln!(err; "pgscript: {why}");
 }
 
 /// All hooks, none of which has run.
@@ -114,15 +134,26 @@ fn name(word: &[u8]) -> Name
     Name::new(word).unwrap()
 }
 
-/// The status where the arguments couldn't be read.
-fn unread(kind: io::ErrorKind) -> u8
-    ensures memory { kind ≡ OutOfMemory → result ≡ 5 }
-    ensures text { kind ≢ OutOfMemory → result ≡ 7 }
+/// The status where the arguments couldn't be read, which `err` is told.
+fn unread<E: Eprint>(kind: io::ErrorKind, err: &E) -> ExitCode
+    ensures memory { kind ≡ OutOfMemory → exit_status result ≡ 5 }
+    ensures text { kind ≢ OutOfMemory → exit_status result ≡ 7 }
 {
     match kind {
-        io::ErrorKind::OutOfMemory => NO_MEMORY,
-        _ => NO_TEXT,
+        io::ErrorKind::OutOfMemory => no_memory(err),
+        _ => {
+            tell(err, "a word of the command line isn't text");
+            ExitCode::from(NO_TEXT)
+        }
     }
+}
+
+/// The status where memory was wanted before the run, which `err` is told.
+fn no_memory<E: Eprint>(err: &E) -> ExitCode
+    ensures { exit_status result ≡ 5 }
+{
+    tell(err, NO_START);
+    ExitCode::from(NO_MEMORY)
 }
 
 /// The words of the command line, without the program's name.

@@ -4,16 +4,16 @@ use Rattle.pgscript_cli.proofs.play.Goals as goal
 
 -- without memory for the words, the space, the hooks or the kinds nothing is read or written
 pub returns-in_default-clause-played : goal.returns-in_default-clause-played
-returns-in_default-clause-played g c = rw c.in-Ok.is (record { status = 5; call = 0; errors = 0; lines = 0 }, c.from-in_default.ensures, nothing_played _ _ _ _ _)
+returns-in_default-clause-played g c = rw c.in-Ok.is (record { status = 5; call = 0; errors = 0; lines = 0 }, c.no_memory.ensures, nothing_played _ _ _ _ _)
 
 pub returns-in_default-new-clause-played : goal.returns-in_default-new-clause-played
-returns-in_default-new-clause-played g c = rw c.in-Ok.is (record { status = 5; call = 0; errors = 0; lines = 0 }, c.from-in_default-new.ensures, nothing_played _ _ _ _ _)
+returns-in_default-new-clause-played g c = rw c.in-Ok.is (record { status = 5; call = 0; errors = 0; lines = 0 }, c.no_memory-in_default-new.ensures, nothing_played _ _ _ _ _)
 
 pub returns-in_default-all_hooks-clause-played : goal.returns-in_default-all_hooks-clause-played
-returns-in_default-all_hooks-clause-played g c = rw c.in-Ok.is (record { status = 5; call = 0; errors = 0; lines = 0 }, c.from-in_default-all_hooks.ensures, nothing_played _ _ _ _ _)
+returns-in_default-all_hooks-clause-played g c = rw c.in-Ok.is (record { status = 5; call = 0; errors = 0; lines = 0 }, c.no_memory-in_default-all_hooks.ensures, nothing_played _ _ _ _ _)
 
 pub returns-in_default-both_kinds-clause-played : goal.returns-in_default-both_kinds-clause-played
-returns-in_default-both_kinds-clause-played g c = rw c.in-Ok.is (record { status = 5; call = 0; errors = 0; lines = 0 }, c.from-in_default-both_kinds.ensures, nothing_played _ _ _ _ _)
+returns-in_default-both_kinds-clause-played g c = rw c.in-Ok.is (record { status = 5; call = 0; errors = 0; lines = 0 }, c.no_memory-in_default-both_kinds.ensures, nothing_played _ _ _ _ _)
 
 pub run-outcome-requires-clause-empty : goal.run-outcome-requires-clause-empty
 run-outcome-requires-clause-empty g c = none_held _ c.in-Ok-new.ensures.regions
@@ -23,7 +23,7 @@ pub returns-clause-played : goal.returns-clause-played
 returns-clause-played g c =
     rw (c.in-Ok.is, ← c.deref.ensures.value ∙ c.in-Ok-words_of.ensures) (
       c.run-outcome.result,
-      c.from-2.ensures,
+      c.from.ensures,
       record {
         whole = λ o asked none h. (c.run-outcome.new.shelf, c.run-outcome.new.kinds, rw (← c.in-Ok-all_hooks.ensures.shelf, ← c.in-Ok-both_kinds.ensures) (c.run-outcome.ensures.whole o asked none h));
         usage = c.run-outcome.ensures.usage;
