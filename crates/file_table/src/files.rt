@@ -9,20 +9,25 @@ use pgs_step::{Emit, What};
 use std::alloc::Global;
 use std::marker::Model;
 use std::num::NonZeroUsize;
+use thiserror::Error;
 
 /// The most files that a session has open at once.
 pub const MAX_FILES: usize = 4096;
 
 /// Why a call on files failed.
-#[derive(Clone, Copy, Debug, PartialEq, Eq)]
+#[derive(Clone, Copy, Debug, PartialEq, Eq, Error)]
 pub enum FileError {
     /// The file is open.
+    #[error("the file is open")]
     Taken,
     /// The session has 4,096 files open.
+    #[error("too many files")]
     TooMany,
     /// The file isn't open.
+    #[error("the file is not open")]
     NoFile,
     /// Memory was refused.
+    #[error("no memory")]
     Memory,
 }
 

@@ -2,13 +2,16 @@ ghost use Rattle.std.specs.Prelude.{◌≡◌, ◌≢◌, ◌≤◌, ◌↔◌, 
 ghost use Rattle.owner_kinds.specs.Kind.{Kind, IsFull, times, opened, closed};
 
 use pgs_step::{Name, Phase};
+use thiserror::Error;
 
 /// Why a kind did not open a key.
-#[derive(Clone, Copy, Debug, PartialEq, Eq)]
+#[derive(Clone, Copy, Debug, PartialEq, Eq, Error)]
 pub enum KindError {
     /// The kind holds as many keys as it may.
+    #[error("the kind is full")]
     Full,
     /// There was no memory.
+    #[error("no memory")]
     Memory,
 }
 

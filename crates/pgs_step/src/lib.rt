@@ -10,7 +10,6 @@ mod events;
 mod ids;
 mod lock_modes;
 mod names;
-mod steps;
 
 pub use chunk_bytes::ChunkBytes;
 pub use counters::{DEEPEST, Depth, MemoryCounters, SessionCounts};
@@ -21,4 +20,3 @@ pub use events::{Event, What};
 pub use ids::{CtxId, Item, KindId, OwnerId, Phase};
 pub use lock_modes::Mode;
 pub use names::Name;
-pub use steps::Step;

@@ -8,6 +8,7 @@ use clap::builder::ValueParser;
 use clap::error::ErrorKind;
 use clap::{Arg, ArgAction, Command, value_parser};
 use std::alloc::{AllocError, Global};
+use thiserror::Error;
 
 /// How many bytes the contexts of each session may hold where `--space` isn't given.
 pub const DEFAULT_SPACE: u32 = 16_777_216;
@@ -37,11 +38,13 @@ pub struct Options {
 }
 
 /// Why words give no options.
-#[derive(Clone, Copy, Debug, PartialEq, Eq)]
+#[derive(Clone, Copy, Debug, PartialEq, Eq, Error)]
 pub enum OptionsError {
     /// They aren't options with values in their ranges, each at most once, or the sessions may hold more together than all of them may.
+    #[error("the words are refused")]
     Refused,
     /// Memory was refused.
+    #[error("no memory")]
     Memory,
 }
 

@@ -9,15 +9,19 @@ use crate::private::PrivateCounts;
 use crate::shared::{BUFFERS, SharedPins};
 use std::alloc::{AllocError, Global};
 use std::marker::Model;
+use thiserror::Error;
 
 /// Why a pin was not taken or not given back.
-#[derive(Clone, Copy, Debug, PartialEq, Eq)]
+#[derive(Clone, Copy, Debug, PartialEq, Eq, Error)]
 pub enum PinError {
     /// There is no buffer of that number.
+    #[error("no such buffer")]
     NoBuffer,
     /// The session doesn't pin the buffer.
+    #[error("the buffer is not pinned")]
     NotPinned,
     /// Memory was refused.
+    #[error("no memory")]
     Memory,
 }
 

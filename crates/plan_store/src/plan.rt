@@ -1,6 +1,7 @@
 //! What is kept of a plan, and why a call on plans is refused.
 use pgs_step::CtxId;
 use std::alloc::AllocError;
+use thiserror::Error;
 
 /// What a store keeps of a plan: PostgreSQL's `CachedPlan`.
 #[derive(Clone, Copy, Debug, PartialEq, Eq)]
@@ -14,17 +15,22 @@ pub struct Plan {
 }
 
 /// Why a call on plans was refused.
-#[derive(Clone, Copy, Debug, PartialEq, Eq)]
+#[derive(Clone, Copy, Debug, PartialEq, Eq, Error)]
 pub enum PlanError {
     /// A plan of that number stands, discarded or not.
+    #[error("the plan is there")]
     Taken,
     /// 1,024 plans stand.
+    #[error("too many plans")]
     TooMany,
     /// There is no plan of that number, or it is discarded.
+    #[error("no such plan")]
     NoPlan,
     /// No reference to the plan is held.
+    #[error("the reference is not held")]
     NotHeld,
     /// Memory was refused.
+    #[error("no memory")]
     Memory,
 }
 

@@ -3,6 +3,7 @@ ghost use Rattle.std.specs.Prelude.{◌≡◌, ◌∷◌, ◌<◌};
 
 use exec_core::{Scan, ScanStep};
 use pgs_step::{CtxId, Name, OwnerId};
+use thiserror::Error;
 
 /// How far a portal is: PostgreSQL's `PortalStatus`.
 #[derive(Clone, Copy, Debug, PartialEq, Eq)]
@@ -16,13 +17,16 @@ pub enum PortalState {
 }
 
 /// Why a portal could not be made.
-#[derive(Clone, Copy, Debug, PartialEq, Eq)]
+#[derive(Clone, Copy, Debug, PartialEq, Eq, Error)]
 pub enum PortalError {
     /// There is a portal of that name.
+    #[error("the portal is there")]
     Taken,
     /// The session has 1,024 portals.
+    #[error("too many portals")]
     TooMany,
     /// Memory was refused.
+    #[error("no memory")]
     Memory,
 }
 

@@ -10,11 +10,13 @@ use counts::Counts;
 use pgs_step::KindId;
 use std::alloc::{AllocError, Global};
 use std::marker::Model;
+use thiserror::Error;
 
 /// Why a reference was not given back.
-#[derive(Clone, Copy, Debug, PartialEq, Eq)]
+#[derive(Clone, Copy, Debug, PartialEq, Eq, Error)]
 pub enum RefError {
     /// No reference to the key of the class is held.
+    #[error("the reference is not held")]
     NotHeld,
 }
 

@@ -26,6 +26,7 @@ use reset_callbacks::ResetHook;
 use session_store::Store;
 use std::alloc::Global;
 use std::marker::Model;
+use thiserror::Error;
 
 /// One session of a backend: its memory contexts, its resource owners and its transaction.
 ///
@@ -36,11 +37,13 @@ pub struct Session<H: ResetHook> {
 }
 
 /// Why a session doesn't start.
-#[derive(Clone, Copy, Debug, PartialEq, Eq)]
+#[derive(Clone, Copy, Debug, PartialEq, Eq, Error)]
 pub enum StartError {
     /// Less than 65,536 bytes are left of the session's account.
+    #[error("no space: less than a new session takes")]
     NoSpace,
     /// Memory was refused.
+    #[error("no memory")]
     Memory,
 }
 

@@ -11,13 +11,16 @@ ghost use Rattle.session_store.specs.Calls.{Acted, ContextsAlone, Keeps, StandsI
 use crate::store::Store;
 use pgs_step::{CtxId, Emit, What};
 use reset_callbacks::{ResetHook, Shelf};
+use thiserror::Error;
 
 /// Why no hook waits on a context.
-#[derive(Clone, Copy, Debug, PartialEq, Eq)]
+#[derive(Clone, Copy, Debug, PartialEq, Eq, Error)]
 pub enum RegisterError {
     /// The shelf has no fresh hook.
+    #[error("no callback is free")]
     NoHook,
     /// Memory was refused.
+    #[error("no memory")]
     Memory,
 }
 

@@ -1,4 +1,5 @@
 //! An entry of the stack of active snapshots, and the one refusal.
+use thiserror::Error;
 
 /// A snapshot on the stack, and the level of the subtransaction that it belongs to.
 #[derive(Clone, Copy, Debug, PartialEq, Eq)]
@@ -8,8 +9,9 @@ pub struct Active {
 }
 
 /// Why a snapshot was not given back.
-#[derive(Clone, Copy, Debug, PartialEq, Eq)]
+#[derive(Clone, Copy, Debug, PartialEq, Eq, Error)]
 pub enum SnapError {
     /// The snapshot isn't registered, or the newest entry of the stack isn't of the level.
+    #[error("the snapshot is not held")]
     NotHeld,
 }

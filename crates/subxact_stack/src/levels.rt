@@ -6,6 +6,7 @@ ghost use Rattle.subxact_stack.specs.Levels.{is_named, new_level, with_deepest, 
 use pgs_step::{CtxId, Name, OwnerId};
 use std::alloc::Global;
 use std::marker::Model;
+use thiserror::Error;
 
 /// The most levels that a session has at once.
 pub const MAX_DEPTH: usize = 1000;
@@ -38,11 +39,13 @@ impl Level {
 }
 
 /// Why a level could not begin.
-#[derive(Clone, Copy, Debug, PartialEq, Eq)]
+#[derive(Clone, Copy, Debug, PartialEq, Eq, Error)]
 pub enum LevelError {
     /// The session has 1,000 levels.
+    #[error("too many levels")]
     TooMany,
     /// Memory was refused.
+    #[error("no memory")]
     Memory,
 }
 
