@@ -276,13 +276,13 @@ table-keeps : AllKeep table
 table-keeps =
     AllKeep-append transaction_rows _ transaction_rows-keep
     (AllKeep-append item_rows _ item_rows-keep
+    (AllKeep-append context_rows _ context_rows-keep
+    (AllKeep-append chunk_rows _ chunk_rows-keep
     (AllKeep-append lock_rows _ lock_rows-keep
     (AllKeep-append snapshot_rows _ snapshot_rows-keep
     (AllKeep-append plan_rows _ plan_rows-keep
     (AllKeep-append portal_rows _ portal_rows-keep
-    (AllKeep-append context_rows _ context_rows-keep
-    (AllKeep-append chunk_rows _ chunk_rows-keep
-    tell_rows-keep)))))))
+    (tell_rows-keep))))))))
 
 pub command_of-in_range : (words : List (List ℕ)) → IfSome (command_of words) IsInRange
 unfolding command_of

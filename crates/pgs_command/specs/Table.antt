@@ -182,7 +182,7 @@ look_up (r ∷ rows) word words = option_or (if is_text word r.word then r.reads
 
 -- the lines that are commands
 abbrev pub table : List Row
-table = transaction_rows ++ (item_rows ++ (lock_rows ++ (snapshot_rows ++ (plan_rows ++ (portal_rows ++ (context_rows ++ (chunk_rows ++ (tell_rows))))))))
+table = transaction_rows ++ (item_rows ++ (context_rows ++ (chunk_rows ++ (lock_rows ++ (snapshot_rows ++ (plan_rows ++ (portal_rows ++ tell_rows)))))))
 
 -- the command of a line's words, where the line is in the table
 unfoldable pub command_of : List (List ℕ) → Option Command

@@ -19,6 +19,7 @@ use crate::values::{read_number, read_plain_kind};
 use crate::words::{Words, split_word};
 
 /// Writes the command on transactions, or `raise`, where the line is one.
+#[inline(always)]
 #[tactic(auto, unfolding(crate::specs::Table::transaction_rows))]
 fn read_transaction<'a>(word: &[u8], rest: Option<&'a [u8]>, command: &mut Option<Command<'a>>)
     ensures { command.new ≡ look_up transaction_rows word.now (words_in (option_copied rest.entry)) }
@@ -47,6 +48,7 @@ fn read_rollback<'a>(mut words: Words<'a>, command: &mut Option<Command<'a>>)
 }
 
 /// Writes the command on memory contexts, where the line is one.
+#[inline(always)]
 #[tactic(auto, unfolding(crate::specs::Table::context_rows))]
 fn read_context<'a>(word: &[u8], rest: Option<&'a [u8]>, command: &mut Option<Command<'a>>)
     ensures { command.new ≡ look_up context_rows word.now (words_in (option_copied rest.entry)) }
@@ -90,6 +92,7 @@ fn read_kind(mut words: Words<'_>) -> Option<ContextKind>
 }
 
 /// Writes the command on chunks, where the line is one.
+#[inline(always)]
 #[tactic(auto, unfolding(crate::specs::Table::chunk_rows))]
 fn read_chunk<'a>(word: &[u8], rest: Option<&'a [u8]>, command: &mut Option<Command<'a>>)
     ensures { command.new ≡ look_up chunk_rows word.now (words_in (option_copied rest.entry)) }
@@ -130,6 +133,7 @@ fn read_show(mut words: Words<'_>) -> Option<Command<'_>>
 }
 
 /// Writes the command on items, where the line is one.
+#[inline(always)]
 #[tactic(auto, unfolding(crate::specs::Table::item_rows))]
 fn read_item<'a>(word: &[u8], rest: Option<&'a [u8]>, command: &mut Option<Command<'a>>)
     ensures { command.new ≡ look_up item_rows word.now (words_in (option_copied rest.entry)) }
@@ -151,6 +155,7 @@ fn read_item<'a>(word: &[u8], rest: Option<&'a [u8]>, command: &mut Option<Comma
 }
 
 /// Writes the command on locks, where the line is one.
+#[inline(always)]
 #[tactic(auto, unfolding(crate::specs::Table::lock_rows))]
 fn read_lock<'a>(word: &[u8], rest: Option<&'a [u8]>, command: &mut Option<Command<'a>>)
     ensures { command.new ≡ look_up lock_rows word.now (words_in (option_copied rest.entry)) }
@@ -163,6 +168,7 @@ fn read_lock<'a>(word: &[u8], rest: Option<&'a [u8]>, command: &mut Option<Comma
 }
 
 /// Writes the command on the stack of active snapshots, where the line is one.
+#[inline(always)]
 #[tactic(auto, unfolding(crate::specs::Table::snapshot_rows))]
 fn read_snapshot<'a>(word: &[u8], rest: Option<&'a [u8]>, command: &mut Option<Command<'a>>)
     ensures { command.new ≡ look_up snapshot_rows word.now (words_in (option_copied rest.entry)) }
@@ -175,6 +181,7 @@ fn read_snapshot<'a>(word: &[u8], rest: Option<&'a [u8]>, command: &mut Option<C
 }
 
 /// Writes the command on plans, where the line is one.
+#[inline(always)]
 #[tactic(auto, unfolding(crate::specs::Table::plan_rows))]
 fn read_plan<'a>(word: &[u8], rest: Option<&'a [u8]>, command: &mut Option<Command<'a>>)
     ensures { command.new ≡ look_up plan_rows word.now (words_in (option_copied rest.entry)) }
@@ -189,6 +196,7 @@ fn read_plan<'a>(word: &[u8], rest: Option<&'a [u8]>, command: &mut Option<Comma
 }
 
 /// Writes the command on portals, where the line is one.
+#[inline(always)]
 #[tactic(auto, unfolding(crate::specs::Table::portal_rows))]
 fn read_portal<'a>(word: &[u8], rest: Option<&'a [u8]>, command: &mut Option<Command<'a>>)
     ensures { command.new ≡ look_up portal_rows word.now (words_in (option_copied rest.entry)) }
@@ -231,6 +239,7 @@ fn read_bad(mut words: Words<'_>) -> Option<Option<u32>>
 }
 
 /// Writes the command that only tells, where the line is one.
+#[inline(always)]
 #[tactic(auto, unfolding(crate::specs::Table::tell_rows))]
 fn read_tell<'a>(word: &[u8], rest: Option<&'a [u8]>, command: &mut Option<Command<'a>>)
     ensures { command.new ≡ look_up tell_rows word.now (words_in (option_copied rest.entry)) }
@@ -260,7 +269,7 @@ macro_rules! first_of {
 fn read_listed<'a>(word: &[u8], rest: Option<&'a [u8]>, command: &mut Option<Command<'a>>)
     ensures { command.new ≡ look_up table word.now (words_in (option_copied rest.entry)) }
 {
-    first_of! { word, rest, command; read_transaction, read_item, read_lock, read_snapshot, read_plan, read_portal, read_context, read_chunk; read_tell }
+    first_of! { word, rest, command; read_transaction, read_item, read_context, read_chunk, read_lock, read_snapshot, read_plan, read_portal; read_tell }
 }
 
 /// Writes the command of a text, where it is in the table.

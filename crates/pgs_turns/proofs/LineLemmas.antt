@@ -51,19 +51,19 @@ rows = refl
 -- ---- lines with numbers
 
 pub context_read : (n : ℕ) → n < 2 ^ 32 → read_line (codes "context g" ++ (decimal n ++ codes " CurTransactionContext default")) ≡ says (on_contexts (context.Create (codes "g" ++ decimal n) (codes "CurTransactionContext") Default))
-unfolding words_of command_of transaction_rows item_rows lock_rows snapshot_rows plan_rows portal_rows context_rows kind_of
+unfolding words_of command_of transaction_rows item_rows context_rows chunk_rows lock_rows snapshot_rows plan_rows portal_rows kind_of
 context_read n small =
     by_words (codes "context g" ++ (decimal n ++ codes " CurTransactionContext default")) (on_contexts (context.Create (codes "g" ++ decimal n) (codes "CurTransactionContext") Default))
     (omega (arith, length-append (decimal n) (codes " CurTransactionContext default"), short_number n small)) refl refl
     (rw (number_first n (codes "CurTransactionContext default") (omega arith), numbered 103 n refl small, top_name) refl)
 
 pub switch_read : (n : ℕ) → n < 2 ^ 32 → read_line (codes "switch g" ++ decimal n) ≡ says (on_contexts (context.Switch (codes "g" ++ decimal n)))
-unfolding words_of command_of transaction_rows item_rows lock_rows snapshot_rows plan_rows portal_rows context_rows
+unfolding words_of command_of transaction_rows item_rows context_rows chunk_rows lock_rows snapshot_rows plan_rows portal_rows
 switch_read n small =
     by_words (codes "switch g" ++ decimal n) (on_contexts (context.Switch (codes "g" ++ decimal n))) (omega (arith, short_number n small)) refl refl (rw (number_last n (omega arith), numbered 103 n refl small) refl)
 
 pub alloc_read : (n size : ℕ) → n < 2 ^ 32 → size < 2 ^ 32 → read_line (codes "alloc a" ++ (decimal n ++ (codes " " ++ decimal size))) ≡ says (on_chunks (chunk.Alloc (codes "a" ++ decimal n) size))
-unfolding words_of command_of transaction_rows item_rows lock_rows snapshot_rows plan_rows portal_rows context_rows chunk_rows
+unfolding words_of command_of transaction_rows item_rows context_rows chunk_rows lock_rows snapshot_rows plan_rows portal_rows
 alloc_read n size small small' =
     by_words (codes "alloc a" ++ (decimal n ++ (codes " " ++ decimal size))) (on_chunks (chunk.Alloc (codes "a" ++ decimal n) size))
     (omega (arith, length-append (decimal n) (codes " " ++ decimal size), short_number n small, short_number size small')) refl refl
@@ -74,7 +74,7 @@ unfolding words_of command_of transaction_rows item_rows
 pin_read n small = by_words (codes "pin " ++ decimal n) (on_items (item.Pin n)) (omega (arith, short_number n small)) refl refl (rw (number_last n (omega arith), whole n small) refl)
 
 pub lock_read : (n : ℕ) → n < 2 ^ 32 → read_line (codes "lock " ++ (decimal n ++ codes " AccessShareLock")) ≡ says (on_locks (lock.Lock n AccessShareLock))
-unfolding words_of command_of transaction_rows item_rows lock_rows mode_of
+unfolding words_of command_of transaction_rows item_rows context_rows chunk_rows lock_rows mode_of
 lock_read n small =
     by_words (codes "lock " ++ (decimal n ++ codes " AccessShareLock")) (on_locks (lock.Lock n AccessShareLock)) (omega (arith, length-append (decimal n) (codes " AccessShareLock"), short_number n small)) refl refl
     (rw (number_first n (codes "AccessShareLock") (omega arith), whole n small) refl)
@@ -85,7 +85,7 @@ ref_read n small =
     by_words (codes "ref relcache " ++ decimal n) (on_items (item.Reference Relcache n)) (omega (arith, short_number n small)) refl refl (rw (number_last n (omega arith), whole n small) refl)
 
 pub portal_read : (n : ℕ) → n ≤ 1000000 → read_line (codes "portal p " ++ (decimal n ++ codes " 25")) ≡ says (on_portals (portal.Open (codes "p") n 25 None))
-unfolding words_of command_of transaction_rows item_rows lock_rows snapshot_rows plan_rows portal_rows
+unfolding words_of command_of transaction_rows item_rows context_rows chunk_rows lock_rows snapshot_rows plan_rows portal_rows
 portal_read n few =
     let small : n < 2 ^ 32 = omega arith in
     by_words (codes "portal p " ++ (decimal n ++ codes " 25")) (on_portals (portal.Open (codes "p") n 25 None)) (omega (arith, length-append (decimal n) (codes " 25"), short_number n small)) refl refl
@@ -110,11 +110,11 @@ unfolding read_line words_of command_of transaction_rows name_of
 rollback_to_read = refl
 
 pub fetch_read : read_line (codes "fetch p 12") ≡ says (on_portals (portal.Fetch (codes "p") 12))
-unfolding read_line words_of command_of transaction_rows item_rows lock_rows snapshot_rows plan_rows portal_rows name_of number_between digits
+unfolding read_line words_of command_of transaction_rows item_rows context_rows chunk_rows lock_rows snapshot_rows plan_rows portal_rows name_of number_between digits
 fetch_read = refl
 
 pub endportal_read : read_line (codes "endportal p") ≡ says (on_portals (portal.End (codes "p")))
-unfolding read_line words_of command_of transaction_rows item_rows lock_rows snapshot_rows plan_rows portal_rows name_of
+unfolding read_line words_of command_of transaction_rows item_rows context_rows chunk_rows lock_rows snapshot_rows plan_rows portal_rows name_of
 endportal_read = refl
 
 pub rollback_read : read_line (codes "rollback") ≡ says (on_transactions transaction.Rollback)

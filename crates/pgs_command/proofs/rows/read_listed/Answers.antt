@@ -1,7 +1,7 @@
 use Rattle.std.proofs.Common.{sym, ◌∙◌}
 use Rattle.std.specs.Option.{option_copied}
 use Rattle.pgs_command.specs.Words.{words_in}
-use Rattle.pgs_command.specs.Table.{transaction_rows, item_rows, lock_rows, snapshot_rows, plan_rows, portal_rows, context_rows, chunk_rows}
+use Rattle.pgs_command.specs.Table.{transaction_rows, item_rows, context_rows, chunk_rows, lock_rows, snapshot_rows, plan_rows, portal_rows}
 use Rattle.pgs_command.proofs.TableLemmas.{past, within}
 use Rattle.pgs_command.proofs.rows.read_listed.Goals as goal
 
@@ -24,7 +24,7 @@ returns-then-is_some-3 c =
     let words = words_in (option_copied c.args.rest) in
     past transaction_rows _ word words _ _ c.read_transaction.ensures (sym c.is_some.ensures ∙ c.if-is_some.false)
     (past item_rows _ word words _ _ c.read_item.ensures (sym c.is_some-2.ensures ∙ c.if-is_some-2.false)
-    (within lock_rows _ word words _ c.read_lock.ensures (sym c.is_some-3.ensures ∙ c.if-is_some-3.true)))
+    (within context_rows _ word words _ c.read_context.ensures (sym c.is_some-3.ensures ∙ c.if-is_some-3.true)))
 
 pub returns-then-is_some-4 : goal.returns-then-is_some-4
 returns-then-is_some-4 c =
@@ -32,8 +32,8 @@ returns-then-is_some-4 c =
     let words = words_in (option_copied c.args.rest) in
     past transaction_rows _ word words _ _ c.read_transaction.ensures (sym c.is_some.ensures ∙ c.if-is_some.false)
     (past item_rows _ word words _ _ c.read_item.ensures (sym c.is_some-2.ensures ∙ c.if-is_some-2.false)
-    (past lock_rows _ word words _ _ c.read_lock.ensures (sym c.is_some-3.ensures ∙ c.if-is_some-3.false)
-    (within snapshot_rows _ word words _ c.read_snapshot.ensures (sym c.is_some-4.ensures ∙ c.if-is_some-4.true))))
+    (past context_rows _ word words _ _ c.read_context.ensures (sym c.is_some-3.ensures ∙ c.if-is_some-3.false)
+    (within chunk_rows _ word words _ c.read_chunk.ensures (sym c.is_some-4.ensures ∙ c.if-is_some-4.true))))
 
 pub returns-then-is_some-5 : goal.returns-then-is_some-5
 returns-then-is_some-5 c =
@@ -41,9 +41,9 @@ returns-then-is_some-5 c =
     let words = words_in (option_copied c.args.rest) in
     past transaction_rows _ word words _ _ c.read_transaction.ensures (sym c.is_some.ensures ∙ c.if-is_some.false)
     (past item_rows _ word words _ _ c.read_item.ensures (sym c.is_some-2.ensures ∙ c.if-is_some-2.false)
-    (past lock_rows _ word words _ _ c.read_lock.ensures (sym c.is_some-3.ensures ∙ c.if-is_some-3.false)
-    (past snapshot_rows _ word words _ _ c.read_snapshot.ensures (sym c.is_some-4.ensures ∙ c.if-is_some-4.false)
-    (within plan_rows _ word words _ c.read_plan.ensures (sym c.is_some-5.ensures ∙ c.if-is_some-5.true)))))
+    (past context_rows _ word words _ _ c.read_context.ensures (sym c.is_some-3.ensures ∙ c.if-is_some-3.false)
+    (past chunk_rows _ word words _ _ c.read_chunk.ensures (sym c.is_some-4.ensures ∙ c.if-is_some-4.false)
+    (within lock_rows _ word words _ c.read_lock.ensures (sym c.is_some-5.ensures ∙ c.if-is_some-5.true)))))
 
 pub returns-then-is_some-6 : goal.returns-then-is_some-6
 returns-then-is_some-6 c =
@@ -51,10 +51,10 @@ returns-then-is_some-6 c =
     let words = words_in (option_copied c.args.rest) in
     past transaction_rows _ word words _ _ c.read_transaction.ensures (sym c.is_some.ensures ∙ c.if-is_some.false)
     (past item_rows _ word words _ _ c.read_item.ensures (sym c.is_some-2.ensures ∙ c.if-is_some-2.false)
-    (past lock_rows _ word words _ _ c.read_lock.ensures (sym c.is_some-3.ensures ∙ c.if-is_some-3.false)
-    (past snapshot_rows _ word words _ _ c.read_snapshot.ensures (sym c.is_some-4.ensures ∙ c.if-is_some-4.false)
-    (past plan_rows _ word words _ _ c.read_plan.ensures (sym c.is_some-5.ensures ∙ c.if-is_some-5.false)
-    (within portal_rows _ word words _ c.read_portal.ensures (sym c.is_some-6.ensures ∙ c.if-is_some-6.true))))))
+    (past context_rows _ word words _ _ c.read_context.ensures (sym c.is_some-3.ensures ∙ c.if-is_some-3.false)
+    (past chunk_rows _ word words _ _ c.read_chunk.ensures (sym c.is_some-4.ensures ∙ c.if-is_some-4.false)
+    (past lock_rows _ word words _ _ c.read_lock.ensures (sym c.is_some-5.ensures ∙ c.if-is_some-5.false)
+    (within snapshot_rows _ word words _ c.read_snapshot.ensures (sym c.is_some-6.ensures ∙ c.if-is_some-6.true))))))
 
 pub returns-then-is_some-7 : goal.returns-then-is_some-7
 returns-then-is_some-7 c =
@@ -62,11 +62,11 @@ returns-then-is_some-7 c =
     let words = words_in (option_copied c.args.rest) in
     past transaction_rows _ word words _ _ c.read_transaction.ensures (sym c.is_some.ensures ∙ c.if-is_some.false)
     (past item_rows _ word words _ _ c.read_item.ensures (sym c.is_some-2.ensures ∙ c.if-is_some-2.false)
-    (past lock_rows _ word words _ _ c.read_lock.ensures (sym c.is_some-3.ensures ∙ c.if-is_some-3.false)
-    (past snapshot_rows _ word words _ _ c.read_snapshot.ensures (sym c.is_some-4.ensures ∙ c.if-is_some-4.false)
-    (past plan_rows _ word words _ _ c.read_plan.ensures (sym c.is_some-5.ensures ∙ c.if-is_some-5.false)
-    (past portal_rows _ word words _ _ c.read_portal.ensures (sym c.is_some-6.ensures ∙ c.if-is_some-6.false)
-    (within context_rows _ word words _ c.read_context.ensures (sym c.is_some-7.ensures ∙ c.if-is_some-7.true)))))))
+    (past context_rows _ word words _ _ c.read_context.ensures (sym c.is_some-3.ensures ∙ c.if-is_some-3.false)
+    (past chunk_rows _ word words _ _ c.read_chunk.ensures (sym c.is_some-4.ensures ∙ c.if-is_some-4.false)
+    (past lock_rows _ word words _ _ c.read_lock.ensures (sym c.is_some-5.ensures ∙ c.if-is_some-5.false)
+    (past snapshot_rows _ word words _ _ c.read_snapshot.ensures (sym c.is_some-6.ensures ∙ c.if-is_some-6.false)
+    (within plan_rows _ word words _ c.read_plan.ensures (sym c.is_some-7.ensures ∙ c.if-is_some-7.true)))))))
 
 pub returns-then-is_some-8 : goal.returns-then-is_some-8
 returns-then-is_some-8 c =
@@ -74,12 +74,12 @@ returns-then-is_some-8 c =
     let words = words_in (option_copied c.args.rest) in
     past transaction_rows _ word words _ _ c.read_transaction.ensures (sym c.is_some.ensures ∙ c.if-is_some.false)
     (past item_rows _ word words _ _ c.read_item.ensures (sym c.is_some-2.ensures ∙ c.if-is_some-2.false)
-    (past lock_rows _ word words _ _ c.read_lock.ensures (sym c.is_some-3.ensures ∙ c.if-is_some-3.false)
-    (past snapshot_rows _ word words _ _ c.read_snapshot.ensures (sym c.is_some-4.ensures ∙ c.if-is_some-4.false)
-    (past plan_rows _ word words _ _ c.read_plan.ensures (sym c.is_some-5.ensures ∙ c.if-is_some-5.false)
-    (past portal_rows _ word words _ _ c.read_portal.ensures (sym c.is_some-6.ensures ∙ c.if-is_some-6.false)
-    (past context_rows _ word words _ _ c.read_context.ensures (sym c.is_some-7.ensures ∙ c.if-is_some-7.false)
-    (within chunk_rows _ word words _ c.read_chunk.ensures (sym c.is_some-8.ensures ∙ c.if-is_some-8.true))))))))
+    (past context_rows _ word words _ _ c.read_context.ensures (sym c.is_some-3.ensures ∙ c.if-is_some-3.false)
+    (past chunk_rows _ word words _ _ c.read_chunk.ensures (sym c.is_some-4.ensures ∙ c.if-is_some-4.false)
+    (past lock_rows _ word words _ _ c.read_lock.ensures (sym c.is_some-5.ensures ∙ c.if-is_some-5.false)
+    (past snapshot_rows _ word words _ _ c.read_snapshot.ensures (sym c.is_some-6.ensures ∙ c.if-is_some-6.false)
+    (past plan_rows _ word words _ _ c.read_plan.ensures (sym c.is_some-7.ensures ∙ c.if-is_some-7.false)
+    (within portal_rows _ word words _ c.read_portal.ensures (sym c.is_some-8.ensures ∙ c.if-is_some-8.true))))))))
 
 pub returns : goal.returns
 returns c =
@@ -87,10 +87,10 @@ returns c =
     let words = words_in (option_copied c.args.rest) in
     past transaction_rows _ word words _ _ c.read_transaction.ensures (sym c.is_some.ensures ∙ c.if-is_some.false)
     (past item_rows _ word words _ _ c.read_item.ensures (sym c.is_some-2.ensures ∙ c.if-is_some-2.false)
-    (past lock_rows _ word words _ _ c.read_lock.ensures (sym c.is_some-3.ensures ∙ c.if-is_some-3.false)
-    (past snapshot_rows _ word words _ _ c.read_snapshot.ensures (sym c.is_some-4.ensures ∙ c.if-is_some-4.false)
-    (past plan_rows _ word words _ _ c.read_plan.ensures (sym c.is_some-5.ensures ∙ c.if-is_some-5.false)
-    (past portal_rows _ word words _ _ c.read_portal.ensures (sym c.is_some-6.ensures ∙ c.if-is_some-6.false)
-    (past context_rows _ word words _ _ c.read_context.ensures (sym c.is_some-7.ensures ∙ c.if-is_some-7.false)
-    (past chunk_rows _ word words _ _ c.read_chunk.ensures (sym c.is_some-8.ensures ∙ c.if-is_some-8.false)
+    (past context_rows _ word words _ _ c.read_context.ensures (sym c.is_some-3.ensures ∙ c.if-is_some-3.false)
+    (past chunk_rows _ word words _ _ c.read_chunk.ensures (sym c.is_some-4.ensures ∙ c.if-is_some-4.false)
+    (past lock_rows _ word words _ _ c.read_lock.ensures (sym c.is_some-5.ensures ∙ c.if-is_some-5.false)
+    (past snapshot_rows _ word words _ _ c.read_snapshot.ensures (sym c.is_some-6.ensures ∙ c.if-is_some-6.false)
+    (past plan_rows _ word words _ _ c.read_plan.ensures (sym c.is_some-7.ensures ∙ c.if-is_some-7.false)
+    (past portal_rows _ word words _ _ c.read_portal.ensures (sym c.is_some-8.ensures ∙ c.if-is_some-8.false)
     (c.read_tell.ensures))))))))
