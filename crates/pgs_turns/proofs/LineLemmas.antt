@@ -51,19 +51,19 @@ rows = refl
 -- ---- lines with numbers
 
 pub context_read : (n : ℕ) → n < 2 ^ 32 → read_line (codes "context g" ++ (decimal n ++ codes " CurTransactionContext default")) ≡ says (on_contexts (context.Create (codes "g" ++ decimal n) (codes "CurTransactionContext") Default))
-unfolding words_of command_of transaction_rows item_rows context_rows chunk_rows lock_rows snapshot_rows plan_rows portal_rows kind_of
+unfolding words_of command_of transaction_rows item_rows context_rows kind_of
 context_read n small =
     by_words (codes "context g" ++ (decimal n ++ codes " CurTransactionContext default")) (on_contexts (context.Create (codes "g" ++ decimal n) (codes "CurTransactionContext") Default))
     (omega (arith, length-append (decimal n) (codes " CurTransactionContext default"), short_number n small)) refl refl
     (rw (number_first n (codes "CurTransactionContext default") (omega arith), numbered 103 n refl small, top_name) refl)
 
 pub switch_read : (n : ℕ) → n < 2 ^ 32 → read_line (codes "switch g" ++ decimal n) ≡ says (on_contexts (context.Switch (codes "g" ++ decimal n)))
-unfolding words_of command_of transaction_rows item_rows context_rows chunk_rows lock_rows snapshot_rows plan_rows portal_rows
+unfolding words_of command_of transaction_rows item_rows context_rows
 switch_read n small =
     by_words (codes "switch g" ++ decimal n) (on_contexts (context.Switch (codes "g" ++ decimal n))) (omega (arith, short_number n small)) refl refl (rw (number_last n (omega arith), numbered 103 n refl small) refl)
 
 pub alloc_read : (n size : ℕ) → n < 2 ^ 32 → size < 2 ^ 32 → read_line (codes "alloc a" ++ (decimal n ++ (codes " " ++ decimal size))) ≡ says (on_chunks (chunk.Alloc (codes "a" ++ decimal n) size))
-unfolding words_of command_of transaction_rows item_rows context_rows chunk_rows lock_rows snapshot_rows plan_rows portal_rows
+unfolding words_of command_of transaction_rows item_rows context_rows chunk_rows
 alloc_read n size small small' =
     by_words (codes "alloc a" ++ (decimal n ++ (codes " " ++ decimal size))) (on_chunks (chunk.Alloc (codes "a" ++ decimal n) size))
     (omega (arith, length-append (decimal n) (codes " " ++ decimal size), short_number n small, short_number size small')) refl refl
