@@ -2,11 +2,14 @@
 use Rattle.std.specs.Prelude.{◌≡◌, ◌≢◌, ℕ, ◌+◌, ◌*◌, ◌/◌, ◌%◌, ◌<◌, ◌≤◌, ◌==◌, Bool, false, if◌then◌else◌, List, [], ◌∷◌, ◌++◌, Option, Some, None}
 use Rattle.std.specs.Option.{option_map_or}
 use Rattle.exec_core.specs.declared.scan.Scan.{Scan}
+use Rattle.exec_core.specs.declared.scan.Stage.{Stage}
+use Rattle.exec_core.specs.declared.scan.Stage.TheVariants as stage
+use Rattle.exec_core.specs.declared.scan.Stage.TheVariants.{AtRest, Pinned, Allocated}
 use Rattle.exec_core.specs.declared.steps.ScanStep.{ScanStep}
 use Rattle.exec_core.specs.declared.steps.ScanStep.TheVariants.{Reset, Unpin, Pin, Bad, Alloc, Row, End}
 
 abbrev pub new_scan : ℕ → ℕ → Option ℕ → Scan
-new_scan object rows bad = record { object = object; rows = rows; bad = bad; at = 0; page = None; stage = 0 }
+new_scan object rows bad = record { object = object; rows = rows; bad = bad; at = 0; page = None; stage = AtRest }
 
 -- the buffer in which the next row's page is
 abbrev pub page_of : Scan → ℕ
@@ -46,12 +49,14 @@ abbrev pub turn : Scan → List ScanStep
 turn scan = if scan.at == scan.rows then unpinned scan.page ++ End ∷ [] else Reset ∷ (page_steps scan ++ row_steps scan)
 
 -- what is left of the turn: all of it between turns
+abbrev pub left_in : Stage → Scan → List ScanStep
+left_in AtRest scan = turn scan
+left_in stage.Reset scan = page_steps scan ++ row_steps scan
+left_in Pinned scan = row_steps scan
+left_in Allocated scan = row_step scan ∷ []
+
 abbrev pub left : Scan → List ScanStep
-left scan =
-    if scan.stage == 0 then turn scan
-    else if scan.stage == 1 then page_steps scan ++ row_steps scan
-    else if scan.stage == 2 then row_steps scan
-    else row_step scan ∷ []
+left scan = left_in scan.stage scan
 
 -- what is left behind a step: nothing, where the step was the turn's last one
 abbrev pub rest : ScanStep → Scan → List ScanStep
@@ -61,17 +66,21 @@ rest End scan = []
 rest step scan = left scan
 
 -- the page that was asked for is pinned by now
+abbrev pub with_page_in : Stage → Scan → Scan
+with_page_in Pinned scan = record scan { page = Some (page_of scan) }
+with_page_in other scan = scan
+
 abbrev pub with_page : Scan → Scan
-with_page scan = if scan.stage == 2 then record scan { page = Some (page_of scan) } else scan
+with_page scan = with_page_in scan.stage scan
 
 -- the scan behind a step
 abbrev pub taken : ScanStep → Scan → Scan
-taken Reset scan = record scan { stage = 1 }
+taken Reset scan = record scan { stage = stage.Reset }
 taken (Unpin page) scan = record scan { page = None }
-taken (Pin page) scan = record scan { stage = 2 }
-taken (Bad row) scan = record (with_page scan) { stage = 0 }
-taken Alloc scan = record (with_page scan) { stage = 3 }
-taken (Row row value) scan = record scan { at = scan.at + 1; stage = 0 }
+taken (Pin page) scan = record scan { stage = Pinned }
+taken (Bad row) scan = record (with_page scan) { stage = AtRest }
+taken Alloc scan = record (with_page scan) { stage = Allocated }
+taken (Row row value) scan = record scan { at = scan.at + 1; stage = AtRest }
 taken End scan = scan
 
 -- the same object, as many rows and the same bad row
@@ -83,6 +92,5 @@ pub record KeepsTable (old new : Scan) : Type 0 where
 -- a scan as its calls leave it
 pub record IsScan (scan : Scan) : Type 0 where
   pub within : scan.at ≤ scan.rows
-  pub stage : scan.stage ≤ 3
-  pub turning : scan.stage ≢ 0 → scan.at < scan.rows
-  pub pinned : scan.stage ≡ 2 → scan.at % 10 ≡ 0
+  pub turning : scan.stage ≢ AtRest → scan.at < scan.rows
+  pub pinned : scan.stage ≡ Pinned → scan.at % 10 ≡ 0

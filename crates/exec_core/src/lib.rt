@@ -4,5 +4,5 @@
 mod scan;
 mod steps;
 
-pub use scan::Scan;
+pub use scan::{Scan, Stage};
 pub use steps::ScanStep;

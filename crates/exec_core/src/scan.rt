@@ -1,5 +1,6 @@
 //! A scan and its steps.
 ghost use Rattle.std.specs.Prelude.{◌≡◌, ◌<◌, ◌%◌, ◌∷◌, ◌⊎◌, false};
+ghost use Rattle.exec_core.specs.declared.scan.Stage.TheVariants.{AtRest, Reset, Pinned, Allocated};
 
 use crate::steps::ScanStep;
 
@@ -9,25 +10,25 @@ const PAGE_ROWS: u32 = 10;
 /// How many buffers there are.
 const BUFFERS: u64 = 1024;
 
-/// Between turns.
-const AT_REST: u8 = 0;
-
-/// The memory of the row before was reset.
-const RESET: u8 = 1;
-
-/// The row's page was asked for.
-const PINNED: u8 = 2;
-
-/// The row's memory was asked for.
-const ALLOCATED: u8 = 3;
+/// How far a scan has come in the turn of its next row.
+#[derive(Clone, Copy, Debug, PartialEq, Eq)]
+pub enum Stage {
+    /// Between turns.
+    AtRest,
+    /// The memory of the row before was reset.
+    Reset,
+    /// The row's page was asked for.
+    Pinned,
+    /// The row's memory was asked for.
+    Allocated,
+}
 
 /// A scan of the rows 0 to `rows` - 1 of an object: PostgreSQL's `SeqScanState` over a table of numbers.
 ///
 /// The rows come from a formula. Each ten of them lie on one page, which the scan keeps pinned while it
 /// gives them. `bad` is a row that can't be made, if there is one. `at` is the next row. `page` is the buffer
 /// that is pinned, if one is: it is set by the call behind the one that asked for the pin, so that it names
-/// no buffer that isn't pinned yet. `stage` is 0 between turns, and else how far the turn of row `at` has
-/// come: the reset was asked for (1), then the page (2), then the memory (3).
+/// no buffer that isn't pinned yet. `stage` says how far the turn of row `at` has come.
 #[derive(Clone, Copy, Debug, PartialEq, Eq)]
 pub struct Scan {
     pub object: u32,
@@ -35,7 +36,7 @@ pub struct Scan {
     pub bad: Option<u32>,
     pub at: u32,
     pub page: Option<u32>,
-    pub stage: u8,
+    pub stage: Stage,
 }
 
 impl Scan {
@@ -52,13 +53,13 @@ impl Scan {
             bad,
             at: 0,
             page: None,
-            stage: AT_REST,
+            stage: Stage::AtRest,
         }
     }
 
     /// The next step.
     ///
-    /// A turn begins where `stage` is 0, and takes all steps of one row, up to `Row` or `Bad`, or ends the
+    /// A turn begins where the scan is at rest, and takes all steps of one row, up to `Row` or `Bad`, or ends the
     /// scan with `End`. Behind `Bad` the turn of the same row begins anew, behind `End` the scan ends again.
     pub fn next(&mut self) -> ScanStep
         requires { IsScan self.old }
@@ -68,20 +69,20 @@ impl Scan {
         ensures scan { IsScan self.new }
     {
         match self.stage {
-            AT_REST if self.at == self.rows => self.end(),
-            AT_REST => {
-                self.stage = RESET;
+            Stage::AtRest if self.at == self.rows => self.end(),
+            Stage::AtRest => {
+                self.stage = Stage::Reset;
                 ScanStep::Reset
             }
-            RESET if self.is_tenth() => self.change_page(),
-            ALLOCATED => self.give_row(),
-            _ => self.make_row(),
+            Stage::Reset if self.is_tenth() => self.change_page(),
+            Stage::Allocated => self.give_row(),
+            Stage::Reset | Stage::Pinned => self.make_row(),
         }
     }
 
     /// Behind the last row: releases the page, if one is pinned, and ends.
     fn end(&mut self) -> ScanStep
-        requires rest { self.old.stage ≡ 0 }
+        requires rest { self.old.stage ≡ AtRest }
         requires end { self.old.at ≡ self.old.rows }
         ensures step { left self.old ≡ result ∷ rest result self.new }
         ensures taken { self.new ≡ taken result self.old }
@@ -94,7 +95,7 @@ impl Scan {
 
     /// At the first row of a page: releases the page before, if one is pinned, and asks for the new one.
     fn change_page(&mut self) -> ScanStep
-        requires reset { self.old.stage ≡ 1 }
+        requires reset { self.old.stage ≡ Reset }
         requires tenth { self.old.at % 10 ≡ 0 }
         ensures step { left self.old ≡ result ∷ rest result self.new }
         ensures taken { self.new ≡ taken result self.old }
@@ -102,7 +103,7 @@ impl Scan {
         match self.page.take() {
             Some(page) => ScanStep::Unpin(page),
             None => {
-                self.stage = PINNED;
+                self.stage = Stage::Pinned;
                 ScanStep::Pin(self.row_page())
             }
         }
@@ -110,32 +111,32 @@ impl Scan {
 
     /// Asks for the row's memory, unless the row is bad.
     fn make_row(&mut self) -> ScanStep
-        requires stage { self.old.stage ≡ 1 ⊎ self.old.stage ≡ 2 }
-        requires page { self.old.stage ≡ 1 → is_tenth self.old ≡ false }
+        requires stage { self.old.stage ≡ Reset ⊎ self.old.stage ≡ Pinned }
+        requires page { self.old.stage ≡ Reset → is_tenth self.old ≡ false }
         ensures step { left self.old ≡ result ∷ rest result self.new }
         ensures taken { self.new ≡ taken result self.old }
     {
-        if self.stage == PINNED {
+        if self.stage == Stage::Pinned {
             self.page = Some(self.row_page());
         }
         if self.bad == Some(self.at) {
-            self.stage = AT_REST;
+            self.stage = Stage::AtRest;
             return ScanStep::Bad(self.at);
         }
-        self.stage = ALLOCATED;
+        self.stage = Stage::Allocated;
         ScanStep::Alloc
     }
 
     /// Gives the row, and goes on to the next one.
     fn give_row(&mut self) -> ScanStep
-        requires stage { self.old.stage ≡ 3 }
+        requires stage { self.old.stage ≡ Allocated }
         requires row { self.old.at < self.old.rows }
         ensures step { left self.old ≡ result ∷ rest result self.new }
         ensures taken { self.new ≡ taken result self.old }
     {
         let row = ScanStep::Row(self.at, self.row_value());
         self.at += 1;
-        self.stage = AT_REST;
+        self.stage = Stage::AtRest;
         row
     }
 

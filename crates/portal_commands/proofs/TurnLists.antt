@@ -4,9 +4,11 @@ use Rattle.std.specs.Prelude.{fold, if◌then◌else◌}
 use Rattle.std.specs.List.{flat_map}
 use Rattle.std.proofs.lemmas.List.{append_assoc}
 use Rattle.exec_core.specs.declared.scan.Scan.{Scan}
+use Rattle.exec_core.specs.declared.scan.Stage.{Stage}
+use Rattle.exec_core.specs.declared.scan.Stage.TheVariants as stage
 use Rattle.exec_core.specs.declared.steps.ScanStep.{ScanStep}
 use Rattle.exec_core.specs.declared.steps.ScanStep.TheVariants as step
-use Rattle.exec_core.specs.Turn.{is_bad, is_tenth, left, page_of, page_steps, rest, row_step, row_steps, taken, turn, unpinned}
+use Rattle.exec_core.specs.Turn.{is_bad, is_tenth, left, left_in, page_of, page_steps, rest, row_step, row_steps, taken, turn, unpinned}
 use Rattle.portal_store.specs.Portal.{coming}
 use Rattle.session_rules.specs.Elements.{Element, Text}
 use Rattle.portal_commands.specs.Fetching.{IsPage, cost_of, step_elements}
@@ -39,15 +41,15 @@ turn_pages : (b : Bool) (scan : Scan) → ArePages (if b then unpinned scan.page
 turn_pages true scan = both_pages (unpinned scan.page) (step.End ∷ []) (unpinned_pages scan.page) (tt, tt)
 turn_pages false scan = (tt, both_pages (page_steps scan) (row_steps scan) (page_pages (is_tenth scan) scan) (row_pages (is_bad scan) scan))
 
-left_pages : (a b c : Bool) (scan : Scan) → ArePages (if a then turn scan else if b then page_steps scan ++ row_steps scan else if c then row_steps scan else row_step scan ∷ [])
-left_pages true b c scan = turn_pages (scan.at == scan.rows) scan
-left_pages false true c scan = both_pages (page_steps scan) (row_steps scan) (page_pages (is_tenth scan) scan) (row_pages (is_bad scan) scan)
-left_pages false false true scan = row_pages (is_bad scan) scan
-left_pages false false false scan = (tt, tt)
+left_pages : (in_turn : Stage) (scan : Scan) → ArePages (left_in in_turn scan)
+left_pages stage.AtRest scan = turn_pages (scan.at == scan.rows) scan
+left_pages stage.Reset scan = both_pages (page_steps scan) (row_steps scan) (page_pages (is_tenth scan) scan) (row_pages (is_bad scan) scan)
+left_pages stage.Pinned scan = row_pages (is_bad scan) scan
+left_pages stage.Allocated scan = (tt, tt)
 
 coming_pages : (begins : Bool) (scan : Scan) → ArePages (coming begins scan)
 coming_pages true scan = turn_pages (scan.at == scan.rows) scan
-coming_pages false scan = left_pages (scan.stage == 0) (scan.stage == 1) (scan.stage == 2) scan
+coming_pages false scan = left_pages scan.stage scan
 
 pub next_page : (begins : Bool) (scan : Scan) (s : ScanStep) (ss : List ScanStep) → coming begins scan ≡ s ∷ ss → IsPage s
 next_page begins scan s ss e = let p : ArePages (s ∷ ss) = subst ArePages e (coming_pages begins scan) in p.0

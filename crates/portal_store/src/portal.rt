@@ -1,7 +1,7 @@
 //! One portal.
 ghost use Rattle.std.specs.Prelude.{◌≡◌, ◌∷◌, ◌<◌};
 
-use exec_core::{Scan, ScanStep};
+use exec_core::{Scan, ScanStep, Stage};
 use pgs_step::{CtxId, Name, OwnerId};
 use thiserror::Error;
 
@@ -60,7 +60,7 @@ impl Portal {
         ensures scan { IsScan (taken result self.old.scan) }
     {
         if begins {
-            self.scan.stage = 0;
+            self.scan.stage = Stage::AtRest;
         }
         self.scan.next()
     }

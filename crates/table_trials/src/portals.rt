@@ -49,7 +49,6 @@ fn step(rt: &impl Abort, portals: &mut Portals, name: &Name, begins: bool) -> Op
     let scan = portals.at(place)?.scan;
     assert!(rt; scan.at == 0);
     assert!(rt; scan.rows > 0);
-    assert!(rt; scan.stage <= 3);
     Some(portals.step_at(place, begins))
 }
 
