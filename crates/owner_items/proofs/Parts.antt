@@ -25,6 +25,7 @@ use Rattle.owner_items.proofs.NewestFirst.{find_none, find_newest, without_newes
 use Rattle.owner_items.proofs.Ordered.{order-back}
 use Rattle.owner_items.proofs.Order.{IsSplit, split-falling, falling-without, All-front, All-back, All-both}
 use Rattle.owner_items.proofs.Sums.{AreSinking, SameSums, in_order, sunk_list, newer_stands, StandsIn, live_sum, live-sum, entries-sums, removed-sums, newest_first-sum, same_lengths, All-newest_first, All-with_newer, length-sum, const_one}
+use Rattle.owner_items.specs.declared.ranking.TheConstants.{LAST_PRIORITY}
 
 pub reverse-both : {X : Type 0} (xs ys : List X) → reverse (xs ++ ys) ≡ reverse ys ++ reverse xs
 reverse-both [] ys = sym (append-nil (reverse ys))
@@ -84,14 +85,14 @@ rank-rows table phase = refl
 
 pub rank-some : (table : KindTable) (phase : Phase) (item : Item) → rank table phase item ≡ 0 → is_of_phase table phase item ≡ false
 rank-some table phase item none =
-    let cases : (b : Bool) → is_of_phase table phase item ≡ b → cond b (1 + (8589934592 - priority table item)) 0 ≡ 0 → b ≡ false = elim [
+    let cases : (b : Bool) → is_of_phase table phase item ≡ b → cond b (1 + (LAST_PRIORITY - priority table item)) 0 ≡ 0 → b ≡ false = elim [
       | true ↦ λ is wrong. absurd (omega arith)
       | false ↦ λ is same. refl
     ] in
     cases (is_of_phase table phase item) refl none
 
 pub rank-none : (table : KindTable) (phase : Phase) (item : Item) → is_of_phase table phase item ≡ false → rank table phase item ≡ 0
-rank-none table phase item none = ap {B = ℕ} (λ b. cond b (1 + (8589934592 - priority table item)) 0) none
+rank-none table phase item none = ap {B = ℕ} (λ b. cond b (1 + (LAST_PRIORITY - priority table item)) 0) none
 
 pub All-step : {X : Type 0} (P Q : X → Type 0) → ((x : X) → P x → Q x) → (xs : List X) → All P xs → All Q xs
 All-step P Q step [] all = All-nil Q
@@ -250,7 +251,7 @@ order-first rank e es ordered =
 
 pub next_of-last :
     (table : KindTable) (phase : Phase) (e : Entry) (es : List Entry) → IsInOrder (rank table phase) (e ∷ es) →
-    is_of_phase table phase e.item ≡ true → priority table e.item ≤ 8589934592 →
+    is_of_phase table phase e.item ≡ true → priority table e.item ≤ LAST_PRIORITY →
     IsNextOf table phase (newest_first (live_items (e ∷ es))) e.item (newest_first (live_items es))
 next_of-last table phase e es ordered passes low =
     record {
@@ -306,7 +307,7 @@ ready-none table phase recent entries e ready is none =
 pub ready-next :
     (table : KindTable) (phase : Phase) (recent : List Item) (entries rest : List Entry) (e : Entry) →
     IsReady table phase recent entries → Some e ≡ slice_get entries (length entries - 1) → rest ≡ take (length entries - 1) entries →
-    (rank table phase e.item ≡ 0 → ⊥) → (is_of_phase table phase e.item ≡ true → priority table e.item ≤ 8589934592) →
+    (rank table phase e.item ≡ 0 → ⊥) → (is_of_phase table phase e.item ≡ true → priority table e.item ≤ LAST_PRIORITY) →
     IsNextOf table phase (newest_first (all_items recent entries)) e.item (newest_first (all_items recent rest))
 ready-next table phase recent entries rest e ready is rest_is some low =
     let passes : is_of_phase table phase e.item ≡ true =

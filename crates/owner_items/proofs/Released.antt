@@ -11,6 +11,7 @@ use Rattle.owner_items.specs.Gathered.{rank, GoesFirst}
 use Rattle.owner_items.specs.Held.{IsNextOf}
 use Rattle.owner_items.proofs.Order.{split-All, split-rest, split-left, split-order, order-none, All-without, nothing-left, not_both, All-front, All-back}
 use Rattle.owner_items.proofs.Sums.{StandsIn, newer_stands}
+use Rattle.owner_items.specs.declared.ranking.TheConstants.{LAST_PRIORITY}
 
 -- what `take_next` says of its answer
 abbrev pub Takes : KindTable → Phase → List Item → Option Item → List Item → Type 0
@@ -20,16 +21,16 @@ Takes table phase old result new =
 stands : (table : KindTable) (phase : Phase) (old : List Item) (item : Item) (new : List Item) → IsNextOf table phase old item new → StandsIn old item new
 stands table phase old item new next = subst (λ z. StandsIn z item new) (sym next.taken) (newer_stands item new)
 
-rank-passes : (table : KindTable) (phase : Phase) (item : Item) → is_of_phase table phase item ≡ true → rank table phase item ≡ 1 + (8589934592 - priority table item)
-rank-passes table phase item passes = ap {B = ℕ} (λ b. cond b (1 + (8589934592 - priority table item)) 0) passes
+rank-passes : (table : KindTable) (phase : Phase) (item : Item) → is_of_phase table phase item ≡ true → rank table phase item ≡ 1 + (LAST_PRIORITY - priority table item)
+rank-passes table phase item passes = ap {B = ℕ} (λ b. cond b (1 + (LAST_PRIORITY - priority table item)) 0) passes
 
-lower : (table : KindTable) (phase : Phase) (item z : Item) → is_of_phase table phase item ≡ true → priority table item ≤ 8589934592 →
+lower : (table : KindTable) (phase : Phase) (item z : Item) → is_of_phase table phase item ≡ true → priority table item ≤ LAST_PRIORITY →
     GoesFirst (rank table phase) item z → is_of_phase table phase z ≡ true → priority table item ≤ priority table z
 lower table phase item z passes low goes that =
     let higher : rank table phase z ≤ rank table phase item = goes.higher in
     omega (arith, higher, rank-passes table phase item passes, rank-passes table phase z that)
 
-below : (table : KindTable) (phase : Phase) (item z : Item) → is_of_phase table phase item ≡ true → priority table item ≤ 8589934592 →
+below : (table : KindTable) (phase : Phase) (item z : Item) → is_of_phase table phase item ≡ true → priority table item ≤ LAST_PRIORITY →
     GoesFirst (rank table phase) item z → item.serial < z.serial → is_of_phase table phase z ≡ true →
     priority table item < priority table z
 below table phase item z passes low goes later that =

@@ -7,6 +7,7 @@ use Rattle.owner_kinds.specs.declared.kind_row.KindRow.{KindRow}
 use Rattle.owner_items.specs.Next.{is_of_phase, priority}
 use Rattle.owner_items.specs.Table.{live_items}
 use Rattle.owner_items.specs.declared.entry.Entry.{Entry}
+use Rattle.owner_items.specs.declared.ranking.TheConstants.{LAST_PRIORITY}
 
 -- the item put in front of the first that is no newer
 abbrev pub with_newer : Item → List Item → List Item
@@ -24,7 +25,7 @@ all_items recent entries = reverse recent ++ live_items (reverse entries)
 
 -- how late an item of the phase stands in the order of its release, from its end; 0 for other items
 abbrev pub rank : KindTable → Phase → Item → ℕ
-rank table phase item = (if is_of_phase table phase item then 1 + (8589934592 - priority table item) else 0)
+rank table phase item = (if is_of_phase table phase item then 1 + (LAST_PRIORITY - priority table item) else 0)
 
 -- when the items of each kind are released, without the kinds' names
 abbrev pub table_from : List KindRow → KindTable

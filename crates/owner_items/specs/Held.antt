@@ -11,6 +11,7 @@ use Rattle.owner_items.specs.declared.entry.Entry.{Entry}
 use Rattle.owner_items.specs.declared.index.Slot.{Slot}
 use Rattle.owner_items.specs.declared.ranking.Order.{Order}
 use Rattle.owner_items.specs.declared.held.Held.{Held}
+use Rattle.owner_items.specs.declared.ranking.TheConstants.{LAST_PRIORITY}
 
 -- all items are in the table, in the order of a release
 pub record IsReady (table : KindTable) (phase : Phase) (recent : List Item) (entries : List Entry) : Type 0 where
@@ -51,7 +52,7 @@ pub record IsHeld (h : Held) : Type 0 where
 pub record IsNextOf (table : KindTable) (phase : Phase) (old : List Item) (item : Item) (new : List Item) : Type 0 where
   pub taken : old ≡ with_newer item new
   pub passes : is_of_phase table phase item ≡ true
-  pub low : priority table item ≤ 8589934592
+  pub low : priority table item ≤ LAST_PRIORITY
   pub first : All (GoesFirst (rank table phase) item) new
 
 -- all items are gathered in the order of this phase's release

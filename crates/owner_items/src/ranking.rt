@@ -2,10 +2,14 @@ ghost use Rattle.std.specs.Prelude.{◌≡◌, ◌≤◌, true};
 ghost use Rattle.owner_kinds.specs.KindShelf.{table_of};
 ghost use Rattle.owner_items.specs.Next.{is_of_phase, priority};
 ghost use Rattle.owner_items.specs.Gathered.{rank};
+ghost use Rattle.owner_items.specs.declared.ranking.TheConstants.{LAST_PRIORITY};
 
 use arrayvec::ArrayVec;
 use owner_kinds::{ExtKind, KindRow, KindShelf};
 use pgs_step::{Item, Phase};
+
+/// No kind has a priority over this: priorities have 32 bits.
+pub(crate) const LAST_PRIORITY: u64 = 8_589_934_592;
 
 /// In which order gathered items are: that of this phase's release, with these rows of the extension kinds.
 #[derive(Drop)]
@@ -39,7 +43,7 @@ impl Order {
 /// How late the item stands in the order of the phase's release, from its end; 0 for items of other phases.
 pub(crate) fn rank_of<K: ExtKind>(item: &Item, kinds: &KindShelf<K>, phase: Phase) -> u64
     ensures rank { result ≡ rank (table_of kinds.now) phase item.now }
-    ensures low { is_of_phase (table_of kinds.now) phase item.now ≡ true → priority (table_of kinds.now) item.now ≤ 8589934592 }
+    ensures low { is_of_phase (table_of kinds.now) phase item.now ≡ true → priority (table_of kinds.now) item.now ≤ LAST_PRIORITY }
 {
     let Some(row) = kinds.row(item.kind) else {
         return 0;
@@ -47,5 +51,5 @@ pub(crate) fn rank_of<K: ExtKind>(item: &Item, kinds: &KindShelf<K>, phase: Phas
     if row.phase != phase {
         return 0;
     }
-    1 + (8589934592 - row.priority as u64)
+    1 + (LAST_PRIORITY - row.priority as u64)
 }
