@@ -5,6 +5,7 @@ use Rattle.std.specs.List.{list_all, list_any}
 use Rattle.pgs_step.specs.declared.events.Event.{Event}
 use Rattle.pgs_step.specs.declared.events.What.{What}
 use Rattle.pgs_step.specs.declared.events.What.TheVariants as what
+use Rattle.pgs_step.specs.declared.ids.TheConstants.KindId.{PLAN_REFERENCE}
 use Rattle.lifetime_laws.specs.Reading.{Reader, allows_all, events_of, is_one_of, sessions_of}
 use Rattle.lifetime_laws.specs.Parents.{is_within}
 use Rattle.lifetime_laws.specs.Once.{Parents, first_parents, parents_behind}
@@ -91,7 +92,7 @@ plans_behind other plans = plans
 
 -- whether an event releases a reference to a plan
 abbrev pub leaves_plan : What → Bool
-leaves_plan (what.Release item owner) = item.kind.0 == 5
+leaves_plan (what.Release item owner) = item.kind.0 == PLAN_REFERENCE.0
 leaves_plan other = false
 
 -- What is seen of levels: contexts and owners with their parents, the levels that began, which of them are in their

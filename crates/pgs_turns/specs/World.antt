@@ -3,6 +3,7 @@ use Rattle.std.specs.Prelude.{◌≡◌, ◌⊎◌, false, ℕ, ◌+◌, ◌<◌
 use Rattle.std.specs.List.{flat_map, sum_by}
 use Rattle.addr_space.specs.Space.{Space, accounts, held, taken}
 use Rattle.pgs_step.specs.declared.ids.KindId.{KindId}
+use Rattle.pgs_step.specs.declared.ids.TheConstants.KindId.{FIRST_EXTENSION}
 use Rattle.pgs_step.specs.declared.lock_modes.Mode.{Mode}
 use Rattle.lock_shared.specs.declared.shared_locks.Holding.{Holding}
 use Rattle.lock_shared.specs.Holdings.{holds}
@@ -98,7 +99,7 @@ held_by_all kind key stores = sum_by (λ store. owners.held kind key (owners_of 
 -- The extension kinds are sound, and each holds each key at least as often as all sessions together do.
 pub record KindsFit (stores : List StoreState) (kinds : List Kind) : Type 0 where
   pub sound : IsSound (table_of kinds)
-  pub held : (kind : KindId) (key : ℕ) → 16 ≤ kind.0 → held_by_all kind key stores ≤ times_held kinds kind key
+  pub held : (kind : KindId) (key : ℕ) → FIRST_EXTENSION ≤ kind.0 → held_by_all kind key stores ≤ times_held kinds kind key
 
 -- Just what each session has locked is held for it, its locks are in order, and nothing is held for a session that isn't there.
 pub record LocksFit (stores : List StoreState) (shared : List Holding) : Type 0 where
@@ -143,7 +144,7 @@ pub record SameRun (a b : Run) : Type 0 where
   pub took : (account : ℕ) → length a.stores ≤ account → taken b.space account ≡ taken a.space account
   pub table : table_of b.commons.kinds ≡ table_of a.commons.kinds
   pub limits : map (λ k. k.limit) b.commons.kinds ≡ map (λ k. k.limit) a.commons.kinds
-  pub keys : (kind : KindId) (key : ℕ) → 16 ≤ kind.0
+  pub keys : (kind : KindId) (key : ℕ) → FIRST_EXTENSION ≤ kind.0
       → times_held b.commons.kinds kind key + held_by_all kind key a.stores ≡ times_held a.commons.kinds kind key + held_by_all kind key b.stores
 
 -- Extension kinds of which nothing is left open: each has its name, its limit and its place in a release, and holds each key as often as

@@ -25,7 +25,7 @@ use Rattle.owner_core.specs.Owners.{OwnerTable, OwnerTree, held, owners_of}
 use Rattle.file_table.specs.Descriptors.{is_among}
 use Rattle.file_table.specs.Files.{IsDistinct}
 use Rattle.file_table.proofs.FileCounts.{different_length}
-use Rattle.session_rules.specs.State.{SessionState}
+use Rattle.session_rules.specs.State.{SessionState, buffer_pin, file_kind}
 use Rattle.session_rules.specs.Counts.{all_items, count, counts, distinct, keys_of}
 use Rattle.session_owners.proofs.OpenFiles.{distinct_length, held_all, keys_among}
 use Rattle.session_owners.proofs.OpenCounts.{any_counts}
@@ -276,7 +276,7 @@ class_counted table counts class key s =
     small c is = grind (arith, nat_tests)
 
 -- the nine numbers
-pub counts_are : (pins files descriptors locks snapshots plans refs owners contexts : ℕ) (session : SessionState) → pins ≡ count 1 session → files ≡ count 8 session → descriptors ≡ length session.recent → locks ≡ length session.locks
+pub counts_are : (pins files descriptors locks snapshots plans refs owners contexts : ℕ) (session : SessionState) → pins ≡ count buffer_pin session → files ≡ count file_kind session → descriptors ≡ length session.recent → locks ≡ length session.locks
     → snapshots ≡ length (distinct (keys_of (record { 0 = 7 }) (all_items session.owners) ++ snapshots_of session.snapshots)) → plans ≡ length session.plans → refs ≡ classes_different session.owners → owners ≡ size session.owners
     → contexts ≡ size session.contexts
     → ◌≡◌ {A = SessionCounts} (record { pins = pins; files = files; descriptors = descriptors; locks = locks; snapshots = snapshots; plans = plans; refs = refs; owners = owners; contexts = contexts }) (counts session)

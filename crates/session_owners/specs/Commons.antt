@@ -5,6 +5,7 @@ use Rattle.lock_shared.specs.declared.shared_locks.Holding.{Holding}
 use Rattle.lock_shared.specs.Ranked.{beside}
 use Rattle.lock_local.specs.Locks.{SessionLocks, AreLocks, Agrees, OthersStay}
 use Rattle.pgs_step.specs.declared.ids.KindId.{KindId}
+use Rattle.pgs_step.specs.declared.ids.TheConstants.KindId.{FIRST_EXTENSION}
 use Rattle.forest.specs.Forest.{AllNodes}
 use Rattle.owner_kinds.specs.Kind.{Kind}
 use Rattle.owner_kinds.specs.KindTable.{IsSound}
@@ -60,7 +61,7 @@ pub record PinsServe (owners : OwnerTree) (pins : List ℕ) : Type 0 where
 pub record Serves (state : ResourceState) (commons : CommonState) : Type 0 where
   pub sound : IsSound (table_of commons.kinds)
   pub items : AllNodes (HasItems (table_of commons.kinds)) (owners_of state)
-  pub held : (kind : KindId) (key : ℕ) → 16 ≤ kind.0 → held kind key (owners_of state) ≤ times_held commons.kinds kind key
+  pub held : (kind : KindId) (key : ℕ) → FIRST_EXTENSION ≤ kind.0 → held kind key (owners_of state) ≤ times_held commons.kinds kind key
   pub agrees : Agrees (locks_of state) commons.locks
   pub locks : AreLocks state.locks
   pub pins : PinsServe (owners_of state) commons.pins
@@ -72,6 +73,6 @@ pub record Balances (a b : ResourceState) (c d : CommonState) : Type 0 where
   pub table : table_of d.kinds ≡ table_of c.kinds
   pub limits : map (λ k. k.limit) d.kinds ≡ map (λ k. k.limit) c.kinds
   pub items : AllNodes (HasItems (table_of c.kinds)) (owners_of a) → AllNodes (HasItems (table_of d.kinds)) (owners_of b)
-  pub held : (kind : KindId) (key : ℕ) → 16 ≤ kind.0 → times_held d.kinds kind key + held kind key (owners_of a) ≡ times_held c.kinds kind key + held kind key (owners_of b)
+  pub held : (kind : KindId) (key : ℕ) → FIRST_EXTENSION ≤ kind.0 → times_held d.kinds kind key + held kind key (owners_of a) ≡ times_held c.kinds kind key + held kind key (owners_of b)
   pub locks : LocksBalance (locks_of a) (locks_of b) c.locks d.locks
   pub pins : (buffer : ℕ) → slice_index d.pins buffer + pinned_once buffer (owners_of a) ≡ slice_index c.pins buffer + pinned_once buffer (owners_of b)

@@ -5,6 +5,7 @@ use Rattle.counts.specs.Counts.{total}
 use Rattle.plan_store.specs.Plans as plans
 use Rattle.pgs_step.specs.declared.ids.Item.{Item}
 use Rattle.pgs_step.specs.declared.ids.KindId.{KindId}
+use Rattle.pgs_step.specs.declared.ids.TheConstants.KindId.{BUFFER_PIN, PLAN_REFERENCE, FILE, FIRST_EXTENSION}
 use Rattle.pgs_step.specs.declared.ids.Phase.TheVariants.{BeforeLocks, Locks, AfterLocks}
 use Rattle.forest.specs.Forest.{AllNodes}
 use Rattle.owner_kinds.specs.KindTable.{KindTable}
@@ -19,12 +20,12 @@ pub use Rattle.session_owners.specs.Tables.{IsReference}
 
 -- the item is a pin of one of the buffers
 pub record IsPin (item : Item) : Type 0 where
-  pub kind : item.kind.0 ≡ 1
+  pub kind : item.kind.0 ≡ BUFFER_PIN.0
   pub buffer : item.key < 1024
 
 -- an item that is counted: a pin, a reference, an open file, a reference to a plan, or what an extension kind holds
 abbrev pub IsHeld : Item → Type 0
-IsHeld item = IsPin item ⊎ (IsReference item.kind ⊎ ((item.kind.0 ≡ 8) ⊎ ((item.kind.0 ≡ 5) ⊎ (16 ≤ item.kind.0))))
+IsHeld item = IsPin item ⊎ (IsReference item.kind ⊎ ((item.kind.0 ≡ FILE.0) ⊎ ((item.kind.0 ≡ PLAN_REFERENCE.0) ⊎ (FIRST_EXTENSION ≤ item.kind.0))))
 
 abbrev pub HoldsCounted : Owner → Type 0
 HoldsCounted owner = All IsHeld owner.items
@@ -35,7 +36,7 @@ pub record IsCounted (table : OwnerTable) (counts : Held) : Type 0 where
   pub sound : IsSoundTable table
   pub items : AllNodes HoldsCounted (owners_of table)
   pub buffers : length counts.pins ≡ 1024
-  pub counted : (kind : KindId) (key : ℕ) → kind.0 < 16 → times_held counts kind key ≡ held kind key (owners_of table)
+  pub counted : (kind : KindId) (key : ℕ) → kind.0 < FIRST_EXTENSION → times_held counts kind key ≡ held kind key (owners_of table)
   pub few : (kind : KindId) (key : ℕ) → held kind key (owners_of table) < table.next_serial
   pub references : total counts.references < table.next_serial
   pub plan_references : plans.references counts.plans < table.next_serial

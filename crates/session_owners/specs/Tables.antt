@@ -11,6 +11,7 @@ use Rattle.snap_table.specs.contracts.active.Active as active
 use Rattle.plan_store.specs.Plans.{Plans, references, references_to}
 use Rattle.pgs_step.specs.declared.events.What.{What}
 use Rattle.pgs_step.specs.declared.ids.KindId.{KindId}
+use Rattle.pgs_step.specs.declared.ids.TheConstants.KindId.{BUFFER_PIN, RELCACHE_REFERENCE, CATCACHE_REFERENCE, CATCACHE_LIST_REFERENCE, PLAN_REFERENCE, TUPLE_DESCRIPTOR_REFERENCE, SNAPSHOT_REFERENCE, FILE, FIRST_EXTENSION}
 use Rattle.owner_kinds.specs.Kind.{Kind}
 use Rattle.owner_kinds.specs.KindShelf as shelf
 use Rattle.owner_core.specs.Steps.{Step}
@@ -41,17 +42,20 @@ held_code =
     (λ p. record { pins = p.0; references = p.1.0; files = record { descriptors = p.1.1.0; opened = p.1.1.1.0; recent = p.1.1.1.1.0 }; snapshots = record { registered = p.1.1.1.1.1.0; stack = p.1.1.1.1.1.1.0 }; plans = p.1.1.1.1.1.1.1 }) (λ _. refl)
 
 -- How often a kind and a key are held: that buffer is pinned, that file is open, that snapshot is registered, that plan is referred
--- to, or that key of a class is referenced. A buffer pin is kind 1, a plan's reference kind 5, a snapshot kind 7 and a file kind 8.
+-- to, or that key of a class is referenced.
 abbrev pub times_held : Held → KindId → ℕ → ℕ
 times_held held kind key =
-    if kind.0 == 1 then slice_index held.pins key
-    else (if kind.0 == 8 then opens held.files key
-    else (if kind.0 == 7 then registrations held.snapshots key
-    else (if kind.0 == 5 then references_to held.plans key else references_of held.references kind key)))
+    if kind.0 == BUFFER_PIN.0 then slice_index held.pins key
+    else (if kind.0 == FILE.0 then opens held.files key
+    else (if kind.0 == SNAPSHOT_REFERENCE.0 then registrations held.snapshots key
+    else (if kind.0 == PLAN_REFERENCE.0 then references_to held.plans key else references_of held.references kind key)))
 
 -- the classes of references: to relations, and to entries, lists and descriptors of catalog caches
 abbrev pub is_class : ℕ → Bool
-is_class class = (class == 2) || ((class == 3) || ((class == 4) || (class == 6)))
+is_class class =
+    (class == RELCACHE_REFERENCE.0)
+    || ((class == CATCACHE_REFERENCE.0)
+    || ((class == CATCACHE_LIST_REFERENCE.0) || (class == TUPLE_DESCRIPTOR_REFERENCE.0)))
 
 -- references of these classes alone are held
 abbrev pub AreOfClasses : List ((ℕ × ℕ) × ℕ) → Type 0
@@ -59,8 +63,8 @@ AreOfClasses references = (class key : ℕ) → is_class class ≡ false → cou
 
 -- a kind of references that nothing but owners and these tables keep count of
 pub record IsReference (kind : KindId) : Type 0 where
-  pub from : 2 ≤ kind.0
-  pub to : kind.0 ≤ 8
+  pub from : RELCACHE_REFERENCE.0 ≤ kind.0
+  pub to : kind.0 ≤ FILE.0
   pub unkept : keeper_of kind ≡ NoOne
 
 -- 1 where a session pins a buffer by its own counts, and else 0
@@ -90,7 +94,7 @@ lending_of held kinds locks contexts shelf = record { held = held; kinds = kinds
 
 -- how often a kind and a key are held there: what is built in is counted in the tables, and extension kinds hold their own keys
 abbrev pub times_lent : Lending → KindId → ℕ → ℕ
-times_lent lending kind key = if nat_lt kind.0 16 then times_held lending.held kind key else shelf.times_held lending.kinds kind key
+times_lent lending kind key = if nat_lt kind.0 FIRST_EXTENSION then times_held lending.held kind key else shelf.times_held lending.kinds kind key
 
 -- The files of a scene that have a descriptor are these, and so are its kinds, its locks, its plans, its contexts and its hooks.
 pub record TablesFit (lending : Lending) (scene : Scene) : Type 0 where

@@ -3,6 +3,7 @@ use Rattle.std.specs.Prelude.{ℕ, ◌+◌, ◌==◌, Bool, if◌then◌else◌,
 use Rattle.std.specs.List.{list_any}
 use Rattle.pgs_step.specs.declared.ids.Item.{Item}
 use Rattle.pgs_step.specs.declared.ids.KindId.{KindId}
+use Rattle.pgs_step.specs.declared.ids.TheConstants.KindId.{BUFFER_PIN, RELCACHE_REFERENCE, CATCACHE_REFERENCE, CATCACHE_LIST_REFERENCE, TUPLE_DESCRIPTOR_REFERENCE, SNAPSHOT_REFERENCE, FILE}
 use Rattle.pgs_step.specs.declared.counters.SessionCounts.{SessionCounts}
 use Rattle.forest.specs.Forest.{Empty, Node, size}
 use Rattle.owner_items.specs.ItemList.{is_of}
@@ -32,19 +33,19 @@ distinct (n ∷ ns) = if list_any (λ m. m == n) ns then distinct ns else n ∷ 
 abbrev pub keys : KindId → SessionState → List ℕ
 keys kind session = distinct (keys_of kind (all_items session.owners))
 
-abbrev pub count : ℕ → SessionState → ℕ
-count kind session = length (keys (record { 0 = kind }) session)
+abbrev pub count : KindId → SessionState → ℕ
+count kind session = length (keys kind session)
 
--- What the command `stat` shows. Kinds: 1 buffer pins, 8 files, 7 snapshots, and 2, 3, 4 and 6 references to caches.
+-- What the command `stat` shows.
 abbrev pub counts : SessionState → SessionCounts
 counts session = record {
-  pins = count 1 session;
-  files = count 8 session;
+  pins = count BUFFER_PIN session;
+  files = count FILE session;
   descriptors = length session.recent;
   locks = length session.locks;
-  snapshots = length (distinct (keys_of (record { 0 = 7 }) (all_items session.owners) ++ snapshots_of session.snapshots));
+  snapshots = length (distinct (keys_of SNAPSHOT_REFERENCE (all_items session.owners) ++ snapshots_of session.snapshots));
   plans = length session.plans;
-  refs = count 2 session + (count 3 session + (count 4 session + count 6 session));
+  refs = count RELCACHE_REFERENCE session + (count CATCACHE_REFERENCE session + (count CATCACHE_LIST_REFERENCE session + count TUPLE_DESCRIPTOR_REFERENCE session));
   owners = size session.owners;
   contexts = size session.contexts;
 }

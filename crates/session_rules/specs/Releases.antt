@@ -3,6 +3,7 @@ use Rattle.std.specs.Prelude.{ℕ, ◌-◌, ◌==◌, nat_lt, Bool, true, false,
 use Rattle.pgs_step.specs.declared.events.What.TheVariants as what
 use Rattle.pgs_step.specs.declared.ids.Item.{Item}
 use Rattle.pgs_step.specs.declared.ids.KindId.{KindId}
+use Rattle.pgs_step.specs.declared.ids.TheConstants.KindId.{PLAN_REFERENCE, FILE, FIRST_EXTENSION}
 use Rattle.pgs_step.specs.declared.ids.Phase.{Phase}
 use Rattle.pgs_step.specs.declared.ids.Phase.TheVariants.{BeforeLocks, Locks, AfterLocks}
 use Rattle.forest.specs.Forest.{removed, moved}
@@ -29,7 +30,9 @@ pub data Keeper : Type 0 where
 
 abbrev pub keeper_of : KindId → Keeper
 keeper_of kind =
-    if kind.0 == 5 then ThePlans else (if kind.0 == 8 then TheDescriptors else (if nat_lt kind.0 16 then NoOne else TheKind (kind.0 - 16)))
+    if kind.0 == PLAN_REFERENCE.0 then ThePlans
+    else (if kind.0 == FILE.0 then TheDescriptors
+    else (if nat_lt kind.0 FIRST_EXTENSION then NoOne else TheKind (kind.0 - FIRST_EXTENSION)))
 
 -- a discarded plan without references goes, with its context
 abbrev pub plan_settled : StandingPlan → Scene → Ended

@@ -2,6 +2,7 @@
 use Rattle.std.specs.Prelude.{◌≡◌, ◌≢◌, ◌<◌, ◌≤◌, ◌⊎◌, ◌||◌, ◌+◌, ◌==◌, if◌then◌else◌, ℕ, true, false, is_some, Option, None, List, [], ◌∷◌, ◌++◌, length, All, Some}
 use Rattle.std.specs.Option.{option_map_or}
 use Rattle.pgs_step.specs.declared.ids.Item.{Item}
+use Rattle.pgs_step.specs.declared.ids.TheConstants.KindId.{BUFFER_PIN}
 use Rattle.forest.specs.Forest.{Empty, Node, Once, has, children, parent_of, is_above, AllNodes}
 use Rattle.reset_callbacks.specs.Hook.{AreDistinct}
 use Rattle.reset_callbacks.specs.ShelfState as shelf
@@ -116,7 +117,7 @@ FitLevels (level ∷ levels) contexts owners current = IsDeepest level contexts 
 -- an item is of a known kind, and there is a buffer of a pin's number
 pub record IsItem (kinds : KindTable) (item : Item) : Type 0 where
   pub kind : IsKind kinds item.kind
-  pub buffer : item.kind.0 ≡ 1 → item.key < 1024
+  pub buffer : item.kind.0 ≡ BUFFER_PIN.0 → item.key < 1024
 
 abbrev pub HasItems : KindTable → Owner → Type 0
 HasItems kinds owner = All (IsItem kinds) owner.items

@@ -2,6 +2,7 @@
 use Rattle.std.specs.Prelude.{ℕ, Bool, false, List, [], ◌∷◌, length, drop, reverse, Option, Some, None}
 use Rattle.std.specs.Option.{option_and_then, option_map_or}
 use Rattle.pgs_step.specs.declared.ids.KindId.{KindId}
+use Rattle.pgs_step.specs.declared.ids.TheConstants.KindId.{BUFFER_PIN, RELCACHE_REFERENCE, PLAN_REFERENCE, SNAPSHOT_REFERENCE, FILE}
 use Rattle.forest.specs.Forest.{Empty}
 use Rattle.context_rules.specs.Contexts.{Contexts}
 use Rattle.context_rules.specs.Opening as contexts
@@ -90,19 +91,19 @@ abort_context = 5
 
 -- the kinds of items that rules name
 abbrev pub buffer_pin : KindId
-buffer_pin = record { 0 = 1 }
+buffer_pin = BUFFER_PIN
 
 abbrev pub relcache_reference : KindId
-relcache_reference = record { 0 = 2 }
+relcache_reference = RELCACHE_REFERENCE
 
 abbrev pub plan_reference : KindId
-plan_reference = record { 0 = 5 }
+plan_reference = PLAN_REFERENCE
 
 abbrev pub snapshot_reference : KindId
-snapshot_reference = record { 0 = 7 }
+snapshot_reference = SNAPSHOT_REFERENCE
 
 abbrev pub file_kind : KindId
-file_kind = record { 0 = 8 }
+file_kind = FILE
 
 -- the first of a list
 abbrev pub first_of : {A : Type 0} → List A → Option A
