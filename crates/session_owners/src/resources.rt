@@ -29,6 +29,7 @@ ghost use Rattle.session_owners.specs.ResourceState.{owners_of, IsLive, has_begu
 ghost use Rattle.session_owners.specs.Commons.{Balances, CommonState, Serves};
 ghost use Rattle.session_owners.specs.Fitting.{hosting_of, Acted, ActedOn, OwnersFit};
 ghost use Rattle.session_owners.specs.Placing.{plan_added, plan_dropped, AreLeft, PlansFit};
+ghost use Rattle.pgs_step.specs.declared.ids.TheConstants.KindId.{FIRST_EXTENSION};
 
 use crate::commons::Commons;
 use crate::lent::Lent;
@@ -321,7 +322,7 @@ impl Resources {
         ensures acted { OnOk result (Acted (item_taken owner.number kind key) self.old self.new commons.old commons.new (λ events. E.emits out.old events out.new)) }
         ensures balances { Balances self.old self.new commons.old commons.new }
         ensures serves { Serves self.new commons.new }
-        ensures full { (result ≡ Err KindError.Full) ↔ IfSome (slice_get commons.old.kinds (kind.0 - 16)) IsFull }
+        ensures full { (result ≡ Err KindError.Full) ↔ IfSome (slice_get commons.old.kinds (kind.0 - FIRST_EXTENSION)) IsFull }
         ensures refused { OnErr result (self.new ≡ self.old) }
         ensures untouched { OnErr result (commons.new ≡ commons.old) }
         ensures silent { OnErr result (out.new ≡ out.old) }

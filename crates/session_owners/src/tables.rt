@@ -21,6 +21,7 @@ ghost use Rattle.snap_table.specs.declared.active.Active.{Active};
 ghost use Rattle.snap_table.specs.Snapshots.{kept_below, lowered, pops, snapshots_of};
 ghost use Rattle.file_table.specs.Descriptors.{is_among};
 ghost use Rattle.file_table.specs.Files.{IsSound, OpensOneLess, OpensOneMore, closed_file, closing_events, opened_file, opening_events, opens, touch_events, touched_file};
+ghost use Rattle.pgs_step.specs.declared.ids.TheConstants.KindId.{FIRST_EXTENSION};
 
 use crate::place::PlanContexts;
 use crate::plans;
@@ -226,7 +227,7 @@ impl Tables {
         place: &mut P,
         out: &mut E,
     )
-        requires built_in { item.kind.0 < 16 }
+        requires built_in { item.kind.0 < FIRST_EXTENSION }
         requires counted { 0 < times_held self.old item.kind item.key }
         requires shared { ArePinsShared self.old.pins shared.old }
         requires fit { PlansFit (P.MayGo place.old) self.old.plans.standing }

@@ -27,6 +27,7 @@ ghost use Rattle.session_owners.specs.Commons.{CommonState, Serves};
 ghost use Rattle.session_store.specs.State.{scene_of, session_of};
 ghost use Rattle.session_store.specs.Calls.{Acted, IsSilent, StandsIn};
 ghost use Rattle.session_store.specs.Owned.{OwnersAlone};
+ghost use Rattle.pgs_step.specs.declared.ids.TheConstants.KindId.{FIRST_EXTENSION};
 
 use crate::store::Store;
 use file_table::FileError;
@@ -153,7 +154,7 @@ impl<H: ResetHook> Store<H> {
         ensures others { (other : ℕ) → other ≢ owner.number → spare_of other self.new.owners ≡ spare_of other self.old.owners }
         ensures acted { OnOk result ((s : Space) (x : ShelfState) → Acted (item_taken owner.number kind key) self.old self.new s s x x commons.old commons.new (λ events. E.emits out.old events out.new)) }
         ensures alone { OnOk result (OwnersAlone self.old self.new commons.old commons.new) }
-        ensures full { (result ≡ Err KindError.Full) ↔ IfSome (slice_get commons.old.kinds (kind.0 - 16)) IsFull }
+        ensures full { (result ≡ Err KindError.Full) ↔ IfSome (slice_get commons.old.kinds (kind.0 - FIRST_EXTENSION)) IsFull }
         ensures refused { OnErr result (self.new ≡ self.old) }
         ensures untouched { OnErr result (commons.new ≡ commons.old) }
         ensures silent { OnErr result (out.new ≡ out.old) }
