@@ -1,0 +1,214 @@
+-- No hook waits on a context of the session itself below the one for caches, whatever a line does.
+use Rattle.std.proofs.Common.{◌≡◌, ◌≢◌, ℕ, Bool, true, false, not, if◌then◌else◌, List, [], ◌∷◌, ◌++◌, codes, reverse, Option, Some, None, refl, sym, ap, ◌∙◌, subst, inl, inr, arith}
+use Rattle.std.specs.Prelude.{◌==◌, ◌&&◌, ◌||◌, ◌⊎◌}
+use Rattle.std.specs.Option.{option_and_then, option_map_or}
+use Rattle.std.proofs.lemmas.Bool.{both_ways, eq-eqb, ne_eqb}
+use Rattle.std.proofs.lemmas.List.{reverse-append}
+use Rattle.pgs_step.specs.declared.events.What.{What}
+use Rattle.pgs_command.specs.Words.{is_text}
+use Rattle.any_ctx.specs.declared.any.CtxKind.{CtxKind}
+use Rattle.forest.specs.Forest.{Empty, Node, Once, at, either, has, is_root, parent_of}
+use Rattle.forest.proofs.Trees.{apart_of, at_absent, at_some}
+use Rattle.reset_callbacks.specs.Hook.{Hook}
+use Rattle.context_rules.specs.Contexts as rules
+use Rattle.context_rules.specs.Contexts.{Context, Contexts, is_protected, new_context}
+use Rattle.context_rules.specs.Refusals.{is_within, set_parent_refusal}
+use Rattle.context_rules.specs.declared.errors.TreeError.TheVariants.{Protected, Cycle}
+use Rattle.context_rules.specs.Names.{same_name}
+use Rattle.context_rules.specs.Chunks.{zeros}
+use Rattle.context_rules.specs.Ends as ends
+use Rattle.session_rules.specs.State.{LevelState, cache_context, context_of, first_of, last_of, level_context, top_context}
+use Rattle.session_rules.specs.World.{Moment, Scene}
+use Rattle.session_rules.specs.Elements as e
+use Rattle.session_rules.specs.Elements.{Element, Text}
+use Rattle.session_rules.specs.Lookup.{context_named}
+use Rattle.session_rules.specs.Acts.{Ended, where_there}
+use Rattle.session_rules.specs.Checks.{failure}
+use Rattle.session_rules.specs.Making.{held, left}
+use Rattle.session_rules.specs.Parts.{at_context, context_moved}
+use Rattle.session_rules.specs.Taking.{hook_registered, hook_waits}
+use Rattle.session_rules.specs.Does.{does}
+use Rattle.session_rules.specs.Standing.{AreLevels, Stands}
+use Rattle.session_rules.proofs.Aside.{ContextLeaves, all_end_leaves}
+use Rattle.session_rules.proofs.Guarded.{top_parent}
+use Rattle.session_rules.proofs.Leaves.{EndLeaves, Follows, OwesMoves}
+use Rattle.session_rules.proofs.LevelsKept.{IsContext}
+use Rattle.session_rules.proofs.NamesStand.{both_none, checked}
+use Rattle.session_rules.proofs.PlansAmong.{above_other, some_is}
+use Rattle.session_rules.proofs.TurnStands.{Meets}
+use Rattle.session_rules.proofs.Walk.{fallible_at}
+use Rattle.session_laws.proofs.ReaderLaws.{OwesTurns}
+use Rattle.session_laws.proofs.Lives.{owes_by}
+use Rattle.session_laws.proofs.InsideQuiet.{AreQuiet, quiet_allocated, quiet_alone, quiet_changed_at, quiet_emptied, quiet_freed, quiet_put, quiet_removed, quiet_reparented, quiet_resized, quiet_written}
+
+-- the law
+pub record KeepsQuiet (s t : Scene) (events : List What) : Type 0 where
+  pub so : AreQuiet None s.session.contexts → AreQuiet None t.session.contexts
+
+made_quiet : (parent n : ℕ) (name : Text) (kind : CtxKind) (protected : Bool) (t : Contexts) → AreQuiet None t → AreQuiet None (rules.created parent n name kind protected t)
+made_quiet parent n name kind protected t h = quiet_put None parent n (new_context name kind protected) Empty t (λ o e own. refl) tt h
+
+quiet_leaves : ContextLeaves KeepsQuiet
+quiet_leaves = record {
+  aside = λ s t contexts next shelf h. record { so = λ k. subst (AreQuiet None) (sym contexts) k };
+  both = λ h j. record { so = λ k. j.so (h.so k) };
+  gone = λ n. record { so = λ s. record { so = quiet_removed None n s.session.contexts } };
+  children = λ n. record { so = λ s. record { so = quiet_emptied None n s.session.contexts } };
+  alone = λ n. record { so = λ s. record { so = quiet_alone n s.session.contexts } };
+  cleared = λ n. record { so = λ s. record { so = λ k. quiet_alone n (ends.children_gone n s.session.contexts).contexts (quiet_emptied None n s.session.contexts k) } };
+  made = λ parent name protected kind. record { so = λ s. record { so = made_quiet parent s.session.next_context name kind protected s.session.contexts } };
+  allocated = λ name bytes zeroed n. record { so = λ s. record { so = quiet_allocated s.session.contexts n (left s) name bytes (if zeroed then zeros bytes else []) } };
+  fitted = λ name bytes. record { so = λ s. record { so = quiet_resized s.session.contexts (held s.session) s.around.space name bytes } };
+  given = λ name. record { so = λ s. record { so = quiet_freed s.session.contexts name } };
+  put = λ name place bytes. record { so = λ s. record { so = quiet_written s.session.contexts name place bytes } };
+}
+
+pub quiet_ends : EndLeaves KeepsQuiet
+quiet_ends = all_end_leaves KeepsQuiet quiet_leaves
+
+-- the context of the first level of a list that is put together
+first_context : (levels : List LevelState) (n : ℕ) → context_of (first_of levels) ≡ Some n → IsContext n levels
+first_context [] n e = absurd (cc e)
+first_context (level ∷ levels) n e = inl e
+
+in_both : (xs ys : List LevelState) (n : ℕ) → IsContext n (xs ++ ys) → IsContext n xs ⊎ IsContext n ys
+in_both [] ys n i = inr i
+in_both (x ∷ xs) ys n i = elim i [
+  | inl e ↦ inl (inl e)
+  | inr j ↦ elim (in_both xs ys n j) [ inl k ↦ inl (inr k) | inr k ↦ inr k ]
+]
+
+in_reverse : (levels : List LevelState) (n : ℕ) → IsContext n (reverse levels) → IsContext n levels
+in_reverse [] n i = i
+in_reverse (level ∷ levels) n i = elim (in_both (reverse levels) (level ∷ []) n (subst (IsContext n) (reverse-append (level ∷ []) levels) i)) [
+  | inl j ↦ inr (in_reverse levels n j)
+  | inr j ↦ elim j [ inl e ↦ inl e | inr k ↦ absurd k ]
+]
+
+-- a level's context isn't below the one for caches
+levels_elsewhere : (levels : List LevelState) (s : Scene) (n : ℕ) → AreLevels levels s.session.contexts s.session.owners → IsContext n levels → parent_of n s.session.contexts ≡ Some cache_context → ⊥
+levels_elsewhere [] s n l i e = i
+levels_elsewhere (level ∷ levels) s n l i e = elim i [
+  | inl is ↦ above_other levels s.session.contexts s.session.owners l.1 (some_is _ cache_context (sym (l.0.context n is).parent ∙ e))
+  | inr j ↦ levels_elsewhere levels s n l.1 j e
+]
+
+-- a context of the script is none of the session's own
+script_there : (name : Text) (t : Contexts) (n : ℕ) → rules.context_named name t ≡ Some n → has n t ≡ true
+script_there name Empty n e = absurd (cc e)
+script_there name (Node k c below beside) n e =
+    by_name (not c.protected && same_name c.name name) (rules.context_named name below) refl e (λ q. script_there name below n q) (λ q. script_there name beside n q)
+  where
+    second : (x y z : Bool) → y ≡ true → (x || (y || z)) ≡ true
+    second true y z h = refl
+    second false true z h = refl
+    second false false z h = absurd (cc h)
+
+    third : (x y z : Bool) → z ≡ true → (x || (y || z)) ≡ true
+    third true y z h = refl
+    third false true z h = refl
+    third false false z h = h
+
+    by_name : (b : Bool) (o : Option ℕ) → rules.context_named name below ≡ o → (if b then Some k else either o (rules.context_named name beside)) ≡ Some n
+        → (rules.context_named name below ≡ Some n → has n below ≡ true) → (rules.context_named name beside ≡ Some n → has n beside ≡ true) → has n (Node k c below beside) ≡ true
+    by_name true o q e low high = rw (eq-eqb k n (some_is k n e)) refl
+    by_name false None q e low high = third (k == n) (has n below) (has n beside) (high e)
+    by_name false (Some m) q e low high = second (k == n) (has n below) (has n beside) (low (q ∙ e))
+
+script_free : (name : Text) (t : Contexts) (n : ℕ) → Once t → rules.context_named name t ≡ Some n → is_protected n t ≡ false
+script_free name Empty n o e = refl
+script_free name (Node k c below beside) n o e =
+    by_name (not c.protected && same_name c.name name) refl (rules.context_named name below) refl e
+    (λ once q. script_free name below n once q) (λ once q. script_free name beside n once q)
+  where
+    free : (a b : Bool) → (not a && b) ≡ true → a ≡ false
+    free true b q = absurd (cc q)
+    free false b q = refl
+
+    by_name : (b : Bool) → (not c.protected && same_name c.name name) ≡ b → (o : Option ℕ) → rules.context_named name below ≡ o → (if b then Some k else either o (rules.context_named name beside)) ≡ Some n
+        → (Once below → rules.context_named name below ≡ Some n → is_protected n below ≡ false) → (Once beside → rules.context_named name beside ≡ Some n → is_protected n beside ≡ false)
+        → is_protected n (Node k c below beside) ≡ false
+    by_name true y o q e low high = rw (eq-eqb k n (some_is k n e)) (free c.protected (same_name c.name name) y)
+    by_name false y None q e low high =
+        let u : has n beside ≡ true = script_there name beside n e in
+        let ne : k ≢ n = λ z. both_ways (has n beside) (ap (λ (j : ℕ). has j beside) (sym z) ∙ (apart_of k c below beside o).not_beside) u in
+        rw (ne_eqb k n ne, at_absent n below ((apart_of k c below beside o).apart_back n u)) (high (apart_of k c below beside o).once_beside e)
+    by_name false y (Some m) q e low high =
+        let there : rules.context_named name below ≡ Some n = q ∙ e in
+        let u : has n below ≡ true = script_there name below n there in
+        let ne : k ≢ n = λ z. both_ways (has n below) (ap (λ (j : ℕ). has j below) (sym z) ∙ (apart_of k c below beside o).not_below) u in
+        let w = at_some n below u in
+        let known : w.0.protected ≡ false = rw w.1 at (low (apart_of k c below beside o).once_below there) in
+        rw (ne_eqb k n ne, w.1) known
+
+-- so a context that a name leads to isn't one of the session below the one for caches
+named_elsewhere : (name : Text) (s : Scene) (n : ℕ) → Stands s → context_named name s.session ≡ Some n → is_protected n s.session.contexts ≡ true → parent_of n s.session.contexts ≡ Some cache_context → ⊥
+named_elsewhere name s n h e own parent =
+    go (is_text name (codes "TopMemoryContext")) (is_text name (codes "CacheMemoryContext")) (is_text name (codes "TopTransactionContext")) (is_text name (codes "CurTransactionContext")) e
+  where
+    t : Contexts
+    t = s.session.contexts
+
+    go : (a b c d : Bool)
+        → (if a then Some top_context else (if b then Some cache_context else (if c then context_of (last_of s.session.levels) else (if d then level_context s.session else rules.context_named name s.session.contexts)))) ≡ Some n
+        → ⊥
+    go true b c d e =
+        let z : None ≡ Some cache_context = sym (top_parent (λ c. c.protected) top_context t h.contexts.once h.contexts.rooted) ∙ ap (λ (m : ℕ). parent_of m t) (some_is top_context n e) ∙ parent in
+        absurd (cc z)
+    go false true c d e =
+        let z : Some top_context ≡ Some cache_context = sym (h.contexts.own cache_context (omega arith) (omega arith)).parent ∙ ap (λ (m : ℕ). parent_of m t) (some_is cache_context n e) ∙ parent in
+        let w : top_context ≡ cache_context = some_is top_context cache_context z in
+        absurd (omega (arith, w))
+    go false false true d e = levels_elsewhere s.session.levels s n h.levels (in_reverse s.session.levels n (first_context (reverse s.session.levels) n e)) parent
+    go false false false true e = levels_elsewhere s.session.levels s n h.levels (first_context s.session.levels n e) parent
+    go false false false false e = both_ways (is_protected n t) (script_free name t n h.contexts.once e) own
+
+-- a hook is registered, and a context moves
+at_name : (o : Option ℕ) (act : ℕ → Scene → Ended) (s : Scene) → ((n : ℕ) → o ≡ Some n → KeepsQuiet s (act n s).scene (act n s).events) → KeepsQuiet s (where_there o act s).scene (where_there o act s).events
+at_name None act s h = record { so = λ k. k }
+at_name (Some n) act s h = h n refl
+
+hook_quiet : (n : ℕ) (hook : Hook) (s : Scene) → Stands s → (is_protected n s.session.contexts ≡ true → parent_of n s.session.contexts ≡ Some cache_context → ⊥) → KeepsQuiet s (hook_waits n hook s).scene (hook_waits n hook s).events
+hook_quiet n hook s h not_there = record {
+  so = λ k. quiet_changed_at None n (λ c. record c { used = true; hooks = hook ∷ c.hooks }) s.session.contexts h.contexts.once (λ c is. nowhere c is (is_root n s.session.contexts)) k;
+}
+  where
+    nowhere : (c : Context) → at n s.session.contexts ≡ Some c → (b : Bool) → (if b then None else parent_of n s.session.contexts) ≡ Some cache_context → c.protected ≡ true → hook ∷ c.hooks ≡ []
+    nowhere c is true e own = absurd (cc e)
+    nowhere c is false e own = absurd (not_there (ap (λ (x : Option Context). option_map_or (λ c. c.protected) x false) is ∙ own) e)
+
+hook_so : (n : ℕ) (o : Option Hook) (s : Scene) → Stands s → (is_protected n s.session.contexts ≡ true → parent_of n s.session.contexts ≡ Some cache_context → ⊥) → KeepsQuiet s (where_there o (hook_waits n) s).scene (where_there o (hook_waits n) s).events
+hook_so n None s h not_there = record { so = λ k. k }
+hook_so n (Some hook) s h not_there = hook_quiet n hook s h not_there
+
+module _ (w : Option ℕ) (m : Moment) (h : Stands m.scene) where
+  registers : (name : Text) → KeepsQuiet m.scene (hook_registered name m.scene).scene (hook_registered name m.scene).events
+  registers name =
+      at_name (context_named name m.scene.session) (λ n. where_there (first_of m.scene.around.shelf.fresh) (hook_waits n)) m.scene
+      (λ n is. hook_so n (first_of m.scene.around.shelf.fresh) m.scene h (named_elsewhere name m.scene n h is))
+
+  register_quiet : (name : Text) → Follows KeepsQuiet m.scene (does w (e.Register name) m)
+  unfolding does
+  register_quiet name = fallible_at KeepsQuiet quiet_ends.leaves w m _ (hook_registered name) (registers name)
+
+  reparent_quiet : (name parent : Text) → failure (e.MayMove name parent) m.scene ≡ None → Follows KeepsQuiet m.scene (does w (e.Reparent name parent) m)
+  unfolding does
+  reparent_quiet name parent ok = record {
+    so = at_name (context_named name m.scene.session) (λ n. at_context parent (context_moved n)) m.scene
+        (λ n is. at_name (context_named parent m.scene.session) (context_moved n) m.scene
+        (λ p q.
+        let may : set_parent_refusal n p m.scene.session.contexts ≡ None =
+        ap (option_and_then (λ (j : ℕ). set_parent_refusal n j m.scene.session.contexts)) (sym q)
+        ∙ checked name m.scene.session (λ j. option_and_then (λ i. set_parent_refusal j i m.scene.session.contexts) (context_named parent m.scene.session)) n is ok in
+        let b = both_none (is_protected n m.scene.session.contexts) (is_within n p m.scene.session.contexts) Protected Cycle may in
+        record { so = quiet_reparented n p m.scene.session.contexts b.0 }));
+  }
+
+owed_quiet : (w : Option ℕ) (x : Element) (m : Moment) → Meets x m.scene → OwesMoves KeepsQuiet w x m
+owed_quiet w (e.InTurn name x) m meets = owed_quiet w x m (record { stands = meets.stands; asks = meets.asks })
+owed_quiet w (e.Register name) m meets = register_quiet w m meets.stands name
+owed_quiet w (e.Reparent name parent) m meets = reparent_quiet w m meets.stands name parent meets.asks
+owed_quiet w other m meets = tt
+
+pub quiet_owed : OwesTurns KeepsQuiet
+quiet_owed = owes_by KeepsQuiet quiet_ends (λ error s. record { so = λ k. k }) owed_quiet

@@ -1,0 +1,324 @@
+-- Each element of a line is read, where the line stands by then.
+use Rattle.std.proofs.Common.{◌≡◌, ℕ, ◌+◌, ◌-◌, ◌≤◌, Bool, true, false, if◌then◌else◌, List, [], ◌∷◌, length, Option, Some, None, refl, sym, ap, subst, inr, arith}
+use Rattle.std.specs.Prelude.{◌==◌, drop}
+use Rattle.pgs_step.specs.declared.errors.Error.{Error}
+use Rattle.pgs_step.specs.declared.events.What.{What}
+use Rattle.pgs_step.specs.declared.events.What.TheVariants as what
+use Rattle.portal_store.specs.Portal.{lowered as level_lowered}
+use Rattle.context_rules.specs.Contexts.{is_empty}
+use Rattle.lifetime_laws.specs.Reading.{allows_all, seen_after}
+use Rattle.lifetime_laws.specs.Parents.{Node as Replayed, owners_behind}
+use Rattle.lifetime_laws.specs.Inside.{Begun, Leaving, level_begun, staying}
+use Rattle.session_rules.specs.State.{LevelState, OpenPortal, StandingPlan, deepest_changed, depth, level_above, level_context, owner_of, top_context}
+use Rattle.session_rules.specs.World.{Moment, Scene}
+use Rattle.session_rules.specs.Elements as e
+use Rattle.session_rules.specs.Elements.{Element, LevelContext, NewContext, OfLevel, OwnerRole}
+use Rattle.session_rules.specs.Checks.{failure}
+use Rattle.session_rules.specs.Acts.{Ended, changes, context_gone, for_each, in_order, nothing, say, switched, where_there}
+use Rattle.session_rules.specs.Parts.{level_stands}
+use Rattle.session_rules.specs.Portals.{executor_ended, is_ready, portal_closed, portal_passed}
+use Rattle.session_rules.specs.Ends.{aborted, cleaned_up, committed, empty_context_gone, level_context_gone, level_owner_gone, level_released, stack_lowered, stack_popped, subcommitted, switched_up}
+use Rattle.session_rules.specs.Making.{level_made, new_context_made, new_owner_made}
+use Rattle.session_rules.specs.Calls.{Done, fallible, refused_call, unfailing, unless_refused}
+use Rattle.session_rules.specs.Does.{does}
+use Rattle.session_rules.specs.Standing.{Stands}
+use Rattle.session_rules.proofs.EndsStand.{settled}
+use Rattle.session_rules.proofs.Leaves.{Follows, IsSpoken, Keeps, last, next}
+use Rattle.session_rules.proofs.TurnStands.{Meets}
+use Rattle.session_rules.proofs.Walk.{element_follows}
+use Rattle.session_laws.proofs.ReaderLaws.{IsRead}
+use Rattle.session_laws.proofs.ParentsFit.{FitsContexts, FitsOwners, FitsTree}
+use Rattle.session_laws.proofs.ParentsGrowth.{Growth, growing_owners}
+use Rattle.session_laws.proofs.ParentsContexts.{KeepsContexts}
+use Rattle.session_laws.proofs.ParentsOwners.{HasOwners, KeepsOwners}
+use Rattle.session_laws.proofs.ParentsLife.{contexts_owed}
+use Rattle.session_laws.proofs.ParentsOwnersLife.{owners_owed}
+use Rattle.session_laws.proofs.Hushed.{ContextNext, Hushed, IsDue, IsHushed, IsLevelContext, IsLevelOwner, IsLively, IsSaid, OwnerNext, Stage, Working, hushed_next, stage_next, working_next}
+use Rattle.session_laws.proofs.InsideEvents.{InEnd, IsOver, Stayed, confined, confined_stays}
+use Rattle.session_laws.proofs.InsideSeen.{AreBegun, AreKnown, AreSeen, Calming, Kept, Lessens, Seen, Sees, Works, calm_all, lessens_sees}
+use Rattle.session_laws.proofs.InsideWalk.{by_each, by_executor, by_gone, by_order, by_portal, by_portal_gone, by_said, by_so, by_switch, by_there, unmoved}
+use Rattle.session_laws.proofs.InsideElements.{element_works, low_of}
+use Rattle.session_laws.proofs.InsideQuiet.{AreQuiet}
+use Rattle.session_laws.proofs.InsideHooks.{KeepsQuiet, quiet_owed}
+use Rattle.session_laws.proofs.InsideAborts.{contexts_fit}
+use Rattle.session_laws.proofs.InsideEnds.{AbortRead, CleanRead, Halted, IsSoon, MayEnd, aborts_read, cleans_read, level_context_goes, level_owner_goes, level_releases, owner_passes, stack_pops, switches_up}
+use Rattle.session_laws.proofs.InsideStart.{Active, AwaitsContext, AwaitsNothing, AwaitsOwner, OneRead, context_begins, level_begins, owner_begins}
+
+-- the replayed parents, and the hooks of contexts that plans have
+pub record Trees (leaving : Leaving) (s : Scene) : Type 0 where
+  pub contexts : FitsContexts leaving.parents.contexts s
+  pub owners : FitsOwners leaving.parents.owners s
+  pub quiet : AreQuiet None s.session.contexts
+
+pub record KeepsTrees (s t : Scene) (events : List What) : Type 0 where
+  pub contexts : KeepsContexts s t events
+  pub owners : KeepsOwners s t events
+  pub quiet : KeepsQuiet s t events
+
+same_nodes : (events : List What) (leaving : Leaving) (growth : Growth) → growth.nodes ≡ leaving.parents.owners → (seen_after growing_owners growth events).nodes ≡ (seen_after staying leaving events).parents.owners
+same_nodes [] leaving growth e = e
+same_nodes (event ∷ events) leaving growth e = same_nodes events (staying.next event leaving) (growing_owners.next event growth) (ap (owners_behind event) e)
+
+owners_fit : (s t : Scene) (events : List What) (leaving : Leaving) → KeepsOwners s t events → FitsOwners leaving.parents.owners s → FitsOwners (seen_after staying leaving events).parents.owners t
+owners_fit s t events leaving law fits =
+    let growth : Growth = record { nodes = leaving.parents.owners; next = s.session.next_owner } in
+    let read : IsRead growing_owners HasOwners growth t events = law.so growth (record { fits = fits; next = refl }) in
+    subst (λ (nodes : List Replayed). FitsOwners nodes t) (same_nodes events leaving growth refl) read.fits.fits
+
+pub trees_behind : (s t : Scene) (events : List What) (leaving : Leaving) → KeepsTrees s t events → Trees leaving s → Trees (seen_after staying leaving events) t
+trees_behind s t events leaving law k = record {
+  contexts = contexts_fit s t events leaving law.contexts k.contexts;
+  owners = owners_fit s t events leaving law.owners k.owners;
+  quiet = law.quiet.so k.quiet;
+}
+
+pub trees_element : (w : Option ℕ) (x : Element) (m : Moment) → Meets x m.scene → IsSpoken false x → KeepsTrees m.scene (does w x m).moment.scene (does w x m).events
+trees_element w x m meets spoken =
+    let a : Follows KeepsContexts m.scene (does w x m) = element_follows KeepsContexts contexts_owed.leaves false w x m spoken (contexts_owed.owed w x m meets) in
+    let b : Follows KeepsOwners m.scene (does w x m) = element_follows KeepsOwners owners_owed.leaves false w x m spoken (owners_owed.owed w x m meets) in
+    let c : Follows KeepsQuiet m.scene (does w x m) = element_follows KeepsQuiet quiet_owed.leaves false w x m spoken (quiet_owed.owed w x m meets) in
+    record { contexts = a.so; owners = b.so; quiet = c.so }
+
+-- what is seen where a line stands so
+abbrev pub At : Stage → Leaving → Scene → Type 0
+At Working leaving s = AwaitsNothing leaving s
+At ContextNext leaving s = AwaitsContext leaving s
+At OwnerNext leaving s = AwaitsOwner leaving s
+At Hushed leaving s = Halted leaving s
+
+-- what an element did is allowed; where nothing refused it the line stands as the second says, else as before
+pub record Stepped (F G : Leaving → Scene → Type 0) (leaving : Leaving) (done : Done) : Type 0 where
+  pub allowed : allows_all staying leaving done.events ≡ true
+  pub passed : done.refusal ≡ None → G (seen_after staying leaving done.events) done.moment.scene
+  pub stopped : (error : Error) → done.refusal ≡ Some error → F (seen_after staying leaving done.events) done.moment.scene
+
+unless_step : {F G : Leaving → Scene → Type 0} (refusal : Option Error) (m : Moment) (act : Scene → Ended) (leaving : Leaving) → F leaving m.scene → OneRead G leaving (act m.scene).scene (act m.scene).events
+    → Stepped F G leaving (unless_refused refusal m act)
+unless_step None m act leaving k one = record { allowed = one.allowed; passed = λ e. one.fits; stopped = λ error e. absurd (cc e) }
+unless_step (Some error) m act leaving k one = record { allowed = refl; passed = λ e. absurd (cc e); stopped = λ error e. k }
+
+fallible_step : {F G : Leaving → Scene → Type 0} (w : Option ℕ) (m : Moment) (own : Option Error) (act : Scene → Ended) (leaving : Leaving) → F leaving m.scene → OneRead G leaving (act m.scene).scene (act m.scene).events
+    → Stepped F G leaving (fallible w m own act)
+fallible_step {F = F} {G = G} w m own act leaving k one = unless_step {F = F} {G = G} (refused_call w m.fail (m.calls + 1) own) (record m { calls = m.calls + 1 }) act leaving k one
+
+unfailing_step : {F G : Leaving → Scene → Type 0} (m : Moment) (act : Scene → Ended) (leaving : Leaving) → OneRead G leaving (act m.scene).scene (act m.scene).events → Stepped F G leaving (unfailing m act)
+unfailing_step m act leaving one = record { allowed = one.allowed; passed = λ e. one.fits; stopped = λ error e. absurd (cc e) }
+
+-- work
+seen_of : (leaving : Leaving) (s : Scene) → AwaitsNothing leaving s → Seen leaving s
+seen_of leaving s k = record { begun = k.active.sees.begun; portals = k.active.sees.portals; plans = k.active.sees.plans; awaited = k.awaited; ends = k.active.ends }
+
+awaits_of : (leaving : Leaving) (s : Scene) → Seen leaving s → AwaitsNothing leaving s
+awaits_of leaving s k = record { active = record { sees = record { begun = k.begun; portals = k.portals; plans = k.plans }; ends = k.ends }; awaited = k.awaited }
+
+works_step : (s : Scene) (done : Done) (leaving : Leaving) → Follows Works s done → AwaitsNothing leaving s → Stepped AwaitsNothing AwaitsNothing leaving done
+works_step s done leaving f k =
+    let read : IsRead staying Seen leaving done.moment.scene done.events = f.so.reads.so leaving (seen_of leaving s k) in
+    let behind : AwaitsNothing (seen_after staying leaving done.events) done.moment.scene = awaits_of _ done.moment.scene read.fits in
+    record { allowed = read.allowed; passed = λ e. behind; stopped = λ error e. behind }
+
+-- what lessens what is known, and then changes levels
+pub lessened : (s t u : Scene) (events : List What) (leaving : Leaving) → Lessens s t events → u.session.portals ≡ t.session.portals → u.session.plans ≡ t.session.plans
+    → ((begun : List Begun) → AreBegun s.session.levels begun → AreBegun u.session.levels begun) → AwaitsNothing leaving s → OneRead AwaitsNothing leaving u events
+lessened s t u events leaving l portals plans levels k =
+    let c : Calming leaving events = calm_all events leaving l.calm k.awaited k.active.ends in
+    let now : Leaving = seen_after staying leaving events in
+    let kept : Kept now t = lessens_sees s t events leaving l k.active.sees k.awaited in
+    record {
+      allowed = c.allowed;
+      fits = record {
+        active = record {
+          sees = record {
+            begun = levels now.begun (subst (λ (ls : List LevelState). AreBegun ls now.begun) l.levels kept.sees.begun);
+            portals = subst (λ (ps : List OpenPortal). AreSeen ps now.begun) (sym portals) kept.sees.portals;
+            plans = subst (λ (ps : List StandingPlan). AreKnown ps now.plans) (sym plans) kept.sees.plans;
+          };
+          ends = c.behind.ends;
+        };
+        awaited = kept.awaited;
+      };
+    }
+
+-- the level that was started stands
+stands_step : (s : Scene) (leaving : Leaving) → AwaitsNothing leaving s → OneRead AwaitsNothing leaving (level_stands s).scene (level_stands s).events
+stands_step s leaving k = go (level_context s.session)
+  where
+    started : (levels : List LevelState) (begun : List Begun) → AreBegun levels begun → AreBegun (deepest_changed (λ level. record level { starting = false }) levels) begun
+    started [] begun h = tt
+    started (level ∷ levels) begun h = (record { there = h.0.there; context = h.0.context; owner = h.0.owner }, h.1)
+
+    act : Scene → Ended
+    act = changes (λ session. record session { levels = deepest_changed (λ level. record level { starting = false }) session.levels })
+
+    go : (o : Option ℕ) → OneRead AwaitsNothing leaving (in_order (where_there o switched ∷ act ∷ []) s).scene (in_order (where_there o switched ∷ act ∷ []) s).events
+    go None = lessened s s _ [] leaving (unmoved s s [] refl refl refl tt) refl refl (started s.session.levels) k
+    go (Some c) = lessened s (switched c s).scene _ [] leaving ((by_switch c).so s) refl refl (started s.session.levels) k
+
+-- the ends of levels that commit
+portal_closes : (p : OpenPortal) → Keeps Lessens (portal_closed p)
+portal_closes p = record {
+  so = (by_order
+      (next (by_so (is_ready p.state) (executor_ended p) (by_executor p))
+      (next (by_there p.context context_gone by_gone)
+      (next (by_portal_gone p.name) last)))).so;
+}
+
+lower : (level n : ℕ) → level_lowered level n ≤ n
+lower level n = go (n == level)
+  where
+    go : (b : Bool) → (if b then n - 1 else n) ≤ n
+    go true = omega arith
+    go false = omega arith
+
+portal_passes : (level : ℕ) (above : Option ℕ) (p : OpenPortal) → Keeps Lessens (portal_passed level above p)
+portal_passes level above p = record {
+  so = (by_order
+      (next (by_so (p.created == level) _ (owner_passes p.owner above))
+      (next (by_portal p.name (λ old. record old { created = level_lowered level old.created; active = level_lowered level old.active }) (record { context = λ q. refl; created = λ q. lower level q.created })) last))).so;
+}
+
+stack_passes : (level : ℕ) → Keeps Lessens (stack_lowered level)
+stack_passes level = record { so = λ s. unmoved s _ [] refl refl refl tt }
+
+empty_context_goes : Keeps Lessens empty_context_gone
+empty_context_goes = record { so = λ s. (by_there (level_context s.session) _ (λ (n : ℕ). by_so (is_empty n s.session.contexts) (context_gone n) (by_gone n))).so s }
+
+outer : (levels : List LevelState) (begun : List Begun) → AreBegun levels begun → AreBegun (drop 1 levels) begun
+outer [] begun h = tt
+outer (level ∷ levels) begun h = h.1
+
+commit_step : (s : Scene) (leaving : Leaving) → AwaitsNothing leaving s → OneRead AwaitsNothing leaving (committed s).scene (committed s).events
+commit_step s leaving k =
+    let parts : Keeps Lessens (in_order (say (what.CommitLevel 1) ∷ for_each portal_closed s.session.portals ∷ level_released true true ∷ stack_popped 1 ∷ level_owner_gone ∷ switched top_context ∷ level_context_gone ∷ [])) =
+    by_order
+    (next (by_said (what.CommitLevel 1) refl)
+    (next (by_each portal_closed portal_closes s.session.portals)
+    (next (level_releases true true)
+    (next (stack_pops 1)
+    (next level_owner_goes
+    (next (by_switch top_context)
+    (next level_context_goes last))))))) in
+    let l = parts.so s in
+    lessened s _ (committed s).scene (committed s).events leaving l refl refl (λ begun h. subst (λ (ls : List LevelState). AreBegun ls begun) (sym (ap (drop 1) l.levels)) (outer s.session.levels begun h)) k
+
+subcommit_step : (s : Scene) (leaving : Leaving) → AwaitsNothing leaving s → OneRead AwaitsNothing leaving (subcommitted s).scene (subcommitted s).events
+subcommit_step s leaving k =
+    let level : ℕ = depth s.session in
+    let above : Option ℕ = owner_of (level_above s.session) in
+    let parts : Keeps Lessens (in_order (say (what.CommitLevel level) ∷ for_each (portal_passed level above) s.session.portals ∷ level_released true false ∷ stack_lowered level ∷ level_owner_gone ∷ switched_up ∷ empty_context_gone ∷ [])) =
+    by_order
+    (next (by_said (what.CommitLevel level) refl)
+    (next (by_each (portal_passed level above) (portal_passes level above) s.session.portals)
+    (next (level_releases true false)
+    (next (stack_passes level)
+    (next level_owner_goes
+    (next switches_up
+    (next empty_context_goes last))))))) in
+    let l = parts.so s in
+    lessened s _ (subcommitted s).scene (subcommitted s).events leaving l refl refl (λ begun h. subst (λ (ls : List LevelState). AreBegun ls begun) (sym (ap (drop 1) l.levels)) (outer s.session.levels begun h)) k
+
+-- a level aborts, in a session that stands
+may_end : (leaving : Leaving) (s : Scene) → Trees leaving s → Sees leaving s → MayEnd leaving s
+may_end leaving s t k = record { contexts = t.contexts; owners = t.owners.tree; quiet = t.quiet; sees = k }
+
+pub aborts_at : (level : LevelState) (levels : List LevelState) (s : Scene) (leaving : Leaving) → Stands s → s.session.levels ≡ level ∷ levels → Trees leaving s → Active leaving s → IsSoon leaving.awaited → AbortRead leaving s
+aborts_at level levels s leaving h are trees k soon =
+    let stands : Stands (settled (level ∷ levels) s) = subst (λ (ls : List LevelState). Stands (settled ls s)) are h in
+    let may : MayEnd leaving (settled (level ∷ levels) s) = subst (λ (ls : List LevelState). MayEnd leaving (settled ls s)) are (may_end leaving s trees k.sees) in
+    subst (λ (ls : List LevelState). AbortRead leaving (settled ls s)) (sym are) (aborts_read level levels s stands leaving may k.ends soon)
+
+-- a level that is in its end is cleaned up
+pub cleans_at : (s : Scene) (leaving : Leaving) (k : Halted leaving s) → FitsContexts leaving.parents.contexts s → FitsTree leaving.parents.owners s.session.owners → AreQuiet None s.session.contexts → CleanRead leaving s
+cleans_at s leaving k contexts owners quiet =
+    let same : length k.levels + 1 ≡ length (k.level ∷ k.levels) = omega arith in
+    let now : MayEnd leaving s = record { contexts = contexts; owners = owners; quiet = quiet; sees = k.sees } in
+    let may : MayEnd leaving (settled (k.level ∷ k.levels) s) = subst (λ (ls : List LevelState). MayEnd leaving (settled ls s)) k.are now in
+    let ends : InEnd (level_begun (length (k.level ∷ k.levels)) leaving.begun) leaving.ends = subst (λ (n : ℕ). InEnd (level_begun n leaving.begun) leaving.ends) same k.ends in
+    let over : IsOver (level_begun (length (k.level ∷ k.levels)) leaving.begun) leaving = subst (λ (n : ℕ). IsOver (level_begun n leaving.begun) leaving) same k.over in
+    subst (λ (ls : List LevelState). CleanRead leaving (settled ls s)) (sym k.are) (cleans_read k.level k.levels s leaving may ends over k.awaited)
+
+clean_step : (s : Scene) (leaving : Leaving) → Halted leaving s → Trees leaving s → OneRead AwaitsNothing leaving (cleaned_up s).scene (cleaned_up s).events
+clean_step s leaving k trees =
+    let c : CleanRead leaving s = cleans_at s leaving k trees.contexts trees.owners.tree trees.quiet in
+    record { allowed = c.allowed; fits = record { active = record { sees = c.sees; ends = c.ends }; awaited = c.awaited } }
+
+-- a word while a level is in its end
+pub word_stays : (event : What) (s : Scene) (leaving : Leaving) → ((entry : Begun) → allows_all (confined entry) leaving (event ∷ []) ≡ true) → Halted leaving s → OneRead Halted leaving s (event ∷ [])
+word_stays event s leaving h k =
+    let entry : Begun = level_begun (length k.levels + 1) leaving.begun in
+    let stayed : Stayed entry leaving (event ∷ []) = confined_stays entry leaving (event ∷ []) k.ends (h entry) in
+    let now : Leaving = seen_after staying leaving (event ∷ []) in
+    let same : entry ≡ level_begun (length k.levels + 1) now.begun = ap (level_begun (length k.levels + 1)) (sym stayed.begun) in
+    record {
+      allowed = stayed.allowed;
+      fits = record {
+        level = k.level;
+        levels = k.levels;
+        are = k.are;
+        aborted = k.aborted;
+        sees = record {
+          begun = subst (AreBegun s.session.levels) (sym stayed.begun) k.sees.begun;
+          portals = subst (AreSeen s.session.portals) (sym stayed.begun) k.sees.portals;
+          plans = subst (AreKnown s.session.plans) (sym stayed.plans) k.sees.plans;
+        };
+        awaited = stayed.awaited k.awaited;
+        ends = subst (λ (b : Begun). InEnd b now.ends) same stayed.ends;
+        over = subst (λ (b : Begun). IsOver b now) same (stayed.over k.over);
+      };
+    }
+
+said_confined : (event : What) → IsSaid event → (leaving : Leaving) (entry : Begun) → allows_all (confined entry) leaving (event ∷ []) ≡ true
+said_confined (what.Fetched name rows) h leaving entry = refl
+said_confined what.AlreadyInTransaction h leaving entry = refl
+said_confined what.NotInTransaction h leaving entry = refl
+said_confined what.Ok h leaving entry = refl
+said_confined other h leaving entry = elim h [ ]
+
+-- an element of an active session
+lively_step : (w : Option ℕ) (x : Element) (m : Moment) (leaving : Leaving) → Meets x m.scene → IsLively x → Trees leaving m.scene → AwaitsNothing leaving m.scene → Stepped AwaitsNothing (At (working_next x)) leaving (does w x m)
+unfolding does
+lively_step w (e.MakeLevel name implicit) m leaving meets own trees k =
+    fallible_step {F = AwaitsNothing} {G = AwaitsContext} w m _ (level_made name implicit) leaving k (level_begins name implicit m.scene leaving (low_of m.scene.session.portals m.scene meets.stands.portals.each) k)
+lively_step w e.LevelStands m leaving meets own trees k = unfailing_step {F = AwaitsNothing} {G = AwaitsNothing} m level_stands leaving (stands_step m.scene leaving k)
+lively_step w e.CommitTop m leaving meets own trees k = unfailing_step {F = AwaitsNothing} {G = AwaitsNothing} m committed leaving (commit_step m.scene leaving k)
+lively_step w e.Subcommit m leaving meets own trees k = unfailing_step {F = AwaitsNothing} {G = AwaitsNothing} m subcommitted leaving (subcommit_step m.scene leaving k)
+lively_step w e.Abort m leaving meets own trees k =
+    let a : AbortRead leaving m.scene = aborts_at meets.asks.0.0 meets.asks.0.1 m.scene leaving meets.stands meets.asks.1 trees k.active (inr k.awaited) in
+    unfailing_step {F = AwaitsNothing} {G = Halted} m aborted leaving (record { allowed = a.allowed; fits = a.halted })
+lively_step w e.Cleanup m leaving meets own trees k = elim own [ ]
+lively_step w other m leaving meets own trees k = works_step m.scene (does w other m) leaving (element_works w other m meets.stands own) k
+
+-- one of a session whose deepest level is aborted
+hushed_step : (w : Option ℕ) (x : Element) (m : Moment) (leaving : Leaving) → IsHushed x → Trees leaving m.scene → Halted leaving m.scene → Stepped Halted (At (hushed_next x)) leaving (does w x m)
+unfolding does
+hushed_step w (e.Checks check) m leaving own trees k = unless_step {F = Halted} {G = Halted} (failure check m.scene) m nothing leaving k (record { allowed = refl; fits = k })
+hushed_step w (e.Says event) m leaving own trees k = unfailing_step {F = Halted} {G = Halted} m (say event) leaving (word_stays event m.scene leaving (said_confined event own leaving) k)
+hushed_step w e.Cleanup m leaving own trees k = unfailing_step {F = Halted} {G = AwaitsNothing} m cleaned_up leaving (clean_step m.scene leaving k trees)
+hushed_step w other m leaving own trees k = elim own [ ]
+
+-- what is made for a level
+new_step : (w : Option ℕ) (new : NewContext) (m : Moment) (leaving : Leaving) → IsLevelContext (e.MakeContext new) → AwaitsContext leaving m.scene → Stepped AwaitsContext AwaitsOwner leaving (does w (e.MakeContext new) m)
+unfolding does
+new_step w LevelContext m leaving own k = fallible_step {F = AwaitsContext} {G = AwaitsOwner} w m _ (new_context_made LevelContext) leaving k (context_begins m.scene leaving k)
+new_step w other m leaving own k = elim own [ ]
+
+context_step : (w : Option ℕ) (x : Element) (m : Moment) (leaving : Leaving) → IsLevelContext x → AwaitsContext leaving m.scene → Stepped AwaitsContext AwaitsOwner leaving (does w x m)
+context_step w (e.MakeContext new) m leaving own k = new_step w new m leaving own k
+context_step w other m leaving own k = elim own [ ]
+
+role_step : (w : Option ℕ) (role : OwnerRole) (m : Moment) (leaving : Leaving) → IsLevelOwner (e.MakeOwner role) → AwaitsOwner leaving m.scene → Stepped AwaitsOwner AwaitsNothing leaving (does w (e.MakeOwner role) m)
+unfolding does
+role_step w OfLevel m leaving own k = fallible_step {F = AwaitsOwner} {G = AwaitsNothing} w m _ (new_owner_made OfLevel) leaving k (owner_begins m.scene leaving k)
+role_step w other m leaving own k = elim own [ ]
+
+owner_step : (w : Option ℕ) (x : Element) (m : Moment) (leaving : Leaving) → IsLevelOwner x → AwaitsOwner leaving m.scene → Stepped AwaitsOwner AwaitsNothing leaving (does w x m)
+owner_step w (e.MakeOwner role) m leaving own k = role_step w role m leaving own k
+owner_step w other m leaving own k = elim own [ ]
+
+-- An element of a line is read.
+pub step_read : (stage : Stage) (w : Option ℕ) (x : Element) (m : Moment) (leaving : Leaving) → Meets x m.scene → IsDue stage x → Trees leaving m.scene → At stage leaving m.scene
+    → Stepped (At stage) (At (stage_next stage x)) leaving (does w x m)
+step_read Working w x m leaving meets due trees k = lively_step w x m leaving meets due trees k
+step_read ContextNext w x m leaving meets due trees k = context_step w x m leaving due k
+step_read OwnerNext w x m leaving meets due trees k = owner_step w x m leaving due k
+step_read Hushed w x m leaving meets due trees k = hushed_step w x m leaving due trees k

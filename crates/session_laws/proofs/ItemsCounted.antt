@@ -1,0 +1,278 @@
+-- How often an owner holds an item is counted by what is said: where an item is taken and given back, where owners come, are released, move and go.
+use Rattle.std.proofs.Common.{◌≡◌, ℕ, ◌+◌, ◌-◌, ◌<◌, ◌≤◌, find, Bool, true, false, cond, Option, Some, None, List, [], ◌∷◌, ◌++◌, refl, sym, ap, ◌∙◌, subst, inl, inr, arith}
+use Rattle.std.specs.Prelude.{◌==◌, nat_le}
+use Rattle.std.specs.Option.{option_map_or}
+use Rattle.std.proofs.lemmas.Bool.{and_from, cases_Bool, cases_eq, false_from_ne_true, le-leb, ne_eqb}
+use Rattle.pgs_step.specs.declared.events.What.{What}
+use Rattle.pgs_step.specs.declared.events.What.TheVariants as what
+use Rattle.pgs_step.specs.declared.ids.Item.{Item}
+use Rattle.pgs_step.specs.declared.ids.KindId.{KindId}
+use Rattle.pgs_step.specs.declared.ids.Phase.{Phase}
+use Rattle.forest.specs.Forest.{Empty, Node, Once, at, changed, has, moved, removed, times}
+use Rattle.forest.specs.Walk.{all_changed, order_at, swept}
+use Rattle.forest.proofs.Trees.{Moves, at_absent, at_some, has_changed, has_of_removed, has_some, once_changed, once_front, once_put, put_absent, times_moved, times_some}
+use Rattle.owner_kinds.specs.KindTable.{KindTable}
+use Rattle.owner_kinds.specs.KindShelf.{table_of}
+use Rattle.owner_items.specs.ItemList.{is_of, without_newest}
+use Rattle.owner_core.specs.Owners.{Owner, OwnerTree, AllAt, HoldsNothing, created, forgotten, remembered}
+use Rattle.owner_core.specs.Released.{own_released, released}
+use Rattle.owner_core.specs.Steps.{Step, Said, GivesBack, ReleasesLocks, PassesLocks, ReleasesAllLocks, release_steps}
+use Rattle.lifetime_laws.specs.Reading.{Reader, allows_all, seen_after}
+use Rattle.lifetime_laws.specs.Balance.{count}
+use Rattle.lifetime_laws.specs.Once.{acquires, releases}
+use Rattle.lifetime_laws.proofs.Readings.{allows_all-append, seen_after-append}
+use Rattle.session_rules.specs.World.{Scene}
+use Rattle.session_rules.specs.Lookup.{newest}
+use Rattle.session_rules.specs.Acts.{for_each}
+use Rattle.session_rules.specs.Making.{owner_made}
+use Rattle.session_rules.specs.Releases.{given_back, owner_gone, owner_moved, phase_released, step_done}
+use Rattle.session_rules.specs.Taking.{remembers}
+use Rattle.session_rules.proofs.Forests.{has_put_other, once_left}
+use Rattle.session_rules.proofs.Leaves.{Leaves}
+use Rattle.session_rules.proofs.Swept.{has_swept}
+use Rattle.session_laws.proofs.ReaderLaws.{Reads, read_both}
+use Rattle.session_laws.proofs.ItemsStill.{AreReleaseSteps, AreStill, IsReleaseStep, all_locks_still, and_still, is_release, is_still, lock_passes_still, lock_releases_still, made_still, no_step, owners_still, phase_release, still, still_one, then_step}
+use Rattle.session_laws.proofs.ItemsAside.{OwnerLeaves, Quiet, Stays, given_quiet, owner_leaves, steps_stay}
+use Rattle.session_laws.proofs.ItemsHeld.{has_it, is_it, it_created, it_forgotten, it_moved, it_remembered, it_removed, says, says_phase}
+
+-- each owner's number stands once and is below the next one
+pub record AreNumbered (owners : OwnerTree) (next : ℕ) : Type 0 where
+  pub once : Once owners
+  pub below : (n : ℕ) → has n owners ≡ true → n < next
+
+-- a sweep leaves numbers
+times_all : (m : ℕ) (f : Owner → Owner) (t : OwnerTree) → times m (all_changed f t) ≡ times m t
+times_all m f Empty = refl
+times_all m f (Node k a below beside) = rw (times_all m f below, times_all m f beside) refl
+
+times_swept : (m : ℕ) (f : Owner → Owner) (n : ℕ) (t : OwnerTree) → times m (swept f n t) ≡ times m t
+times_swept m f n Empty = refl
+times_swept m f n (Node k a below beside) =
+    elim (cases_Bool (k == n)) [
+      | inl y ↦ rw (y, times_all m f below, times_swept m f n beside) refl
+      | inr y ↦ rw (y, times_swept m f n below, times_swept m f n beside) refl
+    ]
+
+-- numbers behind each change of the owners
+numbered_swept : (f : Owner → Owner) (n : ℕ) (t : OwnerTree) (next : ℕ) → AreNumbered t next → AreNumbered (swept f n t) next
+numbered_swept f n t next k = record {
+  once = record { once = λ m. omega (arith, times_swept m f n t, k.once.once m) };
+  below = λ m u. k.below m (sym (has_swept f m n t) ∙ u);
+}
+
+numbered_changed : (n : ℕ) (f : Owner → Owner) (t : OwnerTree) (next : ℕ) → AreNumbered t next → AreNumbered (changed n f t) next
+numbered_changed n f t next k = record { once = once_changed n f t k.once; below = λ m u. k.below m (sym (has_changed m n f t) ∙ u) }
+
+numbered_removed : (n : ℕ) (t : OwnerTree) (next : ℕ) → AreNumbered t next → AreNumbered (removed n t) next
+numbered_removed n t next k = record { once = once_left n t k.once; below = λ m u. k.below m (has_of_removed m n t u) }
+
+numbered_moved : (n q : ℕ) (t : OwnerTree) (next : ℕ) → AreNumbered t next → Moves n q t → AreNumbered (moved n q t) next
+numbered_moved n q t next k w =
+    let same : (m : ℕ) → times m (moved n q t) ≡ times m t = λ m. let a = at_some n t w.node in rw a.1 (times_moved m n q a.0 t k.once w) in
+    record {
+      once = record { once = λ m. omega (arith, same m, k.once.once m) };
+      below = λ m u. k.below m (has_some m t (omega (arith, same m, times_some m (moved n q t) u)));
+    }
+
+fresh : (t : OwnerTree) (next : ℕ) → AreNumbered t next → has next t ≡ false
+fresh t next k = false_from_ne_true (has next t) (λ e. omega (arith, k.below next e))
+
+numbered_created : (parent : Option ℕ) (t : OwnerTree) (next : ℕ) → AreNumbered t next → AreNumbered (created parent next t) (next + 1)
+numbered_created None t next k = record {
+  once = once_front next (record { begun = false; items = [] }) t k.once (fresh t next k);
+  below = λ m u. elim (cases_eq next m) [
+    | inl e ↦ omega (arith, e)
+    | inr ne ↦ let r : has m t ≡ true = rw (ne_eqb next m ne) at u in omega (arith, k.below m r)
+  ];
+}
+numbered_created (Some p) t next k = elim (cases_Bool (has p t)) [
+  | inl y ↦ record {
+    once = once_put p next (record { begun = false; items = [] }) t k.once y (fresh t next k);
+    below = λ m u. elim (cases_eq m next) [
+      | inl e ↦ omega (arith, e)
+      | inr ne ↦ omega (arith, k.below m (sym (has_put_other m p next (record { begun = false; items = [] }) Empty t ne refl) ∙ u))
+    ];
+  }
+  | inr y ↦ rw (put_absent p next (record { begun = false; items = [] }) Empty t y) (record { once = k.once; below = λ m u. omega (arith, k.below m u) })
+]
+
+-- The count is how often the owner of that number holds the item.
+pub record Counts (item : Item) (owner n : ℕ) (s : Scene) : Type 0 where
+  pub numbered : AreNumbered s.session.owners s.session.next_owner
+  pub is : n ≡ has_it item owner s.session.owners
+
+module _ (item : Item) (owner : ℕ) where
+  abbrev pub reader : Reader ℕ
+  reader = count (acquires item owner) (releases item owner)
+
+  -- these events are allowed where so many are there, and leave so many
+  record Leads (n behind : ℕ) (events : List What) : Type 0 where
+    allowed : allows_all reader n events ≡ true
+    is : seen_after reader n events ≡ behind
+
+  leads_both : (n m k : ℕ) (xs ys : List What) → Leads n m xs → Leads m k ys → Leads n k (xs ++ ys)
+  leads_both n m k xs ys a b = record {
+    allowed = allows_all-append reader n xs ys a.allowed (ap (λ (j : ℕ). allows_all reader j ys) a.is ∙ b.allowed);
+    is = seen_after-append reader n xs ys ∙ ap (λ (j : ℕ). seen_after reader j ys) a.is ∙ b.is;
+  }
+
+  -- one event
+  one_leads : (event : What) (n a r : ℕ) → acquires item owner event ≡ a → releases item owner event ≡ r → r ≤ n → Leads n ((n + a) - r) (event ∷ [])
+  one_leads event n a r brings takes few = record {
+    allowed = and_from (nat_le (releases item owner event) n) true (ap (λ (k : ℕ). nat_le k n) takes ∙ le-leb r n few) refl;
+    is = ap (λ (k : ℕ). (n + k) - releases item owner event) brings ∙ ap (λ (k : ℕ). (n + a) - k) takes;
+  }
+
+  brings_none : (event : What) → is_still event ≡ true → acquires item owner event ≡ 0
+  brings_none (what.Acquire other by) h = absurd (cc h)
+  brings_none other h = refl
+
+  takes_none : (event : What) → is_still event ≡ true → releases item owner event ≡ 0
+  takes_none (what.Release other by) h = absurd (cc h)
+  takes_none other h = refl
+
+  still_one_leads : (event : What) (n : ℕ) → is_still event ≡ true → Leads n n (event ∷ [])
+  still_one_leads event n h =
+      let one : Leads n ((n + 0) - 0) (event ∷ []) = one_leads event n 0 0 (brings_none event h) (takes_none event h) (omega arith) in
+      record { allowed = one.allowed; is = one.is ∙ omega arith }
+
+  still_leads : {events : List What} → AreStill events → (n : ℕ) → Leads n n events
+  still_leads still n = record { allowed = refl; is = refl }
+  still_leads (and_still {event = event} {events = events} h hs) n = leads_both n n n (event ∷ []) events (still_one_leads event n h) (still_leads hs n)
+
+  -- steps of a release
+  release_brings : (event : What) → is_release event ≡ true → acquires item owner event ≡ 0
+  release_brings (what.Acquire other by) h = absurd (cc h)
+  release_brings other h = refl
+
+  step_leads : (step : Step) → IsReleaseStep step → (s : Scene) (n k : ℕ) → n ≡ says item owner (step ∷ []) + k → Leads n k (step_done step s).events
+  step_leads (Said event) h s n k e =
+      let one : Leads n ((n + 0) - releases item owner event) (event ∷ []) = one_leads event n 0 (releases item owner event) (release_brings event h) refl (omega (arith, e)) in
+      record { allowed = one.allowed; is = one.is ∙ omega (arith, e) }
+  step_leads (GivesBack other) h s n k e =
+      let q : Quiet s (given_back other s).scene (given_back other s).events = given_quiet other s in
+      let z : Leads n n (given_back other s).events = still_leads q.still n in
+      record { allowed = z.allowed; is = z.is ∙ omega (arith, e) }
+  step_leads (ReleasesLocks o) h s n k e = let z = still_leads (lock_releases_still o s.session.locks) n in record { allowed = z.allowed; is = z.is ∙ omega (arith, e) }
+  step_leads (PassesLocks from to) h s n k e = let z = still_leads (lock_passes_still from to s.session.locks) n in record { allowed = z.allowed; is = z.is ∙ omega (arith, e) }
+  step_leads (ReleasesAllLocks top) h s n k e = let z = still_leads (all_locks_still top s.session.locks) n in record { allowed = z.allowed; is = z.is ∙ omega (arith, e) }
+
+  steps_lead : (steps : List Step) → AreReleaseSteps steps → (s : Scene) (n k : ℕ) → n ≡ says item owner steps + k → Leads n k (for_each step_done steps s).events
+  steps_lead [] no_step s n k e = record { allowed = refl; is = omega (arith, e) }
+  steps_lead (step ∷ steps) (then_step h hs) s n k e =
+      leads_both n (says item owner steps + k) k (step_done step s).events (for_each step_done steps (step_done step s).scene).events
+      (step_leads step h s n (says item owner steps + k) (omega (arith, e)))
+      (steps_lead steps hs (step_done step s).scene (says item owner steps + k) k refl)
+
+  -- The law of the reader.
+  abbrev pub Counted : Scene → Scene → List What → Type 0
+  Counted = Reads reader (Counts item owner)
+
+  reads_by : (s t : Scene) (events : List What) → (AreNumbered s.session.owners s.session.next_owner → AreNumbered t.session.owners t.session.next_owner)
+      → (AreNumbered s.session.owners s.session.next_owner → Leads (has_it item owner s.session.owners) (has_it item owner t.session.owners) events) → Counted s t events
+  reads_by s t events numbered leads = record {
+    so = λ n fits.
+        let l : Leads (has_it item owner s.session.owners) (has_it item owner t.session.owners) events = leads fits.numbered in
+        record {
+          allowed = ap (λ (k : ℕ). allows_all reader k events) fits.is ∙ l.allowed;
+          fits = record { numbered = numbered fits.numbered; is = ap (λ (k : ℕ). seen_after reader k events) fits.is ∙ l.is };
+        };
+  }
+
+  -- where owners stay, or hold the item as often as before
+  still_reads : (s t : Scene) {events : List What} → (AreNumbered s.session.owners s.session.next_owner → AreNumbered t.session.owners t.session.next_owner)
+      → (AreNumbered s.session.owners s.session.next_owner → has_it item owner t.session.owners ≡ has_it item owner s.session.owners) → AreStill events → Counted s t events
+  still_reads s t {events = events} numbered same h =
+      reads_by s t events numbered
+      (λ k. let z = still_leads h (has_it item owner s.session.owners) in record { allowed = z.allowed; is = z.is ∙ sym (same k) })
+
+  pub aside_reads : (s t : Scene) {events : List What} → t.session.owners ≡ s.session.owners → t.session.next_owner ≡ s.session.next_owner → AreStill events → Counted s t events
+  aside_reads s t owners next h =
+      still_reads s t (λ k. subst (λ (x : OwnerTree). AreNumbered x t.session.next_owner) (sym owners) (subst (AreNumbered s.session.owners) (sym next) k))
+      (λ k. ap (has_it item owner) owners) h
+
+  -- an owner is made
+  made_reads : (parent : Option ℕ) (s : Scene) → Counted s (owner_made parent s).scene (owner_made parent s).events
+  made_reads parent s =
+      still_reads s (owner_made parent s).scene (numbered_created parent s.session.owners s.session.next_owner)
+      (λ k. it_created item owner parent s.session.next_owner s.session.owners) (still_one _ (made_still parent s.session.next_owner))
+
+  -- an item is given back
+  abbrev forgets : ℕ → KindId → ℕ → Scene → Scene
+  forgets n kind key s = record s { session = record s.session { owners = forgotten n kind key s.session.owners } }
+
+  forgotten_at : (n : ℕ) (kind : KindId) (key : ℕ) (old : Item) (a : Owner) (s : Scene) → at n s.session.owners ≡ Some a → find (is_of kind key) a.items ≡ Some old → Counted s (forgets n kind key s) (what.Release old n ∷ [])
+  forgotten_at n kind key old a s there found =
+      let x : OwnerTree = s.session.owners in
+      let one : ℕ = cond (is_it item owner n old) 1 0 in
+      reads_by s (forgets n kind key s) (what.Release old n ∷ [])
+      (numbered_changed n (λ (o : Owner). record o { items = without_newest (is_of kind key) o.items }) x s.session.next_owner)
+      (λ k.
+      let sum : has_it item owner (forgotten n kind key x) + one ≡ has_it item owner x = it_forgotten item owner n kind key old a x k.once there found in
+      let l : Leads (has_it item owner x) ((has_it item owner x + 0) - one) (what.Release old n ∷ []) = one_leads (what.Release old n) (has_it item owner x) 0 one refl refl (omega (arith, sum)) in
+      record { allowed = l.allowed; is = l.is ∙ omega (arith, sum) })
+
+  forgotten_reads : (n : ℕ) (kind : KindId) (key : ℕ) (old : Item) (s : Scene) → newest n kind key s.session ≡ Some old → Counted s (forgets n kind key s) (what.Release old n ∷ [])
+  forgotten_reads n kind key old s found = elim (cases_Bool (has n s.session.owners)) [
+    | inl y ↦
+        let a = at_some n s.session.owners y in
+        forgotten_at n kind key old a.0 s a.1 (ap (λ (z : Option Owner). find (is_of kind key) (option_map_or (λ o. o.items) z [])) (sym a.1) ∙ found)
+    | inr y ↦
+        let none : None ≡ Some old = ap (λ (z : Option Owner). find (is_of kind key) (option_map_or (λ o. o.items) z [])) (sym (at_absent n s.session.owners y)) ∙ found in
+        absurd (cc none)
+  ]
+
+  pub counted_leaves : OwnerLeaves Counted
+  counted_leaves = record {
+    aside = λ s t owners next_owner next_serial h. aside_reads s t owners next_owner h;
+    both = λ a b. read_both reader (Counts item owner) a b;
+    owner = λ parent. record { so = made_reads parent };
+    item = λ n kind key old s found. forgotten_reads n kind key old s found;
+  }
+
+  pub all_counted : Leaves Counted
+  all_counted = owner_leaves Counted counted_leaves
+
+  -- an owner that is there takes an item
+  pub remembered_reads : (n : ℕ) (kind : KindId) (key : ℕ) (s : Scene) → has n s.session.owners ≡ true → Counted s (remembers n kind key s).scene (remembers n kind key s).events
+  remembered_reads n kind key s there =
+      let x : OwnerTree = s.session.owners in
+      let new : Item = record { kind = kind; key = key; serial = s.session.next_serial } in
+      let one : ℕ = cond (is_it item owner n new) 1 0 in
+      let a = at_some n x there in
+      reads_by s (remembers n kind key s).scene (what.Acquire new n ∷ [])
+      (numbered_changed n (λ (o : Owner). record o { items = new ∷ o.items }) x s.session.next_owner)
+      (λ k.
+      let sum : has_it item owner (remembered n new x) ≡ has_it item owner x + one = it_remembered item owner n new a.0 x k.once a.1 in
+      let l : Leads (has_it item owner x) ((has_it item owner x + one) - 0) (what.Acquire new n ∷ []) = one_leads (what.Acquire new n) (has_it item owner x) one 0 refl refl (omega arith) in
+      record { allowed = l.allowed; is = l.is ∙ omega (arith, sum) })
+
+  -- a phase of a release
+  pub phase_reads : (commit top : Bool) (n : ℕ) (phase : Phase) (s : Scene) → Counted s (phase_released commit top n phase s).scene (phase_released commit top n phase s).events
+  phase_reads commit top n phase s =
+      let x : OwnerTree = s.session.owners in
+      let table : KindTable = table_of s.around.kinds in
+      let steps : List Step = release_steps table phase commit top n x in
+      let z : Scene = (for_each step_done steps s).scene in
+      let stay : Stays s z = steps_stay steps s in
+      let owners : (phase_released commit top n phase s).scene.session.owners ≡ released table phase n x = ap (released table phase n) stay.owners in
+      reads_by s (phase_released commit top n phase s).scene (phase_released commit top n phase s).events
+      (λ k. subst (λ (y : OwnerTree). AreNumbered y z.session.next_owner) (sym owners) (subst (AreNumbered (released table phase n x)) (sym stay.next_owner) (numbered_swept (own_released table phase) n x s.session.next_owner k)))
+      (λ k.
+      let sum : says item owner steps + has_it item owner (released table phase n x) ≡ has_it item owner x = says_phase item owner table phase commit top n x k.once in
+      let behind : ℕ = has_it item owner (phase_released commit top n phase s).scene.session.owners in
+      let same : behind ≡ has_it item owner (released table phase n x) = ap (has_it item owner) owners in
+      leads_both (has_it item owner x) behind behind (for_each step_done steps s).events []
+      (steps_lead steps (phase_release table phase commit top n x) s (has_it item owner x) behind (omega (arith, sum, same)))
+      (record { allowed = refl; is = refl }))
+
+  -- owners go that hold nothing, and an owner moves
+  pub discarded_reads : (n : ℕ) (s : Scene) → AllAt HoldsNothing n s.session.owners → Counted s (owner_gone n s).scene (owner_gone n s).events
+  discarded_reads n s idle =
+      still_reads s (owner_gone n s).scene (numbered_removed n s.session.owners s.session.next_owner)
+      (λ k. it_removed item owner n s.session.owners k.once idle) (owners_still (order_at n s.session.owners))
+
+  pub moved_reads : (n q : ℕ) (s : Scene) → Moves n q s.session.owners → Counted s (owner_moved n q s).scene (owner_moved n q s).events
+  moved_reads n q s w =
+      still_reads s (owner_moved n q s).scene (λ k. numbered_moved n q s.session.owners s.session.next_owner k w)
+      (λ k. it_moved item owner n q s.session.owners k.once w) (still_one (what.MoveOwner n q) refl)

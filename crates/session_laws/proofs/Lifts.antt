@@ -1,0 +1,391 @@
+-- What each turn and each exit of a session keeps, a whole run keeps: so the events of each session in a transcript are read as those of a life.
+use Rattle.std.proofs.Common.{◌≡◌, ◌≢◌, ℕ, zero, suc, ◌+◌, ◌-◌, ◌<◌, ◌≤◌, ◌⊎◌, inl, inr, true, false, Bool, Option, Some, None, Result, Ok, Err, List, [], ◌∷◌, ◌++◌, length, refl, sym, ap, ◌∙◌, subst, arith}
+use Rattle.std.specs.Prelude.{◌==◌, slice_get, slice_set}
+use Rattle.std.proofs.lemmas.Bool.{cases_eq, cases_lt, cond-false, ne_eqb}
+use Rattle.std.proofs.lemmas.List.{append-nil, length-set, length-replicate}
+use Rattle.std.proofs.lemmas.Option.{slice_get_cases, slice_get_within}
+use Rattle.pgs_step.specs.declared.errors.Error.{Error}
+use Rattle.pgs_step.specs.declared.events.Event.{Event}
+use Rattle.pgs_step.specs.declared.events.What.{What}
+use Rattle.pgs_step.specs.declared.events.What.TheVariants as what
+use Rattle.pgs_command.specs.declared.commands.Command.{Command}
+use Rattle.pgs_command.specs.declared.lines.Line.{Line}
+use Rattle.pgs_command.specs.declared.lines.BadLine.{BadLine}
+use Rattle.owner_kinds.specs.Kind.{Kind}
+use Rattle.owner_kinds.specs.KindShelf.{table_of}
+use Rattle.owner_kinds.specs.KindTable.{IsSound, KindTable}
+use Rattle.reset_callbacks.specs.Hook.{AreDistinct}
+use Rattle.reset_callbacks.specs.ShelfState.{ShelfState, held}
+use Rattle.lifetime_laws.specs.Reading.{Reader, allows_all, events_of, seen_after}
+use Rattle.lifetime_laws.proofs.Readings.{allows_all-append, events_of-append, events_of-other, events_of-own, seen_after-append}
+use Rattle.session_rules.specs.State.{SessionState, opening}
+use Rattle.session_rules.specs.World.{Around, Moment, Options, Scene, World, around, moment, opened, session_at, with_scene}
+use Rattle.session_rules.specs.Acts.{Ended}
+use Rattle.session_rules.specs.Ends.{exited}
+use Rattle.session_rules.specs.Standing.{AreHooks, StandsBetweenLines}
+use Rattle.session_rules.specs.HookCounts.{HooksCounted}
+use Rattle.session_rules.specs.Transcript.{Course, Reading, Turn, after_command, after_exit, after_line, after_read, at_start, course_by, ended, exits, goes_on, missing, of_session, transcript_by, turn}
+use Rattle.session_rules.proofs.HookLaws.{exited_counts_hooks, turn_counts_hooks}
+use Rattle.session_rules.proofs.OpeningStands.{opening_stands}
+use Rattle.session_rules.proofs.Standings.{stands_between_elsewhere}
+use Rattle.session_rules.proofs.TurnStands.{turn_stands}
+use Rattle.session_laws.proofs.ReaderLaws.{IsLife, IsRead, Reads}
+use Rattle.session_laws.proofs.LiftHooks.{HooksFit, hooks_at_first, hooks_behind, hooks_of_one, place_other, place_set, replicated}
+use Rattle.session_laws.proofs.LiftKinds.{exit_keeps_kinds, turn_keeps_descriptors, turn_keeps_kinds}
+
+-- the session of this number in its surroundings
+abbrev pub scene_at : ℕ → SessionState → World → Scene
+scene_at n session x = record { session = session; around = around n x }
+
+-- this is the session of the number
+pub record IsThere (n : ℕ) (session : SessionState) (x : World) : Type 0 where
+  pub some : 1 ≤ n
+  pub there : slice_get x.sessions (n - 1) ≡ Some session
+
+-- a number that none of so many sessions has
+abbrev pub IsOutside : ℕ → ℕ → Type 0
+IsOutside sessions n = (n ≡ 0) ⊎ (sessions < n)
+
+at_suc : (n : ℕ) (x : World) → session_at (suc n) x ≡ slice_get x.sessions (suc n - 1)
+at_suc n x = cond-false (suc n == 0) None (slice_get x.sessions (suc n - 1)) (ne_eqb (suc n) 0 (λ e. omega (arith, e)))
+
+there_of : (n : ℕ) (session : SessionState) (x : World) → session_at n x ≡ Some session → IsThere n session x
+there_of zero session x h = absurd (cc h)
+there_of (suc n) session x h = record { some = omega arith; there = sym (at_suc n x) ∙ h }
+
+outside_of : (n : ℕ) (x : World) → session_at n x ≡ None → IsOutside (length x.sessions) n
+outside_of zero x h = inl refl
+outside_of (suc n) x h = elim (slice_get_cases x.sessions (suc n - 1)).1 [
+  | inl some ↦ let z : None ≡ Some some.0 = sym h ∙ (at_suc n x ∙ some.2) in absurd (cc z)
+  | inr none ↦ inr (omega (arith, none.0))
+]
+
+-- As a run stands: the sessions from this number on are between two lines.
+pub record AreStanding (kinds : KindTable) (sessions from : ℕ) (x : World) : Type 0 where
+  pub table : table_of x.kinds ≡ kinds
+  pub many : length x.sessions ≡ sessions
+  pub hooks : HooksFit x.sessions x.shelf
+  pub lines : (n : ℕ) (session : SessionState) → from ≤ n → IsThere n session x → StandsBetweenLines (scene_at n session x)
+
+-- the run behind a turn
+abbrev pub behind_turn : ℕ → Turn → World → World
+behind_turn n turn x = record (with_scene n turn.moment.scene x) { calls = turn.moment.calls }
+
+-- What is kept by each turn of a session that stands, by a line of a session that isn't there, and by each exit.
+pub record CourseLaw (kinds : KindTable) (sessions : ℕ) (P : ℕ → World → List Event → Type 0) : Type 0 where
+  pub turns : (n : ℕ) (session : SessionState) (x : World) (events : List Event) (w : Option ℕ) (line : Option Command) → IsThere n session x → AreStanding kinds sessions 1 x → P 1 x events
+      → P 1 (behind_turn n (turn w line (moment n session x)) x) (events ++ of_session n (turn w line (moment n session x)).events)
+  pub misses : (n : ℕ) (x : World) (events : List Event) (error : Error) → IsOutside sessions n → AreStanding kinds sessions 1 x → P 1 x events → P 1 x (events ++ of_session n (what.Error error ∷ []))
+  pub exits : (n : ℕ) (session : SessionState) (x : World) (events : List Event) → IsThere n session x → AreStanding kinds sessions n x → P n x events
+      → P (n + 1) (with_scene n (exited (scene_at n session x)).scene x) (events ++ of_session n (exited (scene_at n session x)).events)
+
+module _ (kinds : KindTable) (sessions : ℕ) where
+  -- one session changes, while the others stay
+  stand_on : (from least n : ℕ) (session : SessionState) (x : World) (behind : Scene) (calls : ℕ) (events : List What) → IsThere n session x → from ≤ least
+      → table_of behind.around.kinds ≡ table_of x.kinds → HooksCounted session.contexts x.shelf behind.session.contexts behind.around.shelf events → (least ≤ n → StandsBetweenLines behind)
+      → AreStanding kinds sessions from x → AreStanding kinds sessions least (record (with_scene n behind x) { calls = calls })
+  stand_on from least n session x behind calls events there more same count stands h =
+      let y : World = record (with_scene n behind x) { calls = calls } in
+      let fit : HooksFit (slice_set x.sessions (n - 1) behind.session) behind.around.shelf =
+      hooks_behind x.sessions x.shelf behind.around.shelf (n - 1) session behind.session events there.there count h.hooks in
+      record {
+        table = same ∙ h.table;
+        many = length-set x.sessions (n - 1) behind.session ∙ h.many;
+        hooks = fit;
+        lines = λ m t l u.
+            let own : AreHooks t.contexts behind.around.shelf = hooks_of_one (slice_set x.sessions (n - 1) behind.session) behind.around.shelf (m - 1) t u.there fit in
+            elim (place_set x.sessions (n - 1) behind.session (m - 1) t u.there) [
+              | inl is ↦
+                  let e : m ≡ n = omega (arith, is.0, u.some, there.some) in
+                  subst (λ (z : SessionState). StandsBetweenLines (scene_at m z y)) (sym is.1)
+                  (stands_between_elsewhere behind.session behind.around (around m y) (subst (λ (z : SessionState). AreHooks z.contexts behind.around.shelf) is.1 own) refl (stands (omega (arith, l, e))))
+              | inr other ↦ stands_between_elsewhere t (around m x) (around m y) own same (h.lines m t (omega (arith, l, more)) (record { some = u.some; there = other.1 }))
+            ];
+      }
+
+  stand_turned : (w : Option ℕ) (line : Option Command) (n : ℕ) (session : SessionState) (x : World) → IsThere n session x → AreStanding kinds sessions 1 x
+      → AreStanding kinds sessions 1 (behind_turn n (turn w line (moment n session x)) x)
+  stand_turned w line n session x there h =
+      let m : Moment = moment n session x in
+      let k : StandsBetweenLines (scene_at n session x) = h.lines n session there.some there in
+      stand_on 1 1 n session x (turn w line m).moment.scene (turn w line m).moment.calls (turn w line m).events there (omega arith) (turn_keeps_kinds w line m) (turn_counts_hooks w line m k) (λ l. turn_stands w line m k) h
+
+  stand_ended : (n : ℕ) (session : SessionState) (x : World) → IsThere n session x → AreStanding kinds sessions n x
+      → AreStanding kinds sessions (n + 1) (with_scene n (exited (scene_at n session x)).scene x)
+  stand_ended n session x there h =
+      let s : Scene = scene_at n session x in
+      let k : StandsBetweenLines s = h.lines n session (omega arith) there in
+      stand_on n (n + 1) n session x (exited s).scene x.calls (exited s).events there (omega arith) (exit_keeps_kinds s)
+      (exited_counts_hooks s (record { once = k.stands.contexts.once; below = k.stands.contexts.below })) (λ l. absurd (omega (arith, l))) h
+
+  stand_first : (options : Options) (all : List Kind) (shelf : ShelfState) → table_of all ≡ kinds → IsSound (table_of all) → AreDistinct (held shelf) → options.sessions ≡ sessions
+      → AreStanding kinds sessions 1 (opened options all shelf)
+  stand_first options all shelf table sound differ many = record {
+    table = table;
+    many = length-replicate options.sessions opening ∙ many;
+    hooks = hooks_at_first options.sessions shelf differ;
+    lines = λ n session l u.
+        let is : session ≡ opening = replicated options.sessions (n - 1) opening session u.there in
+        subst (λ (z : SessionState). StandsBetweenLines (scene_at n z (opened options all shelf))) (sym is) (opening_stands (around n (opened options all shelf)) differ sound);
+  }
+
+  module _ (P : ℕ → World → List Event → Type 0) (law : CourseLaw kinds sessions P) where
+    record Holds (from : ℕ) (course : Course) : Type 0 where
+      stands : AreStanding kinds sessions from course.world
+      keeps : P from course.world course.events
+
+    command_holds : (w : Option ℕ) (course : Course) (n : ℕ) (line : Option Command) (o : Option SessionState) → session_at n course.world ≡ o → Holds 1 course → Holds 1 (after_command w course n line o)
+    command_holds w course n line None is h = record {
+      stands = h.stands;
+      keeps = law.misses n course.world course.events (missing line) (subst (λ (k : ℕ). IsOutside k n) h.stands.many (outside_of n course.world is)) h.stands h.keeps;
+    }
+    command_holds w course n line (Some session) is h =
+        let there : IsThere n session course.world = there_of n session course.world is in
+        record {
+          stands = stand_turned w line n session course.world there h.stands;
+          keeps = law.turns n session course.world course.events w line there h.stands h.keeps;
+        }
+
+    read_holds : (w : Option ℕ) (course : Course) (r : Result Line BadLine) → Holds 1 course → Holds 1 (after_read w course r)
+    read_holds w course (Ok line) h = command_holds w course line.session (Some line.command) (session_at line.session course.world) refl h
+    read_holds w course (Err bad) h = command_holds w course bad.session None (session_at bad.session course.world) refl h
+
+    line_holds : (reads : Reading) (w : Option ℕ) (line : List ℕ) (course : Course) → Holds 1 course → Holds 1 (after_line reads w line course)
+    line_holds reads w line course h = go course.wanted
+      where
+        go : (b : Bool) → Holds 1 (elim b as (λ _. Course) [ true ↦ course | false ↦ after_read w course (reads line) ])
+        go true = h
+        go false = read_holds w course (reads line) h
+
+    lines_hold : (reads : Reading) (w : Option ℕ) (lines : List (List ℕ)) (course : Course) → Holds 1 course → Holds 1 (goes_on reads w lines course)
+    lines_hold reads w [] course h = h
+    lines_hold reads w (line ∷ lines) course h = lines_hold reads w lines (after_line reads w line course) (line_holds reads w line course h)
+
+    exits_hold : (n : ℕ) (rest : List SessionState) (course : Course) → 1 ≤ n → n + length rest ≡ sessions + 1
+        → ((j : ℕ) (t : SessionState) → slice_get rest j ≡ Some t → slice_get course.world.sessions (j + (n - 1)) ≡ Some t) → Holds n course → Holds (sessions + 1) (exits n rest course)
+    exits_hold n [] course some many are h = let e : n ≡ sessions + 1 = omega (arith, many) in subst (λ (k : ℕ). Holds k course) e h
+    exits_hold n (session ∷ rest) course some many are h =
+        let at_first : 0 + (n - 1) ≡ n - 1 = omega arith in
+        let there : IsThere n session course.world = record { some = some; there = ap (slice_get course.world.sessions) (sym at_first) ∙ are zero session refl } in
+        let behind : Ended = exited (scene_at n session course.world) in
+        exits_hold (n + 1) rest (after_exit n course behind) (omega arith) (omega (arith, many))
+        (λ j t e.
+        let same : j + (n + 1 - 1) ≡ suc j + (n - 1) = omega (arith, some) in
+        place_other course.world.sessions (n - 1) (j + (n + 1 - 1)) behind.scene.session (λ q. omega (arith, q, some))
+        ∙ (ap (slice_get course.world.sessions) same ∙ are (suc j) t e))
+        (record {
+          stands = stand_ended n session course.world there h.stands;
+          keeps = law.exits n session course.world course.events there h.stands h.keeps;
+        })
+
+    all_end : (course : Course) → Holds 1 course → Holds (sessions + 1) (ended course)
+    all_end course h =
+        exits_hold 1 course.world.sessions course (omega arith) (omega (arith, h.stands.many))
+        (λ j t e. let same : j + (1 - 1) ≡ j = omega arith in ap (slice_get course.world.sessions) same ∙ e) h
+
+    -- So it is kept by a whole run, from its opening to the exits of all sessions.
+    pub run_keeps : (reads : Reading) (w : Option ℕ) (options : Options) (all : List Kind) (shelf : ShelfState) (lines : List (List ℕ)) → table_of all ≡ kinds → options.sessions ≡ sessions → IsSound (table_of all) → AreDistinct (held shelf)
+        → P 1 (opened options all shelf) [] → P (sessions + 1) (ended (course_by reads w options all shelf lines)).world (transcript_by reads w options all shelf lines)
+    unfolding course_by transcript_by
+    run_keeps reads w options all shelf lines table many sound differ first =
+        (all_end (goes_on reads w lines (at_start (opened options all shelf)))
+        (lines_hold reads w lines (at_start (opened options all shelf)) (record { stands = stand_first options all shelf table sound differ many; keeps = first }))).keeps
+
+-- The life of a session by what a reader has seen of it, where that may fit other surroundings only if there are as many descriptors.
+pub record IsLifeAmong {Seen : Type 0} (kinds : KindTable) (reader : Reader Seen) (Fits : Seen → Scene → Type 0) (start : Seen) (Last : Seen → Type 0) : Type 0 where
+  pub opens : (around : Around) → table_of around.kinds ≡ kinds → Fits start (record { session = opening; around = around })
+  pub elsewhere : (seen : Seen) (session : SessionState) (a b : Around) → table_of b.kinds ≡ table_of a.kinds → b.descriptors ≡ a.descriptors
+      → Fits seen (record { session = session; around = a }) → Fits seen (record { session = session; around = b })
+  pub error : (error : Error) (s : Scene) → Reads reader Fits s s (what.Error error ∷ [])
+  pub turns : (w : Option ℕ) (line : Option Command) (m : Moment) → StandsBetweenLines m.scene
+      → Reads reader Fits m.scene (turn w line m).moment.scene (turn w line m).events
+  pub exits : (s : Scene) → StandsBetweenLines s → (seen : Seen) → Fits seen s
+      → (allows_all reader seen (exited s).events ≡ true) × Last (seen_after reader seen (exited s).events)
+
+pub life_among : {Seen : Type 0} {kinds : KindTable} {reader : Reader Seen} {Fits : Seen → Scene → Type 0} {start : Seen} {Last : Seen → Type 0} → IsLife kinds reader Fits start Last → IsLifeAmong kinds reader Fits start Last
+life_among life = record {
+  opens = life.opens;
+  elsewhere = λ seen session a b table descriptors fit. life.elsewhere seen session a b table fit;
+  error = life.error;
+  turns = life.turns;
+  exits = life.exits;
+}
+
+-- What the events of each session in a transcript owe a reader: those of a session of the run are allowed, and what is seen in the end is as it is to be;
+-- of a number that no session has there are only errors, and what is seen fits a session that has just opened.
+pub record HaveLived {Seen : Type 0} (kinds : KindTable) (reader : Reader Seen) (Fits : Seen → Scene → Type 0) (start : Seen) (Last : Seen → Type 0) (sessions : ℕ) (events : List Event) : Type 0 where
+  pub allowed : (n : ℕ) → allows_all reader start (events_of n events) ≡ true
+  pub lasts : (n : ℕ) → 1 ≤ n → n ≤ sessions → Last (seen_after reader start (events_of n events))
+  pub opens : (n : ℕ) → IsOutside sessions n → (around : Around) × (table_of around.kinds ≡ kinds) × Fits (seen_after reader start (events_of n events)) (record { session = opening; around = around })
+
+own_events : (n : ℕ) (events : List Event) (whats : List What) → events_of n (events ++ of_session n whats) ≡ events_of n events ++ whats
+own_events n events whats = events_of-append n events (of_session n whats) ∙ ap (λ (more : List What). events_of n events ++ more) (events_of-own n whats)
+
+other_events : (n m : ℕ) (events : List Event) (whats : List What) → m ≢ n → events_of n (events ++ of_session m whats) ≡ events_of n events
+other_events n m events whats differ =
+    events_of-append n events (of_session m whats) ∙ (ap (λ (more : List What). events_of n events ++ more) (events_of-other n m whats differ) ∙ append-nil (events_of n events))
+
+module _ {Seen : Type 0} (kinds : KindTable) (reader : Reader Seen) (Fits : Seen → Scene → Type 0) (start : Seen) (Last : Seen → Type 0) (life : IsLifeAmong kinds reader Fits start Last) (sessions : ℕ) (nowhere : Around) where
+  -- what was read so far, and what is read of it in the end
+  abbrev Has : Scene → List What → Type 0
+  Has s whats = IsRead reader Fits start s whats
+
+  record Ends (whats : List What) : Type 0 where
+    allowed : allows_all reader start whats ≡ true
+    lasts : Last (seen_after reader start whats)
+
+  -- The events of each session are read: those of sessions that have ended, of those that go on, and of numbers that no session has.
+  record AreReading (from : ℕ) (x : World) (events : List Event) : Type 0 where
+    ended_well : (n : ℕ) → 1 ≤ n → n < from → Ends (events_of n events)
+    going : (n : ℕ) (session : SessionState) → from ≤ n → IsThere n session x → Has (scene_at n session x) (events_of n events)
+    beside : (n : ℕ) → IsOutside sessions n → Has (record { session = opening; around = nowhere }) (events_of n events)
+
+  read_on : (s t : Scene) (before whats : List What) → Has s before → Reads reader Fits s t whats → Has t (before ++ whats)
+  read_on s t before whats h k =
+      let more : IsRead reader Fits (seen_after reader start before) t whats = k.so (seen_after reader start before) h.fits in
+      record {
+        allowed = allows_all-append reader start before whats h.allowed more.allowed;
+        fits = subst (λ (seen : Seen). Fits seen t) (sym (seen_after-append reader start before whats)) more.fits;
+      }
+
+  read_elsewhere : (session : SessionState) (a b : Around) (whats : List What) → table_of b.kinds ≡ table_of a.kinds → b.descriptors ≡ a.descriptors → Has (record { session = session; around = a }) whats → Has (record { session = session; around = b }) whats
+  read_elsewhere session a b whats same descriptors h = record { allowed = h.allowed; fits = life.elsewhere (seen_after reader start whats) session a b same descriptors h.fits }
+
+  -- a number that no session has isn't that of one
+  apart : (n m : ℕ) (session : SessionState) (x : World) → length x.sessions ≡ sessions → IsThere n session x → IsOutside sessions m → n ≢ m
+  apart n m session x many there out e =
+      let within : n - 1 < length x.sessions = slice_get_within x.sessions (n - 1) session there.there in
+      elim out [ inl none ↦ omega (arith, e, none, there.some) | inr past ↦ omega (arith, e, past, within, many, there.some) ]
+
+  turned : (n : ℕ) (session : SessionState) (x : World) (events : List Event) (w : Option ℕ) (line : Option Command) → IsThere n session x → AreStanding kinds sessions 1 x → AreReading 1 x events
+      → AreReading 1 (behind_turn n (turn w line (moment n session x)) x) (events ++ of_session n (turn w line (moment n session x)).events)
+  turned n session x events w line there stands h =
+      let m : Moment = moment n session x in
+      let t : Scene = (turn w line m).moment.scene in
+      let whats : List What = (turn w line m).events in
+      let y : World = behind_turn n (turn w line m) x in
+      let own : Has t (events_of n events ++ whats) =
+      read_on (scene_at n session x) t (events_of n events) whats (h.going n session there.some there) (life.turns w line m (stands.lines n session there.some there)) in
+      record {
+        ended_well = λ k l u. absurd (omega (arith, l, u));
+        going = λ k left l u. elim (place_set x.sessions (n - 1) t.session (k - 1) left u.there) [
+          | inl is ↦
+              let e : k ≡ n = omega (arith, is.0, u.some, there.some) in
+              subst (λ (z : SessionState). Has (scene_at k z y) (events_of k (events ++ of_session n whats))) (sym is.1)
+              (subst (λ (j : ℕ). Has (scene_at k t.session y) (events_of j (events ++ of_session n whats))) (sym e)
+              (subst (λ (es : List What). Has (scene_at k t.session y) es) (sym (own_events n events whats)) (read_elsewhere t.session t.around (around k y) (events_of n events ++ whats) refl (sym (turn_keeps_descriptors w line m)) own)))
+          | inr other ↦
+              let e : n ≢ k = λ q. other.0 (omega (arith, q)) in
+              subst (λ (es : List What). Has (scene_at k left y) es) (sym (other_events k n events whats e))
+              (read_elsewhere left (around k x) (around k y) (events_of k events) (turn_keeps_kinds w line m) refl (h.going k left l (record { some = u.some; there = other.1 })))
+        ];
+        beside = λ k out. subst (λ (es : List What). Has (record { session = opening; around = nowhere }) es) (sym (other_events k n events whats (apart n k session x stands.many there out))) (h.beside k out);
+      }
+
+  missed : (n : ℕ) (x : World) (events : List Event) (error : Error) → length x.sessions ≡ sessions → IsOutside sessions n → AreReading 1 x events → AreReading 1 x (events ++ of_session n (what.Error error ∷ []))
+  missed n x events error many out h =
+      let whats : List What = what.Error error ∷ [] in
+      let none : Scene = record { session = opening; around = nowhere } in
+      record {
+        ended_well = λ k l u. absurd (omega (arith, l, u));
+        going = λ k left l u. subst (λ (es : List What). Has (scene_at k left x) es) (sym (other_events k n events whats (λ e. apart k n left x many u out (sym e)))) (h.going k left l u);
+        beside = λ k o. elim (cases_eq n k) [
+          | inl e ↦
+              subst (λ (j : ℕ). Has none (events_of j (events ++ of_session n whats))) e
+              (subst (λ (es : List What). Has none es) (sym (own_events n events whats)) (read_on none none (events_of n events) whats (h.beside n out) (life.error error none)))
+          | inr differ ↦ subst (λ (es : List What). Has none es) (sym (other_events k n events whats differ)) (h.beside k o)
+        ];
+      }
+
+  left : (n : ℕ) (session : SessionState) (x : World) (events : List Event) → IsThere n session x → AreStanding kinds sessions n x → AreReading n x events
+      → AreReading (n + 1) (with_scene n (exited (scene_at n session x)).scene x) (events ++ of_session n (exited (scene_at n session x)).events)
+  left n session x events there stands h =
+      let s : Scene = scene_at n session x in
+      let whats : List What = (exited s).events in
+      let y : World = with_scene n (exited s).scene x in
+      let now : Has s (events_of n events) = h.going n session (omega arith) there in
+      let more : (allows_all reader (seen_after reader start (events_of n events)) whats ≡ true) × Last (seen_after reader (seen_after reader start (events_of n events)) whats) =
+      life.exits s (stands.lines n session (omega arith) there) (seen_after reader start (events_of n events)) now.fits in
+      let own : Ends (events_of n events ++ whats) = record {
+        allowed = allows_all-append reader start (events_of n events) whats now.allowed more.0;
+        lasts = subst Last (sym (seen_after-append reader start (events_of n events) whats)) more.1;
+      } in
+      record {
+        ended_well = λ k l u. elim (cases_eq n k) [
+          | inl e ↦ subst (λ (j : ℕ). Ends (events_of j (events ++ of_session n whats))) e (subst Ends (sym (own_events n events whats)) own)
+          | inr differ ↦ subst Ends (sym (other_events k n events whats differ)) (h.ended_well k l (omega (arith, u, differ)))
+        ];
+        going = λ k t l u. elim (place_set x.sessions (n - 1) (exited s).scene.session (k - 1) t u.there) [
+          | inl is ↦ absurd (omega (arith, is.0, l, u.some, there.some))
+          | inr other ↦
+              let e : n ≢ k = λ q. other.0 (omega (arith, q)) in
+              subst (λ (es : List What). Has (scene_at k t y) es) (sym (other_events k n events whats e))
+              (read_elsewhere t (around k x) (around k y) (events_of k events) (exit_keeps_kinds s) refl (h.going k t (omega (arith, l)) (record { some = u.some; there = other.1 })))
+        ];
+        beside = λ k out. subst (λ (es : List What). Has (record { session = opening; around = nowhere }) es) (sym (other_events k n events whats (apart n k session x stands.many there out))) (h.beside k out);
+      }
+
+  -- so all of this is kept by a run
+  reading_law : CourseLaw kinds sessions AreReading
+  reading_law = record {
+    turns = λ n session x events w line there stands h. turned n session x events w line there stands h;
+    misses = λ n x events error out stands h. missed n x events error stands.many out h;
+    exits = λ n session x events there stands h. left n session x events there stands h;
+  }
+
+  first_read : (x : World) → ((n : ℕ) (session : SessionState) → IsThere n session x → session ≡ opening) → table_of x.kinds ≡ kinds → table_of nowhere.kinds ≡ kinds → AreReading 1 x []
+  first_read x fresh table none = record {
+    ended_well = λ n l u. absurd (omega (arith, l, u));
+    going = λ n session l u.
+        subst (λ (z : SessionState). Has (scene_at n z x) []) (sym (fresh n session u)) (record { allowed = refl; fits = life.opens (around n x) table });
+    beside = λ n out. record { allowed = refl; fits = life.opens nowhere none };
+  }
+
+  have_lived : (x : World) (events : List Event) → table_of nowhere.kinds ≡ kinds → AreReading (sessions + 1) x events → HaveLived kinds reader Fits start Last sessions events
+  have_lived x events table h = record {
+    allowed = λ n. elim (cases_le n) [
+      | inl out ↦ (h.beside n out).allowed
+      | inr own ↦ (h.ended_well n own.0 (omega (arith, own.1))).allowed
+    ];
+    lasts = λ n l u. (h.ended_well n l (omega (arith, u))).lasts;
+    opens = λ n out. (nowhere, table, (h.beside n out).fits);
+  }
+    where
+      cases_le : (n : ℕ) → IsOutside sessions n ⊎ ((1 ≤ n) × (n ≤ sessions))
+      cases_le n = elim (cases_eq n 0) [
+        | inl e ↦ inl (inl e)
+        | inr some ↦ elim (cases_lt sessions n) [
+          | inl past ↦ inl (inr past)
+          | inr within ↦ inr (omega (arith, some), within)
+        ]
+      ]
+
+-- From the life of a session to the events of each session in a transcript, where the hooks on the shelf differ and the kinds are sound.
+pub lives_among : {Seen : Type 0} (reader : Reader Seen) (Fits : Seen → Scene → Type 0) (start : Seen) (Last : Seen → Type 0) (reads : Reading) (w : Option ℕ) (options : Options) (kinds : List Kind) (shelf : ShelfState) (lines : List (List ℕ))
+    → IsSound (table_of kinds) → AreDistinct (held shelf) → IsLifeAmong (table_of kinds) reader Fits start Last
+    → HaveLived (table_of kinds) reader Fits start Last options.sessions (transcript_by reads w options kinds shelf lines)
+lives_among reader Fits start Last reads w options kinds shelf lines sound differ life =
+    let x : World = opened options kinds shelf in
+    let nowhere : Around = around 0 x in
+    have_lived (table_of kinds) reader Fits start Last life options.sessions nowhere (ended (course_by reads w options kinds shelf lines)).world (transcript_by reads w options kinds shelf lines) refl
+    (run_keeps (table_of kinds) options.sessions (AreReading (table_of kinds) reader Fits start Last life options.sessions nowhere) (reading_law (table_of kinds) reader Fits start Last life options.sessions nowhere)
+    reads w options kinds shelf lines refl refl sound differ
+    (first_read (table_of kinds) reader Fits start Last life options.sessions nowhere x (λ n session u. replicated options.sessions (n - 1) opening session u.there) refl refl))
+
+pub lives_in_run : {Seen : Type 0} (reader : Reader Seen) (Fits : Seen → Scene → Type 0) (start : Seen) (Last : Seen → Type 0) (reads : Reading) (w : Option ℕ) (options : Options) (kinds : List Kind) (shelf : ShelfState) (lines : List (List ℕ))
+    → IsSound (table_of kinds) → AreDistinct (held shelf) → IsLife (table_of kinds) reader Fits start Last
+    → HaveLived (table_of kinds) reader Fits start Last options.sessions (transcript_by reads w options kinds shelf lines)
+lives_in_run reader Fits start Last reads w options kinds shelf lines sound differ life = lives_among reader Fits start Last reads w options kinds shelf lines sound differ (life_among life)
+
+-- What is seen in the end is as it is to be for each number, where that is so of a session that has just opened.
+pub last_of_all : {Seen : Type 0} {kinds : KindTable} {reader : Reader Seen} {Fits : Seen → Scene → Type 0} {start : Seen} {Last : Seen → Type 0} {sessions : ℕ} {events : List Event}
+    → HaveLived kinds reader Fits start Last sessions events → ((seen : Seen) (around : Around) → Fits seen (record { session = opening; around = around }) → Last seen)
+    → (n : ℕ) → Last (seen_after reader start (events_of n events))
+last_of_all {reader = reader} {start = start} {sessions = sessions} {events = events} h fresh n =
+    elim (cases_eq n 0) [
+      | inl e ↦ let o = h.opens n (inl e) in fresh (seen_after reader start (events_of n events)) o.0 o.2
+      | inr some ↦ elim (cases_lt sessions n) [
+        | inl past ↦ let o = h.opens n (inr past) in fresh (seen_after reader start (events_of n events)) o.0 o.2
+        | inr within ↦ h.lasts n (omega (arith, some)) within
+      ]
+    ]

@@ -1,0 +1,184 @@
+-- What a law owes for a line makes it hold of each turn and of what an exit rolls back; so the events of a session's whole life are read.
+use Rattle.std.proofs.Common.{◌≡◌, ℕ, Bool, true, false, not, List, [], ◌∷◌, Option, Some, None, refl, sym, subst}
+use Rattle.pgs_step.specs.declared.errors.Error.{Error}
+use Rattle.pgs_step.specs.declared.errors.Error.TheVariants as error
+use Rattle.pgs_step.specs.declared.events.What.TheVariants as what
+use Rattle.pgs_command.specs.declared.commands.Command.{Command}
+use Rattle.owner_kinds.specs.KindTable.{KindTable}
+use Rattle.owner_kinds.specs.KindShelf.{table_of}
+use Rattle.lifetime_laws.specs.Reading.{Reader, allows_all, seen_after}
+use Rattle.lifetime_laws.proofs.Readings.{allows_all-append, seen_after-append}
+use Rattle.session_rules.specs.State.{LevelState, SessionState, first_of, is_aborted, opening, top_context}
+use Rattle.session_rules.specs.World.{Around, Moment, Scene}
+use Rattle.session_rules.specs.Acts.{Ended, context_gone, for_each, in_order, say, switched, where_so, where_there}
+use Rattle.session_rules.specs.Ends.{aborted, cleaned_up, exited, given_up, level_rolled_back, recovered}
+use Rattle.session_rules.specs.Calls.{Done}
+use Rattle.session_rules.specs.Does.{does, does_all}
+use Rattle.session_rules.specs.Elements as e
+use Rattle.session_rules.specs.Elements.{Element}
+use Rattle.session_rules.specs.Standing.{AreOuter, HasExited, Stands, StandsBetweenLines}
+use Rattle.session_rules.specs.Transcript.{line_elements, turn, turn_of}
+use Rattle.session_rules.proofs.EndsStand.{Leaves as Leaving, at_settled, behind_rollback, exited_left, is_left, rolled_stands, settled}
+use Rattle.session_rules.proofs.Leaves.{EndLeaves, Follows, Keeps, Law, OwesMoves, last, next}
+use Rattle.session_rules.proofs.Walk.{by_order, by_so, by_switch, run_follows}
+use Rattle.session_rules.proofs.WalkEnds.{all_owed}
+use Rattle.session_rules.proofs.Spoken.{line_spoken}
+use Rattle.session_rules.proofs.TurnStands.{Meets, Runs, command_leads, refused_leads}
+use Rattle.session_laws.proofs.ReaderLaws.{IsLife, IsRead, OwesTurns, Reads}
+
+-- the levels of a scene are rolled back, and what is left stands without levels
+pub record HasGone (R : Law) (s : Scene) (behind : Ended) : Type 0 where
+  pub left : Scene
+  pub stands : Stands (settled [] left)
+  pub is : behind.scene ≡ settled [] left
+  pub keeps : R s behind.scene behind.events
+
+module _ (R : Law) (o : OwesTurns R) where
+  -- a level is rolled back, whether it is aborted already or not
+  level_keeps : (level : LevelState) (levels : List LevelState) (s : Scene) → Stands s → s.session.levels ≡ level ∷ levels → R s (level_rolled_back level s).scene (level_rolled_back level s).events
+  level_keeps level levels s h is = go level.aborted refl
+    where
+      go : (b : Bool) → level.aborted ≡ b → R s (in_order (where_so (not b) aborted ∷ cleaned_up ∷ []) s).scene (in_order (where_so (not b) aborted ∷ cleaned_up ∷ []) s).events
+      go true e = o.leaves.both (o.ends.cleans level levels s h is e) (o.leaves.none _)
+      go false e =
+          subst (λ (b : Bool). R s (in_order (where_so (not b) aborted ∷ cleaned_up ∷ []) s).scene (in_order (where_so (not b) aborted ∷ cleaned_up ∷ []) s).events)
+          e (o.ends.rolls_back level levels s h is e)
+
+  -- the level above one that went is aborted
+  above_keeps : (levels : List LevelState) (s : Scene) → Leaving levels s → AreOuter levels → R s (where_there (first_of levels) (λ above. aborted) s).scene (where_there (first_of levels) (λ above. aborted) s).events
+  above_keeps [] s h outer = o.leaves.none s
+  above_keeps (level ∷ levels) s h outer = o.ends.aborts level levels s h.between.stands h.are outer.0.unaborted
+
+  -- what becomes of the levels after an error
+  gives_keeps : (level : LevelState) (levels : List LevelState) (s : Scene) (b i : Bool) → Stands (settled (level ∷ levels) s) → level.aborted ≡ false
+      → let given : Ended = elim b as (λ _. Ended) [
+        | true ↦ in_order (level_rolled_back level ∷ where_there (first_of levels) (λ above. aborted) ∷ []) (settled (level ∷ levels) s)
+        | false ↦ elim i as (λ _. Ended) [ true ↦ level_rolled_back level (settled (level ∷ levels) s) | false ↦ aborted (settled (level ∷ levels) s) ]
+      ] in
+      R (settled (level ∷ levels) s) given.scene given.events
+  gives_keeps level levels s true i h active =
+      o.leaves.both (level_keeps level levels (settled (level ∷ levels) s) h refl)
+      (o.leaves.both (above_keeps levels (level_rolled_back level (settled (level ∷ levels) s)).scene (rolled_stands level levels s h) h.fit.1) (o.leaves.none _))
+  gives_keeps level levels s false true h active = level_keeps level levels (settled (level ∷ levels) s) h refl
+  gives_keeps level levels s false false h active = o.ends.aborts level levels (settled (level ∷ levels) s) h refl active
+
+  given_keeps : (levels : List LevelState) (s : Scene) → Stands (settled levels s)
+      → R (settled levels s) (where_so (not (is_aborted levels)) (given_up levels) (settled levels s)).scene (where_so (not (is_aborted levels)) (given_up levels) (settled levels s)).events
+  given_keeps [] s h = o.leaves.none _
+  given_keeps (level ∷ levels) s h = go level.aborted refl
+    where
+      go : (b : Bool) → level.aborted ≡ b
+          → R (settled (level ∷ levels) s) (where_so (not b) (given_up (level ∷ levels)) (settled (level ∷ levels) s)).scene (where_so (not b) (given_up (level ∷ levels)) (settled (level ∷ levels) s)).events
+      go true e = o.leaves.none _
+      go false e = gives_keeps level levels s level.starting level.implicit h e
+
+  -- a recovery
+  recovered_keeps : (error : Error) (s : Scene) → Stands s → R s (recovered error s).scene (recovered error s).events
+  unfolding recovered
+  recovered_keeps error s h =
+      at_settled (λ (z : Scene). R z (recovered error z).scene (recovered error z).events)
+      (λ levels z k. o.leaves.both (o.error error (settled levels z)) (o.leaves.both (given_keeps levels z k) (o.leaves.none _))) s h
+
+  turn_of_keeps : (s : Scene) (done : Done) (refusal : Option Error) → Stands done.moment.scene → Follows R s done → R s (turn_of done refusal).moment.scene (turn_of done refusal).events
+  turn_of_keeps s done None h k = k.so
+  turn_of_keeps s done (Some error) h k = o.leaves.both k.so (recovered_keeps error done.moment.scene h)
+
+  line_leads : (w : Option ℕ) (line : Option Command) (m : Moment) → StandsBetweenLines m.scene → Runs w StandsBetweenLines (line_elements line m.scene.session) m
+  line_leads w None m h = refused_leads w StandsBetweenLines error.SyntaxError m h.stands
+  line_leads w (Some c) m h = command_leads w c m h
+
+  -- A turn keeps the law.
+  pub turn_keeps : (w : Option ℕ) (line : Option Command) (m : Moment) → StandsBetweenLines m.scene → R m.scene (turn w line m).moment.scene (turn w line m).events
+  unfolding turn
+  turn_keeps w line m h =
+      let run : Runs w StandsBetweenLines (line_elements line m.scene.session) m = line_leads w line m h in
+      let done : Done = does_all w (line_elements line m.scene.session) m in
+      turn_of_keeps m.scene done done.refusal run.stands
+      (run_follows R o.leaves false Meets w (line_elements line m.scene.session) m (line_spoken false line m.scene.session (λ usual. absurd (cc usual))) run.run (o.owed w))
+
+  -- So does what rolls back all levels, as an exit does first.
+  pub rolled_keeps : (levels : List LevelState) (s : Scene) → Stands (settled levels s) → HasGone R (settled levels s) (for_each level_rolled_back levels (settled levels s))
+  rolled_keeps [] s h = record { left = s; stands = h; is = refl; keeps = o.leaves.none _ }
+  rolled_keeps (level ∷ levels) s h =
+      let behind : Scene = (level_rolled_back level (settled (level ∷ levels) s)).scene in
+      let l : Leaving levels behind = rolled_stands level levels s h in
+      let is : behind ≡ settled levels behind = is_left levels behind l in
+      let k : HasGone R behind (for_each level_rolled_back levels behind) =
+      subst (λ (z : Scene). HasGone R z (for_each level_rolled_back levels z)) (sym is) (rolled_keeps levels behind (subst Stands is l.between.stands)) in
+      record { left = k.left; stands = k.stands; is = k.is; keeps = o.leaves.both (level_keeps level levels (settled (level ∷ levels) s) h refl) k.keeps }
+
+  -- and what an exit does then
+  pub tail_keeps : (s : Scene) → R s (in_order (switched top_context ∷ context_gone top_context ∷ say what.Exit ∷ []) s).scene (in_order (switched top_context ∷ context_gone top_context ∷ say what.Exit ∷ []) s).events
+  tail_keeps s = (by_order R o.leaves (next (by_switch R o.leaves top_context) (next (o.leaves.gone top_context) (next (o.leaves.word what.Exit refl) last)))).so s
+
+-- Where a law is kept in any scene, but for what registers a hook or moves a context, it has all that it owes.
+pub owes_by : (R : Law) → EndLeaves R → ((error : Error) (s : Scene) → R s s (what.Error error ∷ [])) → ((w : Option ℕ) (x : Element) (m : Moment) → Meets x m.scene → OwesMoves R w x m) → OwesTurns R
+unfolding does
+owes_by R l error moves = record {
+  leaves = l.leaves;
+  error = error;
+  owed = λ w x m meets. all_owed R l w x m (moves w x m meets);
+  ends = record {
+    aborts = λ level levels s h is active. aborts.so s;
+    cleans = λ level levels s h is gone. cleans.so s;
+    rolls_back = λ level levels s h is active. (by_order R l.leaves (next (by_so R l.leaves (not level.aborted) aborted aborts) (next cleans last))).so s;
+  };
+}
+  where
+    at : Scene → Moment
+    at s = record { scene = s; calls = 0; fail = 0 }
+
+    aborts : Keeps R aborted
+    aborts = record { so = λ s. (all_owed R l None e.Abort (at s) tt).so }
+
+    cleans : Keeps R cleaned_up
+    cleans = record { so = λ s. (all_owed R l None e.Cleanup (at s) tt).so }
+
+-- What a session says at its exit, once all its levels are rolled back.
+abbrev pub tail_of : Scene → Ended
+tail_of s = in_order (switched top_context ∷ context_gone top_context ∷ say what.Exit ∷ []) s
+
+module _ {Seen : Type 0} (kinds : KindTable) (reader : Reader Seen) (Fits : Seen → Scene → Type 0) (start : Seen) (Last : Seen → Type 0) (o : OwesTurns (Reads reader Fits)) where
+  -- what is owed at the end of an exit
+  abbrev pub OwesTail : Type 0
+  OwesTail = (left : Scene) (seen : Seen) → Stands (settled [] left) → Fits seen (settled [] left)
+      → (allows_all reader seen (tail_of (settled [] left)).events ≡ true) × Last (seen_after reader seen (tail_of (settled [] left)).events)
+
+  exit_keeps : OwesTail → (levels : List LevelState) (s : Scene) → Stands (settled levels s) → (seen : Seen) → Fits seen (settled levels s)
+      → (allows_all reader seen (exited (settled levels s)).events ≡ true) × Last (seen_after reader seen (exited (settled levels s)).events)
+  unfolding exited
+  exit_keeps tail levels s h seen fit =
+      let rolled : Ended = for_each level_rolled_back levels (settled levels s) in
+      let k : HasGone (Reads reader Fits) (settled levels s) rolled = rolled_keeps (Reads reader Fits) o levels s h in
+      let read : IsRead reader Fits seen rolled.scene rolled.events = k.keeps.so seen fit in
+      let between : Seen = seen_after reader seen rolled.events in
+      let owed : (allows_all reader between (tail_of rolled.scene).events ≡ true) × Last (seen_after reader between (tail_of rolled.scene).events) =
+      subst (λ (z : Scene). (allows_all reader between (tail_of z).events ≡ true) × Last (seen_after reader between (tail_of z).events)) (sym k.is)
+      (tail k.left between k.stands (subst (λ (z : Scene). Fits between z) k.is read.fits)) in (
+        allows_all-append reader seen rolled.events (tail_of rolled.scene).events read.allowed owed.0,
+        subst Last (sym (seen_after-append reader seen rolled.events (tail_of rolled.scene).events)) owed.1,
+      )
+
+  -- The life of a session, from what a law owes for lines and from what is owed for its beginning and its end.
+  pub life_of : ((around : Around) → table_of around.kinds ≡ kinds → Fits start (record { session = opening; around = around }))
+      → ((seen : Seen) (session : SessionState) (a b : Around) → table_of b.kinds ≡ table_of a.kinds → Fits seen (record { session = session; around = a }) → Fits seen (record { session = session; around = b }))
+      → OwesTail → IsLife kinds reader Fits start Last
+  life_of opens elsewhere tail = record {
+    opens = opens;
+    elsewhere = elsewhere;
+    error = o.error;
+    turns = λ w line m h. turn_keeps (Reads reader Fits) o w line m h;
+    exits = λ s h seen fit.
+        at_settled (λ (z : Scene). Fits seen z → (allows_all reader seen (exited z).events ≡ true) × Last (seen_after reader seen (exited z).events))
+        (λ levels z k. exit_keeps tail levels z k seen) s h.stands fit;
+  }
+
+  -- The same, where what the leaves say of the end is enough: what was seen fits a scene in which nothing is left.
+  pub life_by : ((around : Around) → table_of around.kinds ≡ kinds → Fits start (record { session = opening; around = around }))
+      → ((seen : Seen) (session : SessionState) (a b : Around) → table_of b.kinds ≡ table_of a.kinds → Fits seen (record { session = session; around = a }) → Fits seen (record { session = session; around = b }))
+      → ((seen : Seen) (s : Scene) → HasExited s → Fits seen s → Last seen) → IsLife kinds reader Fits start Last
+  life_by opens elsewhere ends =
+      life_of opens elsewhere
+      (λ left seen h fit.
+      let read : IsRead reader Fits seen (tail_of (settled [] left)).scene (tail_of (settled [] left)).events = (tail_keeps (Reads reader Fits) o (settled [] left)).so seen fit in
+      (read.allowed, ends (seen_after reader seen (tail_of (settled [] left)).events) (behind_rollback (settled [] left)) (exited_left left h) read.fits))

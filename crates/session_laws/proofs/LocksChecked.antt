@@ -1,0 +1,364 @@
+-- What is checked before a lock is given back, a file is used and a lock is taken holds where these come.
+use Rattle.std.proofs.Common.{◌≡◌, ℕ, zero, suc, ◌+◌, ◌-◌, Bool, true, false, not, if◌then◌else◌, List, [], ◌∷◌, ◌++◌, map, length, replicate, flat_map, Option, Some, None, refl, inl, inr, ◌∙◌}
+use Rattle.std.specs.Prelude.{nat_lt, ◌&&◌, ◌==◌, ◌⊎◌}
+use Rattle.std.specs.Option.{option_map_or}
+use Rattle.pgs_step.specs.declared.errors.Error.TheVariants as error
+use Rattle.pgs_step.specs.declared.events.What.TheVariants as what
+use Rattle.pgs_command.specs.declared.commands.Command.{Command}
+use Rattle.pgs_command.specs.declared.commands.Command.TheVariants as command
+use Rattle.pgs_command.specs.declared.commands.TransactionCommand.{TransactionCommand}
+use Rattle.pgs_command.specs.declared.commands.TransactionCommand.TheVariants as transaction
+use Rattle.pgs_command.specs.declared.commands.Work.{Work}
+use Rattle.pgs_command.specs.declared.commands.Work.TheVariants as work
+use Rattle.pgs_command.specs.declared.commands.ContextCommand.{ContextCommand}
+use Rattle.pgs_command.specs.declared.commands.ContextCommand.TheVariants as context
+use Rattle.pgs_command.specs.declared.commands.ChunkCommand.{ChunkCommand}
+use Rattle.pgs_command.specs.declared.commands.ChunkCommand.TheVariants as chunk
+use Rattle.pgs_command.specs.declared.commands.ItemCommand.{ItemCommand}
+use Rattle.pgs_command.specs.declared.commands.ItemCommand.TheVariants as item
+use Rattle.pgs_command.specs.declared.commands.LockCommand.{LockCommand}
+use Rattle.pgs_command.specs.declared.commands.LockCommand.TheVariants as lock
+use Rattle.pgs_command.specs.declared.commands.SnapshotCommand.{SnapshotCommand}
+use Rattle.pgs_command.specs.declared.commands.SnapshotCommand.TheVariants as snapshot
+use Rattle.pgs_command.specs.declared.commands.PlanCommand.{PlanCommand}
+use Rattle.pgs_command.specs.declared.commands.PlanCommand.TheVariants as plan
+use Rattle.pgs_command.specs.declared.commands.PortalCommand.{PortalCommand}
+use Rattle.pgs_command.specs.declared.commands.PortalCommand.TheVariants as portal
+use Rattle.pgs_command.specs.declared.commands.TellCommand.{TellCommand}
+use Rattle.pgs_command.specs.declared.commands.TellCommand.TheVariants as tell
+use Rattle.exec_core.specs.declared.scan.Scan.{Scan}
+use Rattle.exec_core.specs.declared.steps.ScanStep.{ScanStep}
+use Rattle.exec_core.specs.declared.steps.ScanStep.TheVariants as step
+use Rattle.exec_core.specs.Turn as exec
+use Rattle.session_rules.specs.State.{LevelState, OpenPortal, SessionState, deepest_changed, is_aborted, level_context}
+use Rattle.session_rules.specs.Elements as e
+use Rattle.session_rules.specs.Elements.{Check, Element, LevelContext, OfLevel, OfPortal, OwnerRole, PortalContext, Text}
+use Rattle.session_rules.specs.Lookup.{portal_named}
+use Rattle.session_rules.specs.Works.{Row, after_turn, elements, chunk_row, context_row, fallible_part, fetch_steps, item_row, lock_row, plan_row, portal_row, snapshot_row, tell_row, turn_steps, work_of}
+use Rattle.session_rules.specs.Commands.{at_savepoint, begin, commit, committed_to, elements_of, in_transaction, is_end, refused, rollback, rolled_back_to, save, savepoint, start, then_ok, transaction_of, unaborted}
+use Rattle.session_rules.specs.Transcript.{line_elements}
+use Rattle.pgs_step.specs.declared.errors.Error.{Error}
+use Rattle.pgs_step.specs.declared.lock_modes.Mode.{Mode}
+use Rattle.session_rules.specs.World.{Moment, Scene}
+use Rattle.session_rules.specs.Acts.{Ended, nothing, switched, where_there}
+use Rattle.session_rules.specs.Checks.{failure}
+use Rattle.session_rules.specs.Making.{level_made, new_context_made, new_owner_made, portal_made}
+use Rattle.session_rules.specs.Calls.{fallible, refused_call, unless_refused}
+use Rattle.session_rules.specs.Does.{does}
+use Rattle.session_rules.proofs.Leaves.{IsRun}
+
+-- what was checked for an element, in the scene that it meets: that the lock is held, that the file is open, and that the level isn't aborted
+abbrev pub IsChecked : Element → Scene → Type 0
+IsChecked (e.InTurn name x) s = IsChecked x s
+IsChecked (e.Unlock object mode) s = failure (e.HoldsLock object mode) s ≡ None
+IsChecked (e.Touch file) s = failure (e.IsFile file) s ≡ None
+IsChecked (e.TakeLock role object mode) s = is_aborted s.session.levels ≡ false
+IsChecked other s = Unit {0}
+
+-- an element for which nothing was
+abbrev IsFree : Element → Type 0
+IsFree (e.InTurn name x) = IsFree x
+IsFree (e.Unlock object mode) = ⊥
+IsFree (e.Touch file) = ⊥
+IsFree (e.TakeLock role object mode) = ⊥
+IsFree other = Unit {0}
+
+abbrev AreFree : List Element → Type 0
+AreFree [] = Unit {0}
+AreFree (x ∷ xs) = IsFree x × AreFree xs
+
+free_checked : (x : Element) (s : Scene) → IsFree x → IsChecked x s
+free_checked (e.InTurn name x) s h = free_checked x s h
+free_checked (e.Unlock object mode) s h = absurd h
+free_checked (e.Touch file) s h = absurd h
+free_checked (e.TakeLock role object mode) s h = absurd h
+free_checked other s h = tt
+
+-- an element behind which a level isn't aborted if it wasn't before
+abbrev IsCalm : Element → Type 0
+IsCalm (e.Checks check) = Unit {0}
+IsCalm (e.MakeLevel name implicit) = Unit {0}
+IsCalm (e.MakeContext LevelContext) = Unit {0}
+IsCalm (e.MakeContext (PortalContext name)) = Unit {0}
+IsCalm (e.MakeOwner role) = Unit {0}
+IsCalm (e.MakePortal name object rows bad) = Unit {0}
+IsCalm e.LevelStands = Unit {0}
+IsCalm other = ⊥
+
+-- elements that come behind what is checked for them
+data Safe : List Element → Type 0 where
+  free : {xs : List Element} → AreFree xs → Safe xs
+  calm : {x : Element} {xs : List Element} → IsCalm x → Safe xs → Safe (x ∷ xs)
+  takes : {role : OwnerRole} {object : ℕ} {mode : Mode} {xs : List Element} → AreFree xs → Safe (e.TakeLock role object mode ∷ xs)
+  unlock : {object : ℕ} {mode : Mode} {xs : List Element} → AreFree xs → Safe (e.Checks (e.HoldsLock object mode) ∷ e.Unlock object mode ∷ xs)
+  touch : {file : ℕ} {xs : List Element} → AreFree xs → Safe (e.Checks (e.IsFile file) ∷ e.Touch file ∷ xs)
+
+free_run : (w : Option ℕ) (xs : List Element) (m : Moment) → AreFree xs → IsRun IsChecked w xs m
+free_run w [] m h = tt
+free_run w (x ∷ xs) m h = (free_checked x m.scene h.0, λ none. free_run w xs (does w x m).moment h.1)
+
+calm_checked : (x : Element) (s : Scene) → IsCalm x → IsChecked x s
+calm_checked (e.Checks check) s h = tt
+calm_checked (e.MakeLevel name implicit) s h = tt
+calm_checked (e.MakeContext new) s h = tt
+calm_checked (e.MakeOwner role) s h = tt
+calm_checked (e.MakePortal name object rows bad) s h = tt
+calm_checked e.LevelStands s h = tt
+calm_checked other s h = absurd h
+
+-- such an element
+fallible_calm : (w : Option ℕ) (m : Moment) (own : Option Error) (act : Scene → Ended) → is_aborted m.scene.session.levels ≡ false → is_aborted (act m.scene).scene.session.levels ≡ false
+    → is_aborted (fallible w m own act).moment.scene.session.levels ≡ false
+fallible_calm w m own act h j = go (refused_call w m.fail (m.calls + 1) own)
+  where
+    go : (r : Option Error) → is_aborted (unless_refused r (record m { calls = m.calls + 1 }) act).moment.scene.session.levels ≡ false
+    go None = j
+    go (Some error) = h
+
+changed_calm : (change : LevelState → LevelState) (levels : List LevelState) → ((l : LevelState) → (change l).aborted ≡ l.aborted) → is_aborted levels ≡ false → is_aborted (deepest_changed change levels) ≡ false
+changed_calm change [] same h = refl
+changed_calm change (level ∷ levels) same h = same level ∙ h
+
+check_calm : (r : Option Error) (m : Moment) → is_aborted m.scene.session.levels ≡ false → is_aborted (unless_refused r m nothing).moment.scene.session.levels ≡ false
+check_calm None m h = h
+check_calm (Some error) m h = h
+
+stands_calm : (o : Option ℕ) (s : Scene) → is_aborted s.session.levels ≡ false
+    → is_aborted (deepest_changed (λ level. record level { starting = false }) (where_there o switched s).scene.session.levels) ≡ false
+stands_calm None s h = changed_calm (λ level. record level { starting = false }) s.session.levels (λ l. refl) h
+stands_calm (Some n) s h = changed_calm (λ level. record level { starting = false }) s.session.levels (λ l. refl) h
+
+calm_keeps : (w : Option ℕ) (x : Element) (m : Moment) → IsCalm x → is_aborted m.scene.session.levels ≡ false → is_aborted (does w x m).moment.scene.session.levels ≡ false
+unfolding does
+calm_keeps w (e.Checks check) m c h = check_calm (failure check m.scene) m h
+calm_keeps w (e.MakeLevel name implicit) m c h = fallible_calm w m _ (level_made name implicit) h refl
+calm_keeps w (e.MakeContext LevelContext) m c h =
+    fallible_calm w m _ (new_context_made LevelContext) h (changed_calm (λ level. record level { context = Some m.scene.session.next_context }) m.scene.session.levels (λ l. refl) h)
+calm_keeps w (e.MakeContext (PortalContext name)) m c h = fallible_calm w m _ (new_context_made (PortalContext name)) h h
+calm_keeps w (e.MakeOwner OfLevel) m c h =
+    fallible_calm w m _ (new_owner_made OfLevel) h (changed_calm (λ level. record level { owner = Some m.scene.session.next_owner }) m.scene.session.levels (λ l. refl) h)
+calm_keeps w (e.MakeOwner (OfPortal name)) m c h = fallible_calm w m _ (new_owner_made (OfPortal name)) h h
+calm_keeps w (e.MakePortal name object rows bad) m c h = fallible_calm w m _ (portal_made name object rows bad) h h
+calm_keeps w e.LevelStands m c h = stands_calm (level_context m.scene.session) m.scene h
+calm_keeps w other m c h = absurd c
+
+-- where a check passed it holds, of the same scene
+passed_check : (w : Option ℕ) (check : Check) (m : Moment) → (does w (e.Checks check) m).refusal ≡ None → failure check (does w (e.Checks check) m).moment.scene ≡ None
+unfolding does
+passed_check w check m none = go (failure check m.scene) refl none
+  where
+    go : (r : Option Error) → failure check m.scene ≡ r → (unless_refused r m nothing).refusal ≡ None → failure check (unless_refused r m nothing).moment.scene ≡ None
+    go None is n = is
+    go (Some error) is n = absurd (cc n)
+
+safe_run : (w : Option ℕ) (xs : List Element) (m : Moment) → Safe xs → is_aborted m.scene.session.levels ≡ false → IsRun IsChecked w xs m
+safe_run w xs m (free h) active = free_run w xs m h
+safe_run w xs m (calm {x = x} {xs = ys} c h) active = (calm_checked x m.scene c, λ none. safe_run w ys (does w x m).moment h (calm_keeps w x m c active))
+safe_run w xs m (takes {role = role} {object = object} {mode = mode} {xs = ys} h) active = (active, λ none. free_run w ys (does w (e.TakeLock role object mode) m).moment h)
+safe_run w xs m (unlock {object = object} {mode = mode} {xs = ys} h) active = (
+  tt,
+  λ none. (
+    passed_check w (e.HoldsLock object mode) m none,
+    λ more. free_run w ys (does w (e.Unlock object mode) (does w (e.Checks (e.HoldsLock object mode)) m).moment).moment h,
+  ),
+)
+safe_run w xs m (touch {file = file} {xs = ys} h) active = (
+  tt,
+  λ none. (
+    passed_check w (e.IsFile file) m none,
+    λ more. free_run w ys (does w (e.Touch file) (does w (e.Checks (e.IsFile file)) m).moment).moment h,
+  ),
+)
+
+only_left : (b : Bool) → (b && true) ≡ false → b ≡ false
+only_left true h = h
+only_left false h = refl
+
+-- lists of elements
+both_are_free : (xs ys : List Element) → AreFree xs → AreFree ys → AreFree (xs ++ ys)
+both_are_free [] ys h k = k
+both_are_free (x ∷ xs) ys h k = (h.0, both_are_free xs ys h.1 k)
+
+then_free : {xs : List Element} (ys : List Element) → Safe xs → AreFree ys → Safe (xs ++ ys)
+then_free ys (free {xs = xs} h) k = free (both_are_free xs ys h k)
+then_free ys (calm c h) k = calm c (then_free ys h k)
+then_free ys (takes {xs = xs} h) k = takes (both_are_free xs ys h k)
+then_free ys (unlock {xs = xs} h) k = unlock (both_are_free xs ys h k)
+then_free ys (touch {xs = xs} h) k = touch (both_are_free xs ys h k)
+
+either_are_free : (b : Bool) (xs ys : List Element) → AreFree xs → AreFree ys → AreFree (if b then xs else ys)
+either_are_free true xs ys h k = h
+either_are_free false xs ys h k = k
+
+checks_are_free : (checks : List Check) → AreFree (map e.Checks checks)
+checks_are_free [] = tt
+checks_are_free (check ∷ checks) = (tt, checks_are_free checks)
+
+commits_are_free : (n : ℕ) → AreFree (replicate n e.Subcommit)
+commits_are_free zero = tt
+commits_are_free (suc n) = (tt, commits_are_free n)
+
+rolled_back_free : (n : ℕ) (levels : List LevelState) → AreFree (rolled_back_to n levels)
+rolled_back_free n [] = tt
+rolled_back_free n (level ∷ levels) =
+    either_are_free (nat_lt (length levels + 1) n) [] _ tt
+    (both_are_free (if level.aborted then e.Cleanup ∷ [] else e.Abort ∷ e.Cleanup ∷ []) (rolled_back_to n levels)
+    (either_are_free level.aborted (e.Cleanup ∷ []) (e.Abort ∷ e.Cleanup ∷ []) (tt, tt) (tt, (tt, tt))) (rolled_back_free n levels))
+
+then_ok_free : (es : List Element) → AreFree es → AreFree (then_ok es)
+then_ok_free es h = both_are_free es (e.Says what.Ok ∷ []) h (tt, tt)
+
+-- of the commands on transactions
+commit_free : (levels : List LevelState) → AreFree (commit levels)
+commit_free [] = (tt, tt)
+commit_free (level ∷ levels) =
+    either_are_free level.aborted (rolled_back_to 1 (level ∷ levels)) (committed_to 2 (level ∷ levels) ++ (e.CommitTop ∷ []))
+    (rolled_back_free 1 (level ∷ levels))
+    (both_are_free (committed_to 2 (level ∷ levels)) (e.CommitTop ∷ []) (commits_are_free (length (level ∷ levels) + 1 - 2)) (tt, tt))
+
+rollback_free : (levels : List LevelState) → AreFree (rollback levels)
+rollback_free [] = (tt, tt)
+rollback_free (level ∷ levels) = rolled_back_free 1 (level ∷ levels)
+
+save_free : (name : Text) (levels : List LevelState) → AreFree (save name levels)
+save_free name [] = (tt, tt)
+save_free name (level ∷ levels) = (tt, (tt, (tt, (tt, tt))))
+
+begin_free : (levels : List LevelState) → AreFree (begin levels)
+begin_free [] = (tt, (tt, (tt, (tt, tt))))
+begin_free (level ∷ levels) = (tt, tt)
+
+at_free : (o : Option ℕ) (go_on : ℕ → List Element) → ((n : ℕ) → AreFree (go_on n)) → AreFree (option_map_or go_on o (refused error.NoSuchSavepoint))
+at_free None go_on h = (tt, tt)
+at_free (Some n) go_on h = h n
+
+savepoint_free : (name : Text) (levels : List LevelState) (go_on : ℕ → List Element) → ((n : ℕ) → AreFree (go_on n)) → AreFree (at_savepoint name levels go_on)
+savepoint_free name [] go_on h = (tt, tt)
+savepoint_free name (level ∷ levels) go_on h = at_free (savepoint name (level ∷ levels)) go_on h
+
+-- of a scan
+mapped_free : (name : Text) (es : List Element) → AreFree es → AreFree (map (e.InTurn name) es)
+mapped_free name [] h = tt
+mapped_free name (x ∷ es) h = (h.0, mapped_free name es h.1)
+
+part_free : (name : Text) (s : ScanStep) → AreFree (fallible_part name s)
+part_free name (step.Pin page) = (tt, (tt, tt))
+part_free name (step.Bad row) = (tt, tt)
+part_free name step.Alloc = (tt, tt)
+part_free name other = tt
+
+scans_free : (name : Text) (steps : List ScanStep) → AreFree (flat_map (λ s. map (e.InTurn name) (e.Scans name s ∷ fallible_part name s)) steps)
+scans_free name [] = tt
+scans_free name (s ∷ steps) =
+    both_are_free (map (e.InTurn name) (e.Scans name s ∷ fallible_part name s)) _
+    (mapped_free name (e.Scans name s ∷ fallible_part name s) (tt, part_free name s)) (scans_free name steps)
+
+last_or_more : (b : Bool) (xs ys : List Element) → AreFree xs → AreFree ys → AreFree (elim b as (λ _. List Element) [ true ↦ xs | false ↦ ys ])
+last_or_more true xs ys h k = h
+last_or_more false xs ys h k = k
+
+fetch_free : (name : Text) (count : ℕ) (scan : Scan) (rows : ℕ) → AreFree (fetch_steps name count scan rows)
+fetch_free name zero scan rows = (tt, tt)
+fetch_free name (suc count) scan rows =
+    both_are_free (turn_steps name scan) _ (scans_free name (exec.turn scan))
+    (last_or_more (scan.at == scan.rows) (e.Says (what.Fetched name rows) ∷ []) (fetch_steps name count (after_turn scan) (rows + 1))
+    (tt, tt) (fetch_free name count (after_turn scan) (rows + 1)))
+
+fetches_free : (name : Text) (count : ℕ) (o : Option OpenPortal) → AreFree (option_map_or (λ portal. fetch_steps name count portal.scan 0) o [])
+fetches_free name count None = tt
+fetches_free name count (Some portal) = fetch_free name count portal.scan 0
+
+-- of what is done within a transaction
+contexts_free : (c : ContextCommand) → AreFree (context_row c).steps
+contexts_free (context.OnReset name) = (tt, tt)
+contexts_free other = (tt, tt)
+
+chunks_free : (c : ChunkCommand) → AreFree (chunk_row c).steps
+chunks_free (chunk.Free name) = (tt, tt)
+chunks_free other = (tt, tt)
+
+items_safe : (c : ItemCommand) → Safe (elements (item_row c))
+items_safe (item.Touch file) = touch tt
+items_safe (item.Pin buffer) = free (tt, (tt, (tt, tt)))
+items_safe (item.Open file) = free (tt, (tt, (tt, tt)))
+items_safe (item.Unpin buffer) = free (tt, (tt, tt))
+items_safe (item.Close file) = free (tt, (tt, tt))
+items_safe (item.Reference class key) = free (tt, (tt, tt))
+items_safe (item.Unreference class key) = free (tt, (tt, tt))
+items_safe (item.Acquire kind key) = free (tt, (tt, (tt, tt)))
+items_safe (item.Drop kind key) = free (tt, (tt, (tt, tt)))
+items_safe (item.Snapshot key) = free (tt, (tt, tt))
+items_safe (item.Unsnapshot key) = free (tt, (tt, tt))
+
+locks_safe : (c : LockCommand) → Safe (elements (lock_row c))
+locks_safe (lock.Lock object mode) = takes tt
+locks_safe (lock.Unlock object mode) = unlock tt
+
+snapshots_free : (c : SnapshotCommand) → AreFree (snapshot_row c).steps
+snapshots_free snapshot.Pop = (tt, tt)
+snapshots_free other = (tt, tt)
+
+plans_free : (c : PlanCommand) → AreFree (plan_row c).steps
+plans_free (plan.Reference number) = (tt, (tt, tt))
+plans_free other = (tt, tt)
+
+portals_safe : (c : PortalCommand) (portals : List OpenPortal) → Safe (elements (portal_row c portals))
+portals_safe (portal.Open name object rows bad) portals = calm tt (calm tt (calm tt (calm tt (takes (tt, (tt, (tt, (tt, (tt, (tt, (tt, tt)))))))))))
+portals_safe (portal.Fetch name count) portals = free (tt, (tt, (tt, fetches_free name count (portal_named name portals))))
+portals_safe (portal.End name) portals = free (tt, (tt, tt))
+
+tells_free : (c : TellCommand) → AreFree (tell_row c).steps
+tells_free tell.Report = (tt, tt)
+tells_free other = (tt, tt)
+
+row_free : (r : Row) → AreFree r.steps → Safe (elements r)
+row_free r h = free (both_are_free (map e.Checks r.checks) r.steps (checks_are_free r.checks) h)
+
+work_safe : (w : Work) (session : SessionState) → Safe (work_of w session)
+work_safe work.Raise s = free (tt, tt)
+work_safe (work.Contexts c) s = row_free (context_row c) (contexts_free c)
+work_safe (work.Chunks c) s = row_free (chunk_row c) (chunks_free c)
+work_safe (work.Items c) s = items_safe c
+work_safe (work.Locks c) s = locks_safe c
+work_safe (work.Snapshots c) s = row_free (snapshot_row c) (snapshots_free c)
+work_safe (work.Plans c) s = row_free (plan_row c) (plans_free c)
+work_safe (work.Portals c) s = portals_safe c s.portals
+work_safe (work.Tells c) s = row_free (tell_row c) (tells_free c)
+
+in_transaction_safe : (levels : List LevelState) (work : List Element) → Safe work → Safe (in_transaction levels work)
+in_transaction_safe [] work h = calm tt (calm tt (calm tt (calm tt (then_free (e.CommitTop ∷ e.Says what.Ok ∷ []) h (tt, (tt, tt))))))
+in_transaction_safe (level ∷ levels) work h = then_free (e.Says what.Ok ∷ []) h (tt, tt)
+
+transaction_free : (c : TransactionCommand) (levels : List LevelState) → AreFree (transaction_of c levels)
+transaction_free transaction.Begin levels = begin_free levels
+transaction_free transaction.Commit levels = commit_free levels
+transaction_free transaction.Rollback levels = rollback_free levels
+transaction_free (transaction.Savepoint name) levels = save_free name levels
+transaction_free (transaction.Release name) levels = savepoint_free name levels (λ n. committed_to n levels) (λ n. commits_are_free (length levels + 1 - n))
+transaction_free (transaction.RollbackTo name) levels =
+    savepoint_free name levels (λ n. rolled_back_to n levels ++ start (Some name) false)
+    (λ n. both_are_free (rolled_back_to n levels) (start (Some name) false) (rolled_back_free n levels) (tt, (tt, (tt, (tt, tt)))))
+
+-- A line is free of these, or its session isn't aborted and they are safe.
+unaborted_safe : (c : Command) (session : SessionState) → (is_aborted session.levels && not (is_end c)) ≡ false → AreFree (unaborted c session) ⊎ ((is_aborted session.levels ≡ false) × Safe (unaborted c session))
+unaborted_safe command.Nothing s active = inl tt
+unaborted_safe (command.Transaction c) s active = inl (then_ok_free (transaction_of c s.levels) (transaction_free c s.levels))
+unaborted_safe (command.Work w) s active = inr (only_left (is_aborted s.levels) active, in_transaction_safe s.levels (work_of w s) (work_safe w s))
+
+elements_safe : (c : Command) (session : SessionState) → AreFree (elements_of c session) ⊎ ((is_aborted session.levels ≡ false) × Safe (elements_of c session))
+unfolding elements_of
+elements_safe c s = go (is_aborted s.levels && not (is_end c)) refl
+  where
+    go : (b : Bool) → (is_aborted s.levels && not (is_end c)) ≡ b
+        → AreFree (elim b as (λ _. List Element) [ true ↦ refused error.TransactionAborted | false ↦ unaborted c s ])
+        ⊎ ((is_aborted s.levels ≡ false) × Safe (elim b as (λ _. List Element) [ true ↦ refused error.TransactionAborted | false ↦ unaborted c s ]))
+    go true is = inl (tt, tt)
+    go false is = unaborted_safe c s is
+
+-- Each element of a line meets a scene in which what was checked for it holds.
+pub line_checked : (w : Option ℕ) (line : Option Command) (m : Moment) → IsRun IsChecked w (line_elements line m.scene.session) m
+line_checked w None m = free_run w (line_elements None m.scene.session) m (tt, tt)
+line_checked w (Some c) m = elim (elements_safe c m.scene.session) [
+  | inl h ↦ free_run w (elements_of c m.scene.session) m h
+  | inr h ↦ safe_run w (elements_of c m.scene.session) m h.1 h.0
+]

@@ -1,0 +1,251 @@
+-- The three phases of a release, of an owner and all below it.
+use Rattle.std.proofs.Common.{◌≡◌, ℕ, ◌<◌, Bool, true, false, not, if◌then◌else◌, List, [], ◌++◌, All, Option, Some, None, refl, sym, subst, ap, ◌∙◌, inl, inr, arith}
+use Rattle.std.specs.Prelude.{◌==◌, ◌||◌}
+use Rattle.std.specs.Option.{option_map_or}
+use Rattle.std.proofs.lemmas.Bool.{cases_Bool, cond-false, cond-true, both_ways, eq-eqb, false_from_ne_true, ne_eqb, or_left, or_right}
+use Rattle.std.proofs.lemmas.List.{append-nil}
+use Rattle.std.proofs.lemmas.List.Elements.{All-append, All-nil, All-weaker}
+use Rattle.pgs_step.specs.declared.events.What.{What}
+use Rattle.pgs_step.specs.declared.ids.Phase.{Phase}
+use Rattle.pgs_step.specs.declared.ids.Phase.TheVariants.{BeforeLocks, Locks, AfterLocks}
+use Rattle.forest.specs.Forest.{Forest, Empty, Node, Once, AllNodes, at, children, has, parent_of, size, times}
+use Rattle.forest.specs.Walk.{all_changed, swept}
+use Rattle.forest.proofs.Trees.{Apart, apart_of, first_child_other, has_at, has_children}
+use Rattle.forest.proofs.Walks.{children_in, once_children}
+use Rattle.lifetime_laws.specs.Parents.{is_above}
+use Rattle.lifetime_laws.specs.Parents as replayed
+use Rattle.lifetime_laws.specs.Order.{Member, owner_of, place_of, place_of_phase}
+use Rattle.owner_items.specs.Next.{is_of_phase}
+use Rattle.owner_kinds.specs.KindTable.{KindTable}
+use Rattle.owner_kinds.specs.KindShelf.{table_of}
+use Rattle.owner_core.specs.Owners.{Owner, OwnerTree}
+use Rattle.owner_core.specs.Released.{own_released}
+use Rattle.owner_core.specs.Steps.{Step, own_steps, release_steps, steps_below, top_locks}
+use Rattle.lock_local.specs.Locks.{IsInOrder}
+use Rattle.session_rules.specs.World.{Scene}
+use Rattle.session_rules.specs.Acts.{Ended, for_each}
+use Rattle.session_rules.specs.Releases.{owner_released, phase_released, step_done}
+use Rattle.session_rules.proofs.Guarded.{all_at, all_children}
+use Rattle.session_rules.proofs.Swept.{all_swept, has_swept, parent_swept}
+use Rattle.session_laws.proofs.OrderBatch.{Adds, AreApart, adds_both, adds_none}
+use Rattle.session_laws.proofs.OrderLists.{falling_filter}
+use Rattle.session_laws.proofs.OrderSteps.{Grows, IsOwn, Releases, each_both, own_release, releases_both, releases_none, releases_weaker}
+use Rattle.session_laws.proofs.OrderTree.{AreClear, AreWalked, Falls, IsClear, IsOf, Splits, below_release, may_release, owner_locks}
+use Rattle.session_laws.proofs.ParentsFit.{FitsTree, same_above}
+
+module _ {A : Type 0} (f : A → A) where
+  times_all : (m : ℕ) (t : Forest A) → times m (all_changed f t) ≡ times m t
+  times_all m Empty = refl
+  times_all m (Node k a below beside) = omega (arith, times_all m below, times_all m beside)
+
+  times_swept : (m n : ℕ) (t : Forest A) → times m (swept f n t) ≡ times m t
+  times_swept m n Empty = refl
+  times_swept m n (Node k a below beside) = elim (cases_Bool (k == n)) [
+    | inl y ↦ rw y (omega (arith, times_all m below, times_swept m n beside))
+    | inr y ↦ rw y (omega (arith, times_swept m n below, times_swept m n beside))
+  ]
+
+  size_all : (t : Forest A) → size (all_changed f t) ≡ size t
+  size_all Empty = refl
+  size_all (Node k a below beside) = omega (arith, size_all below, size_all beside)
+
+  size_swept : (n : ℕ) (t : Forest A) → size (swept f n t) ≡ size t
+  size_swept n Empty = refl
+  size_swept n (Node k a below beside) = elim (cases_Bool (k == n)) [
+    | inl y ↦ rw y (omega (arith, size_all below, size_swept n beside))
+    | inr y ↦ rw y (omega (arith, size_swept n below, size_swept n beside))
+  ]
+
+  -- other data at some nodes leaves the replayed parents as they are
+  pub fits_swept : (n : ℕ) (nodes : List replayed.Node) (t : Forest A) → FitsTree nodes t → FitsTree nodes (swept f n t)
+  fits_swept n nodes t h = record {
+    once = record { once = λ m. omega (arith, times_swept m n t, h.once.once m) };
+    there = λ m. h.there m ∙ sym (has_swept f m n t);
+    parent = λ m. h.parent m ∙ sym (parent_swept f m n t);
+    single = h.single;
+    length = h.length ∙ sym (size_swept n t);
+  }
+
+-- a number of a part of a tree has its children there
+record IsInside {A : Type 0} (x : ℕ) (part whole : Forest A) : Type 0 where
+  there : has x whole ≡ true
+  same : children x whole ≡ children x part
+
+module _ {A : Type 0} (nodes : List replayed.Node) (whole : Forest A) (fit : FitsTree nodes whole) where
+  -- what is below a number in the replay is below it in the tree
+  above_is : (a n : ℕ) (part : Forest A) → IsInside a part whole → has n whole ≡ true → is_above a n nodes ≡ has n (children a part)
+  above_is a n part inside there = same_above a n nodes whole fit there ∙ ap (has n) inside.same
+
+  -- one that isn't there is not below it
+  not_above : (a n : ℕ) (part : Forest A) → Once part → IsInside a part whole → has n whole ≡ true → (has n part ≡ true → ⊥) → is_above a n nodes ≡ false
+  not_above a n part once inside there away = above_is a n part inside there ∙ false_from_ne_true (has n (children a part)) (λ h. away (has_children n a part once h))
+
+  -- a number of the children, or of the siblings, of a node has its children there
+  inside_below : (k : ℕ) (a : A) (below beside : Forest A) → Apart k below beside → (x : ℕ) → has x below ≡ true → IsInside x (Node k a below beside) whole → IsInside x below whole
+  inside_below k a below beside p x h inside = record {
+    there = inside.there;
+    same = inside.same
+        ∙ cond-false (k == x) below (if has x below then children x below else children x beside) (ne_eqb k x (λ e. both_ways (has x below) (subst (λ (n : ℕ). has n below ≡ false) e p.not_below) h))
+        ∙ cond-true (has x below) (children x below) (children x beside) h;
+  }
+
+  inside_beside : (k : ℕ) (a : A) (below beside : Forest A) → Apart k below beside → (x : ℕ) → has x beside ≡ true → IsInside x (Node k a below beside) whole → IsInside x beside whole
+  inside_beside k a below beside p x h inside = record {
+    there = inside.there;
+    same = inside.same
+        ∙ cond-false (k == x) below (if has x below then children x below else children x beside) (ne_eqb k x (λ e. both_ways (has x beside) (subst (λ (n : ℕ). has n beside ≡ false) e p.not_beside) h))
+        ∙ cond-false (has x below) (children x below) (children x beside) (p.apart_back x h);
+  }
+
+module _ (nodes : List replayed.Node) (whole : OwnerTree) (fit : FitsTree nodes whole) where
+  splits_of : (k : ℕ) (a : Owner) (below beside : OwnerTree) → Once (Node k a below beside) → ((x : ℕ) → has x (Node k a below beside) ≡ true → IsInside x (Node k a below beside) whole) → Splits nodes k below beside
+  splits_of k a below beside once inside =
+      let node : OwnerTree = Node k a below beside in
+      let p : Apart k below beside = apart_of k a below beside once in
+      let here : has k node ≡ true = or_left (k == k) (has k below || has k beside) (eq-eqb k k refl) in
+      let in_below : (x : ℕ) → has x below ≡ true → has x node ≡ true = λ x h. or_right (k == x) (has x below || has x beside) (or_left (has x below) (has x beside) h) in
+      let in_beside : (x : ℕ) → has x beside ≡ true → has x node ≡ true = λ x h. or_right (k == x) (has x below || has x beside) (or_right (has x below) (has x beside) h) in
+      let own : children k node ≡ below = cond-true (k == k) below (if has k below then children k below else children k beside) (eq-eqb k k refl) in
+      let part : (x : ℕ) → has x below ≡ true → IsInside x below whole = λ x h. inside_below nodes whole fit k a below beside p x h (inside x (in_below x h)) in
+      record {
+        self = above_is nodes whole fit k k node (inside k here) (inside k here).there ∙ ap (has k) own ∙ p.not_below;
+        up = λ x h. record {
+          below = not_above nodes whole fit x k below p.once_below (part x h) (inside k here).there (λ e. both_ways (has k below) p.not_below e);
+          other = ne_eqb x k (λ e. both_ways (has k below) p.not_below (subst (λ (n : ℕ). has n below ≡ true) e h));
+        };
+        own = λ w h. record {
+          below = above_is nodes whole fit k w node (inside k here) (inside w (in_beside w h)).there ∙ ap (has w) own ∙ p.apart_back w h;
+          other = ne_eqb k w (λ e. both_ways (has w beside) (subst (λ (n : ℕ). has n beside ≡ false) e p.not_beside) h);
+        };
+        across = λ x w h g. record {
+          below = not_above nodes whole fit x w below p.once_below (part x h) (inside w (in_beside w g)).there (λ e. both_ways (has w below) (p.apart_back w g) e);
+          other = ne_eqb x w (λ e. both_ways (has w below) (p.apart_back w g) (subst (λ (n : ℕ). has n below ≡ true) e h));
+        };
+      }
+
+  walked_of : (part : OwnerTree) → Once part → ((x : ℕ) → has x part ≡ true → IsInside x part whole) → AreWalked nodes part
+  walked_of Empty once inside = tt
+  walked_of (Node k a below beside) once inside =
+      let p : Apart k below beside = apart_of k a below beside once in (
+        splits_of k a below beside once inside,
+        walked_of below p.once_below (λ x h. inside_below nodes whole fit k a below beside p x h (inside x (or_right (k == x) (has x below || has x beside) (or_left (has x below) (has x beside) h)))),
+        walked_of beside p.once_beside (λ x h. inside_beside nodes whole fit k a below beside p x h (inside x (or_right (k == x) (has x below || has x beside) (or_right (has x below) (has x beside) h)))),
+      )
+
+  inside_children : (n x : ℕ) → has x (children n whole) ≡ true → IsInside x (children n whole) whole
+  inside_children n x h = record { there = has_children x n whole fit.once h; same = sym (children_in x n whole fit.once h) }
+
+  -- what is below an owner that is released, and that owner
+  pub walked_children : (n : ℕ) → AreWalked nodes (children n whole)
+  walked_children n = walked_of (children n whole) (once_children n whole fit.once) (inside_children n)
+
+  pub below_top : (n x : ℕ) → has n whole ≡ true → has x (children n whole) ≡ true → AreApart nodes x n
+  below_top n x there h = record {
+    below = not_above nodes whole fit x n (children n whole) (once_children n whole fit.once) (inside_children n x h) there
+        (λ e. both_ways (has n (children n whole)) (first_child_other n whole fit.once there) e);
+    other = ne_eqb x n (λ e. both_ways (has n (children n whole)) (first_child_other n whole fit.once there) (subst (λ (m : ℕ). has m (children n whole) ≡ true) e h));
+  }
+
+  pub top_self : (n : ℕ) → has n whole ≡ true → is_above n n nodes ≡ false
+  top_self n there = same_above n n nodes whole fit there ∙ first_child_other n whole fit.once there
+
+-- a member of a phase of this place
+abbrev pub IsAt : ℕ → Member → Type 0
+IsAt place m = place_of m ≡ place
+
+module _ (kinds : KindTable) (nodes : List replayed.Node) (phase : Phase) (commit top : Bool) (n : ℕ) where
+  -- the steps of a phase, behind earlier ones
+  steps_release : (owners : OwnerTree) (s : Scene) (old : List Member) → FitsTree nodes owners → AllNodes Falls owners → IsInOrder s.session.locks → All (λ m. place_of m < place_of_phase phase) old
+      → Releases kinds nodes (not commit) (IsAt (place_of_phase phase)) old s (for_each step_done (release_steps kinds phase commit top n owners) s)
+  steps_release owners s old fit falls order early = go (at n owners) refl
+    where
+      p : ℕ
+      p = place_of_phase phase
+
+      clear : (In : ℕ → Type 0) → AreClear nodes p In old
+      clear In = All-weaker (λ m. place_of m < p) (IsClear nodes p In) (λ m l. inl l) old early
+
+      from : (owner : Owner) → at n owners ≡ Some owner
+          → Releases kinds nodes (not commit) (IsAt p) old s (for_each step_done (steps_below kinds phase commit top n (children n owners) ++ own_steps kinds phase commit n owner (top_locks top commit n (parent_of n owners))) s)
+      from owner is =
+          let xs : List Step = steps_below kinds phase commit top n (children n owners) in
+          let ys : List Step = own_steps kinds phase commit n owner (top_locks top commit n (parent_of n owners)) in
+          let there : has n owners ≡ true = has_at n owners owner is in
+          let mid : Scene = (for_each step_done xs s).scene in
+          let a : Releases kinds nodes (not commit) (IsOf p (children n owners)) old s (for_each step_done xs s) =
+          below_release kinds nodes phase commit top n (children n owners) s old (walked_children nodes owners fit n) (all_children Falls n owners falls) (clear (λ w. has w (children n owners) ≡ true)) order in
+          let b : Releases kinds nodes (not commit) (IsOwn p n) (a.grows.new ++ old) mid (for_each step_done ys mid) =
+          own_release kinds nodes commit n (top_self nodes owners fit n there) phase owner (owner_locks top commit n (parent_of n owners)) mid (a.grows.new ++ old) (all_at Falls n owners owner falls is) (a.stays.locks order)
+          (may_release nodes p n (a.grows.new ++ old)
+          (All-append (IsClear nodes p (λ w. w ≡ n)) a.grows.new old
+          (All-weaker (IsOf p (children n owners)) (IsClear nodes p (λ w. w ≡ n)) (λ m o. inr (o.0, λ w e. subst (AreApart nodes (owner_of m)) (sym e) (below_top nodes owners fit n (owner_of m) there o.1))) a.grows.new a.grows.are)
+          (clear (λ w. w ≡ n)))) in
+          subst (λ (e : Ended). Releases kinds nodes (not commit) (IsAt p) old s e) (sym (each_both step_done xs ys s))
+          (releases_both kinds nodes (not commit) (releases_weaker kinds nodes (not commit) {Q = IsAt p} (λ m o. o.0) a) (releases_weaker kinds nodes (not commit) {Q = IsAt p} (λ m o. o.0) b))
+
+      go : (o : Option Owner) → at n owners ≡ o
+          → Releases kinds nodes (not commit) (IsAt p) old s (for_each step_done (option_map_or (λ owner. steps_below kinds phase commit top n (children n owners) ++ own_steps kinds phase commit n owner (top_locks top commit n (parent_of n owners))) o []) s)
+      go None is = releases_none kinds nodes (not commit) (IsAt p) old s
+      go (Some owner) is = from owner is
+
+-- A phase said in order, and what it leaves.
+pub record HasPhase (kinds : KindTable) (nodes : List replayed.Node) (phase : Phase) (commit : Bool) (old : List Member) (ended : Ended) : Type 0 where
+  pub grows : Grows kinds nodes (not commit) (IsAt (place_of_phase phase)) old ended.events
+  pub fit : FitsTree nodes ended.scene.session.owners
+  pub places : table_of ended.scene.around.kinds ≡ kinds
+  pub falls : AllNodes Falls ended.scene.session.owners
+  pub locks : IsInOrder ended.scene.session.locks
+
+still_falls : (kinds : KindTable) (phase : Phase) (owner : Owner) → Falls owner → Falls (own_released kinds phase owner)
+still_falls kinds Locks owner h = h
+still_falls kinds BeforeLocks owner h = falling_filter (λ item. not (is_of_phase kinds BeforeLocks item)) owner.items h
+still_falls kinds AfterLocks owner h = falling_filter (λ item. not (is_of_phase kinds AfterLocks item)) owner.items h
+
+module _ (nodes : List replayed.Node) (phase : Phase) (commit top : Bool) (n : ℕ) where
+  own_phase : (s : Scene) (old : List Member) → FitsTree nodes s.session.owners → AllNodes Falls s.session.owners → IsInOrder s.session.locks → All (λ m. place_of m < place_of_phase phase) old
+      → HasPhase (table_of s.around.kinds) nodes phase commit old (phase_released commit top n phase s)
+  own_phase s old fit falls order early =
+      let kinds : KindTable = table_of s.around.kinds in
+      let steps : List Step = release_steps kinds phase commit top n s.session.owners in
+      let r : Releases kinds nodes (not commit) (IsAt (place_of_phase phase)) old s (for_each step_done steps s) = steps_release kinds nodes phase commit top n s.session.owners s old fit falls order early in
+      let change : Owner → Owner = own_released kinds phase in
+      record {
+        grows = subst (Grows kinds nodes (not commit) (IsAt (place_of_phase phase)) old) (sym (append-nil (for_each step_done steps s).events)) r.grows;
+        fit = fits_swept change n nodes (for_each step_done steps s).scene.session.owners (subst (FitsTree nodes) (sym r.stays.owners) fit);
+        places = r.stays.kinds;
+        falls = all_swept change Falls n (for_each step_done steps s).scene.session.owners (still_falls kinds phase) (subst (AllNodes Falls) (sym r.stays.owners) falls);
+        locks = r.stays.locks order;
+      }
+
+  pub phase_release : (kinds : KindTable) (s : Scene) (old : List Member) → table_of s.around.kinds ≡ kinds → FitsTree nodes s.session.owners → AllNodes Falls s.session.owners → IsInOrder s.session.locks
+      → All (λ m. place_of m < place_of_phase phase) old → HasPhase kinds nodes phase commit old (phase_released commit top n phase s)
+  phase_release kinds s old is fit falls order early =
+      subst (λ (k : KindTable). HasPhase k nodes phase commit old (phase_released commit top n phase s)) is (own_phase s old fit falls order early)
+
+-- a release said in order, from its beginning
+pub record HasBatch (kinds : KindTable) (nodes : List replayed.Node) (aborts : Bool) (events : List What) : Type 0 where
+  pub members : List Member
+  pub adds : Adds kinds nodes aborts [] members events
+
+-- The release of an owner and of all below it is said in order.
+pub owner_release : (kinds : KindTable) (nodes : List replayed.Node) (commit top : Bool) (n : ℕ) (s : Scene) → table_of s.around.kinds ≡ kinds → FitsTree nodes s.session.owners → AllNodes Falls s.session.owners → IsInOrder s.session.locks
+    → HasBatch kinds nodes (not commit) (owner_released commit top n s).events
+owner_release kinds nodes commit top n s is fit falls order =
+    let t : Scene = (phase_released commit top n BeforeLocks s).scene in
+    let u : Scene = (phase_released commit top n Locks t).scene in
+    let a : HasPhase kinds nodes BeforeLocks commit [] (phase_released commit top n BeforeLocks s) =
+    phase_release nodes BeforeLocks commit top n kinds s [] is fit falls order (All-nil (λ m. place_of m < 1)) in
+    let one : List Member = a.grows.new ++ [] in
+    let early : All (λ m. place_of m < 2) one = All-append (λ m. place_of m < 2) a.grows.new [] (All-weaker (IsAt 1) (λ m. place_of m < 2) (λ m e. omega (arith, e)) a.grows.new a.grows.are) (All-nil (λ m. place_of m < 2)) in
+    let b : HasPhase kinds nodes Locks commit one (phase_released commit top n Locks t) = phase_release nodes Locks commit top n kinds t one a.places a.fit a.falls a.locks early in
+    let two : List Member = b.grows.new ++ one in
+    let earlier : All (λ m. place_of m < 3) two =
+    All-append (λ m. place_of m < 3) b.grows.new one (All-weaker (IsAt 2) (λ m. place_of m < 3) (λ m e. omega (arith, e)) b.grows.new b.grows.are) (All-weaker (λ m. place_of m < 2) (λ m. place_of m < 3) (λ m e. omega (arith, e)) one early) in
+    let c : HasPhase kinds nodes AfterLocks commit two (phase_released commit top n AfterLocks u) = phase_release nodes AfterLocks commit top n kinds u two b.places b.fit b.falls b.locks earlier in
+    let three : List Member = c.grows.new ++ two in
+    record {
+      members = three;
+      adds = adds_both kinds nodes (not commit) {old = []} {mid = one} {new = three} a.grows.adds
+          (adds_both kinds nodes (not commit) {old = one} {mid = two} {new = three} b.grows.adds
+          (adds_both kinds nodes (not commit) {old = two} {mid = three} {new = three} c.grows.adds (adds_none kinds nodes (not commit) three)));
+    }
