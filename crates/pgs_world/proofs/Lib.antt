@@ -2,6 +2,7 @@ pub mod CountLemmas
 pub mod EndingLemmas
 pub mod GeneratedLemmas
 pub mod HalfLines
+pub mod LawfulLemmas
 pub mod LoopLemmas
 pub mod StartedLemmas
 pub mod Parts

@@ -7,5 +7,6 @@ pub mod Loop
 pub mod Ending
 pub mod Generated
 pub mod Plays
+pub mod Lawful
 pub mod Options
 pub mod Parts

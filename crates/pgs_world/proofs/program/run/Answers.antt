@@ -1,0 +1,5 @@
+use Rattle.pgs_world.proofs.LawfulLemmas.{asked_is_lawful}
+use Rattle.pgs_world.proofs.program.run.Goals as goal
+
+pub returns-in-Ok-clause-lawful : goal.returns-in-Ok-clause-lawful
+returns-in-Ok-clause-lawful g c = λ o asked h. asked_is_lawful _ c.in-Ok.options o _ _ c.in-Ok.ensures.options asked (c.start.ensures.lawful h)

@@ -1,0 +1,18 @@
+-- That the transcripts of a run keep the laws of lifetimes.
+use Rattle.std.specs.Prelude.{ℕ, List, Option}
+use Rattle.owner_kinds.specs.KindShelf.{table_of}
+use Rattle.lifetime_laws.specs.Laws.{IsLawful}
+use Rattle.session_rules.specs.Modes.{made_script}
+use Rattle.pgs_turns.specs.Transcript.{Setting, transcript}
+
+-- The transcript of these lines in a run that is set up so keeps the laws of lifetimes, whichever fallible call is refused.
+abbrev pub IsLawfulRun : Setting → List (List ℕ) → Type 0
+IsLawfulRun setting lines = (w : Option ℕ) → IsLawful (table_of setting.kinds) setting.options.sessions (transcript setting w lines)
+
+-- So does each transcript, whatever lines are read.
+abbrev pub AreLawful : Setting → Type 0
+AreLawful setting = (lines : List (List ℕ)) → IsLawfulRun setting lines
+
+-- So does that of the script of so many rounds that is made.
+abbrev pub IsMadeLawfully : ℕ → Setting → Type 0
+IsMadeLawfully rounds setting = IsLawfulRun setting (made_script rounds)
