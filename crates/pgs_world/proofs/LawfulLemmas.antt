@@ -7,18 +7,26 @@ use Rattle.pgs_command.specs.Lines.{read_line}
 use Rattle.reset_callbacks.specs.Hook.{AreDistinct}
 use Rattle.reset_callbacks.specs.ShelfState.{held}
 use Rattle.pgs_turns.specs.Transcript.{Setting, transcript}
-use Rattle.session_laws.proofs.Lawful.{transcript_is_lawful}
+use Rattle.session_laws.proofs.Lawful.{transcript_is_lawful, transcript_makes_once}
 use Rattle.owner_kinds.specs.Kind.{Kind}
 use Rattle.reset_callbacks.specs.ShelfState.{ShelfState}
 use Rattle.pgs_world.specs.declared.options.Options.{Options as Asked}
 use Rattle.pgs_world.specs.Outcome.{AskFor, setting_for}
-use Rattle.pgs_world.specs.Lawful.{AreLawful}
+use Rattle.pgs_world.specs.Lawful.{AreLawful, AreMadeOnce}
 
 pub run_is_lawful : (setting : Setting) → AreDistinct (held setting.shelf) → IsSound (table_of setting.kinds) → AreLawful setting
 unfolding transcript
 run_is_lawful setting differ sound = λ lines w. transcript_is_lawful read_line w setting.options setting.kinds setting.shelf lines differ sound
 
+pub run_makes_once : (setting : Setting) → AreDistinct (held setting.shelf) → IsSound (table_of setting.kinds) → AreMadeOnce setting
+unfolding transcript
+run_makes_once setting differ sound = λ lines w. transcript_makes_once read_line w setting.options setting.kinds setting.shelf lines differ sound
+
 -- the same for what words ask for
 pub asked_is_lawful : (words : List (List ℕ)) (a b : Asked) (shelf : ShelfState) (kinds : List Kind) → AskFor words a → AskFor words b → AreLawful (setting_for a shelf kinds) → AreLawful (setting_for b shelf kinds)
 asked_is_lawful words a b shelf kinds one other h =
     subst (λ (o : Asked). AreLawful (setting_for o shelf kinds)) (ap (λ (o : Option Asked). unwrap_or o a) (sym one ∙ other)) h
+
+pub asked_makes_once : (words : List (List ℕ)) (a b : Asked) (shelf : ShelfState) (kinds : List Kind) → AskFor words a → AskFor words b → AreMadeOnce (setting_for a shelf kinds) → AreMadeOnce (setting_for b shelf kinds)
+asked_makes_once words a b shelf kinds one other h =
+    subst (λ (o : Asked). AreMadeOnce (setting_for o shelf kinds)) (ap (λ (o : Option Asked). unwrap_or o a) (sym one ∙ other)) h

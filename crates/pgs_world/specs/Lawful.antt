@@ -2,6 +2,7 @@
 use Rattle.std.specs.Prelude.{ℕ, List, Option}
 use Rattle.owner_kinds.specs.KindShelf.{table_of}
 use Rattle.lifetime_laws.specs.Laws.{IsLawful}
+use Rattle.lifetime_laws.specs.Made.{MakesOnce}
 use Rattle.session_rules.specs.Modes.{made_script}
 use Rattle.pgs_turns.specs.Transcript.{Setting, transcript}
 
@@ -16,3 +17,7 @@ AreLawful setting = (lines : List (List ℕ)) → IsLawfulRun setting lines
 -- So does that of the script of so many rounds that is made.
 abbrev pub IsMadeLawfully : ℕ → Setting → Type 0
 IsMadeLawfully rounds setting = IsLawfulRun setting (made_script rounds)
+
+-- And in each of them no context and no owner is made twice, and none goes that was not made.
+abbrev pub AreMadeOnce : Setting → Type 0
+AreMadeOnce setting = (lines : List (List ℕ)) (w : Option ℕ) → MakesOnce setting.options.sessions (transcript setting w lines)

@@ -16,7 +16,7 @@ ghost use Rattle.pgs_turns.specs.World.{run_of, setting_at, setting_of, AreKept,
 ghost use Rattle.pgs_world.specs.Outcome.{most_bytes, setting_for, usage_line, AskFor, IsWhole, IsWanted, IsCutOff, IsTooLong, IsUnwritten, IsNotStarted, IsSharedOut, IsUsageFront, CountsErrors, TakesAll};
 ghost use Rattle.pgs_world.specs.Ending.{generated_outcome, generated_status, outcome_of, status_of};
 ghost use Rattle.pgs_world.specs.Generated.{IsGenerated, IsMade, IsStopped, IsUntold};
-ghost use Rattle.pgs_world.specs.Lawful.{AreLawful, IsMadeLawfully};
+ghost use Rattle.pgs_world.specs.Lawful.{AreLawful, AreMadeOnce, IsMadeLawfully};
 ghost use Rattle.pgs_world.specs.Plays.{outside, Ends, EndsMade, Plays};
 ghost use Rattle.session_rules.specs.Modes.{made_script};
 ghost use Rattle.pgs_turns.specs.Courses.{TakesInAll};
@@ -95,9 +95,11 @@ pub fn run<S: Source, K: Sink, H: ResetHook, X: ExtKind>(
 
     // Unless not all sessions were started, each transcript that these clauses speak of keeps the laws of lifetimes: what is acquired is
     // released exactly once, descendants first, by phase and priority; the end of a level touches nothing outside it; and each callback runs once,
-    // before its memory goes. So does that of the script that is made.
+    // before its memory goes. So does that of the script that is made. And in each no context and no owner is made twice, and none goes that was
+    // not made.
     ensures lawful { (o : Asked) → AskFor (map string_text words.now) o → (result.status ≡ 5 → 0 < result.call) → AreLawful (setting_for o shelf.old kinds.old) }
     ensures generated_lawful { (o : Asked) → AskFor (map string_text words.now) o → 0 < o.generate → (result.status ≡ 5 → 0 < result.call) → IsMadeLawfully o.generate (setting_for o shelf.old kinds.old) }
+    ensures made_once { (o : Asked) → AskFor (map string_text words.now) o → (result.status ≡ 5 → 0 < result.call) → AreMadeOnce (setting_for o shelf.old kinds.old) }
 
     // Unless not all sessions were started, the space has the limit that the words say, and no account but a session's took any bytes.
     ensures shared_out { (o : Asked) → AskFor (map string_text words.now) o → (result.status ≡ 5 → 0 < result.call) → IsSharedOut o.sessions o.space space.old space.new }
@@ -183,6 +185,7 @@ fn start<S: Source, K: Sink, H: ResetHook, X: ExtKind>(
         (outside (S.left src.new) (S.faults src.new) (K.written out.new) (K.faults out.new) shelf.new kinds.new) space.old space.new }
     ensures unread { 0 < options.now.generate → src.new ≡ src.old }
     ensures lawful { (result.status ≡ 5 → 0 < result.call) → AreLawful (setting_for options.now shelf.old kinds.old) }
+    ensures made_once { (result.status ≡ 5 → 0 < result.call) → AreMadeOnce (setting_for options.now shelf.old kinds.old) }
 {
     let Ok(places) = Places::new(alloc) else {
         return NOT_STARTED;

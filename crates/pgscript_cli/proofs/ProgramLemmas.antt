@@ -25,6 +25,7 @@ nothing_played words left written source_faults sink_faults = record {
   generated_statuses = λ o asked _. inr (inr (inr refl));
   lawful = λ o asked h. absurd (omega (arith, h refl));
   generated_lawful = λ o asked _ h. absurd (omega (arith, h refl));
+  made_once = λ o asked h. absurd (omega (arith, h refl));
   not_started = λ _ _. (refl, refl, refl, refl);
   source_grew = λ h. absurd (omega (arith, h));
   sink_grew = λ h. absurd (omega (arith, h));

@@ -11,7 +11,7 @@ use Rattle.pgs_world.specs.declared.options.Options.{Options}
 use Rattle.pgs_world.specs.declared.program.Outcome.{Outcome}
 use Rattle.pgs_turns.specs.Transcript.{Setting}
 use Rattle.pgs_world.specs.Generated.{IsGenerated, IsMade, IsStopped, IsUntold}
-use Rattle.pgs_world.specs.Lawful.{AreLawful, IsMadeLawfully}
+use Rattle.pgs_world.specs.Lawful.{AreLawful, AreMadeOnce, IsMadeLawfully}
 use Rattle.pgs_world.specs.Outcome.{most_bytes, setting_for, usage_line, AskFor, IsWhole, IsWanted, IsCutOff, IsTooLong, IsUnwritten, IsUsageFront}
 
 -- so many hooks that have not run, with the words from the first one on
@@ -56,6 +56,7 @@ pub record Plays (words : List (List ℕ)) (outcome : Outcome) (left left' writt
   pub generated_statuses : (o : Options) → AskFor words o → 0 < o.generate → IsMade outcome.status
   pub lawful : (o : Options) → AskFor words o → (outcome.status ≡ 5 → 0 < outcome.call) → AreLawful (asked_run o)
   pub generated_lawful : (o : Options) → AskFor words o → 0 < o.generate → (outcome.status ≡ 5 → 0 < outcome.call) → IsMadeLawfully o.generate (asked_run o)
+  pub made_once : (o : Options) → AskFor words o → (outcome.status ≡ 5 → 0 < outcome.call) → AreMadeOnce (asked_run o)
   pub not_started : outcome.status ≡ 5 → outcome.call ≡ 0 → (outcome.lines ≡ 0) × (outcome.errors ≡ 0) × (left' ≡ left) × (written' ≡ written)
   pub source_grew : source_faults < source_faults' → (outcome.status ≡ 3) ⊎ (outcome.status ≡ 4)
   pub sink_grew : sink_faults < sink_faults' → outcome.status ≡ 4

@@ -44,6 +44,7 @@ returns-clause-played g c =
         generated_statuses = c.run-outcome.ensures.generated_statuses;
         lawful = λ o asked h. rw (← c.in-Ok-all_hooks.ensures.shelf, ← c.in-Ok-both_kinds.ensures) (c.run-outcome.ensures.lawful o asked h);
         generated_lawful = λ o asked some h. rw (← c.in-Ok-all_hooks.ensures.shelf, ← c.in-Ok-both_kinds.ensures) (c.run-outcome.ensures.generated_lawful o asked some h);
+        made_once = λ o asked h. rw (← c.in-Ok-all_hooks.ensures.shelf, ← c.in-Ok-both_kinds.ensures) (c.run-outcome.ensures.made_once o asked h);
         not_started = λ h k. let left = c.run-outcome.ensures.not_started h k in (left.lines, left.errors, left.unread, left.unwritten);
         source_grew = c.run-outcome.ensures.source_grew;
         sink_grew = c.run-outcome.ensures.sink_grew;
