@@ -13,6 +13,9 @@ use pgs_command::{
 };
 use pgs_step::{Mode, Name};
 
+/// The shared buffers of a server.
+const BUFFERS: u32 = 1024;
+
 /// How many lines each round has.
 pub(crate) const LINES: u32 = 13;
 
@@ -50,7 +53,7 @@ fn command_at(round: u32, place: u32) -> Command<'static>
             chunk: numbered(b'a', round),
             size: 733 * round % 9000,
         })),
-        4 => Command::Work(Work::Items(ItemCommand::Pin(7 * round % 1024))),
+        4 => Command::Work(Work::Items(ItemCommand::Pin(7 * round % BUFFERS))),
         5 => Command::Transaction(TransactionCommand::Savepoint(name(b"s"))),
         6 => Command::Work(Work::Locks(LockCommand::Lock {
             object: round % 64,

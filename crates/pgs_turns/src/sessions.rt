@@ -3,6 +3,7 @@ ghost use Rattle.std.specs.Prelude.{◌≡◌, ◌<◌, ◌≤◌, ℕ, List, []
 ghost use Rattle.addr_space.specs.Space.{accounts, held, risen, taken};
 ghost use Rattle.pgs_command.specs.Ranges.{IsInRange, IsSession};
 ghost use Rattle.pgs_turns.specs.World.{run_of, AreStanding, IsOpening};
+ghost use Rattle.session_rules.specs.Limits.{asked_at_opening};
 ghost use Rattle.session_rules.specs.Transcript.{missing};
 ghost use Rattle.pgs_turns.specs.Turns.{AllExit, AreOpened, HaveRoom, TakesTurn};
 
@@ -33,7 +34,7 @@ pub fn start_sessions<H: ResetHook>(
     ensures opened { AreOpened descriptors space.old sessions.new.items space.new }
     ensures all { OnOk result (length sessions.new.items ≡ count) }
     ensures few { length sessions.new.items ≤ count }
-    ensures asked { OnOk result ((account : ℕ) → taken space.new account ≡ risen (taken space.old account) (if nat_lt account count then 65536 else 0)) }
+    ensures asked { OnOk result ((account : ℕ) → taken space.new account ≡ risen (taken space.old account) (if nat_lt account count then asked_at_opening else 0)) }
 {
     for account in 0..count {
         match Session::start(alloc, account, account + 1, descriptors, space) {

@@ -9,6 +9,7 @@ use Rattle.exec_core.specs.declared.steps.ScanStep.TheVariants as step
 use Rattle.pgs_step.specs.declared.events.What.{What}
 use Rattle.pgs_step.specs.declared.events.What.TheVariants as what
 use Rattle.portal_store.specs.Portals.{place_named}
+use Rattle.session_rules.specs.Limits.{shared_buffers}
 use Rattle.session_rules.specs.Elements as e
 use Rattle.session_rules.specs.Acts.{Ended, context_cleared_alone, nothing, say, where_there}
 use Rattle.session_rules.specs.Elements.{Element, InRow, OfPortal, Text}
@@ -46,7 +47,7 @@ cost_of other = 0
 
 -- there is a buffer for the page that a step pins
 abbrev pub IsPage : ScanStep → Type 0
-IsPage (step.Pin page) = page < 1024
+IsPage (step.Pin page) = page < shared_buffers
 IsPage other = Unit {0}
 
 -- the elements of a step of a scan

@@ -1,6 +1,7 @@
 //! `portal`: a query is opened under a name.
 ghost use Rattle.std.specs.Prelude.{◌≡◌, [], ◌∷◌, ◌++◌, None, true, false, OnOk};
 ghost use Rattle.portal_store.specs.Portals as list;
+ghost use Rattle.session_rules.specs.Limits.{portal_bytes};
 ghost use Rattle.session_rules.specs.Elements as e;
 ghost use Rattle.session_rules.specs.Elements.{InPortal, OfPortal, PortalContext, RowContext};
 ghost use Rattle.session_rules.specs.Standing.{IsWorking};
@@ -99,7 +100,7 @@ fn finish<H: ResetHook, K: ExtKind, E: Emit>(
 ) -> Result<(), Error>
     requires making { IsMaking name.now true true false (now store.old shared.old) }
     requires room { HasRoom 2 (now store.old shared.old) }
-    ensures performed { Performed 2 (e.Alloc (InPortal name.now) None 200 false ∷ e.MakeContext (RowContext name.now) ∷ e.PortalReady name.now ∷ []) (now store.old shared.old) (now store.new shared.new) (λ events. E.emits out.old events out.new) (refusal_of result) }
+    ensures performed { Performed 2 (e.Alloc (InPortal name.now) None portal_bytes false ∷ e.MakeContext (RowContext name.now) ∷ e.PortalReady name.now ∷ []) (now store.old shared.old) (now store.new shared.new) (λ events. E.emits out.old events out.new) (refusal_of result) }
 {
     take_memory(store, name, shared, out)?;
     make_row(store, name, shared, out)?;

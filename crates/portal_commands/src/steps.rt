@@ -9,6 +9,7 @@ ghost use Rattle.reset_callbacks.specs.ShelfState.{ShelfState};
 ghost use Rattle.session_owners.specs.Commons.{CommonState};
 ghost use Rattle.session_owners.specs.Counted.{IsReference};
 ghost use Rattle.session_owners.specs.ResourceState as owners;
+ghost use Rattle.session_rules.specs.Limits.{portal_bytes};
 ghost use Rattle.session_rules.specs.Elements as e;
 ghost use Rattle.session_rules.specs.Elements.{InPortal, OfPortal, PortalContext, RowContext};
 ghost use Rattle.session_rules.specs.Standing.{IsWorking};
@@ -144,7 +145,7 @@ pub(crate) fn take_memory<H: ResetHook, K: ExtKind, E: Emit>(
 ) -> Result<(), Error>
     requires making { IsMaking name.now true true false (now store.old shared.old) }
     requires room { HasRoom 1 (now store.old shared.old) }
-    ensures performed { Performed 1 (e.Alloc (InPortal name.now) None 200 false ∷ []) (now store.old shared.old) (now store.new shared.new) (λ events. E.emits out.old events out.new) (refusal_of result) }
+    ensures performed { Performed 1 (e.Alloc (InPortal name.now) None portal_bytes false ∷ []) (now store.old shared.old) (now store.new shared.new) (λ events. E.emits out.old events out.new) (refusal_of result) }
     ensures making { OnOk result (IsMaking name.now true true false (now store.new shared.new)) }
 {
     let at = context_of(store, name);

@@ -12,6 +12,7 @@ ghost use Rattle.portal_store.specs.Portals as list;
 ghost use Rattle.reset_callbacks.specs.ShelfState.{ShelfState};
 ghost use Rattle.session_owners.specs.Commons.{CommonState};
 ghost use Rattle.session_owners.specs.ResourceState as owners;
+ghost use Rattle.session_rules.specs.Limits.{shared_buffers};
 ghost use Rattle.session_rules.specs.Elements as e;
 ghost use Rattle.session_rules.specs.Elements.{InRow, OfPortal, OwnerRole, Text};
 ghost use Rattle.session_rules.specs.Lookup.{memory_in, owner_in};
@@ -218,7 +219,7 @@ fn pin_page<H: ResetHook, K: ExtKind, E: Emit>(
 ) -> Result<(), Error>
     requires fetching { (scan : AScan) × IsFetching portal.now.name scan (now store.old shared.old) }
     requires place { IsAt portal.now.name portal.now.place store.old }
-    requires page { page < 1024 }
+    requires page { page < shared_buffers }
     requires room { HasRoom 2 (now store.old shared.old) }
     ensures performed { Performed 2 (takes (OfPortal portal.now.name) buffer_pin page) (now store.old shared.old) (now store.new shared.new) (λ events. E.emits out.old events out.new) (refusal_of result) }
 {

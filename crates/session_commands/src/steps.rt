@@ -4,6 +4,7 @@ ghost use Rattle.addr_space.specs.Space.{Space};
 ghost use Rattle.forest.specs.Forest.{has};
 ghost use Rattle.reset_callbacks.specs.ShelfState.{ShelfState};
 ghost use Rattle.session_owners.specs.ResourceState.{IsLive, has_begun, owners_of, spare_of};
+ghost use Rattle.session_rules.specs.Limits.{shared_buffers};
 ghost use Rattle.session_rules.specs.Elements as e;
 ghost use Rattle.session_rules.specs.Elements.{OfLevel, OwnerRole};
 ghost use Rattle.session_rules.specs.Standing.{IsWorking};
@@ -76,7 +77,7 @@ pub fn hold_pin<H: ResetHook, K: ExtKind, E: Emit>(
     requires live { IsLive store.old.owners owner }
     requires there { has owner.number (owners_of store.old.owners) ≡ true }
     requires not_begun { has_begun owner.number (owners_of store.old.owners) ≡ false }
-    requires buffer { buffer < 1024 }
+    requires buffer { buffer < shared_buffers }
     ensures performed { (role : OwnerRole) → IsOwnerOf role store.old owner → Performed 2 (takes role buffer_pin buffer) (now store.old shared.old) (now store.new shared.new) (λ events. E.emits out.old events out.new) (refusal_of result) }
 {
     enlarge(store, owner, shared)?;
@@ -97,7 +98,7 @@ fn take_pin<H: ResetHook, K: ExtKind, E: Emit>(
     requires live { IsLive store.old.owners owner }
     requires spare { 1 ≤ spare_of owner.number store.old.owners }
     requires not_begun { has_begun owner.number (owners_of store.old.owners) ≡ false }
-    requires buffer { buffer < 1024 }
+    requires buffer { buffer < shared_buffers }
     ensures performed { (role : OwnerRole) → IsOwnerOf role store.old owner → Performed 1 (e.Take role buffer_pin buffer ∷ []) (now store.old shared.old) (now store.new shared.new) (λ events. E.emits out.old events out.new) (refusal_of result) }
 {
     shared.calls.next()?;

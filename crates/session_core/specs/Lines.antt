@@ -1,6 +1,7 @@
 -- A session between two lines, and the levels that a line meets.
 use Rattle.std.specs.Prelude.{◌≡◌, ◌<◌, ◌≤◌, length, true, List}
 use Rattle.subxact_stack.specs.declared.levels.Level.{Level}
+use Rattle.session_rules.specs.Limits.{most_levels}
 use Rattle.session_rules.specs.State.{is_aborted}
 use Rattle.session_owners.specs.Commons.{Serves}
 use Rattle.session_store.specs.State.{levels_of}
@@ -19,7 +20,7 @@ pub record IsBetweenLines (n : Now) : Type 0 where
 -- a transaction in whose levels steps can be taken
 pub record IsInBlock (levels : List Level) : Type 0 where
   pub some : 0 < length levels
-  pub at_most : length levels ≤ 1000
+  pub at_most : length levels ≤ most_levels
   pub outer : AreOuter (levels_of levels)
 
 -- a transaction whose deepest level is aborted

@@ -1,6 +1,7 @@
 //! Savepoints, and the levels from the deepest up to one.
 ghost use Rattle.std.specs.Prelude.{◌≡◌, ◌+◌, ◌<◌, ◌≤◌, length, [], ◌∷◌, ◌++◌, All, Some, None, false, OnErr};
 ghost use Rattle.pgs_step.specs.declared.events.What.TheVariants as what;
+ghost use Rattle.session_rules.specs.Limits.{most_levels};
 ghost use Rattle.session_rules.specs.Elements as element;
 ghost use Rattle.session_rules.specs.Commands.{at_savepoint, committed_to, rolled_back_to, start, then_ok};
 ghost use Rattle.session_rules.specs.Standing.{AreOuter, IsAtRest};
@@ -46,7 +47,7 @@ impl<H: ResetHook> Session<H> {
         ensures below { length self.new.levels < level }
         ensures rest { level ≤ length self.old.levels → All IsAtRest (portals_of self.new.portals) }
         ensures outer { level ≤ length self.old.levels → AreOuter (levels_of self.new.levels) }
-        ensures at_most { length self.new.levels ≤ 1000 }
+        ensures at_most { length self.new.levels ≤ most_levels }
     {
         while self.depth() >= level {
             self.end_level(shared, out);
@@ -118,7 +119,7 @@ impl<H: ResetHook> Session<H> {
         requires between { IsBetweenSteps (now self.old shared.old) }
         requires rest { All IsAtRest (portals_of self.old.portals) }
         requires room { HasRoom 3 (now self.old shared.old) }
-        requires at_most { length self.old.levels ≤ 1000 }
+        requires at_most { length self.old.levels ≤ most_levels }
         requires outer { AreOuter (levels_of self.old.levels) }
         ensures performed { Performed 3 (then_ok (start name false)) (now self.old shared.old) (now self.new shared.new) (λ events. E.emits out.old events out.new) (refusal_of result) }
         ensures between { OnErr result (IsBetweenSteps (now self.new shared.new)) }

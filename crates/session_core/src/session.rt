@@ -8,6 +8,7 @@ ghost use Rattle.context_rules.specs.Contexts.{found};
 ghost use Rattle.context_rules.specs.Chunks.{shown, written};
 ghost use Rattle.context_rules.specs.Refusals.{bytes_refusal};
 ghost use Rattle.context_tree.specs.State.{Moves, SameRegions, error_of, no_contexts};
+ghost use Rattle.session_rules.specs.Limits.{asked_at_opening, most_levels};
 ghost use Rattle.session_rules.specs.State.{opening};
 ghost use Rattle.session_rules.specs.Parts.{contexts_become};
 ghost use Rattle.owner_kinds.specs.KindShelf.{table_of};
@@ -82,9 +83,9 @@ impl<H: ResetHook> Session<H> {
         ensures moves { IfOk result (λ session. Moves (no_contexts account) session.tree space.old space.new) }
         ensures keeps { held space.old account ≡ 0 → IfOk result (λ session. Keeps session space.new) }
         ensures stands { (x : ShelfState) (c : CommonState) → AreDistinct (shelf.held x) → IsSound (table_of c.kinds) → IfOk result (λ session. StandsIn session space.new x c) }
-        ensures asked { OnOk result (Asks account 65536 space.old space.new) }
-        ensures served { OnOk result (held space.old account + 65536 ≤ space.old.limit) }
-        ensures refused { IfErr result (λ e. (e ≡ start_error.Memory) ⊎ (space.old.limit < held space.old account + 65536)) }
+        ensures asked { OnOk result (Asks account asked_at_opening space.old space.new) }
+        ensures served { OnOk result (held space.old account + asked_at_opening ≤ space.old.limit) }
+        ensures refused { IfErr result (λ e. (e ≡ start_error.Memory) ⊎ (space.old.limit < held space.old account + asked_at_opening)) }
         ensures err_space { OnErr result (SameRegions space.old space.new) }
     {
         match Store::open(alloc, account, session, descriptors, space) {
@@ -97,7 +98,7 @@ impl<H: ResetHook> Session<H> {
     /// How many levels the transaction has; 0 where none is open: `GetCurrentTransactionNestLevel`.
     pub fn depth(&self) -> u32
         ensures depth { result ≡ length self.now.levels }
-        ensures at_most { result ≤ 1000 }
+        ensures at_most { result ≤ most_levels }
     {
         self.store.depth()
     }

@@ -1,5 +1,6 @@
 //! Levels of a transaction begin.
 ghost use Rattle.std.specs.Prelude.{◌≡◌, ◌<◌, ◌≤◌, [], ◌∷◌, length, true, All, OnOk};
+ghost use Rattle.session_rules.specs.Limits.{most_levels};
 ghost use Rattle.session_rules.specs.Elements as e;
 ghost use Rattle.session_rules.specs.Elements.{LevelContext, OfLevel};
 ghost use Rattle.session_rules.specs.Commands.{start};
@@ -28,7 +29,7 @@ impl<H: ResetHook> Session<H> {
     ) -> Result<(), Error>
         requires between { IsBetweenSteps (now self.old shared.old) }
         requires room { HasRoom 1 (now self.old shared.old) }
-        requires most { length self.old.levels ≤ 1000 }
+        requires most { length self.old.levels ≤ most_levels }
         ensures performed { Performed 1 (e.MakeLevel name implicit ∷ []) (now self.old shared.old) (now self.new shared.new) (λ events. E.emits out.old events out.new) (refusal_of result) }
     {
         shared.calls.next()?;
@@ -89,7 +90,7 @@ impl<H: ResetHook> Session<H> {
         requires between { IsBetweenSteps (now self.old shared.old) }
         requires rest { All IsAtRest (portals_of self.old.portals) }
         requires room { HasRoom 3 (now self.old shared.old) }
-        requires most { length self.old.levels ≤ 1000 }
+        requires most { length self.old.levels ≤ most_levels }
         requires outer { AreOuter (levels_of self.old.levels) }
         requires alone { implicit ≡ true → self.old.levels ≡ [] }
         ensures performed { Performed 3 (start name implicit) (now self.old shared.old) (now self.new shared.new) (λ events. E.emits out.old events out.new) (refusal_of result) }

@@ -15,6 +15,7 @@ ghost use Rattle.pgs_step.specs.declared.ids.OwnerId.{OwnerId as AnOwnerId};
 ghost use Rattle.portal_store.specs.Portals.{changed, new_portal, portal_named};
 ghost use Rattle.session_owners.specs.ResourceState.{owners_of};
 ghost use Rattle.session_owners.specs.Commons.{CommonState};
+ghost use Rattle.session_rules.specs.Limits.{most_owners, most_portals};
 ghost use Rattle.session_rules.specs.Elements.{OfPortal, PortalContext, RowContext};
 ghost use Rattle.session_rules.specs.Making.{new_context_made, new_owner_made, portal_made};
 ghost use Rattle.session_store.specs.State.{contexts_in, left_in};
@@ -45,9 +46,9 @@ pub fn make_portal<H: ResetHook>(
     ensures acted { OnOk result ((s : Space) (x : ShelfState) (c : CommonState) → Acted (portal_made name object rows bad) store.old store.new s s x x c c IsSilent) }
     ensures alone { PortalsAlone store.old store.new }
     ensures portals { OnOk result (store.new.portals ≡ new_portal name (new_scan object rows bad) (length store.old.levels) ∷ store.old.portals) }
-    ensures too_many { (result ≡ Err PortalError.TooMany) ↔ (length store.old.portals ≡ 1024) }
+    ensures too_many { (result ≡ Err PortalError.TooMany) ↔ (length store.old.portals ≡ most_portals) }
     ensures untaken { result ≢ Err PortalError.Taken }
-    ensures at_most { length store.old.portals ≤ 1024 }
+    ensures at_most { length store.old.portals ≤ most_portals }
     ensures refused { OnErr result (store.new ≡ store.old) }
 {
     prove!(store.portals.len() <= MAX_PORTALS);
@@ -167,7 +168,7 @@ pub fn make_portal_owner<H: ResetHook, E: Emit>(
     ensures tree { store.new.tree ≡ store.old.tree }
     ensures levels { store.new.levels ≡ store.old.levels }
     ensures portals { OnOk result ((id : AnOwnerId) × (id.number ≡ store.old.owners.next_owner) × (store.new.portals ≡ changed name.now (λ p. record p { owner = Some id }) store.old.portals)) }
-    ensures too_many { (result ≡ Err OwnerError.TooMany) ↔ (65536 ≤ size (owners_of store.old.owners)) }
+    ensures too_many { (result ≡ Err OwnerError.TooMany) ↔ (most_owners ≤ size (owners_of store.old.owners)) }
     ensures causes { OnErr result ((result ≢ Err OwnerError.Releasing) × (result ≢ Err OwnerError.NotOwned)) }
     ensures err { OnErr result (store.new ≡ store.old) }
     ensures silent { OnErr result (out.new ≡ out.old) }

@@ -13,6 +13,7 @@ use Rattle.owner_items.specs.ItemList.{is_of}
 use Rattle.owner_core.specs.Owners.{Owner, OwnerTable, OwnerTree, held, owners_of}
 use Rattle.owner_core.specs.Released.{released}
 use Rattle.owner_core.specs.Sound.{IsSoundTable}
+use Rattle.session_rules.specs.Limits.{shared_buffers}
 use Rattle.session_rules.specs.State.{file_kind}
 use Rattle.session_rules.specs.Counts.{all_items, distinct, keys_of}
 use Rattle.session_owners.specs.Tables.{Held, times_held}
@@ -21,7 +22,7 @@ pub use Rattle.session_owners.specs.Tables.{IsReference}
 -- the item is a pin of one of the buffers
 pub record IsPin (item : Item) : Type 0 where
   pub kind : item.kind.0 ≡ BUFFER_PIN.0
-  pub buffer : item.key < 1024
+  pub buffer : item.key < shared_buffers
 
 -- an item that is counted: a pin, a reference, an open file, a reference to a plan, or what an extension kind holds
 abbrev pub IsHeld : Item → Type 0
@@ -35,7 +36,7 @@ HoldsCounted owner = All IsHeld owner.items
 pub record IsCounted (table : OwnerTable) (counts : Held) : Type 0 where
   pub sound : IsSoundTable table
   pub items : AllNodes HoldsCounted (owners_of table)
-  pub buffers : length counts.pins ≡ 1024
+  pub buffers : length counts.pins ≡ shared_buffers
   pub counted : (kind : KindId) (key : ℕ) → kind.0 < FIRST_EXTENSION → times_held counts kind key ≡ held kind key (owners_of table)
   pub few : (kind : KindId) (key : ℕ) → held kind key (owners_of table) < table.next_serial
   pub references : total counts.references < table.next_serial

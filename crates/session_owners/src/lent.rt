@@ -7,6 +7,7 @@ ghost use Rattle.std.proofs.Common.{◌∙◌};
 ghost use Rattle.session_owners.specs.Commons.{LocksBalance};
 ghost use Rattle.session_owners.specs.Placing.{PlansFit};
 ghost use Rattle.session_owners.specs.Tables.{lending_of, times_lent, ArePinsShared, PinsBalance, TablesDo};
+ghost use Rattle.session_rules.specs.Limits.{shared_buffers};
 
 use crate::{PlanContexts, Tables};
 use lock_local::LockTable;
@@ -31,7 +32,7 @@ pub(crate) struct Lent<'a, K: ExtKind, P: PlanContexts> {
 impl<'a, K: ExtKind, P: PlanContexts> Release for Lent<'a, K, P> {
     type Extension = K;
 
-    ghost IsFit = { λ lent. (length lent.tables.now.pins ≡ 1024) × Agrees lent.locks.now lent.shared.now × ArePinsShared lent.tables.now.pins lent.pins.now × PlansFit (P.MayGo lent.place.now) lent.tables.now.plans.standing };
+    ghost IsFit = { λ lent. (length lent.tables.now.pins ≡ shared_buffers) × Agrees lent.locks.now lent.shared.now × ArePinsShared lent.tables.now.pins lent.pins.now × PlansFit (P.MayGo lent.place.now) lent.tables.now.plans.standing };
 
     ghost counted = { λ lent. times_lent (lending_of lent.tables.now lent.kinds.now lent.locks.now.locks (P.contexts lent.place.now) (P.shelf lent.place.now)) };
 

@@ -6,6 +6,7 @@ ghost use Rattle.owner_items.specs.ItemList.{is_of};
 ghost use Rattle.owner_core.specs.Sound.{IsSound};
 ghost use Rattle.owner_core.specs.Released.{released};
 ghost use Rattle.plan_store.specs.Plans.{is_usable, plan_of};
+ghost use Rattle.session_rules.specs.Limits.{most_files, most_owners, most_plans, shared_buffers};
 ghost use Rattle.session_rules.specs.State.{buffer_pin, file_kind, plan_reference};
 ghost use Rattle.session_rules.specs.Lookup.{plan_at};
 ghost use Rattle.session_rules.specs.Acts.{nothing};
@@ -110,7 +111,7 @@ impl Resources {
         ensures balances { (commons : CommonState) → Balances self.old self.new commons commons }
         ensures others { (other : ℕ) → other ≢ self.old.next_owner → spare_of other self.new ≡ spare_of other self.old }
         ensures fresh { has self.old.next_owner (owners_of self.old) ≡ false }
-        ensures too_many { (result ≡ Err OwnerError.TooMany) ↔ (65536 ≤ size (owners_of self.old)) }
+        ensures too_many { (result ≡ Err OwnerError.TooMany) ↔ (most_owners ≤ size (owners_of self.old)) }
         ensures refused { OnErr result (self.new ≡ self.old) }
         ensures silent { OnErr result (out.new ≡ out.old) }
         ensures causes { OnErr result ((result ≢ Err OwnerError.Releasing) × (result ≢ Err OwnerError.NotOwned)) }
@@ -178,7 +179,7 @@ impl Resources {
         requires live { IsLive self.old owner }
         requires spare { 1 ≤ spare_of owner.number self.old }
         requires not_begun { has_begun owner.number (owners_of self.old) ≡ false }
-        requires buffer { buffer < 1024 }
+        requires buffer { buffer < shared_buffers }
         requires serial { self.old.next_serial < 2 ^ 62 }
         requires serves { Serves self.old commons.old }
         ensures spare { spare_of owner.number self.old ≤ spare_of owner.number self.new + 1 }
@@ -200,7 +201,7 @@ impl Resources {
     /// How many sessions pin a buffer.
     pub fn pinned<K: ExtKind>(&self, buffer: u32, commons: &Commons<K>) -> u32
         requires serves { Serves self.now commons.now }
-        requires buffer { buffer < 1024 }
+        requires buffer { buffer < shared_buffers }
         ensures { (scene : Scene) → OwnersFit self.now commons.now scene → result ≡ pinning buffer scene }
     {
         commons.pins.count(buffer)
@@ -259,7 +260,7 @@ impl Resources {
         ensures plans { self.new.plans ≡ self.old.plans }
         ensures acted { OnOk result ((commons : CommonState) → Acted (item_taken owner.number file_kind file) self.old self.new commons commons (λ events. E.emits out.old events out.new)) }
         ensures balances { (commons : CommonState) → Balances self.old self.new commons commons }
-        ensures too_many { (result ≡ Err FileError.TooMany) ↔ (4096 ≤ length (files_held (owners_of self.old))) }
+        ensures too_many { (result ≡ Err FileError.TooMany) ↔ (most_files ≤ length (files_held (owners_of self.old))) }
         ensures causes { (result ≢ Err FileError.Taken) × (result ≢ Err FileError.NoFile) }
         ensures refused { OnErr result (self.new ≡ self.old) }
         ensures silent { OnErr result (out.new ≡ out.old) }
@@ -543,7 +544,7 @@ impl Resources {
         ensures reserved { OnOk result (self.new ≡ record self.old { plans = record self.old.plans { reserved = Some plan } }) }
         ensures acted { (commons : CommonState) → Acted nothing self.old self.new commons commons (λ events. events ≡ []) }
         ensures balances { (commons : CommonState) → Balances self.old self.new commons commons }
-        ensures too_many { (result ≡ Err PlanError.TooMany) ↔ (1024 ≤ length self.old.plans.standing) }
+        ensures too_many { (result ≡ Err PlanError.TooMany) ↔ (most_plans ≤ length self.old.plans.standing) }
         ensures causes { IfErr result (λ error. (error ≡ PlanError.TooMany) ⊎ (error ≡ PlanError.Memory)) }
         ensures refused { OnErr result (self.new ≡ self.old) }
     {

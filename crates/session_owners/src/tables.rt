@@ -10,6 +10,7 @@ ghost use Rattle.owner_items.specs.ItemList.{uses};
 ghost use Rattle.owner_core.specs.Steps.{GivesBack};
 ghost use Rattle.owner_kinds.specs.Kind.{Kind as ExtensionKind};
 ghost use Rattle.session_owners.specs.Tables.{is_class, lending_of, times_held, ArePinsShared, IsReference, PinsBalance, TablesDo};
+ghost use Rattle.session_rules.specs.Limits.{most_files, most_plans, shared_buffers};
 ghost use Rattle.session_rules.specs.Lookup.{plan_changed};
 ghost use Rattle.session_owners.specs.Hosting.{hosting_of};
 ghost use Rattle.session_owners.specs.PlanStates.{plan_state};
@@ -47,6 +48,7 @@ pub struct Tables {
 impl Model for Tables {
     ghost use Rattle.std.specs.Prelude.{◌≡◌};
     ghost use Rattle.std.specs.Vec.{vec_len};
+    ghost use Rattle.session_rules.specs.Limits.{shared_buffers};
     ghost use Rattle.session_owners.specs.Tables.{AreOfClasses, Held, held_code};
 
     ghost Value = { Held };
@@ -55,7 +57,7 @@ impl Model for Tables {
 
     ghost view = { λ t. record { pins = t.pins.items; references = t.references; files = t.files; snapshots = t.snapshots; plans = t.plans } };
 
-    ghost invariant = { λ t. (vec_len t.pins ≡ 1024) × AreOfClasses t.references };
+    ghost invariant = { λ t. (vec_len t.pins ≡ shared_buffers) × AreOfClasses t.references };
 }
 
 impl Tables {
@@ -63,7 +65,7 @@ impl Tables {
     /// have a descriptor. It fails for want of memory alone.
     pub fn new(alloc: Global, descriptors: u8) -> Result<Tables, AllocError>
         requires descriptors { 0 < descriptors }
-        ensures pins { IfOk result (λ tables. tables.pins ≡ replicate 1024 0) }
+        ensures pins { IfOk result (λ tables. tables.pins ≡ replicate shared_buffers 0) }
         ensures references { IfOk result (λ tables. tables.references ≡ []) }
         ensures files { IfOk result (λ tables. tables.files ≡ record { descriptors = descriptors; opened = []; recent = [] }) }
         ensures snapshots { IfOk result (λ tables. tables.snapshots ≡ record { registered = []; stack = [] }) }
@@ -84,11 +86,11 @@ impl Tables {
 
     /// Pins the buffer once more. The session's first pin of it raises the count of the sessions that pin it.
     pub fn pin(&mut self, buffer: u32, shared: &mut SharedPins)
-        requires buffer { buffer < 1024 }
+        requires buffer { buffer < shared_buffers }
         requires room { slice_index self.old.pins buffer + 1 < 2 ^ 64 }
         requires sessions { slice_index shared.old buffer < 2 ^ 32 - 1 }
         ensures pinned { self.new ≡ record self.old { pins = slice_set self.old.pins buffer (slice_index self.old.pins buffer + 1) } }
-        ensures buffers { length self.new.pins ≡ 1024 }
+        ensures buffers { length self.new.pins ≡ shared_buffers }
         ensures balance { PinsBalance self.old.pins self.new.pins shared.old shared.new }
     {
         if self.pins[buffer as usize] == 0 {
@@ -102,7 +104,7 @@ impl Tables {
         requires pinned { 0 < slice_index self.old.pins buffer }
         requires shared { 0 < slice_index shared.old buffer }
         ensures unpinned { self.new ≡ record self.old { pins = slice_set self.old.pins buffer (slice_index self.old.pins buffer - 1) } }
-        ensures buffers { length self.new.pins ≡ 1024 }
+        ensures buffers { length self.new.pins ≡ shared_buffers }
         ensures balance { PinsBalance self.old.pins self.new.pins shared.old shared.new }
     {
         self.pins[buffer as usize] -= 1;
@@ -119,7 +121,7 @@ impl Tables {
         ensures files { self.new.files ≡ self.old.files }
         ensures stack { self.new.snapshots.stack ≡ self.old.snapshots.stack }
         ensures plans { self.new.plans ≡ self.old.plans }
-        ensures buffers { length self.new.pins ≡ 1024 }
+        ensures buffers { length self.new.pins ≡ shared_buffers }
         ensures counts { OnOk result ((kind : Kind) (k : ℕ) → times_held self.new kind k ≡ times_held self.old kind k + (if (class.0 == kind.0) && (key == k) then 1 else 0)) }
         ensures total { total self.new.references ≤ total self.old.references + 1 }
         ensures refused { OnErr result (self.new ≡ self.old) }
@@ -137,10 +139,10 @@ impl Tables {
     pub fn open_file<E: Emit>(&mut self, file: u32, out: &mut E) -> Result<(), FileError>
         ensures opened { OnOk result (self.new ≡ record self.old { files = opened_file file self.old.files }) }
         ensures counts { OnOk result (OpensOneMore self.old.files self.new.files file) }
-        ensures buffers { length self.new.pins ≡ 1024 }
+        ensures buffers { length self.new.pins ≡ shared_buffers }
         ensures events { OnOk result (E.emits out.old (opening_events file self.old.files) out.new) }
         ensures taken { (result ≡ Err FileError.Taken) ↔ IsTrue (is_among file self.old.files.opened) }
-        ensures too_many { (result ≡ Err FileError.TooMany) ↔ ((is_among file self.old.files.opened ≡ false) × (length self.old.files.opened ≡ 4096)) }
+        ensures too_many { (result ≡ Err FileError.TooMany) ↔ ((is_among file self.old.files.opened ≡ false) × (length self.old.files.opened ≡ most_files)) }
         ensures no_other { result ≢ Err FileError.NoFile }
         ensures refused { OnErr result (self.new ≡ self.old) }
         ensures silent { OnErr result (out.new ≡ out.old) }
@@ -170,7 +172,7 @@ impl Tables {
         requires open { 0 < opens self.old.files file }
         ensures closed { self.new ≡ record self.old { files = closed_file file self.old.files } }
         ensures counts { OpensOneLess self.old.files self.new.files file }
-        ensures buffers { length self.new.pins ≡ 1024 }
+        ensures buffers { length self.new.pins ≡ shared_buffers }
         ensures events { E.emits out.old (closing_events file self.old.files) out.new }
     {
         match self.files.close_file(file, out) {
@@ -203,7 +205,7 @@ impl Tables {
         ensures files { self.new.files ≡ self.old.files }
         ensures stack { self.new.snapshots.stack ≡ self.old.snapshots.stack }
         ensures plans { self.new.plans ≡ self.old.plans }
-        ensures buffers { length self.new.pins ≡ 1024 }
+        ensures buffers { length self.new.pins ≡ shared_buffers }
         ensures counts { (kind : Kind) (k : ℕ) → times_held self.new kind k + (if (class.0 == kind.0) && (key == k) then 1 else 0) ≡ times_held self.old kind k }
         ensures fewer { total self.new.references ≤ total self.old.references }
     {
@@ -231,7 +233,7 @@ impl Tables {
         requires counted { 0 < times_held self.old item.kind item.key }
         requires shared { ArePinsShared self.old.pins shared.old }
         requires fit { PlansFit (P.MayGo place.old) self.old.plans.standing }
-        ensures buffers { length self.new.pins ≡ 1024 }
+        ensures buffers { length self.new.pins ≡ shared_buffers }
         ensures counted { (kind : Kind) (key : ℕ) → times_held self.new kind key + uses kind key (item ∷ []) ≡ times_held self.old kind key }
         ensures balance { PinsBalance self.old.pins self.new.pins shared.old shared.new }
         ensures done { (kinds : List ExtensionKind) (locks : List Lock) → (events : List What) × TablesDo (lending_of self.old kinds locks (P.contexts place.old) (P.shelf place.old)) (GivesBack item ∷ []) events (lending_of self.new kinds locks (P.contexts place.new) (P.shelf place.new)) × E.emits out.old events out.new }
@@ -256,7 +258,7 @@ impl Tables {
     pub fn reserve_plan(&mut self, plan: u32) -> Result<(), PlanError>
         requires new { plan_of self.old.plans plan ≡ None }
         ensures reserved { OnOk result (self.new ≡ record self.old { plans = record self.old.plans { reserved = Some plan } }) }
-        ensures too_many { (result ≡ Err PlanError.TooMany) ↔ (1024 ≤ length self.old.plans.standing) }
+        ensures too_many { (result ≡ Err PlanError.TooMany) ↔ (most_plans ≤ length self.old.plans.standing) }
         ensures causes { IfErr result (λ error. (error ≡ PlanError.TooMany) ⊎ (error ≡ PlanError.Memory)) }
         ensures refused { OnErr result (self.new ≡ self.old) }
     {
@@ -278,7 +280,7 @@ impl Tables {
         requires usable { is_usable self.old.plans plan ≡ true }
         requires room { references self.old.plans < 2 ^ 62 }
         ensures alone { self.new ≡ record self.old { plans = self.new.plans } }
-        ensures buffers { length self.new.pins ≡ 1024 }
+        ensures buffers { length self.new.pins ≡ shared_buffers }
         ensures changed { OnOk result (map plan_state self.new.plans.standing ≡ plan_changed plan (λ p. record p { references = p.references + 1 }) (map plan_state self.old.plans.standing)) }
         ensures left { AreLeft self.old.plans.standing self.new.plans.standing }
         ensures counts { OnOk result (RefersOneMore self.old.plans self.new.plans plan) }

@@ -6,6 +6,7 @@ pub mod RowsOfResources
 pub mod RowsOfPortals
 pub mod RowsOfRuns
 pub mod RowsOfAsking
+pub mod LawfulRows
 pub mod Forests
 pub mod Guarded
 pub mod Sums

@@ -16,7 +16,8 @@ use Rattle.session_rules.specs.Commands.{elements_of}
 use Rattle.session_rules.specs.Does.{does, does_all}
 use Rattle.session_rules.specs.Ends.{recovered}
 use Rattle.session_rules.specs.Transcript.{turn}
-use Rattle.session_rules.specs.Asked.{asked, asked_all, asked_at_opening, asked_by, asked_by_turn}
+use Rattle.session_rules.specs.Asked.{asked, asked_all, asked_by, asked_by_turn}
+use Rattle.session_rules.specs.Limits.{asked_at_opening}
 use Rattle.session_rules.proofs.Setting.{options, kinds, hooks}
 
 -- what the lines of a script ask for the session of a number

@@ -10,6 +10,7 @@ use Rattle.reset_callbacks.specs.ShelfState.{ShelfState}
 use Rattle.any_ctx.specs.Kinds.{first_size}
 use Rattle.any_ctx.specs.declared.any.CtxKind.TheVariants as kind
 use Rattle.context_rules.specs.Chunks as chunks
+use Rattle.session_rules.specs.Limits.{asked_at_opening}
 use Rattle.session_rules.specs.State.{SessionState}
 use Rattle.session_rules.specs.World.{Options, Scene, Moment, moment, opened, session_at}
 use Rattle.session_rules.specs.Elements as e
@@ -83,10 +84,6 @@ asked_on reads w n (line ∷ lines) course = asked_by_line reads w n line course
 -- What the lines of a script ask for the session of number n, each as it is read.
 unfoldable pub asked_by : Reading → Option ℕ → Options → List Kind → ShelfState → List (List ℕ) → ℕ → ℕ
 asked_by reads w options kinds shelf lines n = asked_on reads w n lines (at_start (opened options kinds shelf))
-
--- a session that opens asks the first blocks of its five contexts
-abbrev pub asked_at_opening : ℕ
-asked_at_opening = 65536
 
 -- what a session asks in all: as it opens, and by the lines of a script
 abbrev pub asked_in_all : Reading → Option ℕ → Options → List Kind → ShelfState → List (List ℕ) → ℕ → ℕ

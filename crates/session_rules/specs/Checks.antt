@@ -12,6 +12,7 @@ use Rattle.chunk_header.specs.declared.CtxError.TheVariants as space
 use Rattle.context_rules.specs.declared.errors.TreeError.{TreeError}
 use Rattle.context_rules.specs.declared.errors.TreeError.TheVariants as tree
 use Rattle.context_rules.specs.Refusals.{is_taken, is_chunk, reset_refusal, reset_only_refusal, delete_refusal, set_parent_refusal, free_refusal, put_refusal, bytes_refusal}
+use Rattle.session_rules.specs.Limits.{shared_buffers}
 use Rattle.session_rules.specs.State.{SessionState, depth, file_kind, last_of, level_owner}
 use Rattle.session_rules.specs.Counts.{holds}
 use Rattle.session_rules.specs.World.{Scene}
@@ -75,7 +76,7 @@ failure (IsChunk name) scene = unless (is_chunk (Some name) scene.session.contex
 failure (MayFree name) scene = option_map tree_error (free_refusal name scene.session.contexts)
 failure (MayPut name from n) scene = option_map tree_error (put_refusal name from n scene.session.contexts)
 failure (MayShow name from n) scene = option_map tree_error (bytes_refusal name from n scene.session.contexts)
-failure (IsBuffer buffer) scene = unless (nat_lt buffer 1024) error.NoSuchBuffer
+failure (IsBuffer buffer) scene = unless (nat_lt buffer shared_buffers) error.NoSuchBuffer
 failure (FileIsNew file) scene = unless (not (holds file_kind file scene.session)) error.NameTaken
 failure (IsFile file) scene = unless (holds file_kind file scene.session) error.NoSuchName
 failure (IsKind name) scene = unless (is_some (kind_named name scene.around.kinds)) error.NoSuchName

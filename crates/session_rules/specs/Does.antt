@@ -9,6 +9,7 @@ use Rattle.any_ctx.specs.declared.any.CtxKind.TheVariants as kind
 use Rattle.forest.specs.Forest.{size}
 use Rattle.context_rules.specs.Chunks.{freed, written, shown}
 use Rattle.context_rules.specs.Reports.{report}
+use Rattle.session_rules.specs.Limits.{most_levels, most_owners, most_plans, most_portals}
 use Rattle.session_rules.specs.Elements as e
 use Rattle.session_rules.specs.State.{depth}
 use Rattle.session_rules.specs.Counts.{counts}
@@ -35,9 +36,9 @@ failing_turn name done (Some error) =
 unfoldable pub does : Option ℕ → Element → Moment → Done
 does w (e.Checks check) moment = unless_refused (failure check moment.scene) moment nothing
 does w (e.Says event) moment = unfailing moment (say event)
-does w (e.MakeLevel name implicit) moment = fallible w moment (limit 1000 (depth moment.scene.session)) (level_made name implicit)
+does w (e.MakeLevel name implicit) moment = fallible w moment (limit most_levels (depth moment.scene.session)) (level_made name implicit)
 does w (e.MakeContext new) moment = fallible w moment (new_context_refused new moment.scene) (new_context_made new)
-does w (e.MakeOwner role) moment = fallible w moment (limit 65536 (size moment.scene.session.owners)) (new_owner_made role)
+does w (e.MakeOwner role) moment = fallible w moment (limit most_owners (size moment.scene.session.owners)) (new_owner_made role)
 does w (e.Enlarge role) moment = fallible w moment None nothing
 does w (e.Take role kind key) moment =
     fallible w moment (take_refused (keeper_of kind) moment.scene) (at_owner role (λ owner. item_taken owner kind key))
@@ -54,8 +55,8 @@ does w (e.Register name) moment = fallible w moment (hook_refused moment.scene) 
 does w (e.Touch file) moment = fallible w moment None (descriptor_given file)
 does w (e.PushSnapshot snapshot) moment = fallible w moment None (snapshot_pushed snapshot)
 does w (e.MakePlan plan) moment =
-    fallible w moment (option_or (limit 1024 (length moment.scene.session.plans)) (context_refused (codes "CachedPlan") true kind.Small moment.scene)) (plan_made plan)
-does w (e.MakePortal name object rows bad) moment = fallible w moment (limit 1024 (length moment.scene.session.portals)) (portal_made name object rows bad)
+    fallible w moment (option_or (limit most_plans (length moment.scene.session.plans)) (context_refused (codes "CachedPlan") true kind.Small moment.scene)) (plan_made plan)
+does w (e.MakePortal name object rows bad) moment = fallible w moment (limit most_portals (length moment.scene.session.portals)) (portal_made name object rows bad)
 does w e.LevelStands moment = unfailing moment level_stands
 does w (e.Switch name) moment = unfailing moment (at_context name switched)
 does w (e.Reset name) moment = unfailing moment (at_context name context_cleared)

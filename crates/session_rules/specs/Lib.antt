@@ -1,4 +1,5 @@
 -- What contracts cite: what a session holds and counts, its surroundings, the elements of commands, what each does, and the transcript of a script.
+pub mod Limits
 pub mod State
 pub mod Counts
 pub mod World

@@ -3,6 +3,7 @@ use Rattle.std.specs.Prelude.{ℕ, zero, suc, ◌+◌, ◌*◌, ◌%◌, ◌==�
 use Rattle.pgs_command.specs.Lines.{read_line}
 use Rattle.owner_kinds.specs.Kind.{Kind}
 use Rattle.reset_callbacks.specs.ShelfState.{ShelfState, renewed}
+use Rattle.session_rules.specs.Limits.{shared_buffers}
 use Rattle.session_rules.specs.World.{Options}
 use Rattle.session_rules.specs.Transcript.{Course, course_by, ended, errors_in}
 
@@ -13,7 +14,7 @@ made_lines i =
     ∷ (codes "context g" ++ (decimal i ++ codes " CurTransactionContext default"))
     ∷ (codes "switch g" ++ decimal i)
     ∷ (codes "alloc a" ++ (decimal i ++ (codes " " ++ decimal (733 * i % 9000))))
-    ∷ (codes "pin " ++ decimal (7 * i % 1024))
+    ∷ (codes "pin " ++ decimal (7 * i % shared_buffers))
     ∷ codes "savepoint s"
     ∷ (codes "lock " ++ (decimal (i % 64) ++ codes " AccessShareLock"))
     ∷ (codes "ref relcache " ++ decimal (i % 100))

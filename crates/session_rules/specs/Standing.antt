@@ -15,6 +15,7 @@ use Rattle.owner_kinds.specs.KindTable as kind_table
 use Rattle.owner_kinds.specs.KindShelf.{table_of}
 use Rattle.owner_core.specs.Owners.{Owner, OwnerTree, AllAt, HoldsNothing, has_begun, held, items_of}
 use Rattle.owner_core.specs.Sound.{IsSound}
+use Rattle.session_rules.specs.Limits.{shared_buffers}
 use Rattle.session_rules.specs.State.{LevelState, OpenPortal, StandingPlan, abort_context, cache_context, first_of, is_aborted, owner_of, plan_reference, portals_context, top_context}
 use Rattle.portal_store.specs.declared.portal.PortalState.TheVariants.{New, Failed}
 use Rattle.session_rules.specs.World.{Scene}
@@ -117,7 +118,7 @@ FitLevels (level ∷ levels) contexts owners current = IsDeepest level contexts 
 -- an item is of a known kind, and there is a buffer of a pin's number
 pub record IsItem (kinds : KindTable) (item : Item) : Type 0 where
   pub kind : IsKind kinds item.kind
-  pub buffer : item.kind.0 ≡ BUFFER_PIN.0 → item.key < 1024
+  pub buffer : item.kind.0 ≡ BUFFER_PIN.0 → item.key < shared_buffers
 
 abbrev pub HasItems : KindTable → Owner → Type 0
 HasItems kinds owner = All (IsItem kinds) owner.items

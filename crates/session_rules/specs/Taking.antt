@@ -18,6 +18,7 @@ use Rattle.lock_shared.specs.ModeTable.{conflicts}
 use Rattle.lock_shared.specs.Blocking.{lesser_of}
 use Rattle.lock_local.specs.Changes.{acquired}
 use Rattle.file_table.specs.Files.{Files, touched_file, touch_events}
+use Rattle.session_rules.specs.Limits.{most_files}
 use Rattle.session_rules.specs.State.{depth, file_kind, first_of}
 use Rattle.session_rules.specs.Counts.{keys}
 use Rattle.session_rules.specs.World.{Scene}
@@ -66,7 +67,7 @@ full place (kind ∷ kinds) =
 abbrev pub take_refused : Keeper → Scene → Option Error
 take_refused NoOne scene = None
 take_refused ThePlans scene = None
-take_refused TheDescriptors scene = limit 4096 (length (keys file_kind scene.session))
+take_refused TheDescriptors scene = limit most_files (length (keys file_kind scene.session))
 take_refused (TheKind place) scene = full place scene.around.kinds
 
 -- an owner takes an item

@@ -33,6 +33,7 @@ use Rattle.exec_core.specs.declared.scan.Scan.{Scan}
 use Rattle.exec_core.specs.declared.steps.ScanStep.{ScanStep}
 use Rattle.exec_core.specs.declared.steps.ScanStep.TheVariants as step
 use Rattle.exec_core.specs.Turn.{turn, taken}
+use Rattle.session_rules.specs.Limits.{portal_bytes, row_bytes}
 use Rattle.session_rules.specs.Elements as e
 use Rattle.session_rules.specs.State.{OpenPortal, SessionState, buffer_pin, file_kind, plan_reference, relcache_reference, snapshot_reference}
 use Rattle.session_rules.specs.Elements.{Check, Element, InCurrent, InPortal, InRow, OfLevel, OfPortal, OwnerRole, PortalContext, RowContext, ScriptContext, Text}
@@ -56,13 +57,13 @@ portal_steps name object rows bad =
     (e.MakePortal name object rows bad ∷ e.MakeContext (PortalContext name) ∷ e.MakeOwner (OfPortal name)
     ∷ e.TakeLock (OfPortal name) object AccessShareLock ∷ [])
     ++ (takes (OfPortal name) relcache_reference object ++ (takes (OfPortal name) snapshot_reference object
-    ++ (e.Alloc (InPortal name) None 200 false ∷ e.MakeContext (RowContext name) ∷ e.PortalReady name ∷ [])))
+    ++ (e.Alloc (InPortal name) None portal_bytes false ∷ e.MakeContext (RowContext name) ∷ e.PortalReady name ∷ [])))
 
 -- what a step of a scan needs besides that the scan takes it
 abbrev pub fallible_part : Text → ScanStep → List Element
 fallible_part name (step.Pin page) = takes (OfPortal name) buffer_pin page
 fallible_part name (step.Bad row) = e.Checks (e.Refuse (error.BadRow row)) ∷ []
-fallible_part name step.Alloc = e.Alloc (InRow name) None 64 false ∷ []
+fallible_part name step.Alloc = e.Alloc (InRow name) None row_bytes false ∷ []
 fallible_part name other = []
 
 -- the elements of a turn of a scan

@@ -4,6 +4,7 @@ use Rattle.std.specs.List.{flat_map, range_with_len}
 use Rattle.lock_shared.specs.declared.shared_locks.Holding.{Holding}
 use Rattle.owner_kinds.specs.Kind.{Kind}
 use Rattle.reset_callbacks.specs.ShelfState.{ShelfState}
+use Rattle.session_rules.specs.Limits.{shared_buffers}
 use Rattle.session_rules.specs.State.{SessionState, buffer_pin, opening}
 use Rattle.session_rules.specs.Counts.{holds}
 
@@ -55,9 +56,9 @@ others n from (session ∷ sessions) =
 abbrev pub holdings : Numbered → List Holding
 holdings session = map (λ lock. record { object = lock.object; mode = lock.mode; session = session.number }) session.state.locks
 
--- a number for each of the 1,024 buffers, that of buffer 0 first
+-- a number for each shared buffer, that of buffer 0 first
 abbrev pub for_buffers : (ℕ → ℕ) → List ℕ
-for_buffers number = map number (range_with_len 0 1024)
+for_buffers number = map number (range_with_len 0 shared_buffers)
 
 -- how many of these sessions pin a buffer
 abbrev pub pinning_among : List Numbered → ℕ → ℕ

@@ -13,6 +13,7 @@ ghost use Rattle.session_owners.specs.ResourceState as owners;
 ghost use Rattle.session_owners.specs.ResourceState.{owners_of};
 ghost use Rattle.subxact_stack.specs.declared.levels.Level.{Level as ALevel};
 ghost use Rattle.subxact_stack.specs.Levels.{new_level, with_deepest, level_at};
+ghost use Rattle.session_rules.specs.Limits.{most_levels, most_owners};
 ghost use Rattle.session_rules.specs.State.{first_of, is_aborted};
 ghost use Rattle.session_rules.specs.Commands.{savepoint};
 ghost use Rattle.session_rules.specs.Elements.{LevelContext, OfLevel};
@@ -70,7 +71,7 @@ impl<H: ResetHook> Store<H> {
     /// How many levels there are, which is the number of the deepest: `GetCurrentTransactionNestLevel`.
     pub fn depth(&self) -> u32
         ensures depth { result ≡ length self.now.levels }
-        ensures at_most { result ≤ 1000 }
+        ensures at_most { result ≤ most_levels }
     {
         self.levels.depth()
     }
@@ -78,7 +79,7 @@ impl<H: ResetHook> Store<H> {
     /// The deepest level, where there is one.
     pub fn deepest_level(&self) -> Option<Level>
         ensures level { option_map level_state result ≡ first_of (levels_of self.now.levels) }
-        ensures at_most { length self.now.levels ≤ 1000 }
+        ensures at_most { length self.now.levels ≤ most_levels }
     {
         if self.levels.depth() == 0 {
             return None;
@@ -117,7 +118,7 @@ impl<H: ResetHook> Store<H> {
         ensures store { OnOk result (self.new ≡ record self.old { levels = self.old.levels ++ new_level name implicit ∷ [] }) }
         ensures acted { OnOk result ((s : Space) (x : ShelfState) (c : CommonState) → Acted (level_made name implicit) self.old self.new s s x x c c (λ events. E.emits out.old events out.new)) }
         ensures keeps { (s : Space) → Keeps self.old s → Keeps self.new s }
-        ensures too_many { (result ≡ Err LevelError.TooMany) ↔ (length self.old.levels ≡ 1000) }
+        ensures too_many { (result ≡ Err LevelError.TooMany) ↔ (length self.old.levels ≡ most_levels) }
         ensures err { OnErr result (self.new ≡ self.old) }
         ensures silent { OnErr result (out.new ≡ out.old) }
     {
@@ -210,7 +211,7 @@ impl<H: ResetHook> Store<H> {
         ensures keeps { (s : Space) → Keeps self.old s → Keeps self.new s }
         ensures tree { self.new.tree ≡ self.old.tree }
         ensures portals { self.new.portals ≡ self.old.portals }
-        ensures too_many { (result ≡ Err OwnerError.TooMany) ↔ (65536 ≤ size (owners_of self.old.owners)) }
+        ensures too_many { (result ≡ Err OwnerError.TooMany) ↔ (most_owners ≤ size (owners_of self.old.owners)) }
         ensures causes { OnErr result ((result ≢ Err OwnerError.Releasing) × (result ≢ Err OwnerError.NotOwned)) }
         ensures err { OnErr result (self.new ≡ self.old) }
         ensures silent { OnErr result (out.new ≡ out.old) }

@@ -14,6 +14,7 @@ ghost use Rattle.owner_kinds.specs.KindShelf.{table_of};
 ghost use Rattle.owner_kinds.specs.KindTable.{IsExtension};
 ghost use Rattle.session_owners.specs.ResourceState.{AllAt, HoldsNothing, IsLive, has_begun, items_of, owners_of, spare_of};
 ghost use Rattle.subxact_stack.specs.Levels.{level_at};
+ghost use Rattle.session_rules.specs.Limits.{most_files, shared_buffers};
 ghost use Rattle.session_rules.specs.Acts.{nothing};
 ghost use Rattle.session_rules.specs.State as rules;
 ghost use Rattle.session_rules.specs.State.{buffer_pin, file_kind};
@@ -90,7 +91,7 @@ impl<H: ResetHook> Store<H> {
         requires live { IsLive self.old.owners owner }
         requires spare { 1 ≤ spare_of owner.number self.old.owners }
         requires not_begun { has_begun owner.number (owners_of self.old.owners) ≡ false }
-        requires buffer { buffer < 1024 }
+        requires buffer { buffer < shared_buffers }
         requires serial { self.old.owners.next_serial < 2 ^ 62 }
         requires serves { Serves self.old.owners commons.old }
         ensures spare { spare_of owner.number self.old.owners ≤ spare_of owner.number self.new.owners + 1 }
@@ -104,7 +105,7 @@ impl<H: ResetHook> Store<H> {
     /// How many sessions pin a buffer.
     pub fn pinned<K: ExtKind>(&self, buffer: u32, commons: &Commons<K>) -> u32
         requires serves { Serves self.now.owners commons.now }
-        requires buffer { buffer < 1024 }
+        requires buffer { buffer < shared_buffers }
         ensures { (s : Space) (x : ShelfState) (around : Around) → result ≡ pinning buffer (scene_of self.now s x commons.now around) }
     {
         self.owners.pinned(buffer, commons)
@@ -179,7 +180,7 @@ impl<H: ResetHook> Store<H> {
         ensures others { (other : ℕ) → other ≢ owner.number → spare_of other self.new.owners ≡ spare_of other self.old.owners }
         ensures acted { OnOk result ((s : Space) (x : ShelfState) (c : CommonState) → Acted (item_taken owner.number file_kind file) self.old self.new s s x x c c (λ events. E.emits out.old events out.new)) }
         ensures alone { OnOk result ((c : CommonState) → OwnersAlone self.old self.new c c) }
-        ensures too_many { (result ≡ Err FileError.TooMany) ↔ (4096 ≤ length (files_held (owners_of self.old.owners))) }
+        ensures too_many { (result ≡ Err FileError.TooMany) ↔ (most_files ≤ length (files_held (owners_of self.old.owners))) }
         ensures causes { (result ≢ Err FileError.Taken) × (result ≢ Err FileError.NoFile) }
         ensures refused { OnErr result (self.new ≡ self.old) }
         ensures silent { OnErr result (out.new ≡ out.old) }

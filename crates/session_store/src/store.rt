@@ -10,6 +10,7 @@ ghost use Rattle.owner_kinds.specs.KindTable.{IsSound};
 ghost use Rattle.context_rules.specs.Names.{same_name};
 ghost use Rattle.context_rules.specs.Contexts.{is_protected};
 ghost use Rattle.context_tree.specs.State.{IsLive, Moves, SameRegions, no_contexts};
+ghost use Rattle.session_rules.specs.Limits.{asked_at_opening};
 ghost use Rattle.session_rules.specs.State.{opening};
 ghost use Rattle.session_rules.specs.Lookup.{context_named};
 ghost use Rattle.session_rules.specs.Acts.{switched};
@@ -84,9 +85,9 @@ impl<H: ResetHook> Store<H> {
         ensures moves { IfOk result (λ store. Moves (no_contexts account) store.tree space.old space.new) }
         ensures keeps { held space.old account ≡ 0 → IfOk result (λ store. Keeps store space.new) }
         ensures stands { (x : ShelfState) (c : CommonState) → AreDistinct (shelf.held x) → IsSound (table_of c.kinds) → IfOk result (λ store. StandsIn store space.new x c) }
-        ensures asked { OnOk result (Asks account 65536 space.old space.new) }
-        ensures served { OnOk result (held space.old account + 65536 ≤ space.old.limit) }
-        ensures refused { IfErr result (λ e. (e ≡ TreeError.Memory) ⊎ ((e ≡ TreeError.Ctx CtxError.NoSpace) × (space.old.limit < held space.old account + 65536))) }
+        ensures asked { OnOk result (Asks account asked_at_opening space.old space.new) }
+        ensures served { OnOk result (held space.old account + asked_at_opening ≤ space.old.limit) }
+        ensures refused { IfErr result (λ e. (e ≡ TreeError.Memory) ⊎ ((e ≡ TreeError.Ctx CtxError.NoSpace) × (space.old.limit < held space.old account + asked_at_opening))) }
         ensures err_space { OnErr result (SameRegions space.old space.new) }
     {
         let owners = match Resources::new(alloc, session, descriptors) {
