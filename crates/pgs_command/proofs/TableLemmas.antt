@@ -1,8 +1,12 @@
 -- Rows that are tried one behind another.
-use Rattle.std.proofs.Common.{◌≡◌, ℕ, Bool, true, false, List, [], ◌∷◌, ◌++◌, Option, Some, None, refl, sym, ◌∙◌, ap, cond}
+use Rattle.std.proofs.Common.{◌≡◌, ℕ, Bool, true, false, nat_eq, List, [], ◌∷◌, ◌++◌, length, Option, Some, None, refl, sym, ◌∙◌, ap, subst, take, cond, arith}
+use Rattle.std.proofs.lemmas.List.{take_all}
+use Rattle.std.specs.List.{list_any, list_all}
+use Rattle.std.proofs.lemmas.Bool.{and_parts, false≢true}
 use Rattle.std.specs.Option.{option_or, is_some}
 use Rattle.pgs_command.specs.Words.{is_text, words_of}
-use Rattle.pgs_command.specs.Table.{Row, look_up, table, command_of}
+use Rattle.pgs_command.specs.Table.{Row, look_up, table, command_of, transaction_rows, item_rows, context_rows, chunk_rows, lock_rows, snapshot_rows, plan_rows, portal_rows, tell_rows}
+use Rattle.pgs_command.proofs.ValueLemmas.{is_text-means}
 use Rattle.pgs_command.specs.declared.commands.Command.{Command}
 
 pub or_none : {A : Type 0} (o : Option A) → option_or o None ≡ o
@@ -38,3 +42,27 @@ within a b word words r here there = or_first r (look_up b word words) there ∙
 pub command_of-table : (text word : List ℕ) (words : List (List ℕ)) (r : Option Command) → words_of text ≡ word ∷ words → r ≡ look_up table word words → r ≡ command_of (words_of text)
 unfolding command_of
 command_of-table text word words r e h = h ∙ ap command_of (sym e)
+
+-- whether a word has one of the lengths
+abbrev has_length : List ℕ → List ℕ → Bool
+has_length lengths word = list_any (λ n. nat_eq (length word) n) lengths
+
+unread : (b : Bool) (o : Option Command) → (b ≡ true → false ≡ true) → cond b o None ≡ None
+unread true o h = absurd (false≢true (h refl))
+unread false o h = refl
+
+without : (rows : List Row) (lengths word : List ℕ) (words : List (List ℕ)) → has_length lengths word ≡ false → list_all (λ (r : Row). has_length lengths r.word) rows ≡ true → look_up rows word words ≡ None
+without [] lengths word words none all = refl
+without (r ∷ rows) lengths word words none all =
+    let parts = and_parts _ _ all in
+    ap (λ o. option_or o (look_up rows word words)) (unread (is_text word r.word) (r.reads words) (λ same. sym none ∙ ap (has_length lengths) (is_text-means word r.word same) ∙ parts.0))
+    ∙ without rows lengths word words none parts.1
+
+-- a word of no length that a row's word has
+pub of_no_length : (word : List ℕ) (words : List (List ℕ)) → has_length (3 ∷ 4 ∷ 5 ∷ 6 ∷ 7 ∷ 8 ∷ 9 ∷ 10 ∷ 14 ∷ []) word ≡ false → None ≡ look_up table word words
+unfolding transaction_rows item_rows context_rows chunk_rows lock_rows snapshot_rows plan_rows portal_rows tell_rows
+of_no_length word words none = sym (without table (3 ∷ 4 ∷ 5 ∷ 6 ∷ 7 ∷ 8 ∷ 9 ∷ 10 ∷ 14 ∷ []) word words none refl)
+
+-- a word that is taken whole
+pub of_whole : (n : ℕ) (word : List ℕ) (words : List (List ℕ)) (r : Option Command) → length word ≡ n → r ≡ look_up table (take n word) words → r ≡ look_up table word words
+of_whole n word words r e h = subst (λ w. r ≡ look_up table w words) (take_all n word (omega arith)) h

@@ -16,13 +16,13 @@ macro_rules! by_word {
 
 /// Writes the command of the row whose text the word is, and `None` where it is that of none.
 ///
-/// A row's value is made of the parts that are read from the words behind it, and is `None` where they aren't such parts; `|made|` says
-/// which command it is. A row that names no parts writes for itself.
+/// A row's value is made of the parts that are read from the words behind it, and is `None` where they aren't such parts; the variants say
+/// which command it is, the outermost first. A row that names no parts writes for itself.
 macro_rules! write_by_words {
-    ($word:expr, $place:expr, |$made:ident| $command:expr; $($text:literal $(, $parts:pat in $read:expr)? => $written:expr),* $(,)?) => {{
+    ($word:expr, $place:expr, $kinds:tt; $($text:literal $(, $parts:pat in $read:expr)? => $written:expr),* $(,)?) => {{
         $(
             if is_word($word, $text.as_slice()) {
-                write_parts! { $place, |$made| $command; $written $(, $parts in $read)? }
+                write_parts! { $place, $kinds; $written $(, $parts in $read)? }
                 return;
             }
         )*
@@ -32,21 +32,25 @@ macro_rules! write_by_words {
 
 /// Writes the command of the parts that are read, and `None` where there are none. Without parts it writes for itself.
 macro_rules! write_parts {
-    ($place:expr, |$made:ident| $command:expr; $value:expr, $parts:pat in $read:expr) => {
+    ($place:expr, [$($kind:path),*]; $value:expr, $parts:pat in $read:expr) => {
         match $read {
-            Some($parts) => {
-                let $made = $value;
-                *$place = Some($command);
-            }
+            Some($parts) => *$place = Some(made_of! { $value; $($kind),* }),
             None => *$place = None,
         }
     };
-    ($place:expr, |$made:ident| $command:expr; $written:expr) => {
+    ($place:expr, $kinds:tt; $written:expr) => {
         $written;
     };
 }
 
+/// The value within the variants, the outermost first.
+macro_rules! made_of {
+    ($value:expr;) => { $value };
+    ($value:expr; $kind:path $(, $within:path)*) => { $kind(made_of! { $value; $($within),* }) };
+}
+
 pub(crate) use by_word;
+pub(crate) use made_of;
 pub(crate) use write_by_words;
 pub(crate) use write_parts;
 

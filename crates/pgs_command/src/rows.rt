@@ -1,5 +1,5 @@
 //! The commands, by the first words of their lines.
-ghost use Rattle.std.specs.Prelude.{◌≡◌, None, Some, codes, IfSome};
+ghost use Rattle.std.specs.Prelude.{◌≡◌, None, Some, codes, length, IfSome};
 ghost use Rattle.std.specs.Option.{option_or, option_map, option_copied};
 ghost use Rattle.pgs_command.specs.Words.{words_of, words_in, alone, only, behind};
 ghost use Rattle.pgs_command.specs.Table.{look_up, table, transaction_rows, context_rows, chunk_rows, item_rows, lock_rows, snapshot_rows, plan_rows, portal_rows, tell_rows, none, one, three, with_kind, portal_without_bad, portal_with_bad, on_transactions, on_chunks, command_of};
@@ -14,7 +14,7 @@ use crate::commands::{
 };
 use crate::hex_bytes::HexBytes;
 use crate::kinds::ContextKind;
-use crate::picks::{is_word, write_by_words, write_parts};
+use crate::picks::{is_word, made_of, write_by_words, write_parts};
 use crate::values::{read_number, read_plain_kind};
 use crate::words::{Words, split_word};
 
@@ -25,7 +25,7 @@ fn read_transaction<'a>(word: &[u8], rest: Option<&'a [u8]>, command: &mut Optio
     ensures { command.new ≡ look_up transaction_rows word.now (words_in (option_copied rest.entry)) }
 {
     let words = Words::new(rest);
-    write_by_words! { word, command, |made| Command::Transaction(made);
+    write_by_words! { word, command, [Command::Transaction];
         b"begin", () in words.end(()) => TransactionCommand::Begin,
         b"commit", () in words.end(()) => TransactionCommand::Commit,
         b"rollback" => read_rollback(words, command),
@@ -41,7 +41,7 @@ fn read_rollback<'a>(mut words: Words<'a>, command: &mut Option<Command<'a>>)
 {
     match words.next() {
         None => *command = Some(Command::Transaction(TransactionCommand::Rollback)),
-        Some(word) => write_by_words! { word, command, |made| Command::Transaction(made);
+        Some(word) => write_by_words! { word, command, [Command::Transaction];
             b"to", name in words.only_name() => TransactionCommand::RollbackTo(name),
         },
     }
@@ -54,7 +54,7 @@ fn read_context<'a>(word: &[u8], rest: Option<&'a [u8]>, command: &mut Option<Co
     ensures { command.new ≡ look_up context_rows word.now (words_in (option_copied rest.entry)) }
 {
     let words = Words::new(rest);
-    write_by_words! { word, command, |made| Command::Work(Work::Contexts(made));
+    write_by_words! { word, command, [Command::Work, Work::Contexts];
         b"context" => *command = read_new_context(words),
         b"switch", name in words.only_name() => ContextCommand::Switch(name),
         b"onreset", name in words.only_name() => ContextCommand::OnReset(name),
@@ -98,7 +98,7 @@ fn read_chunk<'a>(word: &[u8], rest: Option<&'a [u8]>, command: &mut Option<Comm
     ensures { command.new ≡ look_up chunk_rows word.now (words_in (option_copied rest.entry)) }
 {
     let words = Words::new(rest);
-    write_by_words! { word, command, |made| Command::Work(Work::Chunks(made));
+    write_by_words! { word, command, [Command::Work, Work::Chunks];
         b"alloc", (chunk, size) in words.name_and_number(0, u32::MAX) => ChunkCommand::Alloc { chunk, size },
         b"alloc0", (chunk, size) in words.name_and_number(0, u32::MAX) => ChunkCommand::AllocZeroed { chunk, size },
         b"realloc", (chunk, size) in words.name_and_number(0, u32::MAX) => ChunkCommand::Realloc { chunk, size },
@@ -139,7 +139,7 @@ fn read_item<'a>(word: &[u8], rest: Option<&'a [u8]>, command: &mut Option<Comma
     ensures { command.new ≡ look_up item_rows word.now (words_in (option_copied rest.entry)) }
 {
     let words = Words::new(rest);
-    write_by_words! { word, command, |made| Command::Work(Work::Items(made));
+    write_by_words! { word, command, [Command::Work, Work::Items];
         b"pin", number in words.only_number() => ItemCommand::Pin(number),
         b"unpin", number in words.only_number() => ItemCommand::Unpin(number),
         b"open", number in words.only_number() => ItemCommand::Open(number),
@@ -161,7 +161,7 @@ fn read_lock<'a>(word: &[u8], rest: Option<&'a [u8]>, command: &mut Option<Comma
     ensures { command.new ≡ look_up lock_rows word.now (words_in (option_copied rest.entry)) }
 {
     let words = Words::new(rest);
-    write_by_words! { word, command, |made| Command::Work(Work::Locks(made));
+    write_by_words! { word, command, [Command::Work, Work::Locks];
         b"lock", (object, mode) in words.number_and_mode() => LockCommand::Lock { object, mode },
         b"unlock", (object, mode) in words.number_and_mode() => LockCommand::Unlock { object, mode },
     }
@@ -174,7 +174,7 @@ fn read_snapshot<'a>(word: &[u8], rest: Option<&'a [u8]>, command: &mut Option<C
     ensures { command.new ≡ look_up snapshot_rows word.now (words_in (option_copied rest.entry)) }
 {
     let words = Words::new(rest);
-    write_by_words! { word, command, |made| Command::Work(Work::Snapshots(made));
+    write_by_words! { word, command, [Command::Work, Work::Snapshots];
         b"push", number in words.only_number() => SnapshotCommand::Push(number),
         b"pop", () in words.end(()) => SnapshotCommand::Pop,
     }
@@ -187,7 +187,7 @@ fn read_plan<'a>(word: &[u8], rest: Option<&'a [u8]>, command: &mut Option<Comma
     ensures { command.new ≡ look_up plan_rows word.now (words_in (option_copied rest.entry)) }
 {
     let words = Words::new(rest);
-    write_by_words! { word, command, |made| Command::Work(Work::Plans(made));
+    write_by_words! { word, command, [Command::Work, Work::Plans];
         b"plan", number in words.only_number() => PlanCommand::Create(number),
         b"planref", number in words.only_number() => PlanCommand::Reference(number),
         b"planunref", number in words.only_number() => PlanCommand::Unreference(number),
@@ -202,7 +202,7 @@ fn read_portal<'a>(word: &[u8], rest: Option<&'a [u8]>, command: &mut Option<Com
     ensures { command.new ≡ look_up portal_rows word.now (words_in (option_copied rest.entry)) }
 {
     let words = Words::new(rest);
-    write_by_words! { word, command, |made| Command::Work(Work::Portals(made));
+    write_by_words! { word, command, [Command::Work, Work::Portals];
         b"portal" => *command = read_new_portal(words),
         b"fetch", (name, count) in words.name_and_number(1, 1_000_000) => PortalCommand::Fetch { name, count },
         b"endportal", name in words.only_name() => PortalCommand::End(name),
@@ -245,7 +245,7 @@ fn read_tell<'a>(word: &[u8], rest: Option<&'a [u8]>, command: &mut Option<Comma
     ensures { command.new ≡ look_up tell_rows word.now (words_in (option_copied rest.entry)) }
 {
     let words = Words::new(rest);
-    write_by_words! { word, command, |made| Command::Work(Work::Tells(made));
+    write_by_words! { word, command, [Command::Work, Work::Tells];
         b"report", () in words.end(()) => TellCommand::Report,
         b"stat", () in words.end(()) => TellCommand::Stat,
         b"buffer", number in words.only_number() => TellCommand::Buffer(number),
@@ -265,11 +265,38 @@ macro_rules! first_of {
     }};
 }
 
+/// Writes the command of a line's words, the first of which is `word`, of `N` bytes, where it is in the table.
+///
+/// For each length there is code of its own, with just the rows of that length.
+#[inline(never)]
+fn read_sized<'a, const N: usize>(
+    word: &[u8],
+    rest: Option<&'a [u8]>,
+    command: &mut Option<Command<'a>>,
+)
+    requires { length word.now ≡ N }
+    ensures { command.new ≡ look_up table word.now (words_in (option_copied rest.entry)) }
+{
+    let word = &word[..N];
+    first_of! { word, rest, command; read_transaction, read_item, read_context, read_chunk, read_lock, read_snapshot, read_plan, read_portal; read_tell }
+}
+
 /// Writes the command of a line's words, the first of which is `word`, where it is in the table.
 fn read_listed<'a>(word: &[u8], rest: Option<&'a [u8]>, command: &mut Option<Command<'a>>)
     ensures { command.new ≡ look_up table word.now (words_in (option_copied rest.entry)) }
 {
-    first_of! { word, rest, command; read_transaction, read_item, read_context, read_chunk, read_lock, read_snapshot, read_plan, read_portal; read_tell }
+    match word.len() {
+        3 => read_sized::<3>(word, rest, command),
+        4 => read_sized::<4>(word, rest, command),
+        5 => read_sized::<5>(word, rest, command),
+        6 => read_sized::<6>(word, rest, command),
+        7 => read_sized::<7>(word, rest, command),
+        8 => read_sized::<8>(word, rest, command),
+        9 => read_sized::<9>(word, rest, command),
+        10 => read_sized::<10>(word, rest, command),
+        14 => read_sized::<14>(word, rest, command),
+        _ => *command = None,
+    }
 }
 
 /// Writes the command of a text, where it is in the table.
