@@ -1,6 +1,6 @@
 -- What the other sessions hold, in order, and which of it conflicts.
 use Rattle.std.proofs.Common.{◌≡◌, ◌≢◌, ℕ, ◌≤◌, Bool, true, false, ◌&&◌, not, cond, nat_eq, List, [], ◌∷◌, ◌++◌, filter, inl, inr, refl, ap, sym, subst, ◌∙◌, append_assoc, append-nil, arith}
-use Rattle.std.specs.Prelude.{Option, None, Some, All, fold}
+use Rattle.std.specs.Prelude.{Option, None, Some, All, IsNone, IfSome, fold}
 use Rattle.std.proofs.lemmas.Bool.{true≢false, eqb-true, eq-eqb, ne_eqb, cases_Bool}
 use Rattle.std.proofs.lemmas.List.Elements.{All-head, All-tail, All-weaker, filter_passes}
 use Rattle.std.proofs.lemmas.List.Folds.{list_any_none}
@@ -155,7 +155,7 @@ pub free_stands : (hs : List Holding) (o : ℕ) (w : Mode) (n : ℕ) → least_c
 free_stands hs o w n e s m b =
     free_from (beside n hs) o w n (subst (λ (r : Option (ℕ × Mode)). IsLeastOf (beside n hs) o w n r) e (found_beside hs o w n)) s m (blocks_beside hs o w n s m b)
 
--- what a search among all found is the least conflict of what others hold
-pub found_is_beside : (hs : List Holding) (o : ℕ) (w : Mode) (n : ℕ) (r : Option (ℕ × Mode)) → IsLeastOf hs o w n r → r ≡ least_conflict o w (beside n hs)
-found_is_beside hs o w n None l = sym (free_is hs o w n (free_from hs o w n l))
-found_is_beside hs o w n (Some c) l = sym (conflict_is hs o w n c.0 c.1 (conflict_from hs o w n c.0 c.1 l))
+-- an answer that tells the conflict is the least conflict of what others hold
+pub found_is_beside : (hs : List Holding) (o : ℕ) (w : Mode) (n : ℕ) (r : Option (ℕ × Mode)) → (IsNone r → IsFree hs o w n) → IfSome r (λ c. IsConflict hs o w n c.0 c.1) → r ≡ least_conflict o w (beside n hs)
+found_is_beside hs o w n None free conflict = sym (free_is hs o w n (free refl))
+found_is_beside hs o w n (Some c) free conflict = sym (conflict_is hs o w n c.0 c.1 conflict)

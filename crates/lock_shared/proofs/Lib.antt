@@ -1,3 +1,4 @@
 pub mod HoldingLemmas
 pub mod RankLemmas
 pub mod BesideLemmas
+pub mod ObjectLemmas

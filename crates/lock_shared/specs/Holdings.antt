@@ -1,6 +1,6 @@
 -- What all sessions hold: a list of holdings, of which clauses say only what is among them.
 use Rattle.std.specs.Prelude.{◌≡◌, ◌≢◌, ℕ, ◌≤◌, ◌==◌, Bool, ◌&&◌, IsTrue, false, List}
-use Rattle.std.specs.List.{list_any}
+use Rattle.std.specs.List.{list_any, count_by}
 use Rattle.pgs_step.specs.declared.lock_modes.Mode.{Mode}
 use Rattle.pgs_step.specs.Mode.{mode_number}
 use Rattle.lock_shared.specs.declared.shared_locks.Holding.{Holding}
@@ -17,6 +17,10 @@ is_holding object mode session holding = same_lock holding.object holding.mode o
 -- whether the session holds the object in this mode
 abbrev pub holds : List Holding → ℕ → Mode → ℕ → Bool
 holds holdings object mode session = list_any (is_holding object mode session) holdings
+
+-- no holding stands twice
+abbrev pub AreOnce : List Holding → Type 0
+AreOnce holdings = (object : ℕ) (mode : Mode) (session : ℕ) → count_by (is_holding object mode session) holdings ≤ 1
 
 -- whether the session holds the object in this mode is `held` afterwards, and all else is as it was
 pub record Sets (old new : List Holding) (object : ℕ) (mode : Mode) (session : ℕ) (held : Bool) : Type 0 where

@@ -1,4 +1,5 @@
 pub mod ModeTable
 pub mod Holdings
+pub mod Objects
 pub mod Blocking
 pub mod Ranked

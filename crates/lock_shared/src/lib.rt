@@ -1,6 +1,7 @@
 //! What all sessions hold of heavyweight locks, and which modes conflict.
 #![tactic(auto)]
 
+mod holders;
 mod mode_conflicts;
 mod shared_locks;
 

@@ -1,11 +1,14 @@
 //! What all sessions hold.
-ghost use Rattle.std.specs.Prelude.{◌≡◌, ◌↔◌, [], true, false, not, filter, IsTrue, IsNone, IfSome, IsOk, OnOk, OnErr};
-ghost use Rattle.lock_shared.specs.Holdings.{holds, is_holding, Sets, IsFree, IsConflict};
-ghost use Rattle.lock_shared.specs.Blocking.{blocks, IsLeastOf, lesser_of};
+ghost use Rattle.std.specs.Prelude.{◌≡◌, ◌↔◌, ℕ, ◌==◌, [], ◌∷◌, None, true, false, not, filter, if◌then◌else◌, IsTrue, IsNone, IfSome, IsOk, OnOk, OnErr};
+ghost use Rattle.std.specs.Map.{lookup};
+ghost use Rattle.lock_shared.specs.Holdings.{holds, is_holding, Sets, IsFree, IsConflict, AreOnce};
+ghost use Rattle.lock_shared.specs.Objects.{held_on, with_holding, AreKept};
 ghost use Rattle.lock_shared.specs.Ranked.{beside, least_conflict};
 
-use crate::mode_conflicts::conflicts;
+use crate::holders::{Holders, add, least_blocking, take_off};
+use indexmap::IndexMap;
 use pgs_step::Mode;
+use smallvec::SmallVec;
 use std::alloc::{AllocError, Global};
 use std::marker::Model;
 
@@ -17,21 +20,35 @@ pub struct Holding {
     pub session: u8,
 }
 
+impl Default for Holding {
+    fn default() -> Holding {
+        Holding {
+            object: 0,
+            mode: Mode::AccessShareLock,
+            session: 0,
+        }
+    }
+}
+
 /// The locks that the sessions hold, and not how often: PostgreSQL's shared lock table.
 ///
-/// Contracts see a list of holdings of which they say only whether a holding is among them, by `holds`.
+/// Contracts see a list of holdings of which they say only whether a holding is among them, by `holds`. Each object that
+/// is held has an entry with its holdings, so that no call looks at those of another object.
 #[derive(Drop)]
 pub struct SharedLocks {
-    holdings: Vec<Holding>,
+    objects: IndexMap<u32, Holders>,
 }
 
 impl Model for SharedLocks {
     ghost use Rattle.std.specs.Prelude.{List};
     ghost use Rattle.lock_shared.specs.declared.shared_locks.Holding.{Holding};
+    ghost use Rattle.lock_shared.specs.Objects.{holdings_of, AreKept};
 
     ghost Value = { List Holding };
 
-    ghost view = { λ l. l.holdings.items };
+    ghost view = { λ l. holdings_of l.objects.entries };
+
+    ghost invariant = { λ l. AreKept l.objects.entries };
 }
 
 impl SharedLocks {
@@ -40,7 +57,7 @@ impl SharedLocks {
         ensures { result ≡ [] }
     {
         SharedLocks {
-            holdings: Vec::new(alloc),
+            objects: IndexMap::new(alloc),
         }
     }
 
@@ -51,7 +68,7 @@ impl SharedLocks {
         ensures least { IfSome result (λ c. IsConflict self.now object mode session c.0 c.1) }
         ensures beside { result ≡ least_conflict object mode (beside session self.now) }
     {
-        least_blocking(self.holdings.as_slice(), object, mode, session)
+        least_blocking(holdings_on(&self.objects, object), object, mode, session)
     }
 
     /// The session holds the object in this mode from now on, if it didn't before. It fails for want of
@@ -61,82 +78,76 @@ impl SharedLocks {
         ensures held { IsTrue (holds self.old object mode session) → IsOk result }
         ensures again { IsTrue (holds self.old object mode session) → self.new ≡ self.old }
         ensures err { OnErr result (self.new ≡ self.old) }
+        ensures once { AreOnce self.new }
     {
-        if !is_held(self.holdings.as_slice(), object, mode, session) {
-            self.holdings.push(Holding {
+        put(
+            &mut self.objects,
+            Holding {
                 object,
                 mode,
                 session,
-            })?;
-        }
-        Ok(())
+            },
+        )
     }
 
     /// The session doesn't hold the object in this mode any more, whether it did or not.
     pub fn drop_grant(&mut self, object: u32, mode: Mode, session: u8)
         ensures { Sets self.old self.new object mode session false }
     {
-        take_off(&mut self.holdings, object, mode, session);
+        strike(&mut self.objects, object, mode, session);
     }
 }
 
-impl Holding {
-    /// Whether this is the holding of that session on that object in that mode.
-    fn is(&self, object: u32, mode: Mode, session: u8) -> bool
-        ensures { result ≡ is_holding object mode session self.now }
-    {
-        self.object == object && self.mode.number() == mode.number() && self.session == session
-    }
-
-    /// Whether this is another session's holding, and its mode conflicts with the wanted one.
-    fn blocks(&self, object: u32, wanted: Mode, session: u8) -> bool
-        ensures { result ≡ blocks object wanted session self.now }
-    {
-        self.object == object && conflicts(wanted, self.mode) && self.session != session
+/// The holdings of an object.
+fn holdings_on(objects: &IndexMap<u32, Holders>, object: u32) -> &[Holding]
+    ensures { result.now ≡ held_on objects.now.entries object }
+{
+    match objects.get(&object) {
+        Some(holders) => holders.as_slice(),
+        None => &[],
     }
 }
 
-/// Whether the holding is among them.
-fn is_held(holdings: &[Holding], object: u32, mode: Mode, session: u8) -> bool
-    ensures { result ≡ holds holdings.now object mode session }
+/// Notes a holding at its object, unless it stands there.
+fn put(objects: &mut IndexMap<u32, Holders>, holding: Holding) -> Result<(), AllocError>
+    requires { AreKept objects.old.entries }
+    ensures kept { AreKept objects.new.entries }
+    ensures ok { OnOk result ((q : ℕ) → held_on objects.new.entries q ≡ (if holding.object == q then with_holding holding (held_on objects.old.entries q) else held_on objects.old.entries q)) }
+    ensures held { IsTrue (holds (held_on objects.old.entries holding.object) holding.object holding.mode holding.session) → IsOk result }
+    ensures again { IsTrue (holds (held_on objects.old.entries holding.object) holding.object holding.mode holding.session) → objects.new.entries ≡ objects.old.entries }
+    ensures err { OnErr result (objects.new.entries ≡ objects.old.entries) }
 {
-    holdings.iter().any(|held| held.is(object, mode, session))
-}
-
-/// Takes off that holding, and keeps the others in their order.
-fn take_off(holdings: &mut Vec<Holding>, object: u32, mode: Mode, session: u8)
-    ensures { holdings.new.items ≡ filter (λ h. not (is_holding object mode session h)) holdings.old.items }
-{
-    holdings.retain(|held| !held.is(object, mode, session));
-}
-
-/// The session and mode of the holding that blocks, of the least session and then of the least mode.
-fn least_blocking(
-    holdings: &[Holding],
-    object: u32,
-    wanted: Mode,
-    session: u8,
-) -> Option<(u8, Mode)>
-    ensures { IsLeastOf holdings.now object wanted session result }
-{
-    let mut least = None;
-    for held in holdings {
-        if held.blocks(object, wanted, session) {
-            least = Some(lesser(least, held.session, held.mode));
-        }
+    match objects.get_mut(&holding.object) {
+        Some(holders) => add(holders, holding),
+        None => enter(objects, holding),
     }
-    least
 }
 
-/// The one of the two with the lesser session, and of two of one session the one with the lesser mode.
-fn lesser(least: Option<(u8, Mode)>, session: u8, mode: Mode) -> (u8, Mode)
-    ensures { result ≡ lesser_of least session mode }
+/// Makes the entry of an object that nobody held, with its first holding.
+fn enter(objects: &mut IndexMap<u32, Holders>, holding: Holding) -> Result<(), AllocError>
+    requires kept { AreKept objects.old.entries }
+    requires none { lookup (λ n. holding.object == n) objects.old.entries ≡ None }
+    ensures kept { AreKept objects.new.entries }
+    ensures ok { OnOk result ((q : ℕ) → held_on objects.new.entries q ≡ (if holding.object == q then holding ∷ [] else held_on objects.old.entries q)) }
+    ensures err { OnErr result (objects.new.entries ≡ objects.old.entries) }
 {
-    match least {
-        Some((other, held))
-            if other < session || (other == session && held.number() <= mode.number()) => {
-            (other, held)
-        }
-        _ => (session, mode),
+    let mut holders = SmallVec::new(*objects.allocator());
+    holders.push_reserved(holding);
+    objects.insert(holding.object, holders)?;
+    Ok(())
+}
+
+/// Takes a holding off its object, and the entry of the object too where nobody holds that any more.
+fn strike(objects: &mut IndexMap<u32, Holders>, object: u32, mode: Mode, session: u8)
+    requires { AreKept objects.old.entries }
+    ensures kept { AreKept objects.new.entries }
+    ensures left { (q : ℕ) → held_on objects.new.entries q ≡ (if object == q then filter (λ h. not (is_holding object mode session h)) (held_on objects.old.entries q) else held_on objects.old.entries q) }
+{
+    let Some(holders) = objects.get_mut(&object) else {
+        return;
+    };
+    take_off(holders, object, mode, session);
+    if holders.is_empty() {
+        objects.swap_remove(&object);
     }
 }

@@ -1,7 +1,7 @@
 use Rattle.std.proofs.Common.{sym, ap, ◌∙◌, Some}
 use Rattle.lock_shared.proofs.HoldingLemmas.{lesser_at, least_at}
-use Rattle.lock_shared.proofs.shared_locks.least_blocking.Goals as goal
-use Rattle.lock_shared.proofs.shared_locks.least_blocking.Goals.{then-blocks, else-blocks}
+use Rattle.lock_shared.proofs.holders.least_blocking.Goals as goal
+use Rattle.lock_shared.proofs.holders.least_blocking.Goals.{then-blocks, else-blocks}
 
 pub loop-held-preserved : goal.loop-held-preserved
 loop-held-preserved c =

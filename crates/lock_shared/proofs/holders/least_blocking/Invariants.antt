@@ -1,6 +1,6 @@
 use Rattle.std.proofs.Common.{take}
 use Rattle.lock_shared.specs.Blocking.{IsLeastOf}
-use Rattle.lock_shared.proofs.shared_locks.least_blocking.Given as goal
+use Rattle.lock_shared.proofs.holders.least_blocking.Given as goal
 
 abbrev pub invariant-loop-held : goal.invariant-loop-held
 invariant-loop-held l = IsLeastOf (take l.held-index l.holdings) l.object l.wanted l.session l.least
