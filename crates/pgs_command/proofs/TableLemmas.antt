@@ -32,12 +32,16 @@ look_up-append (r ∷ a) b word words =
     ap (option_or read) (look_up-append a b word words) ∙ sym (or_assoc read (look_up a word words) (look_up b word words))
 
 -- a part of the table that the line isn't in, and then those behind it
-pub past : (a b : List Row) (word : List ℕ) (words : List (List ℕ)) (o r : Option Command) → o ≡ look_up a word words → is_some o ≡ false → r ≡ look_up b word words → r ≡ look_up (a ++ b) word words
-past a b word words o r here missing e = e ∙ ap (λ p. option_or p (look_up b word words)) (is_none o missing ∙ here) ∙ sym (look_up-append a b word words)
+pub past : (a b : List Row) (word : List ℕ) (words : List (List ℕ)) (r : Option Command) → false ≡ is_some (look_up a word words) → r ≡ look_up b word words → r ≡ look_up (a ++ b) word words
+past a b word words r missing e = e ∙ ap (λ p. option_or p (look_up b word words)) (is_none (look_up a word words) (sym missing)) ∙ sym (look_up-append a b word words)
 
 -- the part of the table that the line is in
-pub within : (a b : List Row) (word : List ℕ) (words : List (List ℕ)) (r : Option Command) → r ≡ look_up a word words → is_some r ≡ true → r ≡ look_up (a ++ b) word words
-within a b word words r here there = or_first r (look_up b word words) there ∙ ap (λ p. option_or p (look_up b word words)) here ∙ sym (look_up-append a b word words)
+pub within : (a b : List Row) (word : List ℕ) (words : List (List ℕ)) (r : Option Command) → true ≡ is_some (look_up a word words) → r ≡ look_up a word words → r ≡ look_up (a ++ b) word words
+within a b word words r there here = here ∙ or_first (look_up a word words) (look_up b word words) (sym there) ∙ sym (look_up-append a b word words)
+
+-- the last part of the table, where the line isn't in it either
+pub nowhere : (a : List Row) (word : List ℕ) (words : List (List ℕ)) → false ≡ is_some (look_up a word words) → None ≡ look_up a word words
+nowhere a word words missing = is_none (look_up a word words) (sym missing)
 
 pub command_of-table : (text word : List ℕ) (words : List (List ℕ)) (r : Option Command) → words_of text ≡ word ∷ words → r ≡ look_up table word words → r ≡ command_of (words_of text)
 unfolding command_of

@@ -14,33 +14,36 @@ macro_rules! by_word {
     }};
 }
 
-/// Writes the command of the row whose text the word is, and `None` where it is that of none.
+/// Writes the command of the row whose text the word is, and returns whether there is one. It writes nothing where there is none.
 ///
-/// A row's value is made of the parts that are read from the words behind it, and is `None` where they aren't such parts; the variants say
-/// which command it is, the outermost first. A row that names no parts writes for itself.
+/// A row's value is made of the parts that are read from the words behind it, and it has none where they aren't such parts; the variants
+/// say which command it is, the outermost first. A row that names no parts reads its command whole.
 macro_rules! write_by_words {
-    ($word:expr, $place:expr, $kinds:tt; $($text:literal $(, $parts:pat in $read:expr)? => $written:expr),* $(,)?) => {{
+    ($word:expr, $place:expr, $kinds:tt; $($text:literal $(, $parts:pat in $read:expr)? => $made:expr),* $(,)?) => {{
         $(
             if is_word($word, $text.as_slice()) {
-                write_parts! { $place, $kinds; $written $(, $parts in $read)? }
-                return;
+                return write_parts! { $place, $kinds; $made $(, $parts in $read)? };
             }
         )*
-        *$place = None;
+        false
     }};
 }
 
-/// Writes the command of the parts that are read, and `None` where there are none. Without parts it writes for itself.
+/// Writes the command of the parts that are read, and says whether there are any. Without parts it writes the command that is read.
 macro_rules! write_parts {
     ($place:expr, [$($kind:path),*]; $value:expr, $parts:pat in $read:expr) => {
         match $read {
-            Some($parts) => *$place = Some(made_of! { $value; $($kind),* }),
-            None => *$place = None,
+            Some($parts) => {
+                *$place = Some(made_of! { $value; $($kind),* });
+                true
+            }
+            None => false,
         }
     };
-    ($place:expr, $kinds:tt; $written:expr) => {
-        $written;
-    };
+    ($place:expr, $kinds:tt; $command:expr) => {{
+        *$place = $command;
+        $place.is_some()
+    }};
 }
 
 /// The value within the variants, the outermost first.

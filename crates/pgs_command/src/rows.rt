@@ -1,5 +1,5 @@
 //! The commands, by the first words of their lines.
-ghost use Rattle.std.specs.Prelude.{◌≡◌, None, Some, codes, length, IfSome};
+ghost use Rattle.std.specs.Prelude.{◌≡◌, None, Some, codes, length, is_some, IfSome, IsTrue};
 ghost use Rattle.std.specs.Option.{option_or, option_map, option_copied};
 ghost use Rattle.pgs_command.specs.Words.{words_of, words_in, alone, only, behind};
 ghost use Rattle.pgs_command.specs.Table.{look_up, table, transaction_rows, context_rows, chunk_rows, item_rows, lock_rows, snapshot_rows, plan_rows, portal_rows, tell_rows, none, one, three, with_kind, portal_without_bad, portal_with_bad, on_transactions, on_chunks, command_of};
@@ -21,41 +21,49 @@ use crate::words::{Words, split_word};
 /// Writes the command on transactions, or `raise`, where the line is one.
 #[inline(always)]
 #[tactic(auto, unfolding(crate::specs::Table::transaction_rows))]
-fn read_transaction<'a>(word: &[u8], rest: Option<&'a [u8]>, command: &mut Option<Command<'a>>)
-    ensures { command.new ≡ look_up transaction_rows word.now (words_in (option_copied rest.entry)) }
+fn read_transaction<'a>(
+    word: &[u8],
+    rest: Option<&'a [u8]>,
+    command: &mut Option<Command<'a>>,
+) -> bool
+    ensures found { result ≡ is_some (look_up transaction_rows word.now (words_in (option_copied rest.entry))) }
+    ensures written { IsTrue result → command.new ≡ look_up transaction_rows word.now (words_in (option_copied rest.entry)) }
 {
     let words = Words::new(rest);
     write_by_words! { word, command, [Command::Transaction];
         b"begin", () in words.end(()) => TransactionCommand::Begin,
         b"commit", () in words.end(()) => TransactionCommand::Commit,
-        b"rollback" => read_rollback(words, command),
+        b"rollback" => read_rollback(words),
         b"savepoint", name in words.only_name() => TransactionCommand::Savepoint(name),
         b"release", name in words.only_name() => TransactionCommand::Release(name),
-        b"raise" => *command = words.end(Command::Work(Work::Raise)),
+        b"raise" => words.end(Command::Work(Work::Raise)),
     }
 }
 
-/// Writes what `rollback` and `rollback to NAME` ask for.
-fn read_rollback<'a>(mut words: Words<'a>, command: &mut Option<Command<'a>>)
-    ensures { command.new ≡ option_or (none (on_transactions Rollback) words.entry) (behind (codes "to") (one name_of (λ name. on_transactions (RollbackTo name))) words.entry) }
+/// `rollback` and `rollback to NAME`.
+fn read_rollback(mut words: Words<'_>) -> Option<Command<'_>>
+    ensures { result ≡ option_or (none (on_transactions Rollback) words.entry) (behind (codes "to") (one name_of (λ name. on_transactions (RollbackTo name))) words.entry) }
 {
-    match words.next() {
-        None => *command = Some(Command::Transaction(TransactionCommand::Rollback)),
-        Some(word) => write_by_words! { word, command, [Command::Transaction];
-            b"to", name in words.only_name() => TransactionCommand::RollbackTo(name),
-        },
+    let Some(word) = words.next() else {
+        return Some(Command::Transaction(TransactionCommand::Rollback));
+    };
+    if !is_word(word, b"to".as_slice()) {
+        return None;
     }
+    let name = words.only_name()?;
+    Some(Command::Transaction(TransactionCommand::RollbackTo(name)))
 }
 
 /// Writes the command on memory contexts, where the line is one.
 #[inline(always)]
 #[tactic(auto, unfolding(crate::specs::Table::context_rows))]
-fn read_context<'a>(word: &[u8], rest: Option<&'a [u8]>, command: &mut Option<Command<'a>>)
-    ensures { command.new ≡ look_up context_rows word.now (words_in (option_copied rest.entry)) }
+fn read_context<'a>(word: &[u8], rest: Option<&'a [u8]>, command: &mut Option<Command<'a>>) -> bool
+    ensures found { result ≡ is_some (look_up context_rows word.now (words_in (option_copied rest.entry))) }
+    ensures written { IsTrue result → command.new ≡ look_up context_rows word.now (words_in (option_copied rest.entry)) }
 {
     let words = Words::new(rest);
     write_by_words! { word, command, [Command::Work, Work::Contexts];
-        b"context" => *command = read_new_context(words),
+        b"context" => read_new_context(words),
         b"switch", name in words.only_name() => ContextCommand::Switch(name),
         b"onreset", name in words.only_name() => ContextCommand::OnReset(name),
         b"reset", name in words.only_name() => ContextCommand::Reset(name),
@@ -94,8 +102,9 @@ fn read_kind(mut words: Words<'_>) -> Option<ContextKind>
 /// Writes the command on chunks, where the line is one.
 #[inline(always)]
 #[tactic(auto, unfolding(crate::specs::Table::chunk_rows))]
-fn read_chunk<'a>(word: &[u8], rest: Option<&'a [u8]>, command: &mut Option<Command<'a>>)
-    ensures { command.new ≡ look_up chunk_rows word.now (words_in (option_copied rest.entry)) }
+fn read_chunk<'a>(word: &[u8], rest: Option<&'a [u8]>, command: &mut Option<Command<'a>>) -> bool
+    ensures found { result ≡ is_some (look_up chunk_rows word.now (words_in (option_copied rest.entry))) }
+    ensures written { IsTrue result → command.new ≡ look_up chunk_rows word.now (words_in (option_copied rest.entry)) }
 {
     let words = Words::new(rest);
     write_by_words! { word, command, [Command::Work, Work::Chunks];
@@ -103,8 +112,8 @@ fn read_chunk<'a>(word: &[u8], rest: Option<&'a [u8]>, command: &mut Option<Comm
         b"alloc0", (chunk, size) in words.name_and_number(0, u32::MAX) => ChunkCommand::AllocZeroed { chunk, size },
         b"realloc", (chunk, size) in words.name_and_number(0, u32::MAX) => ChunkCommand::Realloc { chunk, size },
         b"free", chunk in words.only_name() => ChunkCommand::Free(chunk),
-        b"put" => *command = read_put(words),
-        b"show" => *command = read_show(words),
+        b"put" => read_put(words),
+        b"show" => read_show(words),
     }
 }
 
@@ -135,8 +144,9 @@ fn read_show(mut words: Words<'_>) -> Option<Command<'_>>
 /// Writes the command on items, where the line is one.
 #[inline(always)]
 #[tactic(auto, unfolding(crate::specs::Table::item_rows))]
-fn read_item<'a>(word: &[u8], rest: Option<&'a [u8]>, command: &mut Option<Command<'a>>)
-    ensures { command.new ≡ look_up item_rows word.now (words_in (option_copied rest.entry)) }
+fn read_item<'a>(word: &[u8], rest: Option<&'a [u8]>, command: &mut Option<Command<'a>>) -> bool
+    ensures found { result ≡ is_some (look_up item_rows word.now (words_in (option_copied rest.entry))) }
+    ensures written { IsTrue result → command.new ≡ look_up item_rows word.now (words_in (option_copied rest.entry)) }
 {
     let words = Words::new(rest);
     write_by_words! { word, command, [Command::Work, Work::Items];
@@ -157,8 +167,9 @@ fn read_item<'a>(word: &[u8], rest: Option<&'a [u8]>, command: &mut Option<Comma
 /// Writes the command on locks, where the line is one.
 #[inline(always)]
 #[tactic(auto, unfolding(crate::specs::Table::lock_rows))]
-fn read_lock<'a>(word: &[u8], rest: Option<&'a [u8]>, command: &mut Option<Command<'a>>)
-    ensures { command.new ≡ look_up lock_rows word.now (words_in (option_copied rest.entry)) }
+fn read_lock<'a>(word: &[u8], rest: Option<&'a [u8]>, command: &mut Option<Command<'a>>) -> bool
+    ensures found { result ≡ is_some (look_up lock_rows word.now (words_in (option_copied rest.entry))) }
+    ensures written { IsTrue result → command.new ≡ look_up lock_rows word.now (words_in (option_copied rest.entry)) }
 {
     let words = Words::new(rest);
     write_by_words! { word, command, [Command::Work, Work::Locks];
@@ -170,8 +181,9 @@ fn read_lock<'a>(word: &[u8], rest: Option<&'a [u8]>, command: &mut Option<Comma
 /// Writes the command on the stack of active snapshots, where the line is one.
 #[inline(always)]
 #[tactic(auto, unfolding(crate::specs::Table::snapshot_rows))]
-fn read_snapshot<'a>(word: &[u8], rest: Option<&'a [u8]>, command: &mut Option<Command<'a>>)
-    ensures { command.new ≡ look_up snapshot_rows word.now (words_in (option_copied rest.entry)) }
+fn read_snapshot<'a>(word: &[u8], rest: Option<&'a [u8]>, command: &mut Option<Command<'a>>) -> bool
+    ensures found { result ≡ is_some (look_up snapshot_rows word.now (words_in (option_copied rest.entry))) }
+    ensures written { IsTrue result → command.new ≡ look_up snapshot_rows word.now (words_in (option_copied rest.entry)) }
 {
     let words = Words::new(rest);
     write_by_words! { word, command, [Command::Work, Work::Snapshots];
@@ -183,8 +195,9 @@ fn read_snapshot<'a>(word: &[u8], rest: Option<&'a [u8]>, command: &mut Option<C
 /// Writes the command on plans, where the line is one.
 #[inline(always)]
 #[tactic(auto, unfolding(crate::specs::Table::plan_rows))]
-fn read_plan<'a>(word: &[u8], rest: Option<&'a [u8]>, command: &mut Option<Command<'a>>)
-    ensures { command.new ≡ look_up plan_rows word.now (words_in (option_copied rest.entry)) }
+fn read_plan<'a>(word: &[u8], rest: Option<&'a [u8]>, command: &mut Option<Command<'a>>) -> bool
+    ensures found { result ≡ is_some (look_up plan_rows word.now (words_in (option_copied rest.entry))) }
+    ensures written { IsTrue result → command.new ≡ look_up plan_rows word.now (words_in (option_copied rest.entry)) }
 {
     let words = Words::new(rest);
     write_by_words! { word, command, [Command::Work, Work::Plans];
@@ -198,12 +211,13 @@ fn read_plan<'a>(word: &[u8], rest: Option<&'a [u8]>, command: &mut Option<Comma
 /// Writes the command on portals, where the line is one.
 #[inline(always)]
 #[tactic(auto, unfolding(crate::specs::Table::portal_rows))]
-fn read_portal<'a>(word: &[u8], rest: Option<&'a [u8]>, command: &mut Option<Command<'a>>)
-    ensures { command.new ≡ look_up portal_rows word.now (words_in (option_copied rest.entry)) }
+fn read_portal<'a>(word: &[u8], rest: Option<&'a [u8]>, command: &mut Option<Command<'a>>) -> bool
+    ensures found { result ≡ is_some (look_up portal_rows word.now (words_in (option_copied rest.entry))) }
+    ensures written { IsTrue result → command.new ≡ look_up portal_rows word.now (words_in (option_copied rest.entry)) }
 {
     let words = Words::new(rest);
     write_by_words! { word, command, [Command::Work, Work::Portals];
-        b"portal" => *command = read_new_portal(words),
+        b"portal" => read_new_portal(words),
         b"fetch", (name, count) in words.name_and_number(1, 1_000_000) => PortalCommand::Fetch { name, count },
         b"endportal", name in words.only_name() => PortalCommand::End(name),
     }
@@ -241,8 +255,9 @@ fn read_bad(mut words: Words<'_>) -> Option<Option<u32>>
 /// Writes the command that only tells, where the line is one.
 #[inline(always)]
 #[tactic(auto, unfolding(crate::specs::Table::tell_rows))]
-fn read_tell<'a>(word: &[u8], rest: Option<&'a [u8]>, command: &mut Option<Command<'a>>)
-    ensures { command.new ≡ look_up tell_rows word.now (words_in (option_copied rest.entry)) }
+fn read_tell<'a>(word: &[u8], rest: Option<&'a [u8]>, command: &mut Option<Command<'a>>) -> bool
+    ensures found { result ≡ is_some (look_up tell_rows word.now (words_in (option_copied rest.entry))) }
+    ensures written { IsTrue result → command.new ≡ look_up tell_rows word.now (words_in (option_copied rest.entry)) }
 {
     let words = Words::new(rest);
     write_by_words! { word, command, [Command::Work, Work::Tells];
@@ -254,14 +269,13 @@ fn read_tell<'a>(word: &[u8], rest: Option<&'a [u8]>, command: &mut Option<Comma
 
 /// Tries one part of the table behind another, up to the first that the line is in.
 macro_rules! first_of {
-    ($word:expr, $rest:expr, $command:expr; $($read:ident),* ; $last:ident) => {{
+    ($word:expr, $rest:expr, $command:expr; $($read:ident),* $(,)?) => {{
         $(
-            $read($word, $rest, $command);
-            if $command.is_some() {
+            if $read($word, $rest, $command) {
                 return;
             }
         )*
-        $last($word, $rest, $command);
+        *$command = None;
     }};
 }
 
@@ -278,7 +292,7 @@ fn read_sized<'a, const N: usize>(
     ensures { command.new ≡ look_up table word.now (words_in (option_copied rest.entry)) }
 {
     let word = &word[..N];
-    first_of! { word, rest, command; read_transaction, read_item, read_context, read_chunk, read_lock, read_snapshot, read_plan, read_portal; read_tell }
+    first_of! { word, rest, command; read_transaction, read_item, read_context, read_chunk, read_lock, read_snapshot, read_plan, read_portal, read_tell }
 }
 
 /// Writes the command of a line's words, the first of which is `word`, where it is in the table.

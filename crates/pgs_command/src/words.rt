@@ -79,6 +79,7 @@ impl<'a> Words<'a> {
     }
 
     /// The one word that is left, a name.
+    #[inline(always)]
     pub(crate) fn only_name(self) -> Option<Name>
         ensures { result ≡ only name_of self.entry }
     {
@@ -90,6 +91,7 @@ impl<'a> Words<'a> {
     }
 
     /// The one word that is left, a number.
+    #[inline(always)]
     pub(crate) fn only_number(self) -> Option<u32>
         ensures { result ≡ only number_of self.entry }
     {
@@ -101,6 +103,7 @@ impl<'a> Words<'a> {
     }
 
     /// The two words that are left, a name and a number.
+    #[inline(always)]
     pub(crate) fn name_and_number(mut self, least: u32, most: u32) -> Option<(Name, u32)>
         ensures { result ≡ pair name_of (number_between least most) self.entry }
     {
@@ -110,6 +113,7 @@ impl<'a> Words<'a> {
     }
 
     /// The two words that are left, both names.
+    #[inline(always)]
     pub(crate) fn two_names(mut self) -> Option<(Name, Name)>
         ensures { result ≡ pair name_of name_of self.entry }
     {
@@ -119,6 +123,7 @@ impl<'a> Words<'a> {
     }
 
     /// The two words that are left, a number and the mode of a lock.
+    #[inline(always)]
     pub(crate) fn number_and_mode(mut self) -> Option<(u32, Mode)>
         ensures { result ≡ pair number_of mode_of self.entry }
     {
@@ -128,6 +133,7 @@ impl<'a> Words<'a> {
     }
 
     /// The two words that are left, a class of references and a number.
+    #[inline(always)]
     pub(crate) fn class_and_number(mut self) -> Option<(ReferenceClass, u32)>
         ensures { result ≡ pair class_of number_of self.entry }
     {

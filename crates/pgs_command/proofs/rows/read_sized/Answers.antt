@@ -1,105 +1,34 @@
-use Rattle.std.proofs.Common.{sym, ◌∙◌, take}
-use Rattle.std.specs.Option.{option_copied}
-use Rattle.pgs_command.specs.Words.{words_in}
-use Rattle.pgs_command.specs.Table.{transaction_rows, item_rows, context_rows, chunk_rows, lock_rows, snapshot_rows, plan_rows, portal_rows}
-use Rattle.pgs_command.proofs.TableLemmas.{past, within, of_whole}
+use Rattle.std.proofs.Common.{refl}
+use Rattle.pgs_command.specs.Table.{transaction_rows, item_rows, context_rows, chunk_rows, lock_rows, snapshot_rows, plan_rows, portal_rows, tell_rows}
+use Rattle.pgs_command.proofs.TableLemmas.{past, within, nowhere, of_whole}
 use Rattle.pgs_command.proofs.rows.read_sized.Goals as goal
 
-pub returns-then-is_some : goal.returns-then-is_some
-returns-then-is_some g c =
-    let word = take g.row.N c.args.word.now in
-    let words = words_in (option_copied c.args.rest) in
-    of_whole _ c.args.word.now words _ c.requires
-    (within transaction_rows _ word words _ c.read_transaction.ensures (sym c.is_some.ensures ∙ c.if-is_some.true))
+pub returns-then-read_transaction : goal.returns-then-read_transaction
+returns-then-read_transaction g c = of_whole _ _ _ _ c.requires (within transaction_rows _ _ _ _ c.if-read_transaction.ensures.found (c.if-read_transaction.ensures.written refl))
 
-pub returns-then-is_some-2 : goal.returns-then-is_some-2
-returns-then-is_some-2 g c =
-    let word = take g.row.N c.args.word.now in
-    let words = words_in (option_copied c.args.rest) in
-    of_whole _ c.args.word.now words _ c.requires
-    (past transaction_rows _ word words _ _ c.read_transaction.ensures (sym c.is_some.ensures ∙ c.if-is_some.false)
-    (within item_rows _ word words _ c.read_item.ensures (sym c.is_some-2.ensures ∙ c.if-is_some-2.true)))
+pub returns-then-read_item : goal.returns-then-read_item
+returns-then-read_item g c = of_whole _ _ _ _ c.requires (past transaction_rows _ _ _ _ c.if-read_transaction.ensures.found (within item_rows _ _ _ _ c.if-read_item.ensures.found (c.if-read_item.ensures.written refl)))
 
-pub returns-then-is_some-3 : goal.returns-then-is_some-3
-returns-then-is_some-3 g c =
-    let word = take g.row.N c.args.word.now in
-    let words = words_in (option_copied c.args.rest) in
-    of_whole _ c.args.word.now words _ c.requires
-    (past transaction_rows _ word words _ _ c.read_transaction.ensures (sym c.is_some.ensures ∙ c.if-is_some.false)
-    (past item_rows _ word words _ _ c.read_item.ensures (sym c.is_some-2.ensures ∙ c.if-is_some-2.false)
-    (within context_rows _ word words _ c.read_context.ensures (sym c.is_some-3.ensures ∙ c.if-is_some-3.true))))
+pub returns-then-read_context : goal.returns-then-read_context
+returns-then-read_context g c = of_whole _ _ _ _ c.requires (past transaction_rows _ _ _ _ c.if-read_transaction.ensures.found (past item_rows _ _ _ _ c.if-read_item.ensures.found (within context_rows _ _ _ _ c.if-read_context.ensures.found (c.if-read_context.ensures.written refl))))
 
-pub returns-then-is_some-4 : goal.returns-then-is_some-4
-returns-then-is_some-4 g c =
-    let word = take g.row.N c.args.word.now in
-    let words = words_in (option_copied c.args.rest) in
-    of_whole _ c.args.word.now words _ c.requires
-    (past transaction_rows _ word words _ _ c.read_transaction.ensures (sym c.is_some.ensures ∙ c.if-is_some.false)
-    (past item_rows _ word words _ _ c.read_item.ensures (sym c.is_some-2.ensures ∙ c.if-is_some-2.false)
-    (past context_rows _ word words _ _ c.read_context.ensures (sym c.is_some-3.ensures ∙ c.if-is_some-3.false)
-    (within chunk_rows _ word words _ c.read_chunk.ensures (sym c.is_some-4.ensures ∙ c.if-is_some-4.true)))))
+pub returns-then-read_chunk : goal.returns-then-read_chunk
+returns-then-read_chunk g c = of_whole _ _ _ _ c.requires (past transaction_rows _ _ _ _ c.if-read_transaction.ensures.found (past item_rows _ _ _ _ c.if-read_item.ensures.found (past context_rows _ _ _ _ c.if-read_context.ensures.found (within chunk_rows _ _ _ _ c.if-read_chunk.ensures.found (c.if-read_chunk.ensures.written refl)))))
 
-pub returns-then-is_some-5 : goal.returns-then-is_some-5
-returns-then-is_some-5 g c =
-    let word = take g.row.N c.args.word.now in
-    let words = words_in (option_copied c.args.rest) in
-    of_whole _ c.args.word.now words _ c.requires
-    (past transaction_rows _ word words _ _ c.read_transaction.ensures (sym c.is_some.ensures ∙ c.if-is_some.false)
-    (past item_rows _ word words _ _ c.read_item.ensures (sym c.is_some-2.ensures ∙ c.if-is_some-2.false)
-    (past context_rows _ word words _ _ c.read_context.ensures (sym c.is_some-3.ensures ∙ c.if-is_some-3.false)
-    (past chunk_rows _ word words _ _ c.read_chunk.ensures (sym c.is_some-4.ensures ∙ c.if-is_some-4.false)
-    (within lock_rows _ word words _ c.read_lock.ensures (sym c.is_some-5.ensures ∙ c.if-is_some-5.true))))))
+pub returns-then-read_lock : goal.returns-then-read_lock
+returns-then-read_lock g c = of_whole _ _ _ _ c.requires (past transaction_rows _ _ _ _ c.if-read_transaction.ensures.found (past item_rows _ _ _ _ c.if-read_item.ensures.found (past context_rows _ _ _ _ c.if-read_context.ensures.found (past chunk_rows _ _ _ _ c.if-read_chunk.ensures.found (within lock_rows _ _ _ _ c.if-read_lock.ensures.found (c.if-read_lock.ensures.written refl))))))
 
-pub returns-then-is_some-6 : goal.returns-then-is_some-6
-returns-then-is_some-6 g c =
-    let word = take g.row.N c.args.word.now in
-    let words = words_in (option_copied c.args.rest) in
-    of_whole _ c.args.word.now words _ c.requires
-    (past transaction_rows _ word words _ _ c.read_transaction.ensures (sym c.is_some.ensures ∙ c.if-is_some.false)
-    (past item_rows _ word words _ _ c.read_item.ensures (sym c.is_some-2.ensures ∙ c.if-is_some-2.false)
-    (past context_rows _ word words _ _ c.read_context.ensures (sym c.is_some-3.ensures ∙ c.if-is_some-3.false)
-    (past chunk_rows _ word words _ _ c.read_chunk.ensures (sym c.is_some-4.ensures ∙ c.if-is_some-4.false)
-    (past lock_rows _ word words _ _ c.read_lock.ensures (sym c.is_some-5.ensures ∙ c.if-is_some-5.false)
-    (within snapshot_rows _ word words _ c.read_snapshot.ensures (sym c.is_some-6.ensures ∙ c.if-is_some-6.true)))))))
+pub returns-then-read_snapshot : goal.returns-then-read_snapshot
+returns-then-read_snapshot g c = of_whole _ _ _ _ c.requires (past transaction_rows _ _ _ _ c.if-read_transaction.ensures.found (past item_rows _ _ _ _ c.if-read_item.ensures.found (past context_rows _ _ _ _ c.if-read_context.ensures.found (past chunk_rows _ _ _ _ c.if-read_chunk.ensures.found (past lock_rows _ _ _ _ c.if-read_lock.ensures.found (within snapshot_rows _ _ _ _ c.if-read_snapshot.ensures.found (c.if-read_snapshot.ensures.written refl)))))))
 
-pub returns-then-is_some-7 : goal.returns-then-is_some-7
-returns-then-is_some-7 g c =
-    let word = take g.row.N c.args.word.now in
-    let words = words_in (option_copied c.args.rest) in
-    of_whole _ c.args.word.now words _ c.requires
-    (past transaction_rows _ word words _ _ c.read_transaction.ensures (sym c.is_some.ensures ∙ c.if-is_some.false)
-    (past item_rows _ word words _ _ c.read_item.ensures (sym c.is_some-2.ensures ∙ c.if-is_some-2.false)
-    (past context_rows _ word words _ _ c.read_context.ensures (sym c.is_some-3.ensures ∙ c.if-is_some-3.false)
-    (past chunk_rows _ word words _ _ c.read_chunk.ensures (sym c.is_some-4.ensures ∙ c.if-is_some-4.false)
-    (past lock_rows _ word words _ _ c.read_lock.ensures (sym c.is_some-5.ensures ∙ c.if-is_some-5.false)
-    (past snapshot_rows _ word words _ _ c.read_snapshot.ensures (sym c.is_some-6.ensures ∙ c.if-is_some-6.false)
-    (within plan_rows _ word words _ c.read_plan.ensures (sym c.is_some-7.ensures ∙ c.if-is_some-7.true))))))))
+pub returns-then-read_plan : goal.returns-then-read_plan
+returns-then-read_plan g c = of_whole _ _ _ _ c.requires (past transaction_rows _ _ _ _ c.if-read_transaction.ensures.found (past item_rows _ _ _ _ c.if-read_item.ensures.found (past context_rows _ _ _ _ c.if-read_context.ensures.found (past chunk_rows _ _ _ _ c.if-read_chunk.ensures.found (past lock_rows _ _ _ _ c.if-read_lock.ensures.found (past snapshot_rows _ _ _ _ c.if-read_snapshot.ensures.found (within plan_rows _ _ _ _ c.if-read_plan.ensures.found (c.if-read_plan.ensures.written refl))))))))
 
-pub returns-then-is_some-8 : goal.returns-then-is_some-8
-returns-then-is_some-8 g c =
-    let word = take g.row.N c.args.word.now in
-    let words = words_in (option_copied c.args.rest) in
-    of_whole _ c.args.word.now words _ c.requires
-    (past transaction_rows _ word words _ _ c.read_transaction.ensures (sym c.is_some.ensures ∙ c.if-is_some.false)
-    (past item_rows _ word words _ _ c.read_item.ensures (sym c.is_some-2.ensures ∙ c.if-is_some-2.false)
-    (past context_rows _ word words _ _ c.read_context.ensures (sym c.is_some-3.ensures ∙ c.if-is_some-3.false)
-    (past chunk_rows _ word words _ _ c.read_chunk.ensures (sym c.is_some-4.ensures ∙ c.if-is_some-4.false)
-    (past lock_rows _ word words _ _ c.read_lock.ensures (sym c.is_some-5.ensures ∙ c.if-is_some-5.false)
-    (past snapshot_rows _ word words _ _ c.read_snapshot.ensures (sym c.is_some-6.ensures ∙ c.if-is_some-6.false)
-    (past plan_rows _ word words _ _ c.read_plan.ensures (sym c.is_some-7.ensures ∙ c.if-is_some-7.false)
-    (within portal_rows _ word words _ c.read_portal.ensures (sym c.is_some-8.ensures ∙ c.if-is_some-8.true)))))))))
+pub returns-then-read_portal : goal.returns-then-read_portal
+returns-then-read_portal g c = of_whole _ _ _ _ c.requires (past transaction_rows _ _ _ _ c.if-read_transaction.ensures.found (past item_rows _ _ _ _ c.if-read_item.ensures.found (past context_rows _ _ _ _ c.if-read_context.ensures.found (past chunk_rows _ _ _ _ c.if-read_chunk.ensures.found (past lock_rows _ _ _ _ c.if-read_lock.ensures.found (past snapshot_rows _ _ _ _ c.if-read_snapshot.ensures.found (past plan_rows _ _ _ _ c.if-read_plan.ensures.found (within portal_rows _ _ _ _ c.if-read_portal.ensures.found (c.if-read_portal.ensures.written refl)))))))))
+
+pub returns-then-read_tell : goal.returns-then-read_tell
+returns-then-read_tell g c = of_whole _ _ _ _ c.requires (past transaction_rows _ _ _ _ c.if-read_transaction.ensures.found (past item_rows _ _ _ _ c.if-read_item.ensures.found (past context_rows _ _ _ _ c.if-read_context.ensures.found (past chunk_rows _ _ _ _ c.if-read_chunk.ensures.found (past lock_rows _ _ _ _ c.if-read_lock.ensures.found (past snapshot_rows _ _ _ _ c.if-read_snapshot.ensures.found (past plan_rows _ _ _ _ c.if-read_plan.ensures.found (past portal_rows _ _ _ _ c.if-read_portal.ensures.found (c.if-read_tell.ensures.written refl)))))))))
 
 pub returns : goal.returns
-returns g c =
-    let word = take g.row.N c.args.word.now in
-    let words = words_in (option_copied c.args.rest) in
-    of_whole _ c.args.word.now words _ c.requires
-    (past transaction_rows _ word words _ _ c.read_transaction.ensures (sym c.is_some.ensures ∙ c.if-is_some.false)
-    (past item_rows _ word words _ _ c.read_item.ensures (sym c.is_some-2.ensures ∙ c.if-is_some-2.false)
-    (past context_rows _ word words _ _ c.read_context.ensures (sym c.is_some-3.ensures ∙ c.if-is_some-3.false)
-    (past chunk_rows _ word words _ _ c.read_chunk.ensures (sym c.is_some-4.ensures ∙ c.if-is_some-4.false)
-    (past lock_rows _ word words _ _ c.read_lock.ensures (sym c.is_some-5.ensures ∙ c.if-is_some-5.false)
-    (past snapshot_rows _ word words _ _ c.read_snapshot.ensures (sym c.is_some-6.ensures ∙ c.if-is_some-6.false)
-    (past plan_rows _ word words _ _ c.read_plan.ensures (sym c.is_some-7.ensures ∙ c.if-is_some-7.false)
-    (past portal_rows _ word words _ _ c.read_portal.ensures (sym c.is_some-8.ensures ∙ c.if-is_some-8.false)
-    (c.read_tell.ensures)))))))))
+returns g c = of_whole _ _ _ _ c.requires (past transaction_rows _ _ _ _ c.if-read_transaction.ensures.found (past item_rows _ _ _ _ c.if-read_item.ensures.found (past context_rows _ _ _ _ c.if-read_context.ensures.found (past chunk_rows _ _ _ _ c.if-read_chunk.ensures.found (past lock_rows _ _ _ _ c.if-read_lock.ensures.found (past snapshot_rows _ _ _ _ c.if-read_snapshot.ensures.found (past plan_rows _ _ _ _ c.if-read_plan.ensures.found (past portal_rows _ _ _ _ c.if-read_portal.ensures.found (nowhere tell_rows _ _ c.if-read_tell.ensures.found)))))))))
