@@ -14,22 +14,22 @@ macro_rules! by_word {
     }};
 }
 
-/// Writes the command of the row whose text the word is, and returns whether there is one. It writes nothing where there is none.
+/// Writes the command of the row whose text the word is, and returns whether there is one.
 ///
 /// A row's value is made of the parts that are read from the words behind it, and it has none where they aren't such parts; the variants
-/// say which command it is, the outermost first. A row that names no parts reads its command whole.
+/// above the row say which command it is, the outermost first. A row that names no parts writes for itself.
 macro_rules! write_by_words {
-    ($word:expr, $place:expr, $kinds:tt; $($text:literal $(, $parts:pat in $read:expr)? => $made:expr),* $(,)?) => {{
-        $(
+    ($word:expr, $place:expr, $($kinds:tt; $($text:literal $(, $parts:pat in $read:expr)? => $made:expr),* $(,)?);*) => {{
+        $($(
             if is_word($word, $text.as_slice()) {
                 return write_parts! { $place, $kinds; $made $(, $parts in $read)? };
             }
-        )*
+        )*)*
         false
     }};
 }
 
-/// Writes the command of the parts that are read, and says whether there are any. Without parts it writes the command that is read.
+/// Writes the command of the parts that are read, and says whether there are any. Without parts it is said by what writes for itself.
 macro_rules! write_parts {
     ($place:expr, [$($kind:path),*]; $value:expr, $parts:pat in $read:expr) => {
         match $read {
@@ -40,10 +40,9 @@ macro_rules! write_parts {
             None => false,
         }
     };
-    ($place:expr, $kinds:tt; $command:expr) => {{
-        *$place = $command;
-        $place.is_some()
-    }};
+    ($place:expr, $kinds:tt; $written:expr) => {
+        $written
+    };
 }
 
 /// The value within the variants, the outermost first.

@@ -33,25 +33,28 @@ fn read_transaction<'a>(
     write_by_words! { word, command, [Command::Transaction];
         b"begin", () in words.end(()) => TransactionCommand::Begin,
         b"commit", () in words.end(()) => TransactionCommand::Commit,
-        b"rollback" => read_rollback(words),
+        b"rollback" => write_rollback(words, command),
         b"savepoint", name in words.only_name() => TransactionCommand::Savepoint(name),
-        b"release", name in words.only_name() => TransactionCommand::Release(name),
-        b"raise" => words.end(Command::Work(Work::Raise)),
+        b"release", name in words.only_name() => TransactionCommand::Release(name);
+        [Command::Work];
+        b"raise", () in words.end(()) => Work::Raise,
     }
 }
 
-/// `rollback` and `rollback to NAME`.
-fn read_rollback(mut words: Words<'_>) -> Option<Command<'_>>
-    ensures { result ≡ option_or (none (on_transactions Rollback) words.entry) (behind (codes "to") (one name_of (λ name. on_transactions (RollbackTo name))) words.entry) }
+/// Writes what `rollback` and `rollback to NAME` ask for, where the line is one of them.
+fn write_rollback<'a>(mut words: Words<'a>, command: &mut Option<Command<'a>>) -> bool
+    ensures found { result ≡ is_some (option_or (none (on_transactions Rollback) words.entry) (behind (codes "to") (one name_of (λ name. on_transactions (RollbackTo name))) words.entry)) }
+    ensures written { IsTrue result → command.new ≡ option_or (none (on_transactions Rollback) words.entry) (behind (codes "to") (one name_of (λ name. on_transactions (RollbackTo name))) words.entry) }
 {
-    let Some(word) = words.next() else {
-        return Some(Command::Transaction(TransactionCommand::Rollback));
-    };
-    if !is_word(word, b"to".as_slice()) {
-        return None;
+    match words.next() {
+        None => {
+            *command = Some(Command::Transaction(TransactionCommand::Rollback));
+            true
+        }
+        Some(word) => write_by_words! { word, command, [Command::Transaction];
+            b"to", name in words.only_name() => TransactionCommand::RollbackTo(name),
+        },
     }
-    let name = words.only_name()?;
-    Some(Command::Transaction(TransactionCommand::RollbackTo(name)))
 }
 
 /// Writes the command on memory contexts, where the line is one.
@@ -63,7 +66,7 @@ fn read_context<'a>(word: &[u8], rest: Option<&'a [u8]>, command: &mut Option<Co
 {
     let words = Words::new(rest);
     write_by_words! { word, command, [Command::Work, Work::Contexts];
-        b"context" => read_new_context(words),
+        b"context" => write_new_context(words, command),
         b"switch", name in words.only_name() => ContextCommand::Switch(name),
         b"onreset", name in words.only_name() => ContextCommand::OnReset(name),
         b"reset", name in words.only_name() => ContextCommand::Reset(name),
@@ -74,14 +77,22 @@ fn read_context<'a>(word: &[u8], rest: Option<&'a [u8]>, command: &mut Option<Co
     }
 }
 
-/// `context NAME PARENT KIND`.
-fn read_new_context(mut words: Words<'_>) -> Option<Command<'_>>
-    ensures { result ≡ with_kind words.entry }
+/// Writes what `context NAME PARENT KIND` asks for, where the line is one.
+fn write_new_context<'a>(mut words: Words<'a>, command: &mut Option<Command<'a>>) -> bool
+    ensures found { result ≡ is_some (with_kind words.entry) }
+    ensures written { IsTrue result → command.new ≡ with_kind words.entry }
 {
-    let name = words.name()?;
-    let parent = words.name()?;
-    let kind = read_kind(words)?;
-    Some(Command::Work(Work::Contexts(ContextCommand::Create { name, parent, kind })))
+    let Some(name) = words.name() else {
+        return false
+    };
+    let Some(parent) = words.name() else {
+        return false
+    };
+    let Some(kind) = read_kind(words) else {
+        return false
+    };
+    *command = Some(Command::Work(Work::Contexts(ContextCommand::Create { name, parent, kind })));
+    true
 }
 
 /// The kind of a context: one word, or `slab SIZE`.
@@ -112,33 +123,58 @@ fn read_chunk<'a>(word: &[u8], rest: Option<&'a [u8]>, command: &mut Option<Comm
         b"alloc0", (chunk, size) in words.name_and_number(0, u32::MAX) => ChunkCommand::AllocZeroed { chunk, size },
         b"realloc", (chunk, size) in words.name_and_number(0, u32::MAX) => ChunkCommand::Realloc { chunk, size },
         b"free", chunk in words.only_name() => ChunkCommand::Free(chunk),
-        b"put" => read_put(words),
-        b"show" => read_show(words),
+        b"put" => write_put(words, command),
+        b"show" => write_show(words, command),
     }
 }
 
-/// `put CHUNK N HEX`.
-fn read_put(mut words: Words<'_>) -> Option<Command<'_>>
-    ensures { result ≡ three name_of number_of bytes_of (λ chunk at bytes. on_chunks (Put chunk at bytes)) words.entry }
+/// Writes what `put CHUNK N HEX` asks for, where the line is one.
+fn write_put<'a>(mut words: Words<'a>, command: &mut Option<Command<'a>>) -> bool
+    ensures found { result ≡ is_some (three name_of number_of bytes_of (λ chunk at bytes. on_chunks (Put chunk at bytes)) words.entry) }
+    ensures written { IsTrue result → command.new ≡ three name_of number_of bytes_of (λ chunk at bytes. on_chunks (Put chunk at bytes)) words.entry }
 {
-    let chunk = words.name()?;
-    let at = words.number(0, u32::MAX)?;
-    let bytes = HexBytes::new(words.next()?)?;
-    words.end(Command::Work(Work::Chunks(ChunkCommand::Put { chunk, at, bytes })))
+    let Some(chunk) = words.name() else {
+        return false
+    };
+    let Some(at) = words.number(0, u32::MAX) else {
+        return false
+    };
+    let Some(digits) = words.next() else {
+        return false
+    };
+    let Some(bytes) = HexBytes::new(digits) else {
+        return false
+    };
+    let Some(()) = words.end(()) else {
+        return false
+    };
+    *command = Some(Command::Work(Work::Chunks(ChunkCommand::Put { chunk, at, bytes })));
+    true
 }
 
-/// `show CHUNK N LEN`.
-fn read_show(mut words: Words<'_>) -> Option<Command<'_>>
-    ensures { result ≡ three name_of number_of length_of (λ chunk at count. on_chunks (Show chunk at count)) words.entry }
+/// Writes what `show CHUNK N LEN` asks for, where the line is one.
+fn write_show<'a>(mut words: Words<'a>, command: &mut Option<Command<'a>>) -> bool
+    ensures found { result ≡ is_some (three name_of number_of length_of (λ chunk at count. on_chunks (Show chunk at count)) words.entry) }
+    ensures written { IsTrue result → command.new ≡ three name_of number_of length_of (λ chunk at count. on_chunks (Show chunk at count)) words.entry }
 {
-    let chunk = words.name()?;
-    let at = words.number(0, u32::MAX)?;
-    let length = words.number(1, 128)?;
-    words.end(Command::Work(Work::Chunks(ChunkCommand::Show {
+    let Some(chunk) = words.name() else {
+        return false
+    };
+    let Some(at) = words.number(0, u32::MAX) else {
+        return false
+    };
+    let Some(length) = words.number(1, 128) else {
+        return false
+    };
+    let Some(()) = words.end(()) else {
+        return false
+    };
+    *command = Some(Command::Work(Work::Chunks(ChunkCommand::Show {
         chunk,
         at,
         length: length as u8,
-    })))
+    })));
+    true
 }
 
 /// Writes the command on items, where the line is one.
@@ -217,26 +253,36 @@ fn read_portal<'a>(word: &[u8], rest: Option<&'a [u8]>, command: &mut Option<Com
 {
     let words = Words::new(rest);
     write_by_words! { word, command, [Command::Work, Work::Portals];
-        b"portal" => read_new_portal(words),
+        b"portal" => write_new_portal(words, command),
         b"fetch", (name, count) in words.name_and_number(1, 1_000_000) => PortalCommand::Fetch { name, count },
         b"endportal", name in words.only_name() => PortalCommand::End(name),
     }
 }
 
-/// `portal NAME OBJECT ROWS` and `portal NAME OBJECT ROWS BAD`.
-fn read_new_portal(mut words: Words<'_>) -> Option<Command<'_>>
-    ensures { result ≡ option_or (portal_without_bad words.entry) (portal_with_bad words.entry) }
+/// Writes what `portal NAME OBJECT ROWS` and `portal NAME OBJECT ROWS BAD` ask for, where the line is one of them.
+fn write_new_portal<'a>(mut words: Words<'a>, command: &mut Option<Command<'a>>) -> bool
+    ensures found { result ≡ is_some (option_or (portal_without_bad words.entry) (portal_with_bad words.entry)) }
+    ensures written { IsTrue result → command.new ≡ option_or (portal_without_bad words.entry) (portal_with_bad words.entry) }
 {
-    let name = words.name()?;
-    let object = words.number(0, 1_000_000)?;
-    let rows = words.number(0, 1_000_000)?;
-    let bad = read_bad(words)?;
-    Some(Command::Work(Work::Portals(PortalCommand::Open {
+    let Some(name) = words.name() else {
+        return false
+    };
+    let Some(object) = words.number(0, 1_000_000) else {
+        return false
+    };
+    let Some(rows) = words.number(0, 1_000_000) else {
+        return false
+    };
+    let Some(bad) = read_bad(words) else {
+        return false
+    };
+    *command = Some(Command::Work(Work::Portals(PortalCommand::Open {
         name,
         object,
         rows,
         bad,
-    })))
+    })));
+    true
 }
 
 /// No word, or the number of the bad row.
