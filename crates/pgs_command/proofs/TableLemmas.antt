@@ -9,15 +9,11 @@ use Rattle.pgs_command.specs.Table.{Row, look_up, table, command_of, transaction
 use Rattle.pgs_command.proofs.ValueLemmas.{is_text-means}
 use Rattle.pgs_command.specs.declared.commands.Command.{Command}
 
-pub or_none : {A : Type 0} (o : Option A) → option_or o None ≡ o
-or_none None = refl
-or_none (Some x) = refl
-
-pub or_first : {A : Type 0} (o p : Option A) → is_some o ≡ true → o ≡ option_or o p
+or_first : {A : Type 0} (o p : Option A) → is_some o ≡ true → o ≡ option_or o p
 or_first None p e = absurd (cc)
 or_first (Some x) p e = refl
 
-pub is_none : {A : Type 0} (o : Option A) → is_some o ≡ false → None ≡ o
+is_none : {A : Type 0} (o : Option A) → is_some o ≡ false → None ≡ o
 is_none None e = refl
 is_none (Some x) e = absurd (cc)
 

@@ -342,6 +342,8 @@ fn read_sized<'a, const N: usize>(
 }
 
 /// Writes the command of a line's words, the first of which is `word`, where it is in the table.
+///
+/// The lengths are those of the table's words: without one of them the proof fails.
 fn read_listed<'a>(word: &[u8], rest: Option<&'a [u8]>, command: &mut Option<Command<'a>>)
     ensures { command.new ≡ look_up table word.now (words_in (option_copied rest.entry)) }
 {
