@@ -2,7 +2,6 @@
 ghost use Rattle.std.specs.Prelude.{◌≡◌, [], replicate, IfOk, IfSome};
 ghost use Rattle.owner_kinds.specs.KindShelf.{table_of};
 ghost use Rattle.owner_kinds.specs.KindTable.{IsExtension, IsSound};
-ghost use Rattle.session_rules.specs.Limits.{shared_buffers};
 ghost use Rattle.session_rules.specs.Lookup.{kind_named};
 
 use lock_shared::SharedLocks;
@@ -33,7 +32,7 @@ impl<K: ExtKind> Model for Commons<K> {
 impl<K: ExtKind> Commons<K> {
     /// No kind, no lock is held, and no buffer is pinned. It fails for want of memory alone.
     pub fn new(alloc: Global) -> Result<Commons<K>, AllocError>
-        ensures { IfOk result (λ commons. commons ≡ record { kinds = []; locks = []; pins = replicate shared_buffers 0 }) }
+        ensures { IfOk result (λ commons. commons ≡ record { kinds = []; locks = []; pins = replicate 1024 0 }) }
     {
         Ok(Commons {
             kinds: KindShelf::new(alloc, Vec::new(alloc))?,
