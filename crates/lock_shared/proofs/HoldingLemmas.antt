@@ -1,6 +1,6 @@
 -- Which holding blocks, and which of them is the first.
 use Rattle.std.proofs.Common.{◌≡◌, ◌≢◌, ℕ, ◌<◌, ◌≤◌, ◌+◌, Bool, true, false, ◌&&◌, ◌||◌, not, cond, nat_eq, nat_lt, List, [], ◌∷◌, ◌++◌, length, get_or, take, filter, inl, inr, refl, ap, sym, subst, ◌∙◌, arith}
-use Rattle.std.specs.Prelude.{Option, None, Some, All, Contains, nat_le, IsNone, IfSome}
+use Rattle.std.specs.Prelude.{Option, None, Some, All, Contains, nat_le, IsNone}
 use Rattle.std.specs.List.{list_any}
 use Rattle.std.proofs.lemmas.Bool.{true≢false, eqb-true, eq-eqb, ne_eqb, and_parts, and_from, cases_Bool}
 use Rattle.std.proofs.lemmas.Bool.Decides.{nat_tests}
@@ -160,10 +160,6 @@ none_is_free xs o w s (Some c) l e = absurd (true≢false e)
 pub free_is_none : (xs : List Holding) (o : ℕ) (w : Mode) (s : ℕ) (r : Option (ℕ × Mode)) → IsLeastOf xs o w s r → IsFree xs o w s → IsNone r
 free_is_none xs o w s None l f = refl
 free_is_none xs o w s (Some c) l f = absurd (f c.0 c.1 (conflict_from xs o w s c.0 c.1 l).blocks)
-
-pub some_is_conflict : (xs : List Holding) (o : ℕ) (w : Mode) (s : ℕ) (r : Option (ℕ × Mode)) → IsLeastOf xs o w s r → IfSome r (λ c. IsConflict xs o w s c.0 c.1)
-some_is_conflict xs o w s None l = tt
-some_is_conflict xs o w s (Some c) l = conflict_from xs o w s c.0 c.1 l
 
 -- taking a holding off
 pub any_kept : {X : Type 0} (p q : X → Bool) → ((x : X) → q x ≡ true → p x ≡ false) → (xs : List X) → list_any q (filter (λ x. not (p x)) xs) ≡ list_any q xs

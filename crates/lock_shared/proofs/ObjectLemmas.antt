@@ -17,7 +17,7 @@ use Rattle.smallvec.specs.SmallVec.{SmallVec}
 use Rattle.pgs_step.specs.declared.lock_modes.Mode.{Mode}
 use Rattle.pgs_step.specs.Mode.{mode_number}
 use Rattle.lock_shared.specs.declared.shared_locks.Holding.{Holding}
-use Rattle.lock_shared.specs.Holdings.{same_lock, is_holding, holds, Sets, Blocks, IsFree, IsConflict, AreOnce}
+use Rattle.lock_shared.specs.Holdings.{is_holding, holds, Sets, Blocks, IsFree, IsConflict, AreOnce}
 use Rattle.lock_shared.specs.Blocking.{IsLeastOf}
 use Rattle.lock_shared.specs.Objects.{holdings_of, held_on, with_holding, IsKept, AreKept}
 use Rattle.lock_shared.proofs.HoldingLemmas.{holding_parts, holds_last, taken_off, none_is_free, free_is_none, conflict_from}

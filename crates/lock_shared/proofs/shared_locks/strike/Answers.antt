@@ -1,6 +1,5 @@
-use Rattle.std.proofs.Common.{List, ap, sym, subst, ◌∙◌, ◌==◌, nat_eq, not, Some, None, is_some, length, ◌<◌, ◌≡◌, ℕ, false, filter, arith}
+use Rattle.std.proofs.Common.{List, ap, sym, subst, ◌∙◌, nat_eq, not, Some, None, is_some, length, ◌<◌, ◌≡◌, ℕ, false, arith}
 use Rattle.std.proofs.lemmas.Bool.Decides.{nat_tests}
-use Rattle.std.specs.Map.{lookup}
 use Rattle.lock_shared.specs.declared.shared_locks.Holding.{Holding}
 use Rattle.lock_shared.specs.Holdings.{is_holding}
 use Rattle.lock_shared.specs.Objects.{IsKept}

@@ -1,6 +1,4 @@
-use Rattle.std.proofs.Common.{List, ap, sym, subst, ◌∙◌, IsTrue}
-use Rattle.lock_shared.specs.declared.shared_locks.Holding.{Holding}
-use Rattle.lock_shared.specs.Holdings.{holds}
+use Rattle.std.proofs.Common.{ap, sym, ◌∙◌}
 use Rattle.lock_shared.specs.Objects.{holdings_of}
 use Rattle.lock_shared.proofs.ObjectLemmas.{are_once, held_there, sets_put, OnOk-map}
 use Rattle.lock_shared.proofs.shared_locks.SharedLocks.grant.Goals as goal
