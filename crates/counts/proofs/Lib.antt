@@ -1,2 +1,3 @@
 pub mod CountLemmas
+pub mod InOrder
 pub mod OneMore

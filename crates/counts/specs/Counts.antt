@@ -1,9 +1,14 @@
 -- Counts of keys, seen as the list of entries: each key that counts with its count, in the keys' order.
-use Rattle.std.specs.Prelude.{◌≡◌, ℕ, ◌≤◌, List, All, sum, count_by, unwrap_or}
+use Rattle.std.specs.Prelude.{◌≡◌, ℕ, ◌≤◌, List, [], ◌∷◌, All, sum, count_by, unwrap_or}
 use Rattle.std.specs.declared.cmp.Ordering.{Ordering}
-use Rattle.std.specs.BTreeMap.{is_at}
+use Rattle.std.specs.BTreeMap.{is_at, insert_entry}
 use Rattle.std.specs.List.Sorted.{IsStrictlySortedBy}
 use Rattle.std.specs.Map.{keys_of, values_of, lookup}
+
+-- the entries in the order of their keys
+abbrev pub in_order : {K : Type 0} → (K → K → Ordering) → List (K × ℕ) → List (K × ℕ)
+in_order cmp [] = []
+in_order cmp (e ∷ es) = insert_entry cmp (in_order cmp es) e.0 e.1
 
 -- how often a key counts: 0 where it has no entry
 abbrev pub count_of : {K : Type 0} → (K → K → Ordering) → List (K × ℕ) → K → ℕ

@@ -6,35 +6,37 @@ ghost use Rattle.std.specs.Ordering.{eq_by_cmp};
 ghost use Rattle.std.specs.Set.{distinct_count};
 
 use std::alloc::{AllocError, Global};
-use std::collections::BTreeMap;
+use std::collections::HashMap;
+use std::hash::Hash;
 use std::marker::Model;
 
-/// How often each key counts. A key that doesn't count takes no room.
+/// How often each key counts. A key is found by its hash, and one that doesn't count has no entry.
 ///
 /// Contracts see the list of the entries in the order of the keys: each key that counts, with its count.
 #[derive(Drop)]
-pub struct Counts<K: Ord> {
-    counts: BTreeMap<K, u64>,
+pub struct Counts<K: Ord + Hash> {
+    counts: HashMap<K, u64>,
 }
 
-impl<K: Ord> Model for Counts<K> {
+impl<K: Ord + Hash> Model for Counts<K> {
     ghost use Rattle.std.specs.Prelude.{ℕ, ◌≤◌, List, All};
-    ghost use Rattle.std.specs.BTreeMap.{values};
+    ghost use Rattle.std.specs.HashMap.{values};
+    ghost use Rattle.counts.specs.Counts.{in_order};
 
     ghost Value = { List (K × ℕ) };
 
-    ghost view = { λ t. t.counts.entries };
+    ghost view = { λ t. in_order K.cmp t.counts.entries };
 
     ghost invariant = { λ t. All (λ n. 1 ≤ n) (values t.counts) };
 }
 
-impl<K: Ord + Copy> Counts<K> {
+impl<K: Ord + Hash + Copy> Counts<K> {
     /// A table in which no key counts.
     pub fn new(alloc: Global) -> Counts<K>
         ensures empty { result ≡ [] }
     {
         Counts {
-            counts: BTreeMap::new(alloc),
+            counts: HashMap::new(alloc),
         }
     }
 
@@ -54,8 +56,11 @@ impl<K: Ord + Copy> Counts<K> {
         ensures total { OnOk result (total self.new ≡ total self.old + 1) }
         ensures refused { OnErr result (self.new ≡ self.old) }
     {
-        let count = self.counts.get(&key).copied().unwrap_or(0);
-        self.counts.insert(key, count + 1)?;
+        if let Some(count) = self.counts.get_mut(&key) {
+            *count += 1;
+            return Ok(());
+        }
+        self.counts.insert(key, 1)?;
         Ok(())
     }
 
@@ -67,13 +72,14 @@ impl<K: Ord + Copy> Counts<K> {
         ensures total { OnSome result (total self.new + 1 ≡ total self.old) }
         ensures none { IfNone result (self.new ≡ self.old) }
     {
-        let left = *self.counts.get(&key)? - 1;
-        if left == 0 {
-            self.counts.remove(&key);
-        } else if let Some(count) = self.counts.get_mut(&key) {
+        let count = self.counts.get_mut(&key)?;
+        let left = *count - 1;
+        if left > 0 {
             *count = left;
+            return Some(left);
         }
-        Some(left)
+        self.counts.remove(&key);
+        Some(0)
     }
 
     /// Facts of every table, for proofs. It does nothing.

@@ -1,8 +1,12 @@
 use Rattle.counts.specs.Counts.{AreCounts}
 use Rattle.counts.proofs.CountLemmas.{length-different}
+use Rattle.counts.proofs.InOrder.{sorted_in_order, all_in_order}
 use Rattle.counts.proofs.table.Counts.laws.Goals as goal
+
+pub returns-clause-counts : goal.returns-clause-counts
+returns-clause-counts g c = rw (← c.self.view_is) (record { ordered = sorted_in_order g.met.K.Ord.total c.self.inside.counts.entries; counted = all_in_order g.K.Ord.cmp c.self.inside.counts.entries c.self.invariant })
 
 pub returns-clause-different : goal.returns-clause-different
 returns-clause-different g c keys tallies =
-    let counts : AreCounts g.K.Ord.cmp c.args.self.now = rw (← c.self.view_is) (record { ordered = c.len.ensures.ordered; counted = c.self.invariant }) in
+    let counts : AreCounts g.K.Ord.cmp c.args.self.now = returns-clause-counts g c in
     length-different g.met.K.Ord.total keys c.args.self.now counts tallies
