@@ -1,3 +1,3 @@
-pub mod PlaceLemmas
 pub mod PlanLemmas
 pub mod PlanCounts
+pub mod KeptLemmas

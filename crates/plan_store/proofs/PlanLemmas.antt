@@ -29,7 +29,7 @@ module _ {K X : Type 0} (test : K → Bool) where
   all-removed P [] all = all
   all-removed P (e ∷ es) all = elim (test e.0) as (λ b. AllByRecursion P (keys_of (cond b es (e ∷ remove_entry test es)))) [ true ↦ all.1 | false ↦ (all.0, all-removed P es all.1) ]
 
-  distinct-removed : (eq : K → K → Bool) (es : List (K × X)) → IsDistinct eq (keys_of es) → IsDistinct eq (keys_of (remove_entry test es))
+  pub distinct-removed : (eq : K → K → Bool) (es : List (K × X)) → IsDistinct eq (keys_of es) → IsDistinct eq (keys_of (remove_entry test es))
   distinct-removed eq [] different = different
   distinct-removed eq (e ∷ es) different =
       elim (test e.0) as (λ b. IsDistinct eq (keys_of (cond b es (e ∷ remove_entry test es)))) [
@@ -121,6 +121,13 @@ references-removed plans number kept read =
     ap (λ o. references (record plans { standing = remove_entry (nat_eq number) plans.standing }) + unwrap_or (option_map (λ (plan : Plan). plan.references) o) 0) (sym read)
     ∙ sum_by-remove_entry (λ plan. plan.references) (nat_eq number) plans.standing
 
--- a list that got shorter leaves the room that was there
-pub still-room : (o : Option ℕ) (len capacity len' capacity' : ℕ) → len' + 1 ≡ len → capacity' ≡ capacity → IfSome o (λ (q : ℕ). len < capacity) → IfSome o (λ (q : ℕ). len' < capacity')
-still-room o len capacity len' capacity' shorter same = still (λ q. len < capacity) (λ q. len' < capacity') o (λ q room. omega (arith, shorter, same, room))
+-- what is reserved stays so where room got no less
+pub still-room : (o : Option ℕ) (room room' : ℕ) → room ≤ room' → IfSome o (λ (q : ℕ). 0 < room) → IfSome o (λ (q : ℕ). 0 < room')
+still-room o room room' more = still (λ q. 0 < room) (λ q. 0 < room') o (λ q some. omega (arith, more, some))
+
+-- no plan of the reserved number stands, and there is room for it
+pub reserved_none : (plans : Plans) (number : ℕ) → plans.reserved ≡ Some number → ArePlans plans → plan_of plans number ≡ None
+reserved_none plans number reserved are = subst (λ r. IfSome r (λ q. plan_of plans q ≡ None)) reserved are.new
+
+pub reserved_room : (o : Option ℕ) (number room : ℕ) → o ≡ Some number → IfSome o (λ (q : ℕ). 0 < room) → 0 < room
+reserved_room o number room reserved some = subst (λ r. IfSome r (λ (q : ℕ). 0 < room)) reserved some

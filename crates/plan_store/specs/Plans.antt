@@ -1,8 +1,8 @@
 -- The plans of a session.
-use Rattle.std.specs.Prelude.{◌≡◌, ℕ, ◌+◌, ◌<◌, ◌≤◌, ◌==◌, if◌then◌else◌, Bool, true, false, not, nat_eq, List, length, All, sum_by, Option, None, Some, IfSome, slice_set}
+use Rattle.std.specs.Prelude.{◌≡◌, ℕ, ◌+◌, ◌<◌, ◌≤◌, ◌==◌, if◌then◌else◌, Bool, true, false, not, nat_eq, List, length, All, sum_by, Option, None, IfSome}
 use Rattle.std.specs.Option.{option_map_or}
-use Rattle.std.specs.List.{IsDistinct, remove}
-use Rattle.std.specs.Map.{keys_of, values_of, lookup, set_value, remove_entry}
+use Rattle.std.specs.List.{IsDistinct}
+use Rattle.std.specs.Map.{keys_of, values_of, lookup}
 use Rattle.plan_store.specs.declared.plan.Plan.{Plan}
 
 -- the plans that stand, each with its number, in the order in which they were made, and for which number room is reserved
@@ -49,10 +49,3 @@ pub record ArePlans (plans : Plans) : Type 0 where
   pub held : All IsHeld (values_of plans.standing)
   pub new : IfSome plans.reserved (λ number. plan_of plans number ≡ None)
   pub room : IfSome plans.reserved (λ number. length plans.standing < 1024)
-
--- A plan stands at its place, where it can be read, replaced and taken out.
-pub record IsPlaced (plans : List (ℕ × Plan)) (number place : ℕ) (plan : Plan) : Type 0 where
-  pub within : place < length plans
-  pub read : lookup (nat_eq number) plans ≡ Some plan
-  pub replaced : (other : Plan) → slice_set plans place (number, other) ≡ set_value (nat_eq number) plans other
-  pub taken : remove plans place ≡ remove_entry (nat_eq number) plans

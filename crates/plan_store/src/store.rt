@@ -1,12 +1,13 @@
 //! The plans of a session.
-ghost use Rattle.std.specs.Prelude.{◌≡◌, ◌≢◌, ◌↔◌, ◌<◌, ◌≤◌, ◌+◌, ◌-◌, ◌^◌, ◌==◌, ◌&&◌, if◌then◌else◌, ℕ, true, false, List, [], ◌∷◌, ◌++◌, nat_eq, length, not, slice_set, remove, IsTrue, IsOk, IsErrOf, IsOkUnless, is_some, IsSome, IfSome, IsSomeAnd, MatchOption, IfOk, IfNone, OnSome, OnOk, OnErr, Some, None};
+ghost use Rattle.std.specs.Prelude.{◌≡◌, ◌≢◌, ◌↔◌, ◌<◌, ◌≤◌, ◌+◌, ◌-◌, ◌^◌, ◌==◌, ◌&&◌, if◌then◌else◌, ℕ, true, false, List, [], ◌∷◌, ◌++◌, nat_eq, length, not, IsTrue, IsOk, IsErrOf, IsOkUnless, is_some, IsSome, IfSome, IsSomeAnd, MatchOption, IfOk, IfNone, OnSome, OnOk, OnErr, Some, None};
 ghost use Rattle.std.specs.Map.{lookup, set_value, remove_entry};
 ghost use Rattle.std.specs.List.{list_any};
 ghost use Rattle.std.specs.Set.{distinct_count};
 ghost use Rattle.plan_store.specs.declared.plan.Plan.{Plan};
-ghost use Rattle.plan_store.specs.Plans.{Plans, plan_of, RefersOneMore, RefersOneLess, RefersAlike, is_usable, references, ArePlans, IsPlaced};
+ghost use Rattle.plan_store.specs.Plans.{Plans, plan_of, RefersOneMore, RefersOneLess, RefersAlike, is_usable, references, ArePlans};
 
 use crate::plan::{Plan, PlanError};
+use crate::standing::Standing;
 use pgs_step::CtxId;
 use std::alloc::Global;
 use std::marker::Model;
@@ -22,20 +23,19 @@ pub const PLANS: usize = 1024;
 /// each behind its number, and the number that was reserved last.
 #[derive(Drop)]
 pub struct PlanStore {
-    plans: Vec<(u32, Plan)>,
+    plans: Standing,
     reserved: Option<u32>,
 }
 
 impl Model for PlanStore {
     ghost use Rattle.std.specs.Prelude.{◌<◌, IfSome};
-    ghost use Rattle.std.specs.Vec.{vec_capacity, vec_len};
     ghost use Rattle.plan_store.specs.Plans.{Plans, ArePlans};
 
     ghost Value = { Plans };
 
-    ghost view = { λ s. record { standing = s.plans.items; reserved = s.reserved } };
+    ghost view = { λ s. record { standing = s.plans.plans; reserved = s.reserved } };
 
-    ghost invariant = { λ s. ArePlans (record { standing = s.plans.items; reserved = s.reserved }) × IfSome s.reserved (λ _. vec_len s.plans < vec_capacity s.plans) };
+    ghost invariant = { λ s. ArePlans (record { standing = s.plans.plans; reserved = s.reserved }) × IfSome s.reserved (λ _. 0 < s.plans.room) };
 }
 
 impl PlanStore {
@@ -44,7 +44,7 @@ impl PlanStore {
         ensures { result ≡ record { standing = []; reserved = None } }
     {
         PlanStore {
-            plans: Vec::new(alloc),
+            plans: Standing::new(alloc),
             reserved: None,
         }
     }
@@ -66,7 +66,7 @@ impl PlanStore {
         if self.plans.len() >= PLANS {
             return Err(PlanError::TooMany);
         }
-        self.plans.reserve(1)?;
+        self.plans.reserve()?;
         self.reserved = Some(plan);
         Ok(())
     }
@@ -83,7 +83,7 @@ impl PlanStore {
             discarded: false,
             references: 0,
         };
-        let _ = self.plans.push((plan, made));
+        self.plans.push(plan, made);
         self.reserved = None;
     }
 
@@ -91,15 +91,15 @@ impl PlanStore {
     pub fn stands(&self, plan: u32) -> bool
         ensures { IsTrue result ↔ IsSome (plan_of self.now plan) }
     {
-        place_of(self.plans.as_slice(), plan).is_some()
+        self.plans.get(plan).is_some()
     }
 
     /// Whether a plan of that number stands that isn't discarded.
     pub fn usable(&self, plan: u32) -> bool
         ensures { result ≡ is_usable self.now plan }
     {
-        match place_of(self.plans.as_slice(), plan) {
-            Some((_, kept)) => !kept.discarded,
+        match self.plans.get(plan) {
+            Some(kept) => !kept.discarded,
             None => false,
         }
     }
@@ -117,19 +117,17 @@ impl PlanStore {
         ensures reserved { self.new.reserved ≡ self.old.reserved }
         ensures refused { OnErr result (self.new ≡ self.old) }
     {
-        let Some((at, kept)) = place_of(self.plans.as_slice(), plan) else {
+        let Some(kept) = self.plans.get(plan) else {
             return Err(PlanError::NoPlan);
         };
         if kept.discarded {
             return Err(PlanError::NoPlan);
         }
-        self.plans[at] = (
-            plan,
-            Plan {
-                references: kept.references + 1,
-                ..kept
-            },
-        );
+        let changed = Plan {
+            references: kept.references + 1,
+            ..kept
+        };
+        self.plans.set(plan, changed);
         Ok(())
     }
 
@@ -150,7 +148,7 @@ impl PlanStore {
         ensures reserved { self.new.reserved ≡ self.old.reserved }
         ensures refused { OnErr result (self.new ≡ self.old) }
     {
-        let Some((at, kept)) = place_of(self.plans.as_slice(), plan) else {
+        let Some(kept) = self.plans.get(plan) else {
             return Err(PlanError::NoPlan);
         };
         if kept.references == 0 {
@@ -158,16 +156,14 @@ impl PlanStore {
         }
         let left = kept.references - 1;
         if kept.discarded && left == 0 {
-            self.plans.remove(at);
+            self.plans.remove(plan);
             return Ok(Some(kept.context));
         }
-        self.plans[at] = (
-            plan,
-            Plan {
-                references: left,
-                ..kept
-            },
-        );
+        let changed = Plan {
+            references: left,
+            ..kept
+        };
+        self.plans.set(plan, changed);
         Ok(None)
     }
 
@@ -186,23 +182,21 @@ impl PlanStore {
         ensures reserved { self.new.reserved ≡ self.old.reserved }
         ensures refused { OnErr result (self.new ≡ self.old) }
     {
-        let Some((at, kept)) = place_of(self.plans.as_slice(), plan) else {
+        let Some(kept) = self.plans.get(plan) else {
             return Err(PlanError::NoPlan);
         };
         if kept.discarded {
             return Err(PlanError::NoPlan);
         }
         if kept.references == 0 {
-            self.plans.remove(at);
+            self.plans.remove(plan);
             return Ok(Some(kept.context));
         }
-        self.plans[at] = (
-            plan,
-            Plan {
-                discarded: true,
-                ..kept
-            },
-        );
+        let changed = Plan {
+            discarded: true,
+            ..kept
+        };
+        self.plans.set(plan, changed);
         Ok(None)
     }
 
@@ -222,16 +216,4 @@ impl PlanStore {
     {
         self.plans.len() as u64
     }
-}
-
-/// The place of a plan, and the plan.
-fn place_of(plans: &[(u32, Plan)], number: u32) -> Option<(usize, Plan)>
-    ensures { MatchOption result (lookup (nat_eq number) plans.now ≡ None) (λ found. IsPlaced plans.now number found.0 found.1) }
-{
-    for (at, (kept, plan)) in plans.iter().enumerate() {
-        if *kept == number {
-            return Some((at, *plan));
-        }
-    }
-    None
 }

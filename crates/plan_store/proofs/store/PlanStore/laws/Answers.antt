@@ -9,4 +9,4 @@ use Rattle.plan_store.proofs.store.PlanStore.laws.Goals as goal
 pub returns-clause-different : goal.returns-clause-different
 returns-clause-different c = λ numbers.
     let P : Plans → Type 0 = λ t. ((q : ℕ) → list_any (nat_eq q) numbers ≡ is_some (plan_of t q)) → length t.standing ≡ distinct_count nat_eq numbers in
-    subst P c.self.view_is (length_different c.self.inside.plans.items numbers c.self.invariant.0.different)
+    subst P c.self.view_is (length_different c.self.inside.plans.plans numbers c.self.invariant.0.different)
