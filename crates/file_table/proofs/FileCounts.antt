@@ -1,12 +1,11 @@
 -- How often files stand in lists.
-use Rattle.std.proofs.Common.{◌≡◌, ℕ, suc, zero, ◌+◌, ◌≤◌, ◌<◌, Bool, true, false, ◌||◌, cond, nat_eq, List, [], ◌∷◌, ◌++◌, length, refl, sym, ap, subst, ◌∙◌, arith, rules}
+use Rattle.std.proofs.Common.{◌≡◌, ℕ, suc, zero, ◌+◌, ◌<◌, Bool, true, false, ◌||◌, cond, nat_eq, List, [], ◌∷◌, ◌++◌, length, refl, sym, ap, ◌∙◌, arith}
 use Rattle.std.specs.Prelude.{◌==◌, count_by}
 use Rattle.std.specs.Cmp.{nat_eq_equiv}
 use Rattle.std.specs.List.{IsDistinct as AreDistinct, AllByRecursion}
 use Rattle.std.specs.Set.{distinct_count}
 use Rattle.std.proofs.lemmas.Bool.{true≢false, eqb-true, eq-eqb}
 use Rattle.std.proofs.lemmas.Bool.Decides.{nat_tests}
-use Rattle.std.proofs.lemmas.List.Elements.{All-nil, All-cons}
 use Rattle.std.proofs.lemmas.List.Sums.{sum_by-cons, sum_by-append}
 use Rattle.std.proofs.lemmas.Map.Made.{length-from_keys}
 use Rattle.file_table.specs.Descriptors.{is_among, without}
@@ -108,7 +107,7 @@ apart x (y ∷ ys) h = by_test (apart x ys) (nat_eq x y) refl
     by_test ih false e = (e, ih (sym (ap (λ b. b || is_among x ys) e) ∙ h))
 
 -- different files are as many as any list of them has
-distinct : (xs : List ℕ) → IsDistinct xs → AreDistinct nat_eq xs
+pub distinct : (xs : List ℕ) → IsDistinct xs → AreDistinct nat_eq xs
 unfolding AreDistinct
 distinct [] d = tt
 distinct (x ∷ xs) d = (apart x xs d.0, distinct xs d.1)

@@ -1,9 +1,6 @@
 -- Lists of files.
-use Rattle.std.proofs.Common.{◌≡◌, ℕ, zero, suc, ◌+◌, ◌≤◌, true, false, List, [], ◌∷◌, ◌++◌, length, take, remove, slice_index_or, position, Some, None, refl, ap, arith, ◌<◌}
-use Rattle.std.specs.Prelude.{◌==◌, nat_lt}
-use Rattle.std.specs.List.{position_or_len}
-use Rattle.std.proofs.lemmas.List.Quantifiers.{position-Some}
-use Rattle.std.proofs.lemmas.List.Folds.{list_any_at}
+use Rattle.std.proofs.Common.{◌≡◌, ℕ, zero, suc, ◌+◌, ◌≤◌, true, false, List, [], ◌∷◌, ◌++◌, length, take, refl, arith}
+use Rattle.std.specs.Prelude.{◌==◌}
 use Rattle.std.proofs.lemmas.Bool.Decides.{nat_tests}
 use Rattle.file_table.specs.Descriptors.{is_among, without}
 use Rattle.file_table.specs.Files.{IsDistinct}
@@ -69,33 +66,6 @@ distinct_push f (x ∷ xs) d h =
     let other : (x == f) ≡ false = grind (arith, nat_tests) in
     let behind : is_among f xs ≡ false = grind (arith, nat_tests) in
     (not_among_push x f xs d.0 other, distinct_push f xs d.1 behind)
-
--- the first place of a file, and what is left without that place
-remove_first : (f i : ℕ) (xs : List ℕ) → i < length xs → (f == slice_index_or xs i 0) ≡ true → ((k : ℕ) → k < i → (f == slice_index_or xs k 0) ≡ false) → remove xs i ≡ without f xs
-remove_first f i [] within here first = absurd (omega arith)
-remove_first f zero (x ∷ xs) within here first = rw here refl
-remove_first f (suc i) (x ∷ xs) within here first = let other : (f == x) ≡ false = first 0 (omega arith) in rw other (ap (λ ys. x ∷ ys) (remove_first f i xs (omega arith) here (λ k before. first (suc k) (omega arith))))
-
-pub removed_at : (f i : ℕ) (xs : List ℕ) → position (λ own. f == own) xs ≡ Some i → remove xs i ≡ without f xs
-removed_at f i xs found =
-    let told : (i < length xs) × ((f == slice_index_or xs i 0) ≡ true) × ((k : ℕ) → k < i → (f == slice_index_or xs k 0) ≡ false) = position-Some (λ own. f == own) xs i 0 found in
-    remove_first f i xs told.0 told.1 told.2
-
-pub among_at : (f i : ℕ) (xs : List ℕ) → position (λ own. f == own) xs ≡ Some i → is_among f xs ≡ true
-among_at f i xs found =
-    let told : (i < length xs) × ((f == slice_index_or xs i 0) ≡ true) × ((k : ℕ) → k < i → (f == slice_index_or xs k 0) ≡ false) = position-Some (λ own. f == own) xs i 0 found in
-    list_any_at (λ own. f == own) xs i 0 told.0 told.1
-
--- a file without a place isn't there
-nowhere : (f : ℕ) (xs : List ℕ) → length xs ≤ position_or_len (λ own. f == own) xs → is_among f xs ≡ false
-nowhere f [] past = refl
-nowhere f (x ∷ xs) past = grind (arith, nat_tests, nowhere f xs)
-
-pub not_among_nowhere : (f : ℕ) (xs : List ℕ) → position (λ own. f == own) xs ≡ None → is_among f xs ≡ false
-not_among_nowhere f xs none = (elim (nat_lt (position_or_len (λ own. f == own) xs) (length xs)) as (λ b. nat_lt (position_or_len (λ own. f == own) xs) (length xs) ≡ b → is_among f xs ≡ false) [
-  | true ↦ λ found. let some : Some (position_or_len (λ own. f == own) xs) ≡ None = rw found at none in absurd (cc)
-  | false ↦ λ missed. nowhere f xs (grind (arith, nat_tests))
-]) refl
 
 pub without_missing : (f : ℕ) (xs : List ℕ) → is_among f xs ≡ false → without f xs ≡ xs
 without_missing f [] none = refl

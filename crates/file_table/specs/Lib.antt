@@ -1,2 +1,4 @@
+pub mod Code
 pub mod Descriptors
 pub mod Files
+pub mod Kept

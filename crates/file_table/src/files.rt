@@ -1,10 +1,10 @@
 //! The open files.
-ghost use Rattle.std.specs.Prelude.{◌≡◌, ◌≢◌, ◌↔◌, ◌<◌, ◌≤◌, ◌++◌, ◌∷◌, [], length, position, count_by, nat_eq, if◌then◌else◌, ℕ, List, ◌==◌, false, IsTrue, IfOk, IfErr, OnOk, OnErr};
-ghost use Rattle.std.specs.Bool.{OnFalse};
-ghost use Rattle.file_table.specs.Descriptors.{is_among, without};
+ghost use Rattle.std.specs.Prelude.{◌≡◌, ◌≢◌, ◌↔◌, ◌<◌, ◌≤◌, ◌++◌, ◌∷◌, [], length, count_by, nat_eq, if◌then◌else◌, ℕ, List, ◌==◌, false, IsTrue, IfOk, IfErr, OnOk, OnErr};
+ghost use Rattle.file_table.specs.Descriptors.{is_among};
 ghost use Rattle.file_table.specs.Files.{given_events};
 
 use crate::descriptors::Descriptors;
+use crate::opened::OpenedFiles;
 use pgs_step::{Emit, What};
 use std::alloc::Global;
 use std::marker::Model;
@@ -39,7 +39,7 @@ pub enum FileError {
 /// take memory, and they take it before they emit anything.
 #[derive(Drop)]
 pub struct FileTable {
-    opened: Vec<u32>,
+    opened: OpenedFiles,
     descriptors: Descriptors,
 }
 
@@ -48,9 +48,9 @@ impl Model for FileTable {
 
     ghost Value = { Files };
 
-    ghost view = { λ t. record { descriptors = t.descriptors.limit; opened = t.opened.items; recent = t.descriptors.recent } };
+    ghost view = { λ t. record { descriptors = t.descriptors.limit; opened = t.opened.files; recent = t.descriptors.recent } };
 
-    ghost invariant = { λ t. IsSound (record { descriptors = t.descriptors.limit; opened = t.opened.items; recent = t.descriptors.recent }) };
+    ghost invariant = { λ t. IsSound (record { descriptors = t.descriptors.limit; opened = t.opened.files; recent = t.descriptors.recent }) };
 }
 
 impl FileTable {
@@ -67,7 +67,7 @@ impl FileTable {
         let limit = NonZeroUsize::new(usize::from(descriptors)).unwrap();
         match Descriptors::new(alloc, limit) {
             Ok(descriptors) => Ok(FileTable {
-                opened: Vec::new(alloc),
+                opened: OpenedFiles::new(alloc),
                 descriptors,
             }),
             Err(_) => Err(FileError::Memory),
@@ -94,12 +94,12 @@ impl FileTable {
         if self.opened.len() == MAX_FILES {
             return Err(FileError::TooMany);
         }
-        if self.opened.reserve(1).is_err() {
+        if self.opened.reserve().is_err() {
             return Err(FileError::Memory);
         }
         match self.descriptors.give(file) {
             Ok(closed) => {
-                self.opened.push_reserved(file);
+                self.opened.push(file);
                 tell_given(closed, file, out);
                 Ok(())
             }
@@ -147,7 +147,7 @@ impl FileTable {
         ensures err { OnErr result (self.new ≡ self.old) }
         ensures silent { OnErr result (out.new ≡ out.old) }
     {
-        if !remove(&mut self.opened, file) {
+        if !self.opened.remove(file) {
             return Err(FileError::NoFile);
         }
         if self.descriptors.take_back(file) {
@@ -160,7 +160,7 @@ impl FileTable {
     pub fn is_open(&self, file: u32) -> bool
         ensures { result ≡ is_among file self.now.opened }
     {
-        self.opened.iter().any(|own| file == *own)
+        self.opened.contains(file)
     }
 
     /// Facts of every table, for proofs. It does nothing.
@@ -184,28 +184,6 @@ impl FileTable {
     {
         (self.opened.len() as u64, self.descriptors.len() as u64)
     }
-}
-
-/// Takes a file out of some, and says whether it was there.
-fn remove(files: &mut Vec<u32>, file: u32) -> bool
-    ensures had { result ≡ is_among file files.old.items }
-    ensures removed { files.new.items ≡ without file files.old.items }
-    ensures kept { OnFalse result (files.new.items ≡ files.old.items) }
-{
-    match place(files, file) {
-        Some(place) => {
-            files.remove(place);
-            true
-        }
-        None => false,
-    }
-}
-
-/// Where a file is among some.
-fn place(files: &[u32], file: u32) -> Option<usize>
-    ensures { result ≡ position (λ own. file == own) files.now }
-{
-    files.iter().position(|own| file == *own)
 }
 
 /// A file got a descriptor, and another one lost its one before.

@@ -3,5 +3,7 @@
 
 mod descriptors;
 mod files;
+mod opened;
+mod opening_order;
 
 pub use files::{FileError, FileTable, MAX_FILES};
