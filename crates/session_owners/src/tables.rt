@@ -39,6 +39,8 @@ use std::marker::Model;
 #[derive(Drop)]
 pub struct Tables {
     pins: Vec<u64>,
+    /// How many different buffers are pinned.
+    pinned: u64,
     references: RefTable,
     files: FileTable,
     snapshots: SnapTable,
@@ -46,7 +48,7 @@ pub struct Tables {
 }
 
 impl Model for Tables {
-    ghost use Rattle.std.specs.Prelude.{◌≡◌};
+    ghost use Rattle.std.specs.Prelude.{◌≡◌, count_by, nat_lt};
     ghost use Rattle.std.specs.Vec.{vec_len};
     ghost use Rattle.session_rules.specs.Limits.{shared_buffers};
     ghost use Rattle.session_owners.specs.Tables.{AreOfClasses, Held, held_code};
@@ -57,7 +59,7 @@ impl Model for Tables {
 
     ghost view = { λ t. record { pins = t.pins.items; references = t.references; files = t.files; snapshots = t.snapshots; plans = t.plans } };
 
-    ghost invariant = { λ t. (vec_len t.pins ≡ shared_buffers) × AreOfClasses t.references };
+    ghost invariant = { λ t. (vec_len t.pins ≡ shared_buffers) × AreOfClasses t.references × (t.pinned ≡ count_by (λ count. nat_lt 0 count) t.pins.items) };
 }
 
 impl Tables {
@@ -77,6 +79,7 @@ impl Tables {
         };
         Ok(Tables {
             pins: vec![in alloc; 0; BUFFERS as usize]?,
+            pinned: 0,
             references: RefTable::new(alloc),
             files,
             snapshots: SnapTable::new(alloc),
@@ -95,6 +98,7 @@ impl Tables {
     {
         if self.pins[buffer as usize] == 0 {
             shared.raise(buffer);
+            self.pinned += 1;
         }
         self.pins[buffer as usize] += 1;
     }
@@ -110,6 +114,7 @@ impl Tables {
         self.pins[buffer as usize] -= 1;
         if self.pins[buffer as usize] == 0 {
             shared.lower(buffer);
+            self.pinned -= 1;
         }
     }
 
@@ -378,7 +383,7 @@ impl Tables {
     pub fn pinned_buffers(&self) -> u64
         ensures { result ≡ count_by (λ count. nat_lt 0 count) self.now.pins }
     {
-        self.pins.iter().filter(|count| **count > 0).count() as u64
+        self.pinned
     }
 
     /// How many files are open, and how many of them have a descriptor.
