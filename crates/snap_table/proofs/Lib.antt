@@ -1,1 +1,2 @@
 pub mod SnapLemmas
+pub mod StackLemmas

@@ -1,7 +1,8 @@
 -- The snapshots of a session: those that are registered, and the stack of the active ones.
-use Rattle.std.specs.Prelude.{◌≡◌, ℕ, ◌+◌, ◌-◌, ◌==◌, nat_le, nat_lt, Bool, if◌then◌else◌, List, length, map, filter, count_by}
+use Rattle.std.specs.Prelude.{◌≡◌, ℕ, ◌+◌, ◌-◌, ◌<◌, ◌==◌, nat_le, nat_lt, Bool, if◌then◌else◌, List, All, length, map, filter, count_by}
 use Rattle.std.specs.Ordering.{nat_cmp}
 use Rattle.std.specs.BTreeMap.{is_at}
+use Rattle.std.specs.List.Sorted.{IsNonDecreasingBy}
 use Rattle.counts.specs.Counts.{count_of, total}
 use Rattle.pgs_step.specs.declared.events.What.{What}
 use Rattle.pgs_step.specs.declared.events.What.TheVariants.{Pop}
@@ -47,6 +48,14 @@ pops level newest_first = map (λ entry. Pop entry.snapshot) (filter (is_deep le
 -- an entry of that level is one level lower, and any other stays
 abbrev pub lowered : ℕ → Active → Active
 lowered level entry = if entry.level == level then record entry { level = level - 1 } else entry
+
+-- no entry is of a greater level than one above it
+abbrev pub IsRising : List Active → Type 0
+IsRising stack = IsNonDecreasingBy (λ entry. entry.level) stack
+
+-- each entry is of a lower level
+abbrev pub AreBelow : ℕ → List Active → Type 0
+AreBelow level stack = All (λ entry. entry.level < level) stack
 
 -- held counts each snapshot as often as it is registered and stands on the stack
 abbrev pub CountsBoth : List (ℕ × ℕ) → List (ℕ × ℕ) → List Active → Type 0

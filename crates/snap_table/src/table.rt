@@ -1,11 +1,12 @@
 //! The snapshots of a session.
-ghost use Rattle.std.specs.Prelude.{◌≡◌, ◌≢◌, ◌↔◌, ◌<◌, ◌≤◌, ◌+◌, ◌-◌, ◌^◌, ℕ, false, List, [], ◌∷◌, ◌++◌, length, map, filter, reverse, count_by, IsOk, IsErr, IsErrOf, OnOk, OnErr, IfOk};
+ghost use Rattle.std.specs.Prelude.{◌≡◌, ◌≢◌, ◌↔◌, ◌<◌, ◌≤◌, ◌+◌, ◌-◌, ◌^◌, ℕ, true, false, List, [], ◌∷◌, ◌++◌, length, take, map, filter, reverse, count_by, IsOk, IsErr, IsErrOf, OnOk, OnErr, IfOk};
 ghost use Rattle.std.specs.Ordering.{nat_cmp, eq_by_cmp};
 ghost use Rattle.std.specs.BTreeMap.{is_at};
+ghost use Rattle.std.specs.List.{list_all};
 ghost use Rattle.std.specs.Set.{distinct_count};
 ghost use Rattle.counts.specs.Counts.{count_of, total, AreCounts, Tallies};
 ghost use Rattle.snap_table.specs.declared.active.Active.{Active};
-ghost use Rattle.snap_table.specs.Snapshots.{Snapshots, registrations, RegisteredOneMore, RegisteredOneLess, size, snapshots_of, is_deep, kept_below, pops, lowered};
+ghost use Rattle.snap_table.specs.Snapshots.{Snapshots, registrations, RegisteredOneMore, RegisteredOneLess, size, snapshots_of, is_deep, kept_below, pops, lowered, IsRising, AreBelow};
 
 use crate::active::{Active, SnapError};
 use counts::Counts;
@@ -22,18 +23,22 @@ use std::marker::Model;
 pub struct SnapTable {
     registered: Counts<u32>,
     stack: Vec<Active>,
+    /// Whether the stack is known to rise, as it does in PostgreSQL: the entries of a level are then on top, and no
+    /// other is looked at when they are lowered or dropped.
+    rising: bool,
     /// Registrations and entries of the stack together.
     held: Counts<u32>,
 }
 
 impl Model for SnapTable {
-    ghost use Rattle.snap_table.specs.Snapshots.{Snapshots, CountsBoth};
+    ghost use Rattle.std.specs.Prelude.{◌≡◌, true};
+    ghost use Rattle.snap_table.specs.Snapshots.{Snapshots, CountsBoth, IsRising};
 
     ghost Value = { Snapshots };
 
     ghost view = { λ t. record { registered = t.registered; stack = t.stack.items } };
 
-    ghost invariant = { λ t. CountsBoth t.held t.registered t.stack.items };
+    ghost invariant = { λ t. CountsBoth t.held t.registered t.stack.items × (t.rising ≡ true → IsRising t.stack.items) };
 }
 
 impl SnapTable {
@@ -44,6 +49,7 @@ impl SnapTable {
         SnapTable {
             registered: Counts::new(alloc),
             stack: Vec::new(alloc),
+            rising: true,
             held: Counts::new(alloc),
         }
     }
@@ -97,6 +103,7 @@ impl SnapTable {
     {
         self.stack.reserve(1)?;
         hold(&mut self.held, snapshot)?;
+        self.rising = stays_rising(self.stack.as_slice(), self.rising, level);
         let _ = self.stack.push(Active { snapshot, level });
         out.emit(What::Push(snapshot));
         Ok(())
@@ -131,9 +138,10 @@ impl SnapTable {
         ensures kept { self.new ≡ record self.old { stack = kept_below level self.old.stack } }
         ensures emitted { E.emits out.old (pops level (reverse self.old.stack)) out.new }
     {
-        emit_pops(self.stack.as_slice(), level, out);
-        lower_deep(&mut self.held, self.stack.as_slice(), level);
-        keep_below(&mut self.stack, level);
+        let from = lowest_of(self.stack.as_slice(), self.rising, level);
+        emit_pops(&self.stack[from..], level, out);
+        lower_deep(&mut self.held, &self.stack[from..], level);
+        keep_below(&mut self.stack, from, level);
     }
 
     /// Lowers each entry of that level, which is at least 1, to the level below. It is what a commit of the level
@@ -142,7 +150,8 @@ impl SnapTable {
         requires { 1 ≤ level }
         ensures { self.new ≡ record self.old { stack = map (lowered level) self.old.stack } }
     {
-        lower_level(&mut self.stack, level);
+        let from = lowest_of(self.stack.as_slice(), self.rising, level);
+        lower_level(&mut self.stack, from, level);
     }
 
     /// Facts of every table, for proofs. It does nothing.
@@ -198,20 +207,63 @@ fn lower_deep(held: &mut Counts<u32>, stack: &[Active], level: u32)
     }
 }
 
-/// Leaves the entries of lower levels.
-fn keep_below(stack: &mut Vec<Active>, level: u32)
-    ensures { stack.new.items ≡ kept_below level stack.old.items }
+/// Whether a stack is known to rise with one more entry of that level on it.
+fn stays_rising(stack: &[Active], rising: bool, level: u32) -> bool
+    requires { rising ≡ true → IsRising stack.now }
+    ensures { (snapshot : ℕ) → result ≡ true → IsRising (stack.now ++ record { snapshot = snapshot; level = level } ∷ []) }
 {
-    stack.retain(|entry| entry.level < level);
+    match stack.last() {
+        Some(newest) => rising && newest.level <= level,
+        None => true,
+    }
 }
 
-/// Lowers each entry of that level by one.
-fn lower_level(stack: &mut Vec<Active>, level: u32)
-    requires { 1 ≤ level }
+/// How many entries at the bottom are of lower levels, and need not be looked at.
+fn lowest_of(stack: &[Active], rising: bool, level: u32) -> usize
+    requires { rising ≡ true → IsRising stack.now }
+    ensures within { result ≤ length stack.now }
+    ensures below { AreBelow level (take result stack.now) }
+{
+    if !rising {
+        return 0;
+    }
+    for at in (0..stack.len()).rev() {
+        if stack[at].level < level {
+            return at + 1;
+        }
+    }
+    0
+}
+
+/// Leaves the entries of lower levels, of which there are that many at the bottom. Those are not looked at where no
+/// other is left.
+fn keep_below(stack: &mut Vec<Active>, from: usize, level: u32)
+    requires within { from ≤ length stack.old.items }
+    requires below { AreBelow level (take from stack.old.items) }
+    ensures { stack.new.items ≡ kept_below level stack.old.items }
+{
+    if are_deep(&stack[from..], level) {
+        stack.truncate(from);
+    } else {
+        stack.retain(|entry| entry.level < level);
+    }
+}
+
+/// Whether all entries are of that level or of a greater one.
+fn are_deep(stack: &[Active], level: u32) -> bool
+    ensures { result ≡ list_all (is_deep level) stack.now }
+{
+    stack.iter().all(|entry| entry.level >= level)
+}
+
+/// Lowers each entry of that level by one. The entries at the bottom, of that number, are of lower levels.
+fn lower_level(stack: &mut Vec<Active>, from: usize, level: u32)
+    requires low { 1 ≤ level }
+    requires below { AreBelow level (take from stack.old.items) }
     ensures { stack.new.items ≡ map (lowered level) stack.old.items }
 {
-    for entry in stack.iter_mut() {
-        *entry = one_lower(*entry, level);
+    for at in from..stack.len() {
+        stack[at] = one_lower(stack[at], level);
     }
 }
 
