@@ -1,1 +1,2 @@
 pub mod PortalLemmas
+pub mod KeptLemmas

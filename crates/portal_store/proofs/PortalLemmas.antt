@@ -52,7 +52,7 @@ named_here name (p ∷ portals) zero x place = let yes : has_name name p ≡ tru
 named_here name (p ∷ portals) (suc i) x place = let no : has_name name p ≡ false = place.first 0 (omega arith) in rw no (named_here name portals i x (behind name p portals i x place))
 
 -- the test of a name tells that the names are one
-name_is : (name : List ℕ) (x : Portal) → has_name name x ≡ true → x.name ≡ name
+pub name_is : (name : List ℕ) (x : Portal) → has_name name x ≡ true → x.name ≡ name
 name_is name x named = same_text x.name name (sym named)
 
 -- the same of the list that a model shows, and of what is read at the place
@@ -116,10 +116,6 @@ IsPortals_renamed old new same portals = record {
   distinct = subst (λ ns. AllPairs (λ (a b : List ℕ). a ≢ b) ns) (sym same) portals.distinct;
 }
 
--- a write of a portal with the same name at a place
-pub IsPortals_set : (portals : List Portal) (i : ℕ) (x y : Portal) → x ≡ slice_index_or portals i x → y.name ≡ x.name → IsPortals portals → IsPortals (slice_set portals i y)
-IsPortals_set portals i x y here same whole = IsPortals_renamed portals (slice_set portals i y) (map-set_same (λ (p : Portal). p.name) portals i y x (same ∙ ap (λ (p : Portal). p.name) here)) whole
-
 not_some : {A : Type 0} (o : Option A) → is_some o ≡ false → o ≡ None
 not_some None untrue = refl
 not_some (Some x) untrue = absurd (cc)
@@ -157,16 +153,9 @@ sub_aborted_name level portal = by_cases (portal.created == level) (is_outer lev
     by_cases false true = refl
     by_cases false false = refl
 
-names_to_parent : (level : ℕ) (portals : List Portal) → names (map (to_parent level) portals) ≡ names portals
+pub names_to_parent : (level : ℕ) (portals : List Portal) → names (map (to_parent level) portals) ≡ names portals
 names_to_parent level [] = refl
 names_to_parent level (p ∷ portals) = ap (λ ns. p.name ∷ ns) (names_to_parent level portals)
-
--- the portals behind the commit of a subtransaction, as a vector has them whose elements were all written
-pub IsPortals_to_parent : (level : ℕ) (portals new : List Portal) (len : ℕ) (rest : List Portal) → IsPortals portals → new ≡ map (to_parent level) portals → len ≡ length portals → IsPortals (take len (new ++ rest))
-IsPortals_to_parent level portals new len rest whole written whole_len =
-    let long : length new ≡ length portals = ap length written ∙ length-map portals (to_parent level) in
-    let same : take len (new ++ rest) ≡ new = ap (λ n. take n (new ++ rest)) (whole_len ∙ sym long) ∙ take-append_seam new rest in
-    rw same (IsPortals_renamed portals new (ap names written ∙ names_to_parent level portals) whole)
 
 -- the portals behind `create`
 pub IsPortals_created : (portals new : List Portal) (p : Portal) (done : Bool) → new ≡ (if done then p ∷ portals else portals) → is_some (portal_named p.name portals) ≡ false → length portals ≢ 1024 → IsPortals portals → IsPortals new

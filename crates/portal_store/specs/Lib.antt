@@ -1,2 +1,3 @@
 pub mod Portal
 pub mod Portals
+pub mod Kept

@@ -1,6 +1,7 @@
 //! The portals of a session: queries that are open, each with its scan.
 #![tactic(auto)]
 
+mod places;
 mod portal;
 mod portals;
 

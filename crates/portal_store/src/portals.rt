@@ -4,10 +4,12 @@ ghost use Rattle.exec_core.specs.Turn.{IsScan, rest, taken};
 ghost use Rattle.portal_store.specs.Portal.{coming, to_parent, sub_aborted, moved_owner};
 ghost use Rattle.portal_store.specs.Portals.{place_named, portal_named, new_portal, changed, without, HasDistinctNames};
 
+use crate::places::Places;
 use crate::portal::{Portal, PortalError, PortalState};
 use exec_core::{Scan, ScanStep};
 use pgs_step::{CtxId, Name, OwnerId};
 use std::alloc::Global;
+use std::collections::VecDeque;
 use std::marker::Model;
 
 /// The most portals that a session has at once.
@@ -15,10 +17,12 @@ pub const MAX_PORTALS: usize = 1024;
 
 /// The portals of one session, of which there are at most 1,024, no two with one name.
 ///
-/// Contracts see the list of the portals, newest first. Only `create` may take memory.
+/// Contracts see the list of the portals, newest first. Only `create` may take memory. A portal is found by its name in
+/// a time that doesn't grow with the others.
 #[derive(Drop)]
 pub struct Portals {
-    portals: Vec<Portal>,
+    portals: VecDeque<Portal>,
+    places: Places,
 }
 
 impl Model for Portals {
@@ -27,11 +31,12 @@ impl Model for Portals {
 
     ghost Value = { List APortal };
 
-    ghost use Rattle.portal_store.specs.Portals.{IsPortals};
-
     ghost view = { λ p. p.portals.items };
 
-    ghost invariant = { λ p. IsPortals p.portals.items };
+    ghost use Rattle.std.specs.HashMap.{get};
+    ghost use Rattle.portal_store.specs.Kept.{IsKept, same};
+
+    ghost invariant = { λ p. IsKept p.portals.items (get same p.places.serials) };
 }
 
 impl Portals {
@@ -40,7 +45,8 @@ impl Portals {
         ensures { result ≡ [] }
     {
         Portals {
-            portals: Vec::new(alloc),
+            portals: VecDeque::new(alloc),
+            places: Places::new(alloc),
         }
     }
 
@@ -60,6 +66,9 @@ impl Portals {
         if self.portals.len() == MAX_PORTALS {
             return Err(PortalError::TooMany);
         }
+        if self.places.make_room().is_err() {
+            return Err(PortalError::Memory);
+        }
         let portal = Portal {
             name,
             context: None,
@@ -70,9 +79,10 @@ impl Portals {
             active: level,
             state: PortalState::New,
         };
-        if self.portals.insert(0, portal).is_err() {
+        if self.portals.push_front(portal).is_err() {
             return Err(PortalError::Memory);
         }
+        self.places.enter(name);
         Ok(())
     }
 
@@ -80,7 +90,10 @@ impl Portals {
     pub fn get(&self, name: &Name) -> Option<&Portal>
         ensures { option_copied result ≡ portal_named name.now self.now }
     {
-        self.portals.iter().find(|portal| portal.name == *name)
+        match self.place_of(name) {
+            Some(place) => self.at(place),
+            None => None,
+        }
     }
 
     /// Puts a portal in the place of the one that has its name.
@@ -176,7 +189,17 @@ impl Portals {
     pub fn place_of(&self, name: &Name) -> Option<usize>
         ensures { result ≡ place_named name.now self.now }
     {
-        self.portals.iter().position(|portal| portal.name == *name)
+        if self.is_at(0, name) {
+            return Some(0);
+        }
+        let guess = match self.places.guess(name) {
+            Some(guess) => guess,
+            None => return None,
+        };
+        if self.is_at(guess, name) {
+            return Some(guess);
+        }
+        self.search(name)
     }
 
     /// The portal of that place, where 0 is the newest.
@@ -193,7 +216,7 @@ impl Portals {
         requires { 2 ≤ level }
         ensures { self.new ≡ map (to_parent level) self.old }
     {
-        to_parent(&mut self.portals, level);
+        to_parent(self.portals.make_contiguous(), level);
     }
 
     /// The subtransaction of this level is being aborted: what that means for the portal of place `i`.
@@ -214,7 +237,8 @@ impl Portals {
         ensures others { self.new ≡ without name.now self.old }
     {
         let place = self.place_of(name)?;
-        Some(self.portals.remove(place))
+        self.places.leave(place, name);
+        self.portals.remove(place)
     }
 
     /// Whether there is a portal of that name.
@@ -222,6 +246,25 @@ impl Portals {
         ensures { result ≡ is_some (portal_named name.now self.now) }
     {
         self.get(name).is_some()
+    }
+
+    /// Whether the portal of that place has that name.
+    #[inline]
+    fn is_at(&self, place: usize, name: &Name) -> bool
+        ensures { IsTrue result → place_named name.now self.now ≡ Some place }
+    {
+        match self.portals.get(place) {
+            Some(portal) => portal.name == *name,
+            None => false,
+        }
+    }
+
+    /// The place of the portal of that name, by a walk through all of them.
+    #[cold]
+    fn search(&self, name: &Name) -> Option<usize>
+        ensures { result ≡ place_named name.now self.now }
+    {
+        self.portals.iter().position(|portal| portal.name == *name)
     }
 
     /// Where the portal of that name is, which is there.

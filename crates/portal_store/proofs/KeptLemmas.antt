@@ -1,0 +1,125 @@
+-- Portals stay kept, and a place is that of a name.
+use Rattle.std.proofs.Common.{◌≡◌, ◌≢◌, ℕ, suc, ◌<◌, ◌≤◌, Bool, true, false, List, [], ◌∷◌, length, slice_index_or, slice_set, remove, Option, Some, None, All, refl, sym, ap, subst, ◌∙◌, arith}
+use Rattle.std.specs.Prelude.{◌++◌, take, map, not, if◌then◌else◌, nat_lt, is_some, IsSome, IfSome, OnSome}
+use Rattle.std.specs.List.{position_or_len}
+use Rattle.std.specs.Cmp.Lexicographic.{other_text}
+use Rattle.std.proofs.lemmas.Bool.Decides.{nat_tests}
+use Rattle.std.proofs.lemmas.List.{length-map, get_or-map}
+use Rattle.std.proofs.lemmas.List.Elements.{All-cons, All-head, All-nil, All-tail, All-weaker}
+use Rattle.std.proofs.lemmas.List.Sums.{prefix_len_is}
+use Rattle.std.proofs.Math.Seq.{map-set_same, take-append_seam}
+use Rattle.portal_store.specs.declared.portal.Portal.{Portal}
+use Rattle.portal_store.specs.Portal.{to_parent}
+use Rattle.portal_store.specs.Portals.{HasDistinctNames, has_name, names, place_named, portal_named, without}
+use Rattle.portal_store.specs.Kept.{IsKept}
+use Rattle.portal_store.proofs.PortalLemmas.{IsPlaceOf, IsPortals_created, IsPortals_remove, IsPortals_renamed, name_is, named_here, names_to_parent, place_of, place_within, without_remove}
+
+name_at : (portals : List Portal) (k : ℕ) (x : Portal) → k < length portals → slice_index_or (names portals) k x.name ≡ (slice_index_or portals k x).name
+name_at portals k x within = get_or-map (λ (p : Portal). p.name) portals k x x.name within
+
+-- the name of one place isn't that of one behind it
+other_name : (name : List ℕ) (portals : List Portal) (i k : ℕ) (x : Portal) → HasDistinctNames portals → i < length portals → x ≡ slice_index_or portals i x → has_name name x ≡ true → k < i → has_name name (slice_index_or portals k x) ≡ true → ⊥
+other_name name portals i k x distinct within here named before also =
+    distinct k i x.name before (omega (arith, length-map portals (λ (p : Portal). p.name), within))
+    (name_at portals k x (omega (arith, before, within)) ∙ name_is name (slice_index_or portals k x) also ∙ sym (name_is name x named) ∙ ap (λ (p : Portal). p.name) here ∙ sym (name_at portals i x within))
+
+passes_not : (b : Bool) → (b ≡ true → ⊥) → not b ≡ true
+passes_not true never = absurd (never refl)
+passes_not false never = refl
+
+-- a portal's place is that of its name
+pub place_here : (name : List ℕ) (portals : List Portal) (i : ℕ) (x : Portal) → HasDistinctNames portals → i < length portals → x ≡ slice_index_or portals i x → has_name name x ≡ true → place_named name portals ≡ Some i
+place_here name portals i x distinct within here named =
+    let is : position_or_len (has_name name) portals ≡ i =
+    prefix_len_is (λ y. not (has_name name y)) portals i x (omega (arith, within))
+    (λ k before. passes_not (has_name name (slice_index_or portals k x)) (λ also. other_name name portals i k x distinct within here named before also))
+    (λ _. ap not (ap (has_name name) (sym here) ∙ named)) in
+    let inside : nat_lt i (length portals) ≡ true = grind (arith, nat_tests) in
+    rw is (rw inside refl)
+
+-- a name that isn't known has no place
+pub place_unknown : (name : List ℕ) (portals : List Portal) (found : List ℕ → Option ℕ) → found name ≡ None → All (λ w. IsSome (found w)) (names portals) → place_named name portals ≡ None
+place_unknown name [] found none known = refl
+place_unknown name (p ∷ portals) found none known =
+    let all : List Portal = p ∷ portals in
+    let never : (k : ℕ) → k < length all → has_name name (slice_index_or all k p) ≡ true → ⊥ = λ k within named.
+    let some : is_some (found name) ≡ true =
+    subst (λ w. is_some (found w) ≡ true) (name_at all k p within ∙ name_is name (slice_index_or all k p) named) (known k p.name (omega (arith, length-map all (λ (q : Portal). q.name), within))) in
+    let no : is_some {T = ℕ} None ≡ true = rw none at some in absurd (cc) in
+    let is : position_or_len (has_name name) all ≡ length all =
+    prefix_len_is (λ y. not (has_name name y)) all (length all) p (omega arith) (λ k within. passes_not (has_name name (slice_index_or all k p)) (never k within)) (λ past. absurd (omega (arith, past))) in
+    let outside : nat_lt (length all) (length all) ≡ false = grind (arith, nat_tests) in
+    rw is (rw outside refl)
+
+-- portals with the same names
+pub IsKept_renamed : (found : List ℕ → Option ℕ) (old new : List Portal) → names new ≡ names old → IsKept old found → IsKept new found
+IsKept_renamed found old new same kept = record {
+  are = IsPortals_renamed old new same kept.are;
+  known = subst (λ ns. All (λ w. IsSome (found w)) ns) (sym same) kept.known;
+}
+
+-- a write of a portal with the same name at a place
+pub IsKept_set : (found : List ℕ → Option ℕ) (portals : List Portal) (i : ℕ) (x y : Portal) → x ≡ slice_index_or portals i x → y.name ≡ x.name → IsKept portals found → IsKept (slice_set portals i y) found
+IsKept_set found portals i x y here same kept = IsKept_renamed found portals (slice_set portals i y) (map-set_same (λ (p : Portal). p.name) portals i y x (same ∙ ap (λ (p : Portal). p.name) here)) kept
+
+-- the portals behind the commit of a subtransaction
+pub IsKept_to_parent : (found : List ℕ → Option ℕ) (level : ℕ) (portals new : List Portal) → IsKept portals found → new ≡ map (to_parent level) portals → IsKept new found
+IsKept_to_parent found level portals new kept written = IsKept_renamed found portals new (ap names written ∙ names_to_parent level portals) kept
+
+-- the same names are found
+pub IsKept_same : (found known : List ℕ → Option ℕ) (portals : List Portal) → ((w : List ℕ) → known w ≡ found w) → IsKept portals found → IsKept portals known
+IsKept_same found known portals same kept = record {
+  are = kept.are;
+  known = All-weaker (λ w. IsSome (found w)) (λ w. IsSome (known w)) (λ w some. ap is_some (same w) ∙ some) (names portals) kept.known;
+}
+
+-- what `push_front` leaves where it isn't refused
+pub in_front : (portals new : List Portal) (p : Portal) (done : Bool) → new ≡ (if done then p ∷ portals else portals) → done ≡ true → new ≡ p ∷ portals
+in_front portals new p true is_new unrefused = is_new
+in_front portals new p false is_new unrefused = absurd (cc)
+
+-- one portal more, in front
+pub IsKept_created : (found known : List ℕ → Option ℕ) (portals new : List Portal) (p : Portal) → new ≡ p ∷ portals → is_some (portal_named p.name portals) ≡ false → length portals ≢ 1024 → IsSome (known p.name) → ((w : List ℕ) → IsSome (found w) → IsSome (known w))
+    → IsKept portals found → IsKept new known
+IsKept_created found known portals new p is_new free room entered others kept = record {
+  are = IsPortals_created portals new p true is_new free room kept.are;
+  known =
+      subst (λ ps. All (λ w. IsSome (known w)) (names ps)) (sym is_new)
+      (All-cons (λ w. IsSome (known w)) p.name (names portals) entered (All-weaker (λ w. IsSome (found w)) (λ w. IsSome (known w)) others (names portals) kept.known));
+}
+
+known_without : (name : List ℕ) (found known : List ℕ → Option ℕ) → ((w : List ℕ) → w ≢ name → IsSome (found w) → IsSome (known w)) → (portals : List Portal) → HasDistinctNames portals → All (λ w. IsSome (found w)) (names portals)
+    → All (λ w. IsSome (known w)) (names (without name portals))
+known_without name found known others [] distinct all = All-nil (λ w. IsSome (known w))
+known_without name found known others (p ∷ portals) distinct all = (elim (has_name name p) as (λ b. has_name name p ≡ b → All (λ w. IsSome (known w)) (names (without name (p ∷ portals)))) [
+  | true ↦ λ yes.
+      rw yes
+      (λ (k : ℕ) (d : List ℕ) within.
+      others (slice_index_or (names portals) k d) (λ same. distinct 0 (suc k) d (omega arith) (omega (arith, within)) (name_is name p yes ∙ sym same)) (all (suc k) d (omega (arith, within))))
+  | false ↦ λ no.
+      rw no
+      (All-cons (λ w. IsSome (known w)) p.name (names (without name portals)) (others p.name (λ same. other_text p.name name (sym no) same) (All-head (λ w. IsSome (found w)) p.name (names portals) all))
+      (known_without name found known others portals (λ i j d before within. distinct (suc i) (suc j) d (omega (arith, before)) (omega (arith, within))) (All-tail (λ w. IsSome (found w)) p.name (names portals) all)))
+]) refl
+
+-- what is taken out of a place is the portal of its name, and the others are left
+pub taken_out : (name : List ℕ) (portals view new : List Portal) (i : ℕ) (taken : Option Portal) → portals ≡ view → place_named name view ≡ Some i → IfSome taken (λ y. y ≡ slice_index_or portals i y) → OnSome taken (new ≡ remove portals i) → IsSome taken
+    → (taken ≡ portal_named name view) × (new ≡ without name view)
+taken_out name portals view new i None same at here left some = absurd (cc)
+taken_out name portals view new i (Some x) same at here left some =
+    let place : IsPlaceOf name portals i x = place_of name portals view i x same at here in
+    (sym (named_here name portals i x place) ∙ ap (portal_named name) same, left ∙ without_remove name portals i x place ∙ ap (without name) same)
+
+removed : (portals new : List Portal) (i : ℕ) (taken : Option Portal) → OnSome taken (new ≡ remove portals i) → IsSome taken → new ≡ remove portals i
+removed portals new i None left some = absurd (cc)
+removed portals new i (Some x) left some = left
+
+-- one portal fewer
+pub IsKept_taken : (name : List ℕ) (found known : List ℕ → Option ℕ) (portals view new : List Portal) (i : ℕ) (taken : Option Portal) → portals ≡ view → place_named name view ≡ Some i → IfSome taken (λ y. y ≡ slice_index_or portals i y) → OnSome taken (new ≡ remove portals i)
+    → IsSome taken → ((w : List ℕ) → w ≢ name → IsSome (found w) → IsSome (known w)) → IsKept portals found → IsKept new known
+IsKept_taken name found known portals view new i taken same at here left some others kept = record {
+  are = rw (removed portals new i taken left some) (IsPortals_remove portals i (place_within name portals i (ap (place_named name) same ∙ at)) kept.are);
+  known =
+      subst (λ ps. All (λ w. IsSome (known w)) (names ps)) (sym ((taken_out name portals view new i taken same at here left some).1 ∙ ap (without name) (sym same)))
+      (known_without name found known others portals kept.are.distinct kept.known);
+}

@@ -1,0 +1,94 @@
+//! Where portals are, by their names.
+ghost use Rattle.std.specs.Prelude.{◌≡◌, ◌≢◌, ◌<◌, ℕ, List, None, IsSome, OnOk};
+ghost use Rattle.std.specs.HashMap.{get, spare};
+ghost use Rattle.portal_store.specs.Kept.{same};
+
+use pgs_step::Name;
+use std::alloc::{AllocError, Global};
+use std::collections::HashMap;
+
+/// Where the portals of a session are, by their names, in a time that doesn't grow with them.
+///
+/// Each portal has a serial number, one more than that of the newest one when it was made. Clauses say which names
+/// are known. The place is a guess, which is right as long as the numbers rise: who asks looks there.
+#[derive(Drop)]
+pub(crate) struct Places {
+    /// The serial number of each name.
+    pub(crate) serials: HashMap<Name, usize>,
+    /// The serial numbers of the portals, the oldest first.
+    order: Vec<usize>,
+}
+
+impl Places {
+    /// No portal.
+    pub(crate) fn new(alloc: Global) -> Places {
+        Places {
+            serials: HashMap::new(alloc),
+            order: Vec::new(alloc),
+        }
+    }
+
+    /// Makes room for one more portal.
+    pub(crate) fn make_room(&mut self) -> Result<(), AllocError>
+        ensures names { (w : List ℕ) → get same self.new.serials w ≡ get same self.old.serials w }
+        ensures room { OnOk result (0 < spare self.new.serials) }
+    {
+        self.order.reserve(1)?;
+        self.serials.reserve(1)
+    }
+
+    /// A portal of this name is the newest one, in room that was made.
+    pub(crate) fn enter(&mut self, name: Name)
+        requires { 0 < spare self.old.serials }
+        ensures entered { IsSome (get same self.new.serials name) }
+        ensures others { (w : List ℕ) → IsSome (get same self.old.serials w) → IsSome (get same self.new.serials w) }
+    {
+        let serial = match self.order.last() {
+            Some(newest) => newest.wrapping_add(1),
+            None => 0,
+        };
+        let _ = self.order.push(serial);
+        let _ = self.serials.insert(name, serial);
+    }
+
+    /// The portal of this name, which was in this place, is there no more.
+    pub(crate) fn leave(&mut self, place: usize, name: &Name)
+        ensures others { (w : List ℕ) → w ≢ name.now → IsSome (get same self.old.serials w) → IsSome (get same self.new.serials w) }
+    {
+        let _ = self.serials.remove(name);
+        if place < self.order.len() {
+            let _ = self.order.remove(self.order.len() - 1 - place);
+        }
+    }
+
+    /// Where to look for the portal of this name, and `None` only where the name isn't known.
+    pub(crate) fn guess(&self, name: &Name) -> Option<usize>
+        ensures { result ≡ None → get same self.now.serials name.now ≡ None }
+    {
+        match self.serials.get(name) {
+            Some(serial) => Some(self.place_of(*serial)),
+            None => None,
+        }
+    }
+
+    /// The place of the portal of this serial number, where 0 is that of the newest.
+    fn place_of(&self, serial: usize) -> usize {
+        let Some(newest) = self.order.last() else {
+            return 0;
+        };
+        let place = newest.wrapping_sub(serial);
+        if self.is_at(place, serial) {
+            return place;
+        }
+        match self.order.binary_search(&serial) {
+            Ok(at) => self.order.len() - 1 - at,
+            Err(_) => 0,
+        }
+    }
+
+    /// Whether the portal of this place has this serial number.
+    #[inline]
+    fn is_at(&self, place: usize, serial: usize) -> bool {
+        place < self.order.len() && self.order[self.order.len() - 1 - place] == serial
+    }
+}
