@@ -6,11 +6,6 @@ use Rattle.context_rules.specs.declared.errors.TreeError.{TreeError}
 use Rattle.context_rules.specs.declared.errors.TreeError.TheVariants.{Memory}
 use Rattle.context_tree.specs.Making.{AsksInVain, AsksPart, AsksPartInVain}
 
--- what was asked for one context in vain is a part of its first block
-pub part_in_vain : (e : TreeError) (account n : ℕ) (s t : Space) → AsksInVain e account n s t → AsksPart account n s t
-part_in_vain e account n s t (inl nothing) = (0, omega arith, nothing)
-part_in_vain e account n s t (inr first) = (n, omega arith, first.1)
-
 -- a part behind what was asked before, in all at most so many bytes
 pub part_more : (account m n most : ℕ) (s t u : Space) → m + n ≤ most → Asks account m s t → AsksPart account n t u → AsksPart account most s u
 part_more account m n most s t u few first part =

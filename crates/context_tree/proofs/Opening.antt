@@ -1,5 +1,5 @@
 -- A tree of the topmost context alone, and one of all that a session begins with.
-use Rattle.std.proofs.Common.{◌≡◌, ◌≢◌, ℕ, ◌+◌, Bool, true, false, List, [], Option, Some, None, refl, sym, ap, ◌∙◌, subst, inl, inr, arith}
+use Rattle.std.proofs.Common.{◌≡◌, ◌≢◌, ℕ, Bool, true, false, List, [], Option, Some, None, refl, sym, ap, ◌∙◌, subst, inl, inr, arith}
 use Rattle.std.specs.Prelude.{codes}
 use Rattle.std.proofs.lemmas.Bool.{cases_eq, eq-eqb, ne_eqb}
 use Rattle.addr_space.specs.Space.{Space, region_at}
@@ -13,11 +13,11 @@ use Rattle.forest.specs.Forest.{Forest, Empty, Node, at, has, mapped}
 use Rattle.forest.specs.Forested.{Forested}
 use Rattle.any_ctx.specs.Ledgers.{Ledger, stats}
 use Rattle.any_ctx.specs.Contexts.{footprint, ledger}
-use Rattle.any_ctx.specs.declared.any.CtxKind.TheVariants.{Default, Error, Abort}
+use Rattle.any_ctx.specs.declared.any.CtxKind.TheVariants.{Default}
 use Rattle.any_ctx.specs.declared.any.CtxKind.{CtxKind}
 use Rattle.any_ctx.specs.Kinds as kinds
-use Rattle.context_rules.specs.Contexts.{Context, Contexts, new_context, created}
-use Rattle.context_rules.specs.Opening.{topmost, opening}
+use Rattle.context_rules.specs.Contexts.{Context, new_context, created}
+use Rattle.context_rules.specs.Opening.{topmost}
 use Rattle.context_node.specs.declared.chunk_id.ChunkId.{ChunkId}
 use Rattle.context_node.specs.declared.entry.Entry.{Entry}
 use Rattle.context_node.specs.declared.making.NewContext.{NewContext}
@@ -118,30 +118,6 @@ module _ (account slot : ℕ) (k : Kept) (places : Forest ℕ) (now : CtxId) (ne
           counted-other (footprint k.memory) other (λ e. differ (sym e ∙ moves.account)),
         );
   }
-
--- the four below it, one after the other
-pub opened_is : (x0 x1 x2 x3 x4 : Contexts) (n0 n1 n2 n3 : ℕ) → x0 ≡ topmost → n0 ≡ 2 → n1 ≡ n0 + 1 → n2 ≡ n1 + 1 → n3 ≡ n2 + 1
-    → x1 ≡ created 1 n0 (codes "ErrorContext") Error true x0 → x2 ≡ created 1 n1 (codes "CacheMemoryContext") Default true x1
-    → x3 ≡ created 1 n2 (codes "TopPortalContext") Default true x2 → x4 ≡ created 1 n3 (codes "TransactionAbortContext") Abort true x3 → x4 ≡ opening
-opened_is x0 x1 x2 x3 x4 n0 n1 n2 n3 zero two a b c one second third fourth =
-    let three : n1 ≡ 3 = omega (arith, two, a) in
-    let four : n2 ≡ 4 = omega (arith, three, b) in
-    let five : n3 ≡ 5 = omega (arith, four, c) in
-    fourth
-    ∙ ap (λ (n : ℕ). created 1 n (codes "TransactionAbortContext") Abort true x3) five
-    ∙ ap (created 1 5 (codes "TransactionAbortContext") Abort true) (
-    third
-    ∙ ap (λ (n : ℕ). created 1 n (codes "TopPortalContext") Default true x2) four
-    ∙ ap (created 1 4 (codes "TopPortalContext") Default true) (
-    second
-    ∙ ap (λ (n : ℕ). created 1 n (codes "CacheMemoryContext") Default true x1) three
-    ∙ ap (created 1 3 (codes "CacheMemoryContext") Default true) (
-    one
-    ∙ ap (λ (n : ℕ). created 1 n (codes "ErrorContext") Error true x0) two
-    ∙ ap (created 1 2 (codes "ErrorContext") Error true) zero
-    )
-    )
-    )
 
 module _ (f g : Forested Kept) (new : NewContext) (id : NodeId) (account : ℕ) (s t : Space) (grew : Grew f g new None id account s t) (empty : f.forest ≡ Empty) (nowhere : f.places ≡ Empty)
     (numbered : new.number ≡ 1) (named : new.name ≡ codes "TopMemoryContext") (kind : new.kind ≡ Default) (protected : new.protected ≡ true) (made : CtxId)

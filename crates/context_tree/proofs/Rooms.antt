@@ -1,10 +1,10 @@
 -- Whether there is room for a context, and a space to which all came back.
 use Rattle.std.proofs.Common.{◌≡◌, ℕ, ◌+◌, ◌-◌, ◌<◌, ◌≤◌, Some, None, refl, subst, arith}
 use Rattle.std.proofs.lemmas.Bool.{lt-ltb, le-ltb}
-use Rattle.addr_space.specs.Space.{Space, accounts, held}
+use Rattle.addr_space.specs.Space.{Space, held}
 use Rattle.addr_space.specs.Footprint as foot
-use Rattle.addr_space.specs.Footprint.{Footprint, nothing}
-use Rattle.addr_space.proofs.Steps.{Agrees-nothing, Moves-none, Moves-more}
+use Rattle.addr_space.specs.Footprint.{nothing}
+use Rattle.addr_space.proofs.Steps.{Moves-more}
 use Rattle.any_ctx.specs.Kinds.{first_size}
 use Rattle.any_ctx.specs.Contexts.{footprint}
 use Rattle.any_ctx.specs.declared.any.AnyCtx.{AnyCtx}
@@ -33,9 +33,6 @@ no_room many held limit kind few short =
 pub has_room : (many held limit : ℕ) (kind : CtxKind) → many < 65536 → held + first_size kind ≤ limit → room_refusal many (limit - held) kind ≡ None
 has_room many held limit kind few fits =
     rw (lt-ltb many 65536 few, le-ltb (limit - held) (first_size kind) (omega (arith, fits))) refl
-
-pub never_left : (account : ℕ) (s : Space) → account < accounts s → CameBack account s s
-never_left account s below = record { slot = 0; moves = Moves-none (nothing account 0) s (Agrees-nothing account 0 s below) }
 
 pub given_back : (m : AnyCtx) (account slot : ℕ) (s t u : Space) → foot.Moves (nothing account slot) (footprint m) s t
     → foot.Moves (footprint m) (nothing (footprint m).account (footprint m).context) t u → CameBack account s u

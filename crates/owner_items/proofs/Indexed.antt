@@ -17,12 +17,6 @@ steps-within n from place f p = grind (arith, nat_tests)
 after-steps : (n from place : ℕ) → from < n → place < n → place_after n from (steps_to n from place) ≡ place
 after-steps n from place f p = grind (arith, nat_tests)
 
-pub steps-after : (n from t : ℕ) → from < n → t < n → steps_to n from (place_after n from t) ≡ t
-steps-after n from t f p = grind (arith, nat_tests)
-
-pub after-within : (n from t : ℕ) → from < n → t < n → place_after n from t < n
-after-within n from t f p = grind (arith, nat_tests)
-
 abbrev one : Bool → ℕ
 one b = cond b 1 0
 
@@ -244,9 +238,6 @@ number-set kind key (s ∷ slots) (suc place) d new within old_no new_no =
 -- the slot of a kind and key, once its search has ended there
 abbrev pub slot_of : KindId → ℕ → Option ℕ → Slot
 slot_of kind key newest = record { kind = kind; key = key; used = true; newest = newest }
-
-same_tests : (a b : ℕ) → (a == b) ≡ (b == a)
-same_tests a b = grind (arith, nat_tests)
 
 other_no :
     (kind other : KindId) (key q : ℕ) (s : Slot) → ((kind.0 == other.0) && (key == q)) ≡ false → ends kind key s ≡ true →

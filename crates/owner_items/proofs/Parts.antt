@@ -1,5 +1,5 @@
 -- The parts of an owner's items, as items come and go.
-use Rattle.std.proofs.Common.{◌≡◌, ℕ, ◌+◌, ◌-◌, ◌<◌, ◌≤◌, zero, suc, Bool, true, false, cond, nat_le, List, [], ◌∷◌, ◌++◌, length, get_or, slice_get, take, map, reverse, filter, find, All, Option, Some, None, IsSome, is_some, refl, sym, ◌∙◌, ap, subst, arith, length-append, append_assoc}
+use Rattle.std.proofs.Common.{◌≡◌, ℕ, ◌+◌, ◌-◌, ◌<◌, ◌≤◌, zero, suc, Bool, true, false, cond, nat_le, List, [], ◌∷◌, ◌++◌, length, get_or, slice_get, take, map, reverse, filter, find, All, Option, Some, None, IsSome, is_some, refl, sym, ◌∙◌, ap, subst, arith, length-append}
 use Rattle.std.specs.List.{sum_by, remove}
 use Rattle.std.proofs.lemmas.Bool.Decides.{nat_tests}
 use Rattle.std.proofs.lemmas.Grind.{reverse_onto}
@@ -26,13 +26,6 @@ use Rattle.owner_items.proofs.Ordered.{order-back}
 use Rattle.owner_items.proofs.Order.{IsSplit, split-falling, falling-without, All-front, All-back, All-both}
 use Rattle.owner_items.proofs.Sums.{AreSinking, SameSums, in_order, sunk_list, newer_stands, StandsIn, live_sum, live-sum, entries-sums, removed-sums, newest_first-sum, same_lengths, All-newest_first, All-with_newer, length-sum, const_one}
 use Rattle.owner_items.specs.declared.ranking.TheConstants.{LAST_PRIORITY}
-
-pub reverse-both : {X : Type 0} (xs ys : List X) → reverse (xs ++ ys) ≡ reverse ys ++ reverse xs
-reverse-both [] ys = sym (append-nil (reverse ys))
-reverse-both (x ∷ xs) ys =
-    reverse_onto (xs ++ ys) x []
-    ∙ (ap (λ z. z ++ x ∷ []) (reverse-both xs ys)
-    ∙ (append_assoc (reverse ys) (reverse xs) (x ∷ []) ∙ ap (λ z. reverse ys ++ z) (sym (reverse_onto xs x []))))
 
 reverse-item-length : (xs : List Item) → length (reverse xs) ≡ length xs
 reverse-item-length xs = length_permutation xs (reverse xs) (IsPermutation-reverse xs)

@@ -1,5 +1,5 @@
 -- What stays true of a table, as items come and go.
-use Rattle.std.proofs.Common.{◌≡◌, ℕ, ◌+◌, ◌-◌, ◌<◌, ◌≤◌, suc, Bool, true, false, cond, ◌&&◌, ◌==◌, List, [], ◌∷◌, ◌++◌, length, reverse, get_or, set, find, Option, Some, refl, sym, ◌∙◌, ap, subst, arith}
+use Rattle.std.proofs.Common.{◌≡◌, ℕ, ◌+◌, ◌-◌, suc, Bool, true, false, cond, ◌&&◌, ◌==◌, List, [], ◌∷◌, length, reverse, get_or, set, find, Option, Some, refl, sym, ◌∙◌, ap, subst, arith}
 use Rattle.pgs_step.specs.declared.ids.KindId.{KindId}
 use Rattle.pgs_step.specs.declared.ids.Item.{Item}
 use Rattle.owner_items.specs.declared.entry.Entry.{Entry}
@@ -7,38 +7,10 @@ use Rattle.owner_items.specs.declared.index.Slot.{Slot}
 use Rattle.owner_items.specs.ItemList.{is_of, without_newest}
 use Rattle.owner_items.specs.Index.{IsIndex, number_in}
 use Rattle.owner_items.specs.Table.{live_items, newest_in, AreLinked, IsTable}
-use Rattle.owner_items.proofs.Linked.{forgotten, found_in, Found, forgotten-items, forgotten-linked, reverse-back, reverse-length, reverse-front, same_pair, is_of-kind, is_of-key}
+use Rattle.owner_items.proofs.Linked.{forgotten, found_in, Found, forgotten-items, forgotten-linked, reverse-back, reverse-front, same_pair, is_of-kind, is_of-key}
 
 abbrev pub entry_of : Item → Option ℕ → Entry
 entry_of item older = record { item = item; older = older; live = true }
-
-pub push-table :
-    (entries : List Entry) (live : ℕ) (slots slots' : List Slot) (used used' : ℕ) (item : Item) (older : Option ℕ) →
-    IsTable entries live slots used → used + 1 < length slots → older ≡ number_in item.kind item.key slots →
-    IsIndex slots' used' → length slots' ≡ length slots → used' ≤ used + 1 →
-    ((other : KindId) (q : ℕ) →
-    number_in other q slots'
-    ≡ cond ((item.kind.0 == other.0) && (item.key == q)) (Some (length entries)) (number_in other q slots)) →
-    IsTable (entries ++ entry_of item older ∷ []) (live + 1) slots' used'
-push-table entries live slots slots' used used' item older table room is index same few numbers =
-    record {
-      linked =
-          rw (reverse-back entries (entry_of item older))
-          (λ _. is ∙ table.numbers item.kind item.key, table.linked);
-      indexed = index;
-      numbers =
-          λ other q.
-          rw (reverse-back entries (entry_of item older), reverse-length entries)
-          (numbers other q
-          ∙ ap (λ v. cond ((item.kind.0 == other.0) && (item.key == q)) (Some (length entries)) v) (table.numbers other q));
-      counted = rw (reverse-back entries (entry_of item older)) (omega (arith, table.counted));
-      roomy = λ some. omega arith;
-    }
-
-pub push-items :
-    (entries : List Entry) (item : Item) (older : Option ℕ) →
-    live_items (reverse (entries ++ entry_of item older ∷ [])) ≡ item ∷ live_items (reverse entries)
-push-items entries item older = rw (reverse-back entries (entry_of item older)) refl
 
 -- the item that the index leads to
 pub found_here :
@@ -57,10 +29,6 @@ pub entry_here :
     e ≡ get_or entries n e → e ≡ found.0
 entry_here entries kind key n e found is =
     is ∙ subst (λ z. get_or z n e ≡ found.0) (reverse-twice entries) (found.1.here e)
-
-pub some_slots : (kind : KindId) (key n : ℕ) (slots : List Slot) → Some n ≡ number_in kind key slots → 0 < length slots
-some_slots kind key n [] is = absurd cc
-some_slots kind key n (s ∷ slots) is = omega arith
 
 pub after-forget :
     (entries : List Entry) (kind : KindId) (key n : ℕ) (found : Found (is_of kind key) (reverse entries) n) →

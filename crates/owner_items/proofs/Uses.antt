@@ -1,5 +1,5 @@
 -- How often a kind and key stand among the items, through the calls.
-use Rattle.std.proofs.Common.{ap, ◌≡◌, ℕ, ◌+◌, Bool, true, false, not, cond, List, [], ◌∷◌, filter, Some, refl, arith, find}
+use Rattle.std.proofs.Common.{◌≡◌, ℕ, ◌+◌, Bool, true, false, not, cond, List, [], ◌∷◌, filter, Some, refl, arith, find}
 use Rattle.std.specs.List.{count_by}
 use Rattle.std.proofs.lemmas.List.Sums.{sum_by-cons}
 use Rattle.pgs_step.specs.declared.ids.Item.{Item}
@@ -21,11 +21,6 @@ count-with_item : (p : Item → Bool) (rank : Item → ℕ) (x : Item) (xs : Lis
 count-with_item p rank x [] = count-cons p x []
 count-with_item p rank x (y ∷ ys) =
     grind (arith, count-with_item p rank x ys, count-cons p y ys, count-cons p x (y ∷ ys), count-cons p y (with_item rank x ys))
-
-count-by_rank : (p : Item → Bool) (rank : Item → ℕ) (xs : List Item) → count_by p (by_rank rank xs) ≡ count_by p xs
-count-by_rank p rank [] = refl
-count-by_rank p rank (x ∷ xs) =
-    grind (arith, count-by_rank p rank xs, count-with_item p rank x (by_rank rank xs), count-cons p x xs)
 
 -- what a phase releases and what it leaves are all items
 pub count-parts :
@@ -50,19 +45,3 @@ count-parts p test rank (x ∷ xs) =
     ]
     in
     cases (test x) refl
-
--- the item that a phase takes, and those that stay
-pub count-taken :
-    (p test : Item → Bool) (rank : Item → ℕ) (old new : List Item) (item : Item) →
-    by_rank rank (filter test old) ≡ item ∷ by_rank rank (filter test new) →
-    filter (λ x. not (test x)) new ≡ filter (λ x. not (test x)) old →
-    count_by p old ≡ cond (p item) 1 0 + count_by p new
-count-taken p test rank old new item first left =
-    omega (
-      arith,
-      count-parts p test rank old,
-      count-parts p test rank new,
-      ap (count_by p) first,
-      ap (count_by p) left,
-      count-cons p item (by_rank rank (filter test new)),
-    )

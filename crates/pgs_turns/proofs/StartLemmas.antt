@@ -1,5 +1,5 @@
 -- What a run starts with.
-use Rattle.std.proofs.Common.{◌≡◌, ◌≢◌, ◌⊎◌, ℕ, zero, suc, ◌+◌, ◌<◌, inl, inr, Bool, true, false, List, [], ◌∷◌, ◌++◌, length, Option, Some, None, refl, sym, ◌∙◌, ap, subst, arith, length-append}
+use Rattle.std.proofs.Common.{◌≡◌, ◌≢◌, ◌⊎◌, ℕ, zero, suc, ◌+◌, ◌<◌, inl, inr, Bool, true, false, List, [], ◌∷◌, ◌++◌, length, Some, refl, sym, ◌∙◌, ap, subst, arith, length-append}
 use Rattle.std.specs.Prelude.{nat_lt, if◌then◌else◌, slice_get}
 use Rattle.std.proofs.lemmas.Bool.{cases_eq}
 use Rattle.std.proofs.lemmas.Bool.Decides.{nat_tests}
@@ -7,16 +7,13 @@ use Rattle.std.proofs.lemmas.Option.{slice_get_within}
 use Rattle.addr_space.specs.Space.{Asks, Space, accounts, held, risen, share, taken}
 use Rattle.addr_space.proofs.Held.{held-changed}
 use Rattle.context_tree.specs.State.{Agrees, Moves, SameRegions, TreeState, no_contexts, stands_for, total_of}
-use Rattle.session_rules.specs.State.{opening}
 use Rattle.session_store.specs.State.{StoreState}
 use Rattle.reset_callbacks.specs.ShelfState.{ShelfState}
 use Rattle.session_owners.specs.Commons.{CommonState}
 use Rattle.session_commands.specs.declared.calls.Calls.{Calls}
-use Rattle.pgs_turns.specs.Courses.{TakesInAll, TakesLines}
 use Rattle.pgs_turns.specs.Transcript.{Setting}
 use Rattle.pgs_turns.specs.World.{setting_of}
 use Rattle.pgs_turns.specs.Turns.{AreOpened, IsOpened}
-use Rattle.pgs_turns.proofs.TakenLemmas.{opened_taken}
 use Rattle.pgs_turns.proofs.TurnLemmas.{took_other, took_own}
 
 -- what accounts hold is what the regions count
@@ -59,10 +56,6 @@ stays_opened : (descriptors account place : ℕ) (a b : TreeState) (store : Stor
 stays_opened descriptors account place a b store s t moves agrees is differ o =
     let stays = o.beside a b s t moves agrees o.keeps (λ e. differ (sym o.account ∙ sym e ∙ is)) in
     record { session = stays.1 ∙ o.session; keeps = stays.0; account = o.account; number = o.number; descriptors_are = o.descriptors_are; beside = o.beside }
-
--- no session yet
-pub none_opened : (descriptors : ℕ) (s : Space) → AreOpened descriptors s [] s
-none_opened descriptors s = record { each = λ place store there. absurd (cc there); limit = refl; accounts = refl; others = λ account past. refl }
 
 -- what stands in a list with one element more
 place_snoc : {A : Type 0} (xs : List A) (y : A) (place : ℕ) (x : A) → slice_get (xs ++ y ∷ []) place ≡ Some x → ((place ≡ length xs) × (x ≡ y)) ⊎ ((place < length xs) × (slice_get xs place ≡ Some x))
@@ -117,10 +110,3 @@ still_opened descriptors before s t stores account is within same o = record {
 pub started_setting : (setting : Setting) (stores : List StoreState) (s : Space) (x : ShelfState) (c : CommonState) (calls : Calls) → length stores ≡ setting.options.sessions → s.limit ≡ setting.options.space
     → calls.fail ≡ setting.options.fail → x ≡ setting.shelf → c.kinds ≡ setting.kinds → setting_of setting.options.descriptors (record { stores = stores; space = s; shelf = x; commons = c; calls = calls }) ≡ setting
 started_setting setting stores s x c calls many limit fail shelf kinds = rw (many, limit, fail, shelf, kinds) refl
-
--- what accounts took in all, from where all sessions were started
-pub started_taken : (setting : Setting) (stores : List StoreState) (s : Space) (x : ShelfState) (c : CommonState) (calls : Calls) (before last : Space) (lines : List (List ℕ)) → length stores ≡ setting.options.sessions → s.limit ≡ setting.options.space
-    → calls.fail ≡ setting.options.fail → x ≡ setting.shelf → c.kinds ≡ setting.kinds → ((account : ℕ) → taken s account ≡ risen (taken before account) (if nat_lt account setting.options.sessions then 65536 else 0))
-    → TakesLines (setting_of setting.options.descriptors (record { stores = stores; space = s; shelf = x; commons = c; calls = calls })) lines s last → TakesInAll setting lines before last
-started_taken setting stores s x c calls before last lines many limit fail shelf kinds opening takes =
-    opened_taken setting lines before s last opening (subst (λ (z : Setting). TakesLines z lines s last) (started_setting setting stores s x c calls many limit fail shelf kinds) takes)

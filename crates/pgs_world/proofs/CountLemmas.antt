@@ -2,16 +2,12 @@
 use Rattle.std.proofs.Common.{◌≡◌, ℕ, false, List, ◌++◌, Option, Some, None, refl, sym, ap, ◌∙◌, subst, append-nil}
 use Rattle.std.specs.Io.KnownBytes.{IsAtEnd, prepend_known}
 use Rattle.pgs_io.specs.Lines.{lines_of}
-use Rattle.pgs_world.specs.declared.program.Outcome.{Outcome}
-use Rattle.owner_kinds.specs.Kind.{Kind}
-use Rattle.reset_callbacks.specs.ShelfState.{ShelfState}
-use Rattle.session_rules.specs.Transcript.{errors_in}
-use Rattle.pgs_turns.specs.Transcript.{Setting, transcript}
+use Rattle.pgs_turns.specs.Transcript.{Setting}
 use Rattle.addr_space.specs.Space.{Space}
 use Rattle.pgs_turns.specs.Courses.{TakesLines}
 use Rattle.pgs_world.specs.declared.performing.End.{End}
 use Rattle.pgs_world.specs.declared.performing.End.TheVariants as end
-use Rattle.pgs_world.specs.Outcome.{IsWhole, CountsErrors, TakesAsked}
+use Rattle.pgs_world.specs.Outcome.{TakesAsked}
 use Rattle.pgs_world.specs.Loop.{EndIs, is_wanted}
 
 -- what a source had, where it has nothing left
@@ -21,10 +17,6 @@ all_given taken bytes (Some rest) ended given =
     let one : Some (taken ++ rest) ≡ Some bytes = given in
     let same : taken ++ rest ≡ bytes = cc in
     sym (append-nil taken) ∙ ap (λ r. taken ++ r) (sym ended) ∙ same
-
-pub whole_counts : (setting : Setting) (outcome : Outcome) (left left' written written' : Option (List ℕ)) (shelf' : ShelfState) (kinds' : List Kind) → IsWhole setting outcome left left' written written' shelf' kinds' → CountsErrors setting outcome left
-whole_counts setting outcome left left' written written' shelf' kinds' whole bytes is =
-    whole.errors ∙ ap (λ b. errors_in (transcript setting None (lines_of b))) (all_given whole.bytes bytes left' whole.at_end (sym whole.given ∙ is))
 
 -- what accounts took, where all lines were performed
 pub taken_all : (setting : Setting) (e : End) (bytes : List ℕ) (lines : List (List ℕ)) (left left' : Option (List ℕ)) (s t : Space) → e ≡ end.Whole → EndIs e bytes lines left left'

@@ -1,5 +1,5 @@
 -- What a caller needs that performs one line after another: where a session starts, and the room that a line leaves.
-use Rattle.std.proofs.Common.{◌≡◌, false, ℕ, ◌+◌, ◌*◌, ◌<◌, ◌≤◌, List, [], refl, sym, ap, ◌∙◌, subst, arith}
+use Rattle.std.proofs.Common.{◌≡◌, false, ℕ, ◌+◌, ◌*◌, ◌<◌, ◌≤◌, List, [], refl, sym, ap, subst, arith}
 use Rattle.std.specs.Prelude.{◌^◌, get_or, replicate, slice_index, All}
 use Rattle.std.proofs.lemmas.Grind.{common_steps}
 use Rattle.std.proofs.lemmas.List.Elements.{All-nil}
@@ -25,15 +25,6 @@ room_before i n a b l h g = record {
   owners = omega (arith, l, h.owners, g.owners);
   serials = omega (arith, l, h.serials, g.serials);
   calls = omega (arith, l, h.calls, g.calls);
-}
-
-pub grows_once_more : (i : ℕ) (a b c : Now) → Grows (most_steps * i) a b → Grows most_steps b c → Grows (most_steps * (i + 1)) a c
-grows_once_more i a b c g h = record {
-  contexts = omega (arith, g.contexts, h.contexts);
-  owners = omega (arith, g.owners, h.owners);
-  serials = omega (arith, g.serials, h.serials);
-  calls = omega (arith, g.calls, h.calls);
-  descriptors = h.descriptors ∙ g.descriptors;
 }
 
 -- A session as it opens is between two lines, and has room.

@@ -70,11 +70,6 @@ gives_open [] l e active started block z = absurd (cc e)
 gives_open (k ∷ ls) l e active started block z =
     ap (λ (x : LevelState). where_so (not (is_aborted (x ∷ ls))) (given_up (x ∷ ls)) z) (is_of k l false false e block active started)
 
-pub is_starting : (ls : List LevelState) (l : LevelState) → first_of ls ≡ Some l → l.aborted ≡ false → l.starting ≡ true → IsStarting ls
-is_starting [] l e active started = absurd (cc e)
-is_starting (k ∷ ls) l e active started =
-    let same : k ≡ l = cc e in (ap (λ (x : LevelState). x.starting) same ∙ started, ap (λ (x : LevelState). x.aborted) same ∙ active)
-
 pub starting_some : (levels : List Level) → IsStarting (levels_of levels) → 0 < length levels
 starting_some levels h = go (levels_of levels) refl h
   where

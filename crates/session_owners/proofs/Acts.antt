@@ -45,22 +45,6 @@ use Rattle.session_owners.proofs.Counts.{held_created}
 use Rattle.session_owners.proofs.OwnPins.{beside_same, beside_still, pinned_remembered, pinned_same}
 use Rattle.session_owners.proofs.Stack.{last_newest, take_others}
 
--- Owners put into a scene fit it, those put in last count, and those that fit it change nothing.
-pub fits_with : (a b : ResourceState) (c d : CommonState) (scene : Scene) → OwnersFit a c scene → OwnersFit b d (with_owners b d scene)
-fits_with a b c d scene fit = record {
-  owners = refl;
-  next_owner = refl;
-  next_serial = refl;
-  recent = refl;
-  descriptors = refl;
-  kinds = refl;
-  locked = refl;
-  pinned = refl;
-  locks = refl;
-  snapshots = refl;
-  plans = refl;
-}
-
 -- a scene with these owners, files, locks, active snapshots and plans, these kinds, what others have locked, and how many pin each buffer
 parts_in : Scene → OwnerTree → ℕ → ℕ → List ℕ → ℕ → List Kind → List Lock → List Holding → List ℕ → List Active → List StandingPlan → Scene
 parts_in scene owners next_owner next_serial recent descriptors kinds ls hs pinned stack plans = record scene {
@@ -97,16 +81,6 @@ state_of table files locks stack plans = record {
 -- no act, and one act behind another
 pub acted_nothing : (a : ResourceState) (c : CommonState) (Says : List What → Type 0) → Says [] → Acted nothing a a c c Says
 acted_nothing a c Says none = record { leads = fit_is a c; says = λ scene fit. none }
-
-pub acted_both : (f g : Scene → Ended) (a b z : ResourceState) (c d e : CommonState) (First Second Both : List What → Type 0)
-    → ((xs ys : List What) → First xs → Second ys → Both (xs ++ ys))
-    → Acted f a b c d First → Acted g b z d e Second → Acted (λ scene. and_then (f scene) g) a z c e Both
-acted_both f g a b z c d e First Second Both more p q = record {
-  leads = λ scene fit. ap (λ (s : Scene). (g s).scene) (p.leads scene fit) ∙ q.leads (with_owners b d scene) (fits_with a b c d scene fit);
-  says = λ scene fit.
-      more (f scene).events (g (f scene).scene).events (p.says scene fit)
-      (subst (λ (s : Scene). Second (g s).events) (sym (p.leads scene fit)) (q.says (with_owners b d scene) (fits_with a b c d scene fit)));
-}
 
 -- a scene with these owners and files and with these locks, plans, kinds and active snapshots, and what others have locked and pinned
 with_parts : Scene → OwnerTree → ℕ → ℕ → List ℕ → ℕ → List Lock → List StandingPlan → List Kind → List Holding → List ℕ → List Active → Scene

@@ -1,8 +1,8 @@
 -- What sessions do one after the other leaves the commons in balance.
-use Rattle.std.proofs.Common.{◌≡◌, ◌≢◌, true, ℕ, ◌+◌, ◌-◌, ◌<◌, ◌≤◌, find, false, List, [], ◌∷◌, map, Option, Some, None, Result, Ok, Err, OnOk, OnErr, refl, sym, ap, ◌∙◌, subst, inl, inr, replicate, arith}
+use Rattle.std.proofs.Common.{◌≡◌, ◌≢◌, true, ℕ, ◌+◌, ◌-◌, ◌<◌, ◌≤◌, find, false, List, [], ◌∷◌, map, Option, Some, None, Result, Ok, Err, OnOk, OnErr, refl, sym, ap, ◌∙◌, subst, inr, replicate, arith}
 use Rattle.std.specs.Prelude.{All, ◌==◌, ◌&&◌, ◌^◌, if◌then◌else◌, slice_index}
 use Rattle.std.proofs.lemmas.Grind.{common_steps}
-use Rattle.std.proofs.lemmas.Bool.{cases_Bool, eqb-true, ne_eqb}
+use Rattle.std.proofs.lemmas.Bool.{ne_eqb}
 use Rattle.std.proofs.lemmas.Bool.Decides.{nat_tests}
 use Rattle.std.proofs.lemmas.List.Elements.{All-nil, All-cons}
 use Rattle.pgs_step.specs.declared.ids.Item.{Item}
@@ -176,18 +176,6 @@ none_pinned n buffer = grind (arith, common_steps)
 
 pub few_none : (pins : List ℕ) → pins ≡ replicate 1024 0 → (buffer : ℕ) → slice_index pins buffer ≤ 2 ^ 31
 few_none pins none buffer = omega (arith, ap (λ (ns : List ℕ). slice_index ns buffer) none, none_pinned 1024 buffer)
-
-pub few_one : (pins raised : List ℕ) (b : ℕ) → pins ≡ replicate 1024 0 → slice_index raised b ≡ slice_index pins b + 1 → ((q : ℕ) → q ≢ b → slice_index raised q ≡ slice_index pins q) → (buffer : ℕ) → slice_index raised buffer ≤ 2 ^ 31
-few_one pins raised b none more others buffer =
-    elim (cases_Bool (b == buffer)) [
-      | inl y ↦
-          let here : slice_index raised buffer ≡ slice_index pins buffer + 1 = subst (λ (z : ℕ). slice_index raised z ≡ slice_index pins z + 1) (eqb-true b buffer y) more in
-          omega (arith, here, ap (λ (ns : List ℕ). slice_index ns buffer) none, none_pinned 1024 buffer)
-      | inr n ↦ omega (arith, others buffer (differs b buffer n), ap (λ (ns : List ℕ). slice_index ns buffer) none, none_pinned 1024 buffer)
-    ]
-  where
-    differs : (i j : ℕ) → (i == j) ≡ false → j ≢ i
-    differs i j e = grind (arith, nat_tests)
 
 -- what a session does without the commons, where it takes and gives back nothing of extension kinds
 balances_alone : (a b : ResourceState) (c : CommonState) → ((kinds : KindTable) → AllNodes (HasItems kinds) (owners_of a) → AllNodes (HasItems kinds) (owners_of b))

@@ -1,37 +1,19 @@
 -- References are of the four classes that are counted.
-use Rattle.std.proofs.Common.{◌≡◌, ◌≢◌, ℕ, ◌≤◌, Bool, true, false, List, refl, sym, ap, ◌∙◌, inl, inr, arith}
-use Rattle.std.specs.Prelude.{◌==◌, ◌&&◌, if◌then◌else◌, count_by}
+use Rattle.std.proofs.Common.{◌≡◌, ◌≢◌, ℕ, true, false, List, refl, sym, ap, ◌∙◌, inl, inr}
+use Rattle.std.specs.Prelude.{◌==◌, if◌then◌else◌, count_by}
 use Rattle.std.specs.BTreeMap.{is_at}
 use Rattle.std.proofs.lemmas.Bool.{both_ways, cases_Bool, ne_eqb}
-use Rattle.std.proofs.lemmas.Bool.Decides.{nat_tests}
 use Rattle.counts.specs.Counts.{Tallies, count_of}
 use Rattle.pgs_step.specs.declared.ids.KindId.{KindId}
-use Rattle.ref_table.specs.References.{RefersOneLess, RefersOneMore, pair_cmp}
+use Rattle.ref_table.specs.References.{pair_cmp}
 use Rattle.session_rules.specs.Releases.{NoOne, TheDescriptors, ThePlans, keeper_of}
 use Rattle.session_owners.specs.Tables.{AreOfClasses, Held, is_class, times_held}
-
--- a class that nothing else keeps, and no snapshots
-class_is : (n : ℕ) → 2 ≤ n → n ≤ 8 → n ≢ 5 → n ≢ 7 → n ≢ 8 → is_class n ≡ true
-class_is n low high no_plan no_snapshot no_file = grind (arith, nat_tests)
 
 no_plan : (kind : KindId) → keeper_of kind ≡ NoOne → kind.0 ≢ 5
 no_plan kind unkept is = let z : NoOne ≡ ThePlans = sym unkept ∙ ap (λ (n : ℕ). keeper_of (record { 0 = n })) is in cc z
 
 no_file : (kind : KindId) → keeper_of kind ≡ NoOne → kind.0 ≢ 8
 no_file kind unkept is = let z : NoOne ≡ TheDescriptors = sym unkept ∙ ap (λ (n : ℕ). keeper_of (record { 0 = n })) is in cc z
-
-pub class_kept : (kind : KindId) → 2 ≤ kind.0 → kind.0 ≤ 8 → keeper_of kind ≡ NoOne → kind.0 ≢ 7 → is_class kind.0 ≡ true
-class_kept kind from to unkept no_snapshot = class_is kind.0 from to (no_plan kind unkept) no_snapshot (no_file kind unkept)
-
--- one reference more, and one fewer
-other_class : (class c : ℕ) (hit : Bool) → is_class class ≡ true → is_class c ≡ false → ◌≡◌ {A = ℕ} (if (class == c) && hit then 1 else 0) 0
-other_class class c hit listed other = rw (ne_eqb class c (λ e. both_ways (is_class c) other (ap is_class (sym e) ∙ listed))) refl
-
-pub classes_more : (old new : List ((ℕ × ℕ) × ℕ)) (class key : ℕ) → is_class class ≡ true → RefersOneMore old new class key → AreOfClasses old → AreOfClasses new
-classes_more old new class key listed more all c k other = omega (arith, more c k, all c k other, other_class class c (key == k) listed other)
-
-pub classes_less : (old new : List ((ℕ × ℕ) × ℕ)) (class key : ℕ) → RefersOneLess old new class key → AreOfClasses old → AreOfClasses new
-classes_less old new class key less all c k other = omega (arith, less c k, all c k other)
 
 -- what is held of a class is counted by references
 class_held : (held : Held) (n key : ℕ) → is_class n ≡ true → times_held held (record { 0 = n }) key ≡ count_of pair_cmp held.references (n, key)

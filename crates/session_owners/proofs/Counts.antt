@@ -123,9 +123,6 @@ module _ (kind : KindId) (key : ℕ) where
 slice_index-pinned : (pins : List ℕ) (buffer key : ℕ) → buffer < length pins → slice_index (slice_set pins buffer (slice_index pins buffer + 1)) key ≡ slice_index pins key + (if buffer == key then 1 else 0)
 slice_index-pinned pins buffer key h = grind (arith, common_steps, nat_tests)
 
-eq-flip : (m n : ℕ) → (m == n) ≡ (n == m)
-eq-flip m n = grind (arith, nat_tests)
-
 -- what is counted of a kind of the same number, and of another one
 flag_on : (c k : ℕ) (hit : Bool) → k ≡ c → ◌≡◌ {A = ℕ} (if (c == k) && hit then 1 else 0) (if hit then 1 else 0)
 flag_on c k hit same = elim (cases_Bool (c == k)) [

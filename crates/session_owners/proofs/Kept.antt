@@ -29,11 +29,10 @@ use Rattle.file_table.specs.Files.{Files, OpensOneMore, opened_file}
 use Rattle.owner_kinds.specs.KindTable.{KindTable}
 use Rattle.plan_store.specs.Plans as plans
 use Rattle.plan_store.specs.Plans.{Plans}
-use Rattle.snap_table.specs.declared.active.Active.{Active}
 use Rattle.owner_kinds.specs.KindShelf as shelf
 use Rattle.session_owners.specs.Tables.{Held, Lending, times_held, times_lent}
 use Rattle.session_owners.specs.Counted.{HoldsCounted, IsCounted, IsHeld}
-use Rattle.session_owners.proofs.Counts.{lent_high, lent_low, held_created, held_forgotten, held_released, held_remembered, held_removed, held_subtree, none_held, times_held-opened, times_held-pinned, times_held-referred, times_held-same}
+use Rattle.session_owners.proofs.Counts.{lent_high, lent_low, held_created, held_forgotten, held_released, held_remembered, held_removed, held_subtree, none_held, times_held-opened, times_held-pinned, times_held-referred}
 use Rattle.session_owners.proofs.Left.{items_left}
 
 -- what a call keeps of the owners
@@ -188,35 +187,6 @@ counted_referred old new counts counts' n plan s spare is more referred e f g =
     (omega (arith, referred))
     (λ k j low. times_held-referred counts counts' plan k j is more)
     e f g
-
--- the same items, with other descriptors, and as many references to each plan
-counted_alike : (table : OwnerTable) (counts counts' : Held) → IsCounted table counts → counts'.pins ≡ counts.pins → counts'.references ≡ counts.references → counts'.files.opened ≡ counts.files.opened → counts'.snapshots.registered ≡ counts.snapshots.registered
-    → plans.RefersAlike counts.plans counts'.plans → plans.references counts'.plans ≡ plans.references counts.plans → IsCounted table counts'
-counted_alike table counts counts' s pins references opened registered alike referred = record {
-  sound = s.sound;
-  items = s.items;
-  buffers = ap length pins ∙ s.buffers;
-  counted = λ kind key low. times_held-same counts counts' kind key pins references opened registered alike ∙ s.counted kind key low;
-  few = s.few;
-  references = omega (arith, ap (λ (z : List ((ℕ × ℕ) × ℕ)). total z) references, s.references);
-  plan_references = omega (arith, referred, s.plan_references);
-}
-
-pub counted_touched : (table : OwnerTable) (counts counts' : Held) → IsCounted table counts → counts'.pins ≡ counts.pins → counts'.references ≡ counts.references → counts'.files.opened ≡ counts.files.opened → counts'.snapshots.registered ≡ counts.snapshots.registered
-    → counts'.plans ≡ counts.plans → IsCounted table counts'
-counted_touched table counts counts' s pins references opened registered same =
-    counted_alike table counts counts' s pins references opened registered (λ q. ap (λ (p : Plans). plans.references_to p q) same) (ap (λ (p : Plans). plans.references p) same)
-
--- the same items, with other plans
-pub counted_planned : (table : OwnerTable) (counts counts' : Held) → IsCounted table counts → counts' ≡ record counts { plans = counts'.plans }
-    → plans.RefersAlike counts.plans counts'.plans → plans.references counts'.plans ≡ plans.references counts.plans → IsCounted table counts'
-counted_planned table counts counts' s is alike referred =
-    counted_alike table counts counts' s (ap (λ (z : Held). z.pins) is) (ap (λ (z : Held). z.references) is) (ap (λ (z : Held). z.files.opened) is) (ap (λ (z : Held). z.snapshots.registered) is) alike referred
-
--- the same items, with other active snapshots
-pub counted_stacked : (table : OwnerTable) (counts counts' : Held) (stack : List Active) → IsCounted table counts → counts' ≡ record counts { snapshots = record counts.snapshots { stack = stack } } → IsCounted table counts'
-counted_stacked table counts counts' stack s is =
-    counted_touched table counts counts' s (ap (λ (z : Held). z.pins) is) (ap (λ (z : Held). z.references) is) (ap (λ (z : Held). z.files.opened) is) (ap (λ (z : Held). z.snapshots.registered) is) (ap (λ (z : Held). z.plans) is)
 
 -- an item fewer
 with_item : (test : Item → Bool) (o : Option Owner) (item : Item) → find test (option_map_or (λ owner. owner.items) o []) ≡ Some item → (a : Owner) × (o ≡ Some a) × (find test a.items ≡ Some item)

@@ -173,7 +173,3 @@ does_refer_less a b kinds ls cs ds xs ys item events is new does fewer left = re
   where
     hosts : (scene : Scene) → TablesFit (lending_of a kinds ls cs xs) scene → HostsFit (hosting_of cs xs) scene
     hosts scene fit = record { contexts = fit.contexts; shelf = fit.shelf }
-
--- a class of references is no kind of files, and built in
-pub no_file_class : (kind : KindId) → keeper_of kind ≡ NoOne → kind.0 ≡ 8 → ⊥
-no_file_class kind unkept is = let z : NoOne ≡ TheDescriptors = sym unkept ∙ is_file kind is in cc z

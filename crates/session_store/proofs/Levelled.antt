@@ -15,7 +15,7 @@ use Rattle.context_rules.specs.Contexts.{Contexts, created, created_events}
 use Rattle.any_ctx.specs.declared.any.CtxKind.TheVariants as kind
 use Rattle.context_tree.specs.State.{TreeState, IsLive, stands_for}
 use Rattle.session_owners.specs.ResourceState as owners
-use Rattle.session_owners.specs.ResourceState.{ResourceState, OwnerTree, Roomy, owners_of, plans_of}
+use Rattle.session_owners.specs.ResourceState.{ResourceState, Roomy, owners_of, plans_of}
 use Rattle.session_owners.specs.Fitting.{contexts_of}
 use Rattle.subxact_stack.specs.declared.levels.Level.{Level}
 use Rattle.portal_store.specs.declared.portal.Portal.{Portal}
@@ -30,7 +30,6 @@ use Rattle.session_rules.specs.Standing.{AreLevels, Stands}
 use Rattle.session_rules.proofs.EndsStand.{settled}
 use Rattle.session_rules.proofs.Standings.{own_there}
 use Rattle.session_owners.specs.Fitting as fitting
-use Rattle.session_owners.specs.Fitting.{OwnersFit, with_owners}
 use Rattle.session_owners.specs.Commons.{Balances, CommonState, seen_by}
 use Rattle.session_owners.proofs.Balances.{balances_none}
 use Rattle.session_store.specs.State.{StoreState, level_state, levels_of, portals_of, scene_of, session_of}
@@ -72,14 +71,6 @@ begun_acted a name implicit s x commons Said says = record {
   leads = λ around. ap (λ (ls : List LevelState). leveled a ls s x commons around) (sym (levels_are a.levels (new_level name implicit)));
   says = λ around. subst (λ (n : ℕ). Said (what.BeginLevel (n + 1) ∷ [])) (sym (levels_long a.levels)) says;
   balances = balances_none a.owners commons;
-}
-
-pub begun_placed : (tree : TreeState) (table : ResourceState) (levels : List Level) (portals : List Portal) (name : Option (List ℕ)) (implicit : Bool) → IsPlaced tree table levels portals → IsPlaced tree table (levels ++ new_level name implicit ∷ []) portals
-begun_placed tree table levels portals name implicit placed = record {
-  current = placed.current;
-  levels = All-push (LevelLies tree table) levels (new_level name implicit) placed.levels (record { context = tt; owner = tt });
-  plans = placed.plans;
-  portals = placed.portals;
 }
 
 -- a level stands

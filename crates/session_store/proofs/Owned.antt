@@ -4,12 +4,10 @@ use Rattle.std.specs.Prelude.{◌==◌, IsErr, reverse}
 use Rattle.std.specs.Option.{option_and_then, option_map, option_map_or}
 use Rattle.std.proofs.lemmas.List.Elements.{All-nil, All-cons, All-head, All-tail, All-weaker}
 use Rattle.addr_space.specs.Space.{Space}
-use Rattle.forest.specs.Forest.{Forest, at, changed, has, removed}
-use Rattle.forest.specs.Walk.{swept}
-use Rattle.forest.proofs.Trees.{has_changed, has_of_removed}
+use Rattle.forest.specs.Forest.{Forest, at, changed, has}
+use Rattle.forest.proofs.Trees.{has_changed}
 use Rattle.forest.proofs.Mapped.{mapped-has}
 use Rattle.pgs_step.specs.declared.ids.OwnerId.{OwnerId}
-use Rattle.pgs_step.specs.declared.ids.Phase.TheVariants.{AfterLocks, BeforeLocks, Locks}
 use Rattle.pgs_step.specs.declared.events.What.{What}
 use Rattle.reset_callbacks.specs.ShelfState.{ShelfState}
 use Rattle.context_rules.specs.Contexts.{Contexts}
@@ -18,8 +16,6 @@ use Rattle.session_owners.specs.ResourceState as ids
 use Rattle.plan_store.specs.Plans.{Plans}
 use Rattle.session_owners.specs.ResourceState.{Owner, ResourceState, OwnerTree, Roomy, owners_of, plan_state, plans_of}
 use Rattle.session_owners.specs.Fitting.{AreLeft, contexts_of}
-use Rattle.owner_core.specs.Released.{own_released}
-use Rattle.owner_kinds.specs.KindTable.{KindTable}
 use Rattle.subxact_stack.specs.Levels.{level_at}
 use Rattle.subxact_stack.specs.declared.levels.Level.{Level}
 use Rattle.portal_store.specs.declared.portal.Portal.{Portal}
@@ -33,8 +29,7 @@ use Rattle.session_rules.specs.Counts.{holds}
 use Rattle.session_rules.specs.World.{Around, Scene}
 use Rattle.session_rules.specs.Acts.{Ended, nothing}
 use Rattle.session_rules.specs.Standing.{AreLevels, IsPortal, Stands}
-use Rattle.session_rules.proofs.Swept.{has_swept}
-use Rattle.session_owners.specs.Counted.{all_released, holds_file}
+use Rattle.session_owners.specs.Counted.{holds_file}
 use Rattle.session_owners.specs.Fitting as own
 use Rattle.session_owners.specs.Fitting.{OwnersFit}
 use Rattle.session_owners.specs.Commons.{Balances, CommonState, pinned_beside, seen_by}
@@ -132,26 +127,6 @@ go_answered (Err e) a b owner f is same places plans = go_same a b (ap owners_of
 pub go_left : {A E : Type 0} (r : Result A E) (a b : ResourceState) (owner : ℕ) (f : Owner → Owner) → OnOk r (owners_of b ≡ changed owner f (owners_of a)) → OnErr r (b ≡ a) → b.places ≡ a.places → AreLeft a.plans.standing b.plans.standing → OwnersGo a b
 go_left (Ok x) a b owner f is same places left = go_changed a b owner f is places left
 go_left (Err e) a b owner f is same places left = go_same a b (ap owners_of same) places (ap (λ (q : ResourceState). q.plans) same)
-
-pub go_released : (table : KindTable) (a b : ResourceState) (owner : ℕ) → owners_of b ≡ all_released table owner (owners_of a) → b.places ≡ a.places → AreLeft a.plans.standing b.plans.standing → OwnersGo a b
-go_released table a b owner is places left =
-    let one = own_released table BeforeLocks in
-    let two = own_released table Locks in
-    let three = own_released table AfterLocks in
-    record {
-      had = λ n there.
-          sym (has_swept one n owner (owners_of a)) ∙ sym (has_swept two n owner (swept one owner (owners_of a)))
-          ∙ sym (has_swept three n owner (swept two owner (swept one owner (owners_of a)))) ∙ ap (has n) (sym is) ∙ there;
-      left = left;
-      stays = λ n there. ap (λ (f : Forest ℕ). at n f) places;
-    }
-
-pub go_gone : (a b : ResourceState) (owner : ℕ) → owners_of b ≡ removed owner (owners_of a) → ((n : ℕ) → has n (owners_of b) ≡ true → at n b.places ≡ at n a.places) → b.plans ≡ a.plans → OwnersGo a b
-go_gone a b owner is stays plans = record {
-  left = plans_same a b plans;
-  had = λ n there. has_of_removed n owner (owners_of a) (ap (has n) (sym is) ∙ there);
-  stays = stays;
-}
 
 -- the owner of a level is there where the session stands
 abbrev pub HasOwner : ResourceState → Level → Type 0

@@ -125,23 +125,6 @@ planned_placed b owners q levels portals plan id made placed live =
       portals = All-weaker (PortalLies b owners) (PortalLies b now) (λ p lies. record { context = lies.context; expr = lies.expr; owner = lies.owner; scan = lies.scan }) portals placed.portals;
     })
 
--- room is reserved, and no more
-pub room_placed : (b : TreeState) (owners q : ResourceState) (levels : List Level) (portals : List Portal) (plan : Option ℕ) → q ≡ with_room plan owners → IsPlaced b owners levels portals → IsPlaced b q levels portals
-room_placed b owners q levels portals plan made placed =
-    subst (λ (r : ResourceState). IsPlaced b r levels portals) (sym made)
-    (record {
-      current = placed.current;
-      levels = All-weaker (LevelLies b owners) (LevelLies b (with_room plan owners)) (λ l lies. record { context = lies.context; owner = lies.owner }) levels placed.levels;
-      plans = placed.plans;
-      portals = All-weaker (PortalLies b owners) (PortalLies b (with_room plan owners)) (λ p lies. record { context = lies.context; expr = lies.expr; owner = lies.owner; scan = lies.scan }) portals placed.portals;
-    })
-
--- the call was refused
-pub unmade_room : (a : StoreState) (q : ResourceState) (s : Space) (x : ShelfState) (commons : CommonState) → q ≡ a.owners → Unmade a (record a { owners = q }) s s x x commons commons
-unmade_room a q s x commons same =
-    subst (λ (r : ResourceState). Unmade a (record a { owners = r }) s s x x commons commons) (sym same)
-    (record { store = refl; shelf = refl; commons = refl; session = refl; limit = refl })
-
 pub unmade_context : (a : StoreState) (b : TreeState) (q : ResourceState) (s t : Space) (x : ShelfState) (commons : CommonState) (plan : Option ℕ) → q ≡ with_room plan a.owners → b ≡ a.tree → SameRegions s t → Unmade a (record a { tree = b; owners = q }) s t x x commons commons
 unfolding session_of
 unmade_context a b q s t x commons plan room same regions =
