@@ -7,7 +7,7 @@ ghost use Rattle.pgs_io.specs.Answers.{IfLine, IfLast, OnEnd, OnFault, OnTooMuch
 ghost use Rattle.pgs_io.specs.Filling.{TakesPart, Fills, FillsNoFault, Probes};
 
 use crate::Failed;
-use crate::finding::far_first_of;
+use crate::finding::first_of;
 use crate::lines::LineBuf;
 use crate::sources::Source;
 use std::marker::Model;
@@ -93,7 +93,7 @@ impl LineReader {
             self.start += 1;
             return Buffered::Whole { long: false };
         }
-        let Some(at) = far_first_of(pending, NEWLINE) else {
+        let Some(at) = first_of(pending, NEWLINE) else {
             return Buffered::Partial;
         };
         line.clear();
@@ -137,7 +137,7 @@ impl LineReader {
         ensures { TakesPart self.old self.new line.old line.new result.ended result.cut }
     {
         let pending = &self.chunk[self.start..self.end];
-        match far_first_of(pending, NEWLINE) {
+        match first_of(pending, NEWLINE) {
             Some(at) => {
                 let fits = line.extend(&pending[..at]);
                 self.start += at + 1;
