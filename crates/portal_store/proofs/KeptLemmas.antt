@@ -11,7 +11,8 @@ use Rattle.std.proofs.Math.Seq.{map-set_same, take-append_seam}
 use Rattle.portal_store.specs.declared.portal.Portal.{Portal}
 use Rattle.portal_store.specs.Portal.{to_parent}
 use Rattle.portal_store.specs.Portals.{HasDistinctNames, has_name, names, place_named, portal_named, without}
-use Rattle.portal_store.specs.Kept.{IsKept}
+use Rattle.portal_store.specs.Kept.{IsKept, IsRaised, IsReach}
+use Rattle.portal_store.proofs.ReachLemmas.{IsReach_active, IsReach_entered, IsReach_raised, IsReach_removed, IsReach_set, IsReach_to_parent}
 use Rattle.portal_store.proofs.PortalLemmas.{IsPlaceOf, IsPortals_created, IsPortals_remove, IsPortals_renamed, name_is, named_here, names_to_parent, place_of, place_within, without_remove}
 
 name_at : (portals : List Portal) (k : ℕ) (x : Portal) → k < length portals → slice_index_or (names portals) k x.name ≡ (slice_index_or portals k x).name
@@ -52,25 +53,42 @@ place_unknown name (p ∷ portals) found none known =
     rw is (rw outside refl)
 
 -- portals with the same names
-pub IsKept_renamed : (found : List ℕ → Option ℕ) (old new : List Portal) → names new ≡ names old → IsKept old found → IsKept new found
-IsKept_renamed found old new same kept = record {
+IsKept_renamed : (found : List ℕ → Option ℕ) (old new : List Portal) (before levels : List ℕ) → names new ≡ names old → IsReach new levels → IsKept old found before → IsKept new found levels
+IsKept_renamed found old new before levels same reach kept = record {
   are = IsPortals_renamed old new same kept.are;
   known = subst (λ ns. All (λ w. IsSome (found w)) ns) (sym same) kept.known;
+  reach = reach;
 }
 
--- a write of a portal with the same name at a place
-pub IsKept_set : (found : List ℕ → Option ℕ) (portals : List Portal) (i : ℕ) (x y : Portal) → x ≡ slice_index_or portals i x → y.name ≡ x.name → IsKept portals found → IsKept (slice_set portals i y) found
-IsKept_set found portals i x y here same kept = IsKept_renamed found portals (slice_set portals i y) (map-set_same (λ (p : Portal). p.name) portals i y x (same ∙ ap (λ (p : Portal). p.name) here)) kept
+names_set : (portals : List Portal) (i : ℕ) (x y : Portal) → x ≡ slice_index_or portals i x → y.name ≡ x.name → names (slice_set portals i y) ≡ names portals
+names_set portals i x y here same = map-set_same (λ (p : Portal). p.name) portals i y x (same ∙ ap (λ (p : Portal). p.name) here)
+
+-- a write of a portal with the same name at a place, which reaches no deeper
+pub IsKept_set : (found : List ℕ → Option ℕ) (levels : List ℕ) (portals : List Portal) (i : ℕ) (x y : Portal) → x ≡ slice_index_or portals i x → y.name ≡ x.name → y.created ≤ x.created → y.active ≤ x.active → IsKept portals found levels → IsKept (slice_set portals i y) found levels
+IsKept_set found levels portals i x y here same created active kept =
+    IsKept_renamed found portals (slice_set portals i y) levels levels (names_set portals i x y here same) (IsReach_set portals levels i x y here created active kept.reach) kept
+
+-- the same of one that reaches as deep as the place was raised
+pub IsKept_raised : (found : List ℕ → Option ℕ) (old new : List ℕ) (portals : List Portal) (i to : ℕ) (x y : Portal) → x ≡ slice_index_or portals i x → y.name ≡ x.name → i < length portals → y.created ≤ to → y.active ≤ to → IsRaised i to old new → IsKept portals found old
+    → IsKept (slice_set portals i y) found new
+IsKept_raised found old new portals i to x y here same within created active raised kept =
+    IsKept_renamed found portals (slice_set portals i y) old new (names_set portals i x y here same) (IsReach_raised portals old new i to y within created active raised kept.reach) kept
+
+-- the same of one of which one level changes, where the other one is within what the place reaches
+pub IsKept_active : (found : List ℕ → Option ℕ) (old new : List ℕ) (portals : List Portal) (i to : ℕ) (x : Portal) → x ≡ slice_index_or portals i x → i < length portals → IsRaised i to old new → IsKept portals found old → IsKept (slice_set portals i (record x { active = to })) found new
+IsKept_active found old new portals i to x here within raised kept =
+    IsKept_renamed found portals (slice_set portals i (record x { active = to })) old new (names_set portals i x (record x { active = to }) here refl) (IsReach_active portals old new i to x here within raised kept.reach) kept
 
 -- the portals behind the commit of a subtransaction
-pub IsKept_to_parent : (found : List ℕ → Option ℕ) (level : ℕ) (portals new : List Portal) → IsKept portals found → new ≡ map (to_parent level) portals → IsKept new found
-IsKept_to_parent found level portals new kept written = IsKept_renamed found portals new (ap names written ∙ names_to_parent level portals) kept
+pub IsKept_to_parent : (found : List ℕ → Option ℕ) (levels : List ℕ) (level : ℕ) (portals new : List Portal) → IsKept portals found levels → new ≡ map (to_parent level) portals → IsKept new found levels
+IsKept_to_parent found levels level portals new kept written = IsKept_renamed found portals new levels levels (ap names written ∙ names_to_parent level portals) (IsReach_to_parent level portals new levels written kept.reach) kept
 
 -- the same names are found
-pub IsKept_same : (found known : List ℕ → Option ℕ) (portals : List Portal) → ((w : List ℕ) → known w ≡ found w) → IsKept portals found → IsKept portals known
-IsKept_same found known portals same kept = record {
+pub IsKept_same : (found known : List ℕ → Option ℕ) (portals : List Portal) (levels same_levels : List ℕ) → ((w : List ℕ) → known w ≡ found w) → same_levels ≡ levels → IsKept portals found levels → IsKept portals known same_levels
+IsKept_same found known portals levels same_levels same still kept = record {
   are = kept.are;
   known = All-weaker (λ w. IsSome (found w)) (λ w. IsSome (known w)) (λ w some. ap is_some (same w) ∙ some) (names portals) kept.known;
+  reach = subst (IsReach portals) (sym still) kept.reach;
 }
 
 -- what `push_front` leaves where it isn't refused
@@ -79,13 +97,14 @@ in_front portals new p true is_new unrefused = is_new
 in_front portals new p false is_new unrefused = absurd (cc)
 
 -- one portal more, in front
-pub IsKept_created : (found known : List ℕ → Option ℕ) (portals new : List Portal) (p : Portal) → new ≡ p ∷ portals → is_some (portal_named p.name portals) ≡ false → length portals ≢ 1024 → IsSome (known p.name) → ((w : List ℕ) → IsSome (found w) → IsSome (known w))
-    → IsKept portals found → IsKept new known
-IsKept_created found known portals new p is_new free room entered others kept = record {
+pub IsKept_created : (found known : List ℕ → Option ℕ) (portals new : List Portal) (p : Portal) (levels more : List ℕ) (n : ℕ) → new ≡ p ∷ portals → is_some (portal_named p.name portals) ≡ false → length portals ≢ 1024 → IsSome (known p.name) → ((w : List ℕ) → IsSome (found w) → IsSome (known w))
+    → p.created ≤ n → p.active ≤ n → slice_index_or levels 0 0 ≤ n → more ≡ n ∷ levels → IsKept portals found levels → IsKept new known more
+IsKept_created found known portals new p levels more n is_new free room entered others created active first longer kept = record {
   are = IsPortals_created portals new p true is_new free room kept.are;
   known =
       subst (λ ps. All (λ w. IsSome (known w)) (names ps)) (sym is_new)
       (All-cons (λ w. IsSome (known w)) p.name (names portals) entered (All-weaker (λ w. IsSome (found w)) (λ w. IsSome (known w)) others (names portals) kept.known));
+  reach = subst (λ ps. IsReach ps more) (sym is_new) (subst (IsReach (p ∷ portals)) (sym longer) (IsReach_entered p n portals levels created active first kept.reach));
 }
 
 known_without : (name : List ℕ) (found known : List ℕ → Option ℕ) → ((w : List ℕ) → w ≢ name → IsSome (found w) → IsSome (known w)) → (portals : List Portal) → HasDistinctNames portals → All (λ w. IsSome (found w)) (names portals)
@@ -115,11 +134,15 @@ removed portals new i None left some = absurd (cc)
 removed portals new i (Some x) left some = left
 
 -- one portal fewer
-pub IsKept_taken : (name : List ℕ) (found known : List ℕ → Option ℕ) (portals view new : List Portal) (i : ℕ) (taken : Option Portal) → portals ≡ view → place_named name view ≡ Some i → IfSome taken (λ y. y ≡ slice_index_or portals i y) → OnSome taken (new ≡ remove portals i)
-    → IsSome taken → ((w : List ℕ) → w ≢ name → IsSome (found w) → IsSome (known w)) → IsKept portals found → IsKept new known
-IsKept_taken name found known portals view new i taken same at here left some others kept = record {
-  are = rw (removed portals new i taken left some) (IsPortals_remove portals i (place_within name portals i (ap (place_named name) same ∙ at)) kept.are);
-  known =
-      subst (λ ps. All (λ w. IsSome (known w)) (names ps)) (sym ((taken_out name portals view new i taken same at here left some).1 ∙ ap (without name) (sym same)))
-      (known_without name found known others portals kept.are.distinct kept.known);
-}
+pub IsKept_taken : (name : List ℕ) (found known : List ℕ → Option ℕ) (portals view new : List Portal) (levels left_levels : List ℕ) (i : ℕ) (taken : Option Portal) → portals ≡ view → place_named name view ≡ Some i → IfSome taken (λ y. y ≡ slice_index_or portals i y) → OnSome taken (new ≡ remove portals i)
+    → IsSome taken → ((w : List ℕ) → w ≢ name → IsSome (found w) → IsSome (known w)) → left_levels ≡ remove levels i → IsKept portals found levels → IsKept new known left_levels
+IsKept_taken name found known portals view new levels left_levels i taken same at here left some others fewer kept =
+    let within : i < length portals = place_within name portals i (ap (place_named name) same ∙ at) in
+    let is_new : new ≡ remove portals i = removed portals new i taken left some in
+    record {
+      are = rw is_new (IsPortals_remove portals i within kept.are);
+      known =
+          subst (λ ps. All (λ w. IsSome (known w)) (names ps)) (sym ((taken_out name portals view new i taken same at here left some).1 ∙ ap (without name) (sym same)))
+          (known_without name found known others portals kept.are.distinct kept.known);
+      reach = subst (λ ps. IsReach ps left_levels) (sym is_new) (subst (IsReach (remove portals i)) (sym fewer) (IsReach_removed portals levels i within kept.reach));
+    }

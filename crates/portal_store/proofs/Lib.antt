@@ -1,2 +1,3 @@
 pub mod PortalLemmas
 pub mod KeptLemmas
+pub mod ReachLemmas

@@ -168,6 +168,12 @@ aborted_at level i portals view x y same within here is_new =
     let found : slice_get view i ≡ Some x = slice_get_read view (length view) i x refl within (here ∙ ap (λ ps. slice_index_or ps i x) same) in
     rw found (ap (λ z. slice_set portals i z) is_new ∙ ap (λ ps. slice_set ps i (sub_aborted level x)) same)
 
+-- the same behind its commit
+pub passed_at : (level i : ℕ) (portals view : List Portal) (x y : Portal) → portals ≡ view → i < length view → x ≡ slice_index_or portals i x → y ≡ to_parent level x → IfSome (slice_get view i) (λ portal. slice_set portals i y ≡ slice_set view i (to_parent level portal))
+passed_at level i portals view x y same within here is_new =
+    let found : slice_get view i ≡ Some x = slice_get_read view (length view) i x refl within (here ∙ ap (λ ps. slice_index_or ps i x) same) in
+    rw found (ap (λ z. slice_set portals i z) is_new ∙ ap (λ ps. slice_set ps i (to_parent level x)) same)
+
 pub moved_at : (level i : ℕ) (portals view : List Portal) (x : Portal) → portals ≡ view → i < length view → x ≡ slice_index_or portals i x → moved_owner level x ≡ option_and_then (moved_owner level) (slice_get view i)
 moved_at level i portals view x same within here =
     let found : slice_get view i ≡ Some x = slice_get_read view (length view) i x refl within (here ∙ ap (λ ps. slice_index_or ps i x) same) in

@@ -4,6 +4,7 @@
 mod places;
 mod portal;
 mod portals;
+mod reach;
 
 pub use portal::{Portal, PortalError, PortalState};
 pub use portals::{MAX_PORTALS, Portals};

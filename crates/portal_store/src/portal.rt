@@ -1,5 +1,5 @@
 //! One portal.
-ghost use Rattle.std.specs.Prelude.{◌≡◌, ◌∷◌, ◌<◌};
+ghost use Rattle.std.specs.Prelude.{◌≡◌, ◌∷◌, ◌<◌, ◌≤◌};
 
 use exec_core::{Scan, ScanStep, Stage};
 use pgs_step::{CtxId, Name, OwnerId};
@@ -68,7 +68,9 @@ impl Portal {
     /// A subtransaction of this level has committed.
     pub(crate) fn to_parent(&mut self, level: u32)
         requires { 0 < level }
-        ensures { self.new ≡ to_parent level self.old }
+        ensures portal { self.new ≡ to_parent level self.old }
+        ensures created { self.new.created ≤ self.old.created }
+        ensures active { self.new.active ≤ self.old.active }
     {
         if self.created == level {
             self.created = level - 1;
@@ -82,6 +84,8 @@ impl Portal {
     pub(crate) fn sub_abort(&mut self, level: u32) -> Option<OwnerId>
         ensures portal { self.new ≡ sub_aborted level self.old }
         ensures moved { result ≡ moved_owner level self.old }
+        ensures created { self.new.created ≤ self.old.created }
+        ensures active { self.new.active ≤ self.old.active }
     {
         if self.created == level {
             self.state = PortalState::Failed;

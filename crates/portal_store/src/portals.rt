@@ -1,11 +1,13 @@
 //! The portals of a session.
-ghost use Rattle.std.specs.Prelude.{◌≡◌, ◌↔◌, ◌<◌, ◌≤◌, ℕ, List, length, map, slice_get, slice_set, [], ◌∷◌, Some, OnOk, OnErr, IfOk, IfSome, IsSome, IsNone, IsTrue, is_some, option_copied, option_and_then};
+ghost use Rattle.std.specs.Prelude.{◌≡◌, ◌↔◌, ◌<◌, ◌≤◌, ℕ, List, All, length, map, drop, slice_get, slice_set, [], ◌∷◌, Some, OnOk, OnErr, IfOk, IfSome, IsSome, IsNone, IsTrue, is_some, option_copied, option_and_then};
 ghost use Rattle.exec_core.specs.Turn.{IsScan, rest, taken};
 ghost use Rattle.portal_store.specs.Portal.{coming, to_parent, sub_aborted, moved_owner};
+ghost use Rattle.portal_store.specs.Kept.{IsReach};
 ghost use Rattle.portal_store.specs.Portals.{place_named, portal_named, new_portal, changed, without, HasDistinctNames};
 
 use crate::places::Places;
 use crate::portal::{Portal, PortalError, PortalState};
+use crate::reach::{Reach, deeper};
 use exec_core::{Scan, ScanStep};
 use pgs_step::{CtxId, Name, OwnerId};
 use std::alloc::Global;
@@ -23,6 +25,7 @@ pub const MAX_PORTALS: usize = 1024;
 pub struct Portals {
     portals: VecDeque<Portal>,
     places: Places,
+    reach: Reach,
 }
 
 impl Model for Portals {
@@ -36,7 +39,7 @@ impl Model for Portals {
     ghost use Rattle.std.specs.HashMap.{get};
     ghost use Rattle.portal_store.specs.Kept.{IsKept, same};
 
-    ghost invariant = { λ p. IsKept p.portals.items (get same p.places.serials) };
+    ghost invariant = { λ p. IsKept p.portals.items (get same p.places.serials) p.reach.levels.items };
 }
 
 impl Portals {
@@ -47,6 +50,7 @@ impl Portals {
         Portals {
             portals: VecDeque::new(alloc),
             places: Places::new(alloc),
+            reach: Reach::new(alloc),
         }
     }
 
@@ -69,6 +73,9 @@ impl Portals {
         if self.places.make_room().is_err() {
             return Err(PortalError::Memory);
         }
+        if self.reach.make_room().is_err() {
+            return Err(PortalError::Memory);
+        }
         let portal = Portal {
             name,
             context: None,
@@ -83,6 +90,7 @@ impl Portals {
             return Err(PortalError::Memory);
         }
         self.places.enter(name);
+        self.reach.enter(level);
         Ok(())
     }
 
@@ -102,6 +110,8 @@ impl Portals {
         ensures { self.new ≡ changed portal.name (λ old. portal) self.old }
     {
         let place = self.place(&portal.name);
+        let to = deeper(portal.created, portal.active);
+        self.reach.raise(place, to);
         self.portals[place] = portal;
     }
 
@@ -156,6 +166,7 @@ impl Portals {
         ensures portals { (name : List ℕ) → place_named name self.old ≡ Some place → self.new ≡ changed name (λ p. record p { active = active }) self.old }
         ensures distinct { HasDistinctNames self.old }
     {
+        self.reach.raise(place, active);
         self.portals[place].active = active;
     }
 
@@ -219,6 +230,32 @@ impl Portals {
         to_parent(self.portals.make_contiguous(), level);
     }
 
+    /// The subtransaction of this level has committed: what that means for the portal of place `i`.
+    pub fn pass_at(&mut self, i: usize, level: u32)
+        requires there { i < length self.old }
+        requires level { 0 < level }
+        ensures { IfSome (slice_get self.old i) (λ portal. self.new ≡ slice_set self.old i (to_parent level portal)) }
+    {
+        self.portals[i].to_parent(level);
+    }
+
+    /// How many portals, the newest, the end of this level may be about: no other one was made in it or in a deeper one, and
+    /// none is active there.
+    pub fn touched(&self, level: u32) -> usize
+        ensures at_most { result ≤ length self.now }
+        ensures others { All (λ p. (p.created < level) × (p.active < level)) (drop result self.now) }
+    {
+        self.reach.touched(level)
+    }
+
+    /// So many portals, the newest, were dealt with at the end of a level, and the next one needn't look at them.
+    pub fn settle(&mut self, count: usize)
+        requires { count ≤ length self.old }
+        ensures { self.new ≡ self.old }
+    {
+        self.reach.settle(&self.portals, count);
+    }
+
     /// The subtransaction of this level is being aborted: what that means for the portal of place `i`.
     ///
     /// It gives the portal's owner where that has to move to the level's owner: exactly where the portal has
@@ -238,6 +275,7 @@ impl Portals {
     {
         let place = self.place_of(name)?;
         self.places.leave(place, name);
+        self.reach.leave(place);
         self.portals.remove(place)
     }
 

@@ -1,13 +1,15 @@
-use Rattle.std.proofs.Common.{refl}
+use Rattle.std.proofs.Common.{List, ◌<◌, length, subst, sym}
 use Rattle.portal_store.specs.declared.portal.Portal.{Portal}
 use Rattle.std.specs.HashMap.{get}
 use Rattle.portal_store.specs.Kept.{same}
 use Rattle.portal_store.proofs.PortalLemmas.{changed_at}
-use Rattle.portal_store.proofs.KeptLemmas.{IsKept_set}
+use Rattle.portal_store.proofs.KeptLemmas.{IsKept_active}
 use Rattle.portal_store.proofs.portals.Portals.set_active_at.Goals as goal
 
 pub invariant_of-self : goal.invariant_of-self
-invariant_of-self c = IsKept_set (get same c.self.inside.places.serials) c.self.inside.portals.items c.args.place c.index_mut.result.now (record c.index_mut.result.now { active = c.args.active }) c.index_mut.ensures.value refl c.self.invariant
+invariant_of-self c =
+    IsKept_active (get same c.self.inside.places.serials) c.self.inside.reach.levels.items c.raise.new.self.levels.items c.self.inside.portals.items c.args.place c.args.active c.index_mut.result.now c.index_mut.ensures.value
+    (subst (λ (ps : List Portal). c.args.place < length ps) (sym c.self.view_is) c.requires) c.raise.ensures c.self.invariant
 
 pub returns-clause-portals : goal.returns-clause-portals
 returns-clause-portals c name at = changed_at name c.self.inside.portals.items c.args.self.now c.args.place c.index_mut.result.now c.self.view_is at c.index_mut.ensures.value (λ (p : Portal). record p { active = c.args.active })

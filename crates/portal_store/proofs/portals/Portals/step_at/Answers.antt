@@ -1,4 +1,4 @@
-use Rattle.std.proofs.Common.{◌≡◌, ◌∷◌, ap, ◌∙◌, slice_set}
+use Rattle.std.proofs.Common.{◌≡◌, ◌∷◌, ap, ◌∙◌, slice_set, arith}
 use Rattle.exec_core.specs.Turn.{IsScan, rest, taken}
 use Rattle.portal_store.specs.declared.portal.Portal.{Portal}
 use Rattle.portal_store.specs.Portal.{coming}
@@ -13,7 +13,8 @@ step-requires c = asked_there c.self.inside.portals.items c.args.self.now c.args
 
 pub invariant_of-self : goal.invariant_of-self
 invariant_of-self c =
-    IsKept_set (get same c.self.inside.places.serials) c.self.inside.portals.items c.args.place c.index_mut.result.now c.step.new.self c.index_mut.ensures.value (ap (λ (p : Portal). p.name) c.step.ensures.portal) c.self.invariant
+    IsKept_set (get same c.self.inside.places.serials) c.self.inside.reach.levels.items c.self.inside.portals.items c.args.place c.index_mut.result.now c.step.new.self c.index_mut.ensures.value (ap (λ (p : Portal). p.name) c.step.ensures.portal)
+    (omega (arith, ap (λ (p : Portal). p.created) c.step.ensures.portal)) (omega (arith, ap (λ (p : Portal). p.active) c.step.ensures.portal)) c.self.invariant
 
 pub returns-clause-step : goal.returns-clause-step
 returns-clause-step c =
