@@ -13,7 +13,7 @@ use Rattle.session_store.specs.Placed.{OwnerLies, PortalLies}
 use Rattle.session_store.proofs.Lists.{all_at}
 use Rattle.portal_store.specs.declared.portal.PortalState.{PortalState}
 use Rattle.portal_store.specs.declared.portal.PortalState.TheVariants.{New, Ready, Failed}
-use Rattle.portal_store.specs.Portal.{is_outer, kept_owner, sub_aborted}
+use Rattle.portal_store.specs.Portal.{is_outer, kept_owner, sub_aborted, to_parent}
 use Rattle.context_tree.specs.State.{TreeState}
 use Rattle.session_owners.specs.ResourceState.{ResourceState}
 
@@ -147,16 +147,22 @@ aborted_lies tree table level p lies = by_created (p.created == level)
     by_created true = record { context = lies.context; expr = tt; owner = tt; scan = lies.scan }
     by_created false = by_active (is_outer level p)
 
-pub all_aborted : (tree : TreeState) (table : ResourceState) (level : ℕ) (ps new : List Portal) (i : ℕ) → IfSome (slice_get ps i) (λ portal. new ≡ slice_set ps i (sub_aborted level portal)) → i < length ps → All (PortalLies tree table) ps → All (PortalLies tree table) new
-all_aborted tree table level ps new i is within h = go (slice_get ps i) refl is
+-- one portal becomes another one in its place
+all_become : (tree : TreeState) (table : ResourceState) (f : Portal → Portal) → ((p : Portal) → PortalLies tree table p → PortalLies tree table (f p)) → (ps new : List Portal) (i : ℕ) → IfSome (slice_get ps i) (λ portal. new ≡ slice_set ps i (f portal)) → i < length ps → All (PortalLies tree table) ps
+    → All (PortalLies tree table) new
+all_become tree table f on ps new i is within h = go (slice_get ps i) refl is
   where
     none : (xs : List Portal) (n : ℕ) → n < length xs → slice_get xs n ≡ None → ⊥
     none [] n w e = omega (arith, w)
     none (x ∷ xs) zero w e = cc e
     none (x ∷ xs) (suc n) w e = none xs n (omega (arith, w)) e
 
-    go : (o : Option Portal) → slice_get ps i ≡ o → IfSome o (λ portal. new ≡ slice_set ps i (sub_aborted level portal)) → All (PortalLies tree table) new
+    go : (o : Option Portal) → slice_get ps i ≡ o → IfSome o (λ portal. new ≡ slice_set ps i (f portal)) → All (PortalLies tree table) new
     go None e is = absurd (none ps i within e)
-    go (Some p) e is =
-        subst (All (PortalLies tree table)) (sym is)
-        (all_set (PortalLies tree table) ps i (sub_aborted level p) (aborted_lies tree table level p (all_at (PortalLies tree table) ps i p h e)) h)
+    go (Some p) e is = subst (All (PortalLies tree table)) (sym is) (all_set (PortalLies tree table) ps i (f p) (on p (all_at (PortalLies tree table) ps i p h e)) h)
+
+pub all_aborted : (tree : TreeState) (table : ResourceState) (level : ℕ) (ps new : List Portal) (i : ℕ) → IfSome (slice_get ps i) (λ portal. new ≡ slice_set ps i (sub_aborted level portal)) → i < length ps → All (PortalLies tree table) ps → All (PortalLies tree table) new
+all_aborted tree table level = all_become tree table (sub_aborted level) (aborted_lies tree table level)
+
+pub all_passed : (tree : TreeState) (table : ResourceState) (level : ℕ) (ps new : List Portal) (i : ℕ) → IfSome (slice_get ps i) (λ portal. new ≡ slice_set ps i (to_parent level portal)) → i < length ps → All (PortalLies tree table) ps → All (PortalLies tree table) new
+all_passed tree table level = all_become tree table (to_parent level) (λ (p : Portal) lies. record { context = lies.context; expr = lies.expr; owner = lies.owner; scan = lies.scan })

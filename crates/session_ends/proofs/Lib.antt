@@ -21,3 +21,4 @@ pub mod Naming
 pub mod Becoming
 pub mod Living
 pub mod Equipping
+pub mod Quiet

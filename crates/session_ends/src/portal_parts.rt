@@ -1,5 +1,5 @@
 //! What the ends of portals are made of: a portal's memory goes, its owner moves, and it changes or is there no more.
-ghost use Rattle.std.specs.Prelude.{◌≡◌, ◌≢◌, ◌-◌, ◌<◌, ◌≤◌, ◌==◌, if◌then◌else◌, ℕ, length, true, false, None, IfSome, IsSome, slice_get, slice_set, option_and_then};
+ghost use Rattle.std.specs.Prelude.{◌≡◌, ◌≢◌, ◌-◌, ◌<◌, ◌≤◌, ◌==◌, if◌then◌else◌, ℕ, All, length, drop, true, false, None, Some, IfSome, slice_get, slice_set, option_and_then};
 ghost use Rattle.std.specs.Option.{option_map};
 ghost use Rattle.addr_space.specs.Space.{Space};
 ghost use Rattle.forest.specs.Forest.{Empty, Once, children, has, is_above};
@@ -7,15 +7,15 @@ ghost use Rattle.pgs_step.specs.declared.ids.OwnerId.{OwnerId as AnOwner};
 ghost use Rattle.reset_callbacks.specs.ShelfState.{ShelfState};
 ghost use Rattle.context_rules.specs.Refusals.{is_within};
 ghost use Rattle.context_tree.specs.State.{HooksFit, IsLive};
-ghost use Rattle.portal_store.specs.Portal.{moved_owner, sub_aborted};
-ghost use Rattle.portal_store.specs.Portals.{changed, portal_named, without};
+ghost use Rattle.portal_store.specs.Portal.{moved_owner, sub_aborted, to_parent};
+ghost use Rattle.portal_store.specs.Portals.{portal_named, without};
 ghost use Rattle.session_owners.specs.ResourceState as owners;
 ghost use Rattle.session_owners.specs.ResourceState.{owners_of};
 ghost use Rattle.session_owners.specs.Commons.{CommonState};
 ghost use Rattle.session_rules.specs.Acts.{children_gone, context_gone, where_there};
 ghost use Rattle.session_rules.specs.Releases.{owner_moved};
 ghost use Rattle.session_rules.specs.Portals.{is_ready};
-ghost use Rattle.session_store.specs.State.{contexts_in};
+ghost use Rattle.session_store.specs.State.{contexts_in, portals_of};
 ghost use Rattle.session_store.specs.Placed.{PortalLies};
 ghost use Rattle.session_store.specs.Calls.{Acted, Keeps, PortalsAlone};
 ghost use Rattle.session_ends.specs.Portals.{GoesOut};
@@ -34,6 +34,36 @@ pub(crate) fn portal_at<H: ResetHook>(store: &Store<H>, left: usize) -> Option<P
     ensures lies { IfSome result (PortalLies store.now.tree store.now.owners) }
 {
     store.portals.at(store.portals.len() - left).copied()
+}
+
+/// The first of this many last portals, where they are more than so many others.
+#[inline]
+pub(crate) fn touched_at<H: ResetHook>(store: &Store<H>, left: usize, rest: usize) -> Option<Portal>
+    requires { left ≤ length store.now.portals }
+    ensures portal { IfSome result (λ p. slice_get store.now.portals (length store.now.portals - left) ≡ Some p) }
+    ensures none { result ≡ None → left ≤ rest }
+    ensures lies { IfSome result (PortalLies store.now.tree store.now.owners) }
+{
+    if left <= rest {
+        return None;
+    }
+    portal_at(store, left)
+}
+
+/// How many portals, the last ones, the end of the level of this number isn't about: none of them was made there or is active there.
+pub(crate) fn untouched<H: ResetHook>(store: &Store<H>, level: u32) -> usize
+    ensures at_most { result ≤ length store.now.portals }
+    ensures others { All (λ p. (p.created < level) × (p.active < level)) (drop (length store.now.portals - result) (portals_of store.now.portals)) }
+{
+    store.portals.len() - store.portals.touched(level)
+}
+
+/// All portals but so many last ones were dealt with at the end of a level.
+pub(crate) fn settled<H: ResetHook>(store: &mut Store<H>, rest: usize)
+    requires { rest ≤ length store.old.portals }
+    ensures { store.new ≡ store.old }
+{
+    store.portals.settle(store.portals.len() - rest);
 }
 
 /// The portal of this name.
@@ -138,14 +168,15 @@ pub(crate) fn move_to<H: ResetHook, E: Emit>(
     move_owner(&mut store.owners, owner, to, out);
 }
 
-/// Puts a portal in the place of the one that has its name.
-pub(crate) fn put<H: ResetHook>(store: &mut Store<H>, portal: Portal)
-    requires there { IsSome (portal_named portal.name store.old.portals) }
-    requires lies { PortalLies store.old.tree store.old.owners portal }
-    ensures portals { store.new.portals ≡ changed portal.name (λ old. portal) store.old.portals }
+/// The level of this number is merged into the one above it: what that means for the levels of the first of this many last portals.
+pub(crate) fn pass<H: ResetHook>(store: &mut Store<H>, left: usize, level: u32)
+    requires some { 0 < left }
+    requires left { left ≤ length store.old.portals }
+    requires level { 0 < level }
+    ensures portal { IfSome (slice_get store.old.portals (length store.old.portals - left)) (λ portal. store.new.portals ≡ slice_set store.old.portals (length store.old.portals - left) (to_parent level portal)) }
     ensures alone { PortalsAlone store.old store.new }
 {
-    store.portals.put(portal);
+    store.portals.pass_at(store.portals.len() - left, level);
 }
 
 /// The level of this number is aborted: what that means for the first of this many last portals, and the owner that it gives up.

@@ -6,7 +6,6 @@ ghost use Rattle.forest.specs.Forest.{parent_of};
 ghost use Rattle.pgs_step.specs.declared.ids.OwnerId.{OwnerId as AnOwner};
 ghost use Rattle.reset_callbacks.specs.ShelfState.{ShelfState};
 ghost use Rattle.context_tree.specs.State.{Moves};
-ghost use Rattle.portal_store.specs.Portal.{lowered as level_lowered};
 ghost use Rattle.portal_store.specs.Portals.{portal_named};
 ghost use Rattle.owner_core.specs.Owners.{has_begun};
 ghost use Rattle.session_owners.specs.ResourceState as owners;
@@ -27,8 +26,8 @@ use crate::items::forget_item;
 use crate::parts::{discard_owner, release_owner};
 use crate::place::Place;
 use crate::portal_parts::{
-    clear_memory, context_of, drop_memory, found, move_to, owner_of, portal_at, put, running,
-    sub_abort, take_out,
+    clear_memory, context_of, drop_memory, found, move_to, owner_of, pass, portal_at, running,
+    settled, sub_abort, take_out, touched_at, untouched,
 };
 use addr_space::Space;
 use exec_core::Scan;
@@ -186,21 +185,11 @@ pub(crate) fn close_portals<H: ResetHook, K: ExtKind, E: Emit>(
     }
 }
 
-/// A level, or the one above it where it is the level that ends.
-fn lowered(number: u32, level: u32) -> u32
-    requires { 0 < level }
-    ensures { result ≡ level_lowered level number }
-{
-    if number == level {
-        return level - 1;
-    }
-    number
-}
-
-/// A portal where the level of this number is merged into the one above it, which has this owner.
+/// A portal, the first of this many last ones, where the level of this number is merged into the one above it, which has this owner.
 fn pass_portal<H: ResetHook, E: Emit>(
     store: &mut Store<H>,
     portal: Portal,
+    left: usize,
     level: u32,
     above: Option<OwnerId>,
     out: &mut E,
@@ -209,22 +198,14 @@ fn pass_portal<H: ResetHook, E: Emit>(
     requires level { length store.old.levels ≡ level }
     requires so { EndsSo (LevelEnd.Merges above) (levels_of store.old.levels) }
     requires to { IfSome above (owners.IsLive store.old.owners) }
-    requires ending { (s : Space) × ((x : ShelfState) × ((c : CommonState) × ((back : List OpenPortal) × IsEnding (left_by (LevelEnd.Merges above)) store.old s x c (portal_state portal ∷ back)))) }
+    requires at { slice_get store.old.portals (length store.old.portals - left) ≡ Some portal }
+    requires ending { (s : Space) × ((x : ShelfState) × ((c : CommonState) × ((back : List OpenPortal) × ((length back + 1 ≡ left) × IsEnding (left_by (LevelEnd.Merges above)) store.old s x c (portal_state portal ∷ back))))) }
     ensures acted { (s : Space) (x : ShelfState) (c : CommonState) → Acted (portal_after (LevelEnd.Merges above) level (portal_state portal)) store.old store.new s s x x c c (λ events. E.emits out.old events out.new) }
     ensures out { (s : Space) → Keeps store.old s → GoesOut store.old store.new s s }
     ensures stays { (id : AnOwner) → owners.IsLive store.old.owners id → owners.IsLive store.new.owners id }
 {
     move_to(store, owner_of(&portal, level), above, out);
-    let created = lowered(portal.created, level);
-    let active = lowered(portal.active, level);
-    put(
-        store,
-        Portal {
-            created,
-            active,
-            ..portal
-        },
-    );
+    pass(store, left, level);
 }
 
 /// A portal, the first of this many last ones, where the level of this number aborts, which has this owner.
@@ -302,14 +283,14 @@ fn settle_portal<H: ResetHook, E: Emit>(
     ensures stays { (id : AnOwner) → owners.IsLive store.old.owners id → owners.IsLive store.new.owners id }
 {
     match end {
-        LevelEnd::Merges(above) => pass_portal(store, portal, level, above, out),
+        LevelEnd::Merges(above) => pass_portal(store, portal, left, level, above, out),
         LevelEnd::Aborts(own) => abort_portal(store, portal, left, level, own, space, shelf, out),
         LevelEnd::Goes => sweep_portal(store, portal, level, space, shelf, out),
     }
 }
 
 /// What becomes of the portals where the level of this number ends so: `AtSubCommit_Portals`, `AtSubAbort_Portals` and `AtAbort_Portals`, and
-/// `AtSubCleanup_Portals` and `AtCleanup_Portals`.
+/// `AtSubCleanup_Portals` and `AtCleanup_Portals`. It looks at no portal behind the last one that the end is about.
 pub(crate) fn settle_portals<H: ResetHook, E: Emit>(
     store: &mut Store<H>,
     end: LevelEnd,
@@ -327,11 +308,13 @@ pub(crate) fn settle_portals<H: ResetHook, E: Emit>(
     ensures out { GoesOut store.old store.new space.old space.new }
     ensures ending { (c : CommonState) → IsEnding (left_by end) store.old space.old shelf.old c (portals_of store.old.portals) → IsEnding (left_by end) store.new space.new shelf.new c [] }
 {
+    let rest = untouched(store, level);
     let mut left = store.portals.len();
-    while let Some(portal) = portal_at(store, left) {
+    while let Some(portal) = touched_at(store, left, rest) {
         settle_portal(store, portal, left, end, level, space, shelf, out);
         left -= 1;
     }
+    settled(store, left);
 }
 
 /// The owner of a portal is released into its parent and discarded, if there is one.

@@ -1,15 +1,17 @@
 -- Each turn settles the first of the portals that are left.
-use Rattle.std.proofs.Common.{List, [], ◌∷◌, length, refl, sym, ap, ◌∙◌, subst, arith}
-use Rattle.std.proofs.lemmas.List.{length-map}
+use Rattle.std.proofs.Common.{◌≡◌, ◌+◌, ◌-◌, ◌≤◌, List, [], ◌∷◌, All, length, refl, sym, ap, ◌∙◌, subst, arith}
+use Rattle.std.proofs.lemmas.List.{length-append, length-map}
 use Rattle.session_owners.specs.Commons.{CommonState}
 use Rattle.session_rules.specs.State.{OpenPortal}
 use Rattle.session_rules.specs.Acts.{for_each}
 use Rattle.session_store.specs.State.{StoreState, levels_of, portal_state, portals_of}
 use Rattle.session_store.specs.Calls.{Acted}
-use Rattle.session_ends.specs.Portals.{EndsSo, IsEnding, left_by, owner_to, portal_after}
+use Rattle.session_ends.specs.Portals.{EndsSo, GoesOut, IsEnding, left_by, owner_to, portal_after}
 use Rattle.session_ends.proofs.Dealing.{ending_step}
 use Rattle.session_ends.proofs.Out.{out_more, out_nothing, some_on}
-use Rattle.session_ends.proofs.Walking.{acted_more, acted_none, all_done, left_within, next_is, next_none, one_more, settling_leads}
+use Rattle.session_ends.proofs.Walking.{acted_more, acted_none, left_within, next_is, one_more, settling_leads}
+use Rattle.session_ends.proofs.Quiet.{IsQuiet, ending_front, quiet_back, quiet_ending, quiet_more}
+use Rattle.session_ends.proofs.portals.settle_portals.Given as given
 use Rattle.session_ends.proofs.portals.settle_portals.Goals as goal
 
 pub loop-portal-init : goal.loop-portal-init
@@ -26,8 +28,8 @@ loop-portal-init g c = record {
   to = c.requires.to;
 }
 
-pub portal_at-requires : goal.portal_at-requires
-portal_at-requires g c =
+pub touched_at-requires : goal.touched_at-requires
+touched_at-requires g c =
     let inv = c.loop-portal.invariant in
     left_within (left_by c.args.end) c.loop-portal.store c.loop-portal.space c.loop-portal.shelf c.requires.ending.0 inv.on.back c.loop-portal.left (inv.ending c.requires.ending.0 c.requires.ending.1) inv.on.long
 
@@ -44,26 +46,26 @@ pub settle_portal-requires-clause-to : goal.settle_portal-requires-clause-to
 settle_portal-requires-clause-to g c = c.loop-portal.invariant.to
 
 pub settle_portal-requires-clause-at : goal.settle_portal-requires-clause-at
-settle_portal-requires-clause-at g c = sym c.portal_at.ensures.portal ∙ c.in-Some.is
+settle_portal-requires-clause-at g c = c.in-Some.ensures.portal
 
 pub settle_portal-requires-clause-ending : goal.settle_portal-requires-clause-ending
 settle_portal-requires-clause-ending g c =
     let inv = c.loop-portal.invariant in
     let m : CommonState = c.requires.ending.0 in
     let now = inv.ending m c.requires.ending.1 in
-    let next = next_is (left_by c.args.end) c.loop-portal.store c.loop-portal.space c.loop-portal.shelf m inv.on.back c.loop-portal.left c.in-Some.portal now inv.on.long (sym c.portal_at.ensures.portal ∙ c.in-Some.is) in
+    let next = next_is (left_by c.args.end) c.loop-portal.store c.loop-portal.space c.loop-portal.shelf m inv.on.back c.loop-portal.left c.in-Some.portal now inv.on.long c.in-Some.ensures.portal in
     (m, (next.0, (omega (arith, inv.on.long, ap length next.1), subst (λ (back : List OpenPortal). IsEnding (left_by c.args.end) c.loop-portal.store c.loop-portal.space c.loop-portal.shelf m back) next.1 now)))
 
 pub overflow_sub-left : goal.overflow_sub-left
 overflow_sub-left g c =
     let inv = c.loop-portal.invariant in
-    let next = next_is (left_by c.args.end) c.loop-portal.store c.loop-portal.space c.loop-portal.shelf c.requires.ending.0 inv.on.back c.loop-portal.left c.in-Some.portal (inv.ending c.requires.ending.0 c.requires.ending.1) inv.on.long (sym c.portal_at.ensures.portal ∙ c.in-Some.is) in
+    let next = next_is (left_by c.args.end) c.loop-portal.store c.loop-portal.space c.loop-portal.shelf c.requires.ending.0 inv.on.back c.loop-portal.left c.in-Some.portal (inv.ending c.requires.ending.0 c.requires.ending.1) inv.on.long c.in-Some.ensures.portal in
     omega (arith, inv.on.long, ap length next.1)
 
 pub loop-portal-smaller : goal.loop-portal-smaller
 loop-portal-smaller g c =
     let inv = c.loop-portal.invariant in
-    let next = next_is (left_by c.args.end) c.loop-portal.store c.loop-portal.space c.loop-portal.shelf c.requires.ending.0 inv.on.back c.loop-portal.left c.in-Some.portal (inv.ending c.requires.ending.0 c.requires.ending.1) inv.on.long (sym c.portal_at.ensures.portal ∙ c.in-Some.is) in
+    let next = next_is (left_by c.args.end) c.loop-portal.store c.loop-portal.space c.loop-portal.shelf c.requires.ending.0 inv.on.back c.loop-portal.left c.in-Some.portal (inv.ending c.requires.ending.0 c.requires.ending.1) inv.on.long c.in-Some.ensures.portal in
     omega (arith, inv.on.long, ap length next.1)
 
 pub loop-portal-preserved : goal.loop-portal-preserved
@@ -73,7 +75,7 @@ loop-portal-preserved g c =
     let b : StoreState = c.loop-portal.store in
     let d : StoreState = c.settle_portal.new.store in
     let p : OpenPortal = portal_state c.in-Some.portal in
-    let next = next_is (left_by c.args.end) b c.loop-portal.space c.loop-portal.shelf c.requires.ending.0 inv.on.back c.loop-portal.left c.in-Some.portal (inv.ending c.requires.ending.0 c.requires.ending.1) inv.on.long (sym c.portal_at.ensures.portal ∙ c.in-Some.is) in
+    let next = next_is (left_by c.args.end) b c.loop-portal.space c.loop-portal.shelf c.requires.ending.0 inv.on.back c.loop-portal.left c.in-Some.portal (inv.ending c.requires.ending.0 c.requires.ending.1) inv.on.long c.in-Some.ensures.portal in
     record {
       on = one_more (portals_of a.portals) c.loop-portal.left p next.0 inv.on next.1;
       ending = λ m e0.
@@ -88,20 +90,36 @@ loop-portal-preserved g c =
       to = some_on (owner_to c.args.end) (λ id. c.settle_portal.ensures.stays id) inv.to;
     }
 
+pub settled-requires : goal.settled-requires
+settled-requires g c =
+    let inv = c.loop-portal.invariant in
+    left_within (left_by c.args.end) c.loop-portal.store c.loop-portal.space c.loop-portal.shelf c.requires.ending.0 inv.on.back c.loop-portal.left (inv.ending c.requires.ending.0 c.requires.ending.1) inv.on.long
+
+-- the end of the level isn't about the portals that are left
+quiet : (g : given.Over) (c : goal.After-settled g) → All (IsQuiet c.args.level) c.loop-portal.invariant.on.back
+quiet g c =
+    let inv = c.loop-portal.invariant in
+    let ps : List OpenPortal = portals_of c.args.store.now.portals in
+    let few : c.loop-portal.left ≤ c.untouched-rest.result = c.touched_at.ensures.none c.in_default.is in
+    let long : length ps ≡ length inv.on.done + length inv.on.back = ap length inv.on.all ∙ length-append inv.on.done inv.on.back in
+    quiet_back c.args.level (length c.args.store.now.portals - c.untouched-rest.result) ps inv.on.done inv.on.back inv.on.all (omega (arith, few, long, inv.on.long, length-map c.args.store.now.portals portal_state)) c.untouched-rest.ensures.others
+
 pub returns-clause-acted : goal.returns-clause-acted
 returns-clause-acted g c m =
     let inv = c.loop-portal.invariant in
-    all_done (λ (ps : List OpenPortal). Acted (λ scene. for_each (portal_after c.args.end c.args.level) ps scene) c.args.store.now c.loop-portal.store c.args.space.now c.loop-portal.space c.args.shelf.now c.loop-portal.shelf m m (λ events. g.E.Emit.emits c.args.out.now events c.loop-portal.out))
-    (portals_of c.args.store.now.portals) inv.on.done inv.on.back inv.on.all
-    (next_none (left_by c.args.end) c.loop-portal.store c.loop-portal.space c.loop-portal.shelf c.requires.ending.0 inv.on.back c.loop-portal.left (inv.ending c.requires.ending.0 c.requires.ending.1) inv.on.long (sym c.portal_at.ensures.portal ∙ c.in_default.is))
-    (inv.acted m)
+    let b : StoreState = c.loop-portal.store in
+    let n : CommonState = c.requires.ending.0 in
+    let e : IsEnding (left_by c.args.end) b c.loop-portal.space c.loop-portal.shelf n inv.on.back = inv.ending n c.requires.ending.1 in
+    subst (λ (v : StoreState). Acted (λ scene. for_each (portal_after c.args.end c.args.level) (portals_of c.args.store.now.portals) scene) c.args.store.now v c.args.space.now c.loop-portal.space c.args.shelf.now c.loop-portal.shelf m m (λ events. g.E.Emit.emits c.args.out.now events c.loop-portal.out))
+    (sym c.settled.ensures)
+    (quiet_more _ (λ o events p. g.E.Emit.emits o events p) g.met.E.Emit.emits_none (λ o p q xs ys h k. g.met.E.Emit.emits_more _ _ _ _ _ _ h k refl) c.args.end c.args.level c.args.store.now b c.args.space.now c.loop-portal.space c.args.shelf.now c.loop-portal.shelf m c.args.out.now c.loop-portal.out
+    (portals_of c.args.store.now.portals) inv.on.done e.front inv.on.back inv.on.all (ending_front (left_by c.args.end) b c.loop-portal.space c.loop-portal.shelf n inv.on.back e) e.ending.different (quiet g c) (inv.acted m))
 
 pub returns-clause-out : goal.returns-clause-out
-returns-clause-out g c = c.loop-portal.invariant.out
+returns-clause-out g c = subst (λ (v : StoreState). GoesOut c.args.store.now v c.args.space.now c.loop-portal.space) (sym c.settled.ensures) c.loop-portal.invariant.out
 
 pub returns-clause-ending : goal.returns-clause-ending
 returns-clause-ending g c m e =
     let inv = c.loop-portal.invariant in
-    subst (λ (back : List OpenPortal). IsEnding (left_by c.args.end) c.loop-portal.store c.loop-portal.space c.loop-portal.shelf m back)
-    (next_none (left_by c.args.end) c.loop-portal.store c.loop-portal.space c.loop-portal.shelf c.requires.ending.0 inv.on.back c.loop-portal.left (inv.ending c.requires.ending.0 c.requires.ending.1) inv.on.long (sym c.portal_at.ensures.portal ∙ c.in_default.is))
-    (inv.ending m e)
+    subst (λ (v : StoreState). IsEnding (left_by c.args.end) v c.loop-portal.space c.loop-portal.shelf m []) (sym c.settled.ensures)
+    (quiet_ending c.args.end c.args.level c.loop-portal.store c.loop-portal.space c.loop-portal.shelf m inv.on.back (subst (EndsSo c.args.end) (sym (ap levels_of inv.out.levels)) c.requires.so) (ap length inv.out.levels ∙ c.requires.level) (quiet g c) (inv.ending m e))

@@ -1,0 +1,96 @@
+-- The end of a level is about no portal that was made at a lower level and is active in none that is as deep.
+use Rattle.std.proofs.Common.{◌≡◌, ℕ, ◌<◌, ◌≤◌, ◌+◌, Bool, true, false, List, [], ◌∷◌, ◌++◌, All, append_assoc, drop, length, refl, sym, ap, ◌∙◌, subst, arith}
+use Rattle.std.specs.Prelude.{◌==◌}
+use Rattle.std.proofs.lemmas.Bool.{ne_eqb}
+use Rattle.std.proofs.lemmas.List.{drop-append-le, drop-map, get_or-append-add, length-append}
+use Rattle.std.proofs.lemmas.List.Elements.{All-head, All-map, All-tail}
+use Rattle.addr_space.specs.Space.{Space}
+use Rattle.pgs_step.specs.declared.events.What.{What}
+use Rattle.reset_callbacks.specs.ShelfState.{ShelfState}
+use Rattle.portal_store.specs.declared.portal.Portal.{Portal}
+use Rattle.portal_store.specs.Portal.{lowered}
+use Rattle.session_owners.specs.Commons.{CommonState}
+use Rattle.session_owners.proofs.Balances.{balances_none}
+use Rattle.session_rules.specs.State.{LevelState, OpenPortal}
+use Rattle.session_rules.specs.Lookup.{portal_changed}
+use Rattle.session_rules.specs.World.{Scene}
+use Rattle.session_rules.specs.Acts.{Ended, context_gone, for_each, in_order, nothing, portal_becomes, portal_gone, where_so, where_there}
+use Rattle.session_rules.specs.Portals.{portal_failed, portal_withdrawn}
+use Rattle.session_rules.specs.Releases.{owner_moved}
+use Rattle.session_rules.specs.Standing.{AreDifferent}
+use Rattle.session_rules.proofs.PortalLists.{changed_one}
+use Rattle.session_store.specs.State.{StoreState, levels_of, portal_state, portals_of, scene_of, session_of}
+use Rattle.session_store.specs.Calls.{Acted, IsSilent}
+use Rattle.session_ends.specs.Portals.{EndsSo, IsEnding, left_by, number_in, portal_after}
+use Rattle.session_ends.specs.declared.portals.LevelEnd.{LevelEnd}
+use Rattle.session_ends.specs.declared.portals.LevelEnd.TheVariants.{Merges, Aborts, Goes}
+use Rattle.session_ends.proofs.Acting.{acted_quiet}
+use Rattle.session_ends.proofs.Dealing.{ending_step}
+use Rattle.session_ends.proofs.Walking.{acted_more, all_done, settling_leads}
+
+-- a portal that the end of a level isn't about
+abbrev pub IsQuiet : ℕ → OpenPortal → Type 0
+IsQuiet level p = (p.created < level) × (p.active < level)
+
+pub quiet_states : (level n : ℕ) (portals : List Portal) → All (λ (p : Portal). (p.created < level) × (p.active < level)) (drop n portals) → All (IsQuiet level) (drop n (portals_of portals))
+quiet_states level n portals quiet = subst (All (IsQuiet level)) (sym (drop-map portal_state n portals)) (All-map (IsQuiet level) portal_state (drop n portals) quiet)
+
+after : (level : ℕ) (front back : List OpenPortal) → All (IsQuiet level) (front ++ back) → All (IsQuiet level) back
+after level front back all k d inside = subst (IsQuiet level) (get_or-append-add front back k d) (all (length front + k) d (omega (arith, inside, length-append front back)))
+
+-- those that are left are among those that it isn't about
+pub quiet_back : (level n : ℕ) (ps done back : List OpenPortal) → ps ≡ done ++ back → n ≤ length done → All (IsQuiet level) (drop n ps) → All (IsQuiet level) back
+quiet_back level n ps done back are within quiet = after level (drop n done) back (subst (All (IsQuiet level)) (ap (drop n) are ∙ drop-append-le n done back within) quiet)
+
+differ : (k n : ℕ) → k < n → (k == n) ≡ false
+differ k n less = ne_eqb k n (λ same. omega (arith, same, less))
+
+lowered_still : (n k : ℕ) → k < n → lowered n k ≡ k
+lowered_still n k less = rw (differ k n less) refl
+
+-- such a portal stays as it is
+stays : (n : ℕ) (p : OpenPortal) → IsQuiet n p → record p { created = lowered n p.created; active = lowered n p.active } ≡ p
+stays n p quiet = ap (λ (k : ℕ). record p { created = k; active = lowered n p.active }) (lowered_still n p.created quiet.0) ∙ ap (λ (k : ℕ). record p { active = k }) (lowered_still n p.active quiet.1)
+
+pub quiet_nothing : (end : LevelEnd) (n : ℕ) (p : OpenPortal) (front rest : List OpenPortal) (z : Scene) → z.session.portals ≡ front ++ (p ∷ rest) → AreDifferent (front ++ (p ∷ rest)) → IsQuiet n p → portal_after end n p z ≡ nothing z
+quiet_nothing (Merges to) n p front rest z are different quiet =
+    let f : OpenPortal → OpenPortal = λ old. record old { created = lowered n old.created; active = lowered n old.active } in
+    let still : portal_changed p.name f z.session.portals ≡ z.session.portals = ap (portal_changed p.name f) are ∙ changed_one p f front rest different ∙ ap (λ (q : OpenPortal). front ++ (q ∷ rest)) (stays n p quiet) ∙ sym are in
+    ap (λ (b : Bool). in_order (where_so b (where_there p.owner (λ owner. where_there (number_in to) (owner_moved owner))) ∷ portal_becomes p.name f ∷ []) z) (differ p.created n quiet.0)
+    ∙ ap (λ (ps : List OpenPortal). record { scene = record z { session = record z.session { portals = ps } }; events = [] }) still
+quiet_nothing (Aborts to) n p front rest z are different quiet =
+    ap (λ (b : Bool). elim b as (λ _. Ended) [ true ↦ portal_failed p z | false ↦ where_so (p.active == n) (portal_withdrawn n (number_in to) p) z ]) (differ p.created n quiet.0)
+    ∙ ap (λ (b : Bool). where_so b (portal_withdrawn n (number_in to) p) z) (differ p.active n quiet.1)
+quiet_nothing Goes n p front rest z are different quiet = ap (λ (b : Bool). where_so b (in_order (where_there p.context context_gone ∷ portal_gone p.name ∷ [])) z) (differ p.created n quiet.0)
+
+quiet_acted : (end : LevelEnd) (n : ℕ) (b : StoreState) (t : Space) (y : ShelfState) (m : CommonState) (p : OpenPortal) (front rest : List OpenPortal) → portals_of b.portals ≡ front ++ (p ∷ rest) → AreDifferent (front ++ (p ∷ rest)) → IsQuiet n p
+    → Acted (portal_after end n p) b b t t y y m m IsSilent
+unfolding session_of
+quiet_acted end n b t y m p front rest are different quiet = record {
+  leads = λ around. ap (λ (w : Ended). w.scene) (quiet_nothing end n p front rest (scene_of b t y m around) are different quiet);
+  says = λ around. ap (λ (w : Ended). w.events) (quiet_nothing end n p front rest (scene_of b t y m around) are different quiet);
+  balances = balances_none b.owners m;
+}
+
+pub ending_front : (done : LevelState → List LevelState → List LevelState) (b : StoreState) (t : Space) (y : ShelfState) (m : CommonState) (back : List OpenPortal) (e : IsEnding done b t y m back) → portals_of b.portals ≡ e.front ++ back
+unfolding session_of
+ending_front done b t y m back e = e.ending.are
+
+-- what a level ends with besides, where it isn't about the portals that are left
+pub quiet_ending : (end : LevelEnd) (n : ℕ) (b : StoreState) (t : Space) (y : ShelfState) (m : CommonState) (back : List OpenPortal) → EndsSo end (levels_of b.levels) → length b.levels ≡ n → All (IsQuiet n) back → IsEnding (left_by end) b t y m back → IsEnding (left_by end) b t y m []
+quiet_ending end n b t y m [] so deep quiet e = e
+quiet_ending end n b t y m (p ∷ rest) so deep quiet e =
+    quiet_ending end n b t y m rest so deep (All-tail (IsQuiet n) p rest quiet)
+    (ending_step (left_by end) (portal_after end n) b b t t y y m m p rest IsSilent e (settling_leads end n b t y m p rest e so deep)
+    (quiet_acted end n b t y m p e.front rest (ending_front (left_by end) b t y m (p ∷ rest) e) e.ending.different (All-head (IsQuiet n) p rest quiet)) refl)
+
+module _ (O : Type 0) (emits : O → List What → O → Type 0) (none : (o : O) → emits o [] o) (more : (o p q : O) (xs ys : List What) → emits o xs p → emits p ys q → emits o (xs ++ ys) q) where
+  pub quiet_more : (end : LevelEnd) (n : ℕ) (a b : StoreState) (s t : Space) (x y : ShelfState) (m : CommonState) (o q : O) (ps done front back : List OpenPortal) → ps ≡ done ++ back → portals_of b.portals ≡ front ++ back → AreDifferent (front ++ back) → All (IsQuiet n) back
+      → Acted (λ scene. for_each (portal_after end n) done scene) a b s t x y m m (λ events. emits o events q) → Acted (λ scene. for_each (portal_after end n) ps scene) a b s t x y m m (λ events. emits o events q)
+  quiet_more end n a b s t x y m o q ps done front [] all are different quiet acted =
+      all_done (λ (qs : List OpenPortal). Acted (λ scene. for_each (portal_after end n) qs scene) a b s t x y m m (λ events. emits o events q)) ps done [] all refl acted
+  quiet_more end n a b s t x y m o q ps done front (p ∷ rest) all are different quiet acted =
+      let apart : front ++ (p ∷ rest) ≡ (front ++ (p ∷ [])) ++ rest = sym (append_assoc front (p ∷ []) rest) in
+      quiet_more end n a b s t x y m o q ps (done ++ (p ∷ [])) (front ++ (p ∷ [])) rest (all ∙ sym (append_assoc done (p ∷ []) rest)) (are ∙ apart) (subst AreDifferent apart different) (All-tail (IsQuiet n) p rest quiet)
+      (acted_more O emits none more (portal_after end n) done p a b b s t t x y y m m m o q q acted
+      (acted_quiet O emits none more (portal_after end n p) b b t t y y m m q (quiet_acted end n b t y m p front rest are different (All-head (IsQuiet n) p rest quiet))))
