@@ -197,12 +197,21 @@ impl Portals {
     }
 
     /// Where the portal of that name is, if there is one: 0 is the place of the newest.
+    #[inline]
     pub fn place_of(&self, name: &Name) -> Option<usize>
         ensures { result ≡ place_named name.now self.now }
     {
         if self.is_at(0, name) {
             return Some(0);
         }
+        self.find(name)
+    }
+
+    /// The same of one that need not be the newest.
+    #[inline(never)]
+    fn find(&self, name: &Name) -> Option<usize>
+        ensures { result ≡ place_named name.now self.now }
+    {
         let guess = match self.places.guess(name) {
             Some(guess) => guess,
             None => return None,

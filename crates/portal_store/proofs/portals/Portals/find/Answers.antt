@@ -3,7 +3,7 @@ use Rattle.std.specs.HashMap.{get}
 use Rattle.portal_store.specs.Kept.{same}
 use Rattle.portal_store.specs.Portals.{place_named}
 use Rattle.portal_store.proofs.KeptLemmas.{place_unknown}
-use Rattle.portal_store.proofs.portals.Portals.place_of.Goals as goal
+use Rattle.portal_store.proofs.portals.Portals.find.Goals as goal
 
 pub returns-in-None : goal.returns-in-None
 returns-in-None c = sym (ap (place_named c.args.name.now) (sym c.self.view_is) ∙ place_unknown c.args.name.now c.self.inside.portals.items (get same c.self.inside.places.serials) (c.guess.ensures c.in-None.is) c.self.invariant.known)
