@@ -1,5 +1,5 @@
 -- One portal is dealt with where the deepest level ends.
-use Rattle.std.proofs.Common.{◌≡◌, ◌≢◌, ℕ, ◌+◌, ◌-◌, ◌≤◌, Bool, true, false, Option, Some, None, List, [], ◌∷◌, ◌++◌, length, All, IfSome, IsSome, zero, suc, refl, sym, ap, ◌∙◌, subst, arith, inl, inr}
+use Rattle.std.proofs.Common.{◌≡◌, ◌≢◌, ℕ, ◌+◌, ◌-◌, ◌≤◌, Bool, true, false, Option, Some, None, List, [], ◌∷◌, ◌++◌, length, All, IfSome, zero, suc, refl, sym, ap, ◌∙◌, subst, arith, inl, inr}
 use Rattle.std.specs.Prelude.{if◌then◌else◌, slice_get, slice_set}
 use Rattle.std.specs.Option.{option_map}
 use Rattle.std.proofs.lemmas.Bool.{cases_Bool, false_from_ne_true, ne_eqb}
@@ -19,9 +19,9 @@ use Rattle.owner_core.proofs.Sounds.{once_of}
 use Rattle.portal_store.specs.declared.portal.Portal.{Portal}
 use Rattle.portal_store.specs.declared.portal.PortalState.{PortalState}
 use Rattle.portal_store.specs.declared.portal.PortalState.TheVariants.{New, Ready, Failed}
-use Rattle.portal_store.specs.Portals.{changed, portal_named, without}
+use Rattle.portal_store.specs.Portals.{without}
 use Rattle.session_owners.specs.ResourceState as owners
-use Rattle.session_owners.specs.ResourceState.{ResourceState, Roomy, owners_of, plans_of}
+use Rattle.session_owners.specs.ResourceState.{Roomy, owners_of}
 use Rattle.session_owners.specs.Commons.{CommonState}
 use Rattle.session_owners.proofs.Balances.{balances_none}
 use Rattle.subxact_stack.specs.declared.levels.Level.{Level}
@@ -50,8 +50,8 @@ use Rattle.session_ends.specs.declared.portals.LevelEnd.{LevelEnd}
 use Rattle.session_ends.specs.declared.portals.LevelEnd.TheVariants.{Merges, Aborts, Goes}
 use Rattle.session_rules.proofs.Passing.{above_owner}
 use Rattle.session_ends.proofs.Going.{may_go}
-use Rattle.session_ends.proofs.Lasts.{IsSplit, changed_split, get_split, length_split, named_split, others_in, set_split, splits, without_split}
-use Rattle.session_ends.proofs.Out.{is_alone, some_is, some_on}
+use Rattle.session_ends.proofs.Lasts.{IsSplit, get_split, length_split, others_in, set_split, splits, without_split}
+use Rattle.session_ends.proofs.Out.{is_alone, some_is}
 
 -- the context of a portal isn't the current one, nor above it
 pub place_apart : (t : Contexts) (next current n : ℕ) (expr : Option ℕ) → AreContexts t next → IsPlace n expr t current → is_within n current t ≡ false
@@ -100,12 +100,6 @@ module _ (a b : StoreState) (p : Portal) (front back : List OpenPortal) (alone :
   others : All (λ (q : Portal). split.this.name ≢ q.name) split.before
   others = others_in split.this split.before split.behind differ
 
-  pub is_found : IsSome (portal_named p.name a.portals)
-  is_found =
-      subst (λ (n : List ℕ). IsSome (portal_named n a.portals)) same_name
-      (subst (λ (ps : List Portal). IsSome (portal_named split.this.name ps)) (sym split.is)
-      (subst (λ (o : Option Portal). IsSome o) (sym (named_split split.this split.before split.behind others)) refl))
-
   pub gone_acted : (s : Space) (x : ShelfState) (c : CommonState) → b.portals ≡ without p.name a.portals → Acted (portal_gone p.name) a b s s x x c c IsSilent
   unfolding session_of
   gone_acted s x c is =
@@ -123,11 +117,6 @@ module _ (a b : StoreState) (p : Portal) (front back : List OpenPortal) (alone :
         portals_acted (portal_becomes p.name f) a b (front ++ (portal_state q ∷ back)) s x c alone (ap portals_of is ∙ joined q)
         (λ around. ap (λ (ps : List OpenPortal). record { scene = record (scene_of a s x c around) { session = record (scene_of a s x c around).session { portals = ps } }; events = [] })
         (ap (portal_changed p.name f) are ∙ changed_one (portal_state p) f front back different ∙ ap (λ (r : OpenPortal). front ++ (r ∷ back)) to))
-
-    pub put_acted : (s : Space) (x : ShelfState) (c : CommonState) → q.name ≡ p.name → b.portals ≡ changed q.name (λ old. q) a.portals → Acted (portal_becomes p.name f) a b s s x x c c IsSilent
-    put_acted s x c named is =
-        become s x c
-        (is ∙ ap (λ (n : List ℕ). changed n (λ old. q) a.portals) (named ∙ sym same_name) ∙ ap (changed split.this.name (λ old. q)) split.is ∙ changed_split split.this (λ old. q) split.before split.behind others)
 
   -- by its place
   placed : (left : ℕ) → length back + 1 ≡ left → length a.portals - left ≡ length split.before
@@ -287,9 +276,6 @@ module _ (done : LevelState → List LevelState → List LevelState) (a : StoreS
   pub to_there : (to : Option OwnerId) → ((q : ℕ) → number_in to ≡ Some q → IsOwner q (e.level ∷ e.above)) → IfSome to (λ t. has t.number (owners_of a.owners) ≡ true)
   unfolding session_of
   to_there to is = if_some to (λ t h. level_owner_there (e.level ∷ e.above) (contexts_in a s) (owners_of a.owners) e.ending.all t.number (is t.number (ap number_in h)))
-
-  pub owner_lies : PortalLies a.tree a.owners p → (b : StoreState) → ((id : OwnerId) → owners.IsLive a.owners id → owners.IsLive b.owners id) → IfSome p.owner (OwnerLies b.owners)
-  owner_lies lies b stays = some_on p.owner (λ id live there. stays id live) (owner_live lies)
 
   pub within_active : p.created ≤ p.active
   within_active = let i = ending_first in elim i.stage [ inl l ↦ l.within | inr d ↦ d.within ]

@@ -5,7 +5,7 @@ use Rattle.std.proofs.lemmas.Bool.{cases_Bool}
 use Rattle.std.proofs.lemmas.List.Elements.{All-head, All-tail, All-nil, All-cons}
 use lib.Pointwise.{bytes_decides, pointwise}
 use Rattle.portal_store.specs.declared.portal.Portal.{Portal}
-use Rattle.portal_store.specs.Portals.{changed, has_name, portal_named, without}
+use Rattle.portal_store.specs.Portals.{has_name, without}
 use Rattle.session_rules.specs.State.{OpenPortal}
 use Rattle.session_rules.specs.Standing.{AreDifferent, AreOther}
 use Rattle.session_store.specs.State.{portal_state, portals_of}
@@ -91,32 +91,13 @@ others_in p (q ∷ qs) behind d =
     first [] a = let o = All-head (AreOther (portal_state q)) (portal_state p) (portals_of behind) a in o.name
     first (x ∷ xs) a = first xs (All-tail (AreOther (portal_state q)) x (xs ++ (portal_state p ∷ portals_of behind)) a)
 
-pub named_split : (p : Portal) (before behind : List Portal) → HaveOthers p before → portal_named p.name (before ++ (p ∷ behind)) ≡ Some p
-named_split p [] behind o = rw (is_named p.name p.name refl) refl
-named_split p (q ∷ qs) behind o =
-    rw (names_differ q p (All-head (λ (r : Portal). p.name ≢ r.name) q qs o)) (named_split p qs behind (All-tail (λ (r : Portal). p.name ≢ r.name) q qs o))
-
-pub changed_split : (p : Portal) (f : Portal → Portal) (before behind : List Portal) → HaveOthers p before → changed p.name f (before ++ (p ∷ behind)) ≡ before ++ (f p ∷ behind)
-changed_split p f [] behind o = rw (is_named p.name p.name refl) refl
-changed_split p f (q ∷ qs) behind o =
-    rw (names_differ q p (All-head (λ (r : Portal). p.name ≢ r.name) q qs o))
-    (ap (λ (xs : List Portal). q ∷ xs) (changed_split p f qs behind (All-tail (λ (r : Portal). p.name ≢ r.name) q qs o)))
-
 pub without_split : (p : Portal) (before behind : List Portal) → HaveOthers p before → without p.name (before ++ (p ∷ behind)) ≡ before ++ behind
 without_split p [] behind o = rw (is_named p.name p.name refl) refl
 without_split p (q ∷ qs) behind o =
     rw (names_differ q p (All-head (λ (r : Portal). p.name ≢ r.name) q qs o))
     (ap (λ (xs : List Portal). q ∷ xs) (without_split p qs behind (All-tail (λ (r : Portal). p.name ≢ r.name) q qs o)))
 
--- what holds of all holds where one changes, or goes
-pub all_changed : (P : Portal → Type 0) (name : List ℕ) (f : Portal → Portal) (ps : List Portal) → ((p : Portal) → P p → P (f p)) → All P ps → All P (changed name f ps)
-all_changed P name f [] so h = All-nil P
-all_changed P name f (p ∷ ps) so h = go (has_name name p) (all_changed P name f ps so (All-tail P p ps h))
-  where
-    go : (b : Bool) → All P (changed name f ps) → All P (if b then f p ∷ ps else p ∷ changed name f ps)
-    go true rest = All-cons P (f p) ps (so p (All-head P p ps h)) (All-tail P p ps h)
-    go false rest = All-cons P p (changed name f ps) (All-head P p ps h) rest
-
+-- what holds of all holds where one goes
 pub all_without : (P : Portal → Type 0) (name : List ℕ) (ps : List Portal) → All P ps → All P (without name ps)
 all_without P name [] h = All-nil P
 all_without P name (p ∷ ps) h = go (has_name name p) (all_without P name ps (All-tail P p ps h))

@@ -1,14 +1,10 @@
 -- A portal passes to the level above.
-use Rattle.std.proofs.Common.{◌≡◌, ℕ, Bool, true, false, Option, None, IfSome, refl, sym, ap, ◌∙◌, subst}
+use Rattle.std.proofs.Common.{◌≡◌, ℕ, Bool, true, false, Option, None, refl, ap, ◌∙◌}
 use Rattle.std.specs.Prelude.{if◌then◌else◌}
 use Rattle.pgs_step.specs.declared.ids.OwnerId.{OwnerId}
-use Rattle.context_tree.specs.State.{TreeState}
-use Rattle.portal_store.specs.declared.portal.Portal.{Portal}
 use Rattle.session_rules.specs.World.{Scene}
 use Rattle.session_rules.specs.Acts.{where_so, where_there}
 use Rattle.session_rules.specs.Releases.{owner_moved}
-use Rattle.session_store.specs.State.{StoreState}
-use Rattle.session_store.specs.Placed.{Lies, OwnerLies, PortalLies}
 use Rattle.session_ends.specs.Portals.{number_in}
 
 -- its owner moves where it is of the level
@@ -19,12 +15,3 @@ moves_where b owner moved to z e = ap (λ (m : Option OwnerId). where_there (num
     go : (b : Bool) → where_there (number_in (if b then owner else None)) (λ o. where_there to (owner_moved o)) z ≡ where_so b (where_there (number_in owner) (λ o. where_there to (owner_moved o))) z
     go true = refl
     go false = refl
-
--- what it has lies still
-pub lies_lowered : (a b : StoreState) (p : Portal) (created active : ℕ) → PortalLies a.tree a.owners p → b.tree ≡ a.tree → IfSome p.owner (OwnerLies b.owners) → PortalLies b.tree b.owners (record p { created = created; active = active })
-lies_lowered a b p created active lies same owner = record {
-  context = subst (λ (t : TreeState). IfSome p.context (Lies t)) (sym same) lies.context;
-  expr = subst (λ (t : TreeState). IfSome p.expr (Lies t)) (sym same) lies.expr;
-  owner = owner;
-  scan = lies.scan;
-}
