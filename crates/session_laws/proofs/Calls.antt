@@ -1,7 +1,7 @@
 -- Each callback that is registered runs once, the newest of a context first, before that is reset or goes.
-use Rattle.std.proofs.Common.{◌≡◌, ℕ, Bool, true, false, if◌then◌else◌, Option, Some, None, List, [], ◌∷◌, ◌++◌, refl, sym, ap, ◌∙◌, subst, inl, inr, arith}
-use Rattle.std.specs.Prelude.{◌==◌, Result, Ok, Err}
-use Rattle.std.specs.Option.{option_and_then, option_map_or}
+use Rattle.std.proofs.Common.{◌≡◌, ℕ, Bool, true, false, Option, Some, None, List, [], ◌∷◌, ◌++◌, refl, sym, ap, ◌∙◌, subst, inl, inr, arith}
+use Rattle.std.specs.Prelude.{◌==◌}
+use Rattle.std.specs.Option.{option_map_or}
 use Rattle.std.proofs.lemmas.Bool.{cases_Bool, cases_eq, eq-eqb, ne_eqb, both_ways, false_from_ne_true, or_parts, cond-true, cond-false}
 use Rattle.std.proofs.lemmas.Bool.Decides.{nat_tests}
 use Rattle.pgs_step.specs.declared.errors.Error.{Error}
@@ -12,44 +12,34 @@ use Rattle.forest.proofs.Trees.{Moves, at_absent, at_some, changed_absent, put_a
 use Rattle.forest.proofs.Moved.{at_moved}
 use Rattle.forest.proofs.Mapped.{at_changed, at_changed_other}
 use Rattle.owner_kinds.specs.KindTable.{KindTable}
-use Rattle.chunk_header.specs.declared.CtxError.{CtxError}
-use Rattle.chunk_header.specs.Answers.{Resized, Taken}
 use Rattle.reset_callbacks.specs.Hook.{Hook}
-use Rattle.any_ctx.specs.Ledgers.{Ledger, Place, give}
 use Rattle.any_ctx.specs.declared.any.CtxKind.{CtxKind}
-use Rattle.context_rules.specs.Contexts.{Context, Contexts, Found, found, is_child, is_protected, move_events, new_context, placed_under}
-use Rattle.context_rules.specs.Chunks.{allocated, freed, freed_in, from_ok, refitted, resized, resized_in, served, with_changed, with_chunk, with_size, without, written, written_over, zeros}
+use Rattle.context_rules.specs.Contexts.{Context, Contexts, is_child, move_events, new_context, placed_under}
 use Rattle.context_rules.specs.Ends as ends
 use Rattle.context_rules.specs.Opening as contexts
 use Rattle.context_rules.specs.Ends.{callbacks, cleared_alone, emptied, gone, gone_events}
-use Rattle.context_rules.specs.Refusals.{is_within, set_parent_refusal}
-use Rattle.context_rules.specs.declared.errors.TreeError.TheVariants.{Cycle, Protected}
+use Rattle.context_rules.specs.Refusals.{is_within}
 use Rattle.lifetime_laws.specs.Reading.{allows_all, seen_after}
 use Rattle.lifetime_laws.specs.Called.{Waiting, calling}
 use Rattle.lifetime_laws.specs.Once.{none_left}
-use Rattle.session_rules.specs.State.{first_of, opening}
-use Rattle.session_rules.specs.World.{Around, Moment, Scene}
-use Rattle.session_rules.specs.Acts.{Ended, children_gone, context_cleared, context_cleared_alone, context_gone, say, where_there}
-use Rattle.session_rules.specs.Elements as e
-use Rattle.session_rules.specs.Elements.{Element, Text}
-use Rattle.session_rules.specs.Lookup.{context_named}
-use Rattle.session_rules.specs.Checks.{failure}
-use Rattle.session_rules.specs.Making.{context_made, held, left}
-use Rattle.session_rules.specs.Parts.{at_context, context_moved}
-use Rattle.session_rules.specs.Taking.{hook_registered, hook_waits}
-use Rattle.session_rules.specs.Does.{does}
-use Rattle.session_rules.specs.Standing.{Stands}
+use Rattle.session_rules.specs.State.{opening}
+use Rattle.session_rules.specs.World.{Around, Scene}
+use Rattle.session_rules.specs.Acts.{Ended, children_gone, context_cleared, context_cleared_alone, context_gone, say}
+use Rattle.session_rules.specs.Elements.{Text}
+use Rattle.session_rules.specs.Making.{context_made}
+use Rattle.session_rules.specs.Parts.{context_moved}
+use Rattle.session_rules.specs.Taking.{hook_waits}
 use Rattle.session_rules.proofs.Forests.{at_put, at_put_other}
-use Rattle.session_rules.proofs.HookChunks.{KeepsHooks, keeps_allocated, keeps_freed, keeps_resized, keeps_written}
+use Rattle.session_rules.proofs.Chunked.{LeavesHooks}
 use Rattle.session_rules.proofs.HookSteps.{AreNumbered, IsNumbered, counted_alone, counted_children, counted_gone, counted_moved, numbered_changed, numbered_put}
-use Rattle.session_rules.proofs.NamesStand.{both_none, checked, named_there}
-use Rattle.session_rules.proofs.Leaves.{EndLeaves, Follows, Keeps, Law, OwesMoves}
-use Rattle.session_rules.proofs.Walk.{fallible_at}
-use Rattle.session_rules.proofs.TurnStands.{Meets}
-use Rattle.session_laws.proofs.ReaderLaws.{IsLife, IsRead, OwesTurns, Reads, read_both, read_none}
+use Rattle.session_rules.proofs.NamesStand.{named_there}
+use Rattle.session_rules.proofs.Leaves.{EndLeaves, Keeps, Law}
+use Rattle.session_laws.proofs.ReaderLaws.{IsLife, IsRead, OwesTurns, Reads, read_both}
 use Rattle.session_laws.proofs.Lives.{life_by, owes_by}
-use Rattle.session_laws.proofs.LiveLeaves.{ends_with_exit}
-use Rattle.session_laws.proofs.LiveAside.{AreQuiet, ContextLeaves, all_end_leaves, and_quiet, is_loud, quiet}
+use Rattle.session_rules.proofs.Aside.{ContextLaw, context_ends, context_makes, is_apart, is_of_contexts}
+use Rattle.session_rules.proofs.Meeting.{StandingMoves, standing_moves}
+use Rattle.session_rules.proofs.Said.{AreSaid, said_more, said_none}
+use Rattle.session_rules.proofs.Sight.{ContextLeaves, Sight, of_contexts, of_next_context}
 use Rattle.session_laws.proofs.CallHooks.{Calls, IsPart, all_called, gone_called, part_children, part_gone, reset_called, words_at, words_of, words_on}
 
 -- What was seen fits a scene: the callbacks that wait on each context are its hooks, the newest first.
@@ -61,35 +51,39 @@ abbrev CallsHooks : Law
 CallsHooks s t events = Reads calling FitsHooks s t events
 
 -- an event that says nothing of contexts
-quiet_allowed : (event : What) (seen : List Waiting) → is_loud event ≡ false → (calling.allows event seen ≡ true) × (calling.next event seen ≡ seen)
-quiet_allowed (what.Create context name parent) seen h = absurd (cc h)
-quiet_allowed (what.Move context parent) seen h = absurd (cc h)
-quiet_allowed (what.Delete context) seen h = absurd (cc h)
-quiet_allowed (what.Reset context) seen h = absurd (cc h)
-quiet_allowed (what.Callback word context) seen h = absurd (cc h)
-quiet_allowed (what.Hook word context) seen h = absurd (cc h)
-quiet_allowed other seen h = (refl, refl)
+apart_allowed : (event : What) (seen : List Waiting) → is_apart event ≡ true → (calling.allows event seen ≡ true) × (calling.next event seen ≡ seen)
+apart_allowed (what.Create context name parent) seen h = absurd (cc h)
+apart_allowed (what.Move context parent) seen h = absurd (cc h)
+apart_allowed (what.Delete context) seen h = absurd (cc h)
+apart_allowed (what.Reset context) seen h = absurd (cc h)
+apart_allowed (what.Callback word context) seen h = absurd (cc h)
+apart_allowed (what.Hook word context) seen h = absurd (cc h)
+apart_allowed other seen h = (refl, refl)
 
-quiet_read : {events : List What} → AreQuiet events → (seen : List Waiting) → (allows_all calling seen events ≡ true) × (seen_after calling seen events ≡ seen)
-quiet_read quiet seen = (refl, refl)
-quiet_read (and_quiet {event = event} {events = events} h hs) seen =
-    let one = quiet_allowed event seen h in
-    let more = quiet_read hs seen in (
+apart_read : {events : List What} → AreSaid is_apart events → (seen : List Waiting) → (allows_all calling seen events ≡ true) × (seen_after calling seen events ≡ seen)
+apart_read said_none seen = (refl, refl)
+apart_read (said_more {event = event} {events = events} h hs) seen =
+    let one = apart_allowed event seen h in
+    let more = apart_read hs seen in (
       rw (one.0, one.1) more.0,
       ap (λ (after : List Waiting). seen_after calling after events) one.1 ∙ more.1,
     )
 
-aside_read : (s t : Scene) {events : List What} → t.session.contexts ≡ s.session.contexts → t.session.next_context ≡ s.session.next_context → AreQuiet events → CallsHooks s t events
-aside_read s t {events} contexts next h = record {
-  so = λ seen fit.
-      let read = quiet_read h seen in
-      record {
-        allowed = read.0;
-        fits = record {
-          numbered = rw (contexts, next) fit.numbered;
-          words = λ n. ap (words_on n) read.1 ∙ (fit.words n ∙ ap (words_at n) (sym contexts));
+calls_sight : Sight is_of_contexts is_apart CallsHooks
+calls_sight = record {
+  both = λ h k. read_both calling FitsHooks h k;
+  aside = λ s t same h. record {
+    so = λ seen fit.
+        let contexts : t.session.contexts ≡ s.session.contexts = same.so of_contexts refl in
+        let read = apart_read h seen in
+        record {
+          allowed = read.0;
+          fits = record {
+            numbered = rw (contexts, same.so of_next_context refl) fit.numbered;
+            words = λ n. ap (words_on n) read.1 ∙ (fit.words n ∙ ap (words_at n) (sym contexts));
+          };
         };
-      };
+  };
 }
 
 -- contexts go, and others stay
@@ -222,87 +216,37 @@ words_changed t n f same m = elim (cases_eq m n) [
   | inr differ ↦ ap words_in (at_changed_other m n f t differ)
 ]
 
-words_allocated : (t : Contexts) (n left : ℕ) (name : Option (List ℕ)) (bytes : ℕ) (known : List ℕ) → KeepsWords t (allocated n left name bytes known t)
-words_allocated t n left name bytes known = go (served n left bytes t)
-  where
-    go : (r : Result (Taken Ledger Place) CtxError) → KeepsWords t (from_ok (λ taken. changed n (with_chunk name bytes known taken) t) t r)
-    go (Ok taken) m = words_changed t n (with_chunk name bytes known taken) (λ c. refl) m
-    go (Err e) m = refl
-
-words_freed : (t : Contexts) (name : List ℕ) → KeepsWords t (freed name t)
-words_freed t name = go (found name t)
-  where
-    by_ledger : (f : Found) (r : Result Ledger CtxError) → KeepsWords t (from_ok (λ given. changed f.context (λ c. record c { ledger = given; chunks = without name c.chunks }) t) t r)
-    by_ledger f (Ok given) m = words_changed t f.context (λ c. record c { ledger = given; chunks = without name c.chunks }) (λ c. refl) m
-    by_ledger f (Err e) m = refl
-
-    go : (o : Option Found) → KeepsWords t (option_map_or (freed_in name t) o t)
-    go None m = refl
-    go (Some f) m = by_ledger f (give f.ledger f.chunk.place) m
-
-words_resized : (t : Contexts) (held limit : ℕ) (name : List ℕ) (bytes : ℕ) → KeepsWords t (resized held limit name bytes t)
-words_resized t held limit name bytes = go (found name t)
-  where
-    by_ledger : (f : Found) (r : Result (Resized Ledger Place) CtxError)
-        → KeepsWords t (from_ok (λ answer. changed f.context (λ c. record c { ledger = answer.ledger; chunks = with_changed name (with_size bytes answer.place) c.chunks }) t) t r)
-    by_ledger f (Ok answer) m = words_changed t f.context (λ c. record c { ledger = answer.ledger; chunks = with_changed name (with_size bytes answer.place) c.chunks }) (λ c. refl) m
-    by_ledger f (Err e) m = refl
-
-    go : (o : Option Found) → KeepsWords t (option_map_or (resized_in held limit name bytes t) o t)
-    go None m = refl
-    go (Some f) m = by_ledger f (refitted held limit bytes f) m
-
-words_written : (t : Contexts) (name : List ℕ) (place : ℕ) (bytes : List ℕ) → KeepsWords t (written name place bytes t)
-words_written t name place bytes = go (found name t)
-  where
-    go : (o : Option Found)
-        → KeepsWords t (option_map_or (λ f. changed f.context (λ c. record c { chunks = with_changed name (λ chunk. record chunk { known = written_over place bytes chunk.known }) c.chunks }) t) o t)
-    go None m = refl
-    go (Some f) m = words_changed t f.context (λ c. record c { chunks = with_changed name (λ chunk. record chunk { known = written_over place bytes chunk.known }) c.chunks }) (λ c. refl) m
-
 -- a call on chunks
-kept_read : (s : Scene) (u : Contexts) → KeepsHooks s.session.contexts u → KeepsWords s.session.contexts u → CallsHooks s (record s { session = record s.session { contexts = u } }) []
-kept_read s u h same = record {
-  so = λ seen fit. record { allowed = refl; fits = record { numbered = h.numbered s.session.next_context fit.numbered; words = λ n. fit.words n ∙ sym (same n) } };
+chunk_read : (s : Scene) (n : ℕ) (f : Context → Context) → LeavesHooks f → CallsHooks s (record s { session = record s.session { contexts = changed n f s.session.contexts } }) []
+chunk_read s n f h = record {
+  so = λ seen fit. record {
+    allowed = refl;
+    fits = record { numbered = numbered_changed n f s.session.contexts s.session.next_context fit.numbered; words = λ m. fit.words m ∙ sym (words_changed s.session.contexts n f h.hooks m) };
+  };
 }
 
 calls_leaves : ContextLeaves CallsHooks
 calls_leaves = record {
-  aside = λ s t contexts next shelf h. aside_read s t contexts next h;
-  both = λ h k. read_both calling FitsHooks h k;
   gone = λ n. record { so = gone_read n };
   children = λ n. record { so = children_read n };
   alone = λ n. record { so = alone_read n };
   cleared = λ n. record { so = cleared_read n };
-  made = λ parent name protected kind. record { so = made_read parent name protected kind };
-  allocated = λ name bytes zeroed n. record {
-    so = λ s. kept_read s (allocated n (left s) name bytes (if zeroed then zeros bytes else []) s.session.contexts)
-        (keeps_allocated s.session.contexts n (left s) name bytes (if zeroed then zeros bytes else []))
-        (words_allocated s.session.contexts n (left s) name bytes (if zeroed then zeros bytes else []));
-  };
-  fitted = λ name bytes. record {
-    so = λ s. kept_read s (resized (held s.session) s.around.space name bytes s.session.contexts) (keeps_resized s.session.contexts (held s.session) s.around.space name bytes)
-        (words_resized s.session.contexts (held s.session) s.around.space name bytes);
-  };
-  given = λ name. record { so = λ s. kept_read s (freed name s.session.contexts) (keeps_freed s.session.contexts name) (words_freed s.session.contexts name) };
-  put = λ name place bytes. record { so = λ s. kept_read s (written name place bytes s.session.contexts) (keeps_written s.session.contexts name place bytes) (words_written s.session.contexts name place bytes) };
+  chunk = chunk_read;
 }
 
 -- the session ends
 exit_read : Keeps CallsHooks (say what.Exit)
 exit_read = record { so = λ s. record { so = λ seen fit. record { allowed = refl; fits = fit } } }
 
+calls_law : ContextLaw CallsHooks
+calls_law = record { sight = calls_sight; contexts = calls_leaves; made = λ parent name protected kind. record { so = made_read parent name protected kind } }
+
 calls_ends : EndLeaves CallsHooks
-calls_ends = ends_with_exit CallsHooks (all_end_leaves CallsHooks calls_leaves) exit_read
+calls_ends = context_ends CallsHooks calls_law
 
 -- an error is said
 error_read : (error : Error) (s : Scene) → CallsHooks s s (what.Error error ∷ [])
 error_read error s = record { so = λ seen fit. record { allowed = refl; fits = fit } }
-
--- an act on a context that a name leads to
-at_name : (o : Option ℕ) (act : ℕ → Scene → Ended) (s : Scene) → ((n : ℕ) → o ≡ Some n → CallsHooks s (act n s).scene (act n s).events) → CallsHooks s (where_there o act s).scene (where_there o act s).events
-at_name None act s behind = read_none calling FitsHooks s
-at_name (Some n) act s behind = behind n refl
 
 -- a hook waits on a context that is there
 hook_read : (n : ℕ) (hook : Hook) (s : Scene) → has n s.session.contexts ≡ true → CallsHooks s (hook_waits n hook s).scene (hook_waits n hook s).events
@@ -347,41 +291,14 @@ moved_read n p s node there out = record { so = λ seen fit. go (is_child n p s.
     }
 
 -- a hook is registered, and a context moves, in a session that stands
-module _ (w : Option ℕ) (m : Moment) (h : Stands m.scene) where
-  registers : (name : Text) → CallsHooks m.scene (hook_registered name m.scene).scene (hook_registered name m.scene).events
-  registers name =
-      at_name (context_named name m.scene.session) (λ n. where_there (first_of m.scene.around.shelf.fresh) (hook_waits n)) m.scene
-      (λ n e. at_hook n (named_there name m.scene n h e) (first_of m.scene.around.shelf.fresh))
-    where
-      at_hook : (n : ℕ) → has n m.scene.session.contexts ≡ true → (o : Option Hook) → CallsHooks m.scene (where_there o (hook_waits n) m.scene).scene (where_there o (hook_waits n) m.scene).events
-      at_hook n there None = read_none calling FitsHooks m.scene
-      at_hook n there (Some hook) = hook_read n hook m.scene there
-
-  register_read : (name : Text) → Follows CallsHooks m.scene (does w (e.Register name) m)
-  unfolding does
-  register_read name = fallible_at CallsHooks calls_ends.leaves w m _ (hook_registered name) (registers name)
-
-  reparent_read : (name parent : Text) → failure (e.MayMove name parent) m.scene ≡ None → Follows CallsHooks m.scene (does w (e.Reparent name parent) m)
-  unfolding does
-  reparent_read name parent ok = record {
-    so = at_name (context_named name m.scene.session) (λ n. at_context parent (context_moved n)) m.scene
-        (λ n is. at_name (context_named parent m.scene.session) (context_moved n) m.scene
-        (λ p q.
-        let may : set_parent_refusal n p m.scene.session.contexts ≡ None =
-        ap (option_and_then (λ (j : ℕ). set_parent_refusal n j m.scene.session.contexts)) (sym q)
-        ∙ checked name m.scene.session (λ j. option_and_then (λ i. set_parent_refusal j i m.scene.session.contexts) (context_named parent m.scene.session)) n is ok in
-        let b = both_none (is_protected n m.scene.session.contexts) (is_within n p m.scene.session.contexts) Protected Cycle may in
-        moved_read n p m.scene (named_there name m.scene n h is) (named_there parent m.scene p h q) b.1));
-  }
-
-owed_read : (w : Option ℕ) (x : Element) (m : Moment) → Meets x m.scene → OwesMoves CallsHooks w x m
-owed_read w (e.InTurn name x) m meets = owed_read w x m (record { stands = meets.stands; asks = meets.asks })
-owed_read w (e.Register name) m meets = register_read w m meets.stands name
-owed_read w (e.Reparent name parent) m meets = reparent_read w m meets.stands name parent meets.asks
-owed_read w other m meets = tt
+calls_moves : StandingMoves CallsHooks
+calls_moves = record {
+  hooked = λ name n hook s h is first. hook_read n hook s (named_there name s n h is);
+  shifted = λ n p s h may. moved_read n p s may.node may.parent may.out;
+}
 
 calls_turns : OwesTurns CallsHooks
-calls_turns = owes_by CallsHooks calls_ends error_read owed_read
+calls_turns = owes_by CallsHooks calls_ends (context_makes CallsHooks calls_law) error_read (standing_moves CallsHooks calls_ends.levels.leaves.acts calls_moves)
 
 -- no callback waits in a session that opens
 first_words : (n : ℕ) → words_at n contexts.opening ≡ []
@@ -401,5 +318,5 @@ unfolding opening
 calls_live kinds =
     life_by kinds calling FitsHooks [] (λ seen. none_left seen ≡ true) calls_turns
     (λ around table. record { numbered = first_numbered; words = λ n. sym (first_words n) })
-    (λ seen session a b same fit. record { numbered = fit.numbered; words = fit.words })
+    (λ seen session a b same fit. record { numbered = fit.numbered; words = fit.words }) exit_read
     (λ seen s gone fit. all_called seen (λ n. fit.words n ∙ ap (words_at n) gone.contexts))

@@ -86,7 +86,7 @@ module _ (entry : Begun) where
         record {
           allowed = c.allowed;
           fits = record {
-            contexts = contexts_confined entry s (context_gone n s).scene (context_gone n s).events leaving ((contexts_end_leaves.leaves.gone n).so s) k.contexts;
+            contexts = contexts_confined entry s (context_gone n s).scene (context_gone n s).events leaving ((contexts_end_leaves.levels.leaves.acts.gone n).so s) k.contexts;
             owners = subst (λ (nodes : List Replayed). FitsTree nodes s.session.owners) (sym c.owners) k.owners;
             plans = subst (AreKnown s.session.plans) (sym c.plans) k.plans;
             quiet = quiet_removed None n t k.quiet;
@@ -109,7 +109,7 @@ module _ (entry : Begun) where
         record {
           allowed = c.allowed;
           fits = record {
-            contexts = contexts_confined entry s (children_gone n s).scene (children_gone n s).events leaving ((contexts_end_leaves.leaves.children n).so s) k.contexts;
+            contexts = contexts_confined entry s (children_gone n s).scene (children_gone n s).events leaving ((contexts_end_leaves.levels.leaves.acts.children n).so s) k.contexts;
             owners = subst (λ (nodes : List Replayed). FitsTree nodes s.session.owners) (sym c.owners) k.owners;
             plans = subst (AreKnown s.session.plans) (sym c.plans) k.plans;
             quiet = quiet_emptied None n t k.quiet;

@@ -266,7 +266,7 @@ module _ (entry : Begun) where
       let said : Confined entry c leaving [] (gone_events (subtree c s.session.contexts)) = gone_confined entry c one (subtree c s.session.contexts) leaving [] (inside (at c s.session.contexts)) in
       record {
         allowed = said.allowed;
-        fits = record { contexts = contexts_confined entry s (context_gone c s).scene (context_gone c s).events leaving ((contexts_end_leaves.leaves.gone c).so s) k.contexts };
+        fits = record { contexts = contexts_confined entry s (context_gone c s).scene (context_gone c s).events leaving ((contexts_end_leaves.levels.leaves.acts.gone c).so s) k.contexts };
       }
     where
       inside : (o : Option Context) → GoInside c leaving.parents.contexts (order (option_map_or (λ a. Node c a (children c s.session.contexts) Empty) o Empty) ++ [])

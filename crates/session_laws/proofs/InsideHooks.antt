@@ -1,7 +1,7 @@
 -- No hook waits on a context of the session itself below the one for caches, whatever a line does.
 use Rattle.std.proofs.Common.{◌≡◌, ◌≢◌, ℕ, Bool, true, false, not, if◌then◌else◌, List, [], ◌∷◌, ◌++◌, codes, reverse, Option, Some, None, refl, sym, ap, ◌∙◌, subst, inl, inr, arith}
 use Rattle.std.specs.Prelude.{◌==◌, ◌&&◌, ◌||◌, ◌⊎◌}
-use Rattle.std.specs.Option.{option_and_then, option_map_or}
+use Rattle.std.specs.Option.{option_map_or}
 use Rattle.std.proofs.lemmas.Bool.{both_ways, eq-eqb, ne_eqb}
 use Rattle.std.proofs.lemmas.List.{reverse-append}
 use Rattle.pgs_step.specs.declared.events.What.{What}
@@ -12,34 +12,24 @@ use Rattle.forest.proofs.Trees.{apart_of, at_absent, at_some}
 use Rattle.reset_callbacks.specs.Hook.{Hook}
 use Rattle.context_rules.specs.Contexts as rules
 use Rattle.context_rules.specs.Contexts.{Context, Contexts, is_protected, new_context}
-use Rattle.context_rules.specs.Refusals.{is_within, set_parent_refusal}
-use Rattle.context_rules.specs.declared.errors.TreeError.TheVariants.{Protected, Cycle}
 use Rattle.context_rules.specs.Names.{same_name}
-use Rattle.context_rules.specs.Chunks.{zeros}
 use Rattle.context_rules.specs.Ends as ends
 use Rattle.session_rules.specs.State.{LevelState, cache_context, context_of, first_of, last_of, level_context, top_context}
-use Rattle.session_rules.specs.World.{Moment, Scene}
-use Rattle.session_rules.specs.Elements as e
-use Rattle.session_rules.specs.Elements.{Element, Text}
+use Rattle.session_rules.specs.World.{Scene}
+use Rattle.session_rules.specs.Elements.{Text}
 use Rattle.session_rules.specs.Lookup.{context_named}
-use Rattle.session_rules.specs.Acts.{Ended, where_there}
-use Rattle.session_rules.specs.Checks.{failure}
-use Rattle.session_rules.specs.Making.{held, left}
-use Rattle.session_rules.specs.Parts.{at_context, context_moved}
-use Rattle.session_rules.specs.Taking.{hook_registered, hook_waits}
-use Rattle.session_rules.specs.Does.{does}
+use Rattle.session_rules.specs.Taking.{hook_waits}
 use Rattle.session_rules.specs.Standing.{AreLevels, Stands}
-use Rattle.session_rules.proofs.Aside.{ContextLeaves, all_end_leaves}
+use Rattle.session_rules.proofs.Aside.{ContextLaw, context_ends, context_makes}
+use Rattle.session_rules.proofs.Meeting.{StandingMoves, standing_moves}
+use Rattle.session_rules.proofs.Sight.{ContextLeaves, of_contexts}
 use Rattle.session_rules.proofs.Guarded.{top_parent}
-use Rattle.session_rules.proofs.Leaves.{EndLeaves, Follows, OwesMoves}
+use Rattle.session_rules.proofs.Leaves.{EndLeaves}
 use Rattle.session_rules.proofs.LevelsKept.{IsContext}
-use Rattle.session_rules.proofs.NamesStand.{both_none, checked}
 use Rattle.session_rules.proofs.PlansAmong.{above_other, some_is}
-use Rattle.session_rules.proofs.TurnStands.{Meets}
-use Rattle.session_rules.proofs.Walk.{fallible_at}
 use Rattle.session_laws.proofs.ReaderLaws.{OwesTurns}
 use Rattle.session_laws.proofs.Lives.{owes_by}
-use Rattle.session_laws.proofs.InsideQuiet.{AreQuiet, quiet_allocated, quiet_alone, quiet_changed_at, quiet_emptied, quiet_freed, quiet_put, quiet_removed, quiet_reparented, quiet_resized, quiet_written}
+use Rattle.session_laws.proofs.InsideQuiet.{AreQuiet, quiet_alone, quiet_changed, quiet_changed_at, quiet_emptied, quiet_put, quiet_removed, quiet_reparented}
 
 -- the law
 pub record KeepsQuiet (s t : Scene) (events : List What) : Type 0 where
@@ -50,21 +40,22 @@ made_quiet parent n name kind protected t h = quiet_put None parent n (new_conte
 
 quiet_leaves : ContextLeaves KeepsQuiet
 quiet_leaves = record {
-  aside = λ s t contexts next shelf h. record { so = λ k. subst (AreQuiet None) (sym contexts) k };
-  both = λ h j. record { so = λ k. j.so (h.so k) };
   gone = λ n. record { so = λ s. record { so = quiet_removed None n s.session.contexts } };
   children = λ n. record { so = λ s. record { so = quiet_emptied None n s.session.contexts } };
   alone = λ n. record { so = λ s. record { so = quiet_alone n s.session.contexts } };
   cleared = λ n. record { so = λ s. record { so = λ k. quiet_alone n (ends.children_gone n s.session.contexts).contexts (quiet_emptied None n s.session.contexts k) } };
+  chunk = λ s n f h. record { so = quiet_changed None n f s.session.contexts (record { protected = h.protected; hooks = λ c none. h.hooks c ∙ none }) };
+}
+
+quiet_law : ContextLaw KeepsQuiet
+quiet_law = record {
+  sight = record { both = λ h k. record { so = λ q. k.so (h.so q) }; aside = λ s t same h. record { so = λ k. subst (AreQuiet None) (sym (same.so of_contexts refl)) k } };
+  contexts = quiet_leaves;
   made = λ parent name protected kind. record { so = λ s. record { so = made_quiet parent s.session.next_context name kind protected s.session.contexts } };
-  allocated = λ name bytes zeroed n. record { so = λ s. record { so = quiet_allocated s.session.contexts n (left s) name bytes (if zeroed then zeros bytes else []) } };
-  fitted = λ name bytes. record { so = λ s. record { so = quiet_resized s.session.contexts (held s.session) s.around.space name bytes } };
-  given = λ name. record { so = λ s. record { so = quiet_freed s.session.contexts name } };
-  put = λ name place bytes. record { so = λ s. record { so = quiet_written s.session.contexts name place bytes } };
 }
 
 pub quiet_ends : EndLeaves KeepsQuiet
-quiet_ends = all_end_leaves KeepsQuiet quiet_leaves
+quiet_ends = context_ends KeepsQuiet quiet_law
 
 -- the context of the first level of a list that is put together
 first_context : (levels : List LevelState) (n : ℕ) → context_of (first_of levels) ≡ Some n → IsContext n levels
@@ -164,10 +155,6 @@ named_elsewhere name s n h e own parent =
     go false false false false e = both_ways (is_protected n t) (script_free name t n h.contexts.once e) own
 
 -- a hook is registered, and a context moves
-at_name : (o : Option ℕ) (act : ℕ → Scene → Ended) (s : Scene) → ((n : ℕ) → o ≡ Some n → KeepsQuiet s (act n s).scene (act n s).events) → KeepsQuiet s (where_there o act s).scene (where_there o act s).events
-at_name None act s h = record { so = λ k. k }
-at_name (Some n) act s h = h n refl
-
 hook_quiet : (n : ℕ) (hook : Hook) (s : Scene) → Stands s → (is_protected n s.session.contexts ≡ true → parent_of n s.session.contexts ≡ Some cache_context → ⊥) → KeepsQuiet s (hook_waits n hook s).scene (hook_waits n hook s).events
 hook_quiet n hook s h not_there = record {
   so = λ k. quiet_changed_at None n (λ c. record c { used = true; hooks = hook ∷ c.hooks }) s.session.contexts h.contexts.once (λ c is. nowhere c is (is_root n s.session.contexts)) k;
@@ -177,38 +164,11 @@ hook_quiet n hook s h not_there = record {
     nowhere c is true e own = absurd (cc e)
     nowhere c is false e own = absurd (not_there (ap (λ (x : Option Context). option_map_or (λ c. c.protected) x false) is ∙ own) e)
 
-hook_so : (n : ℕ) (o : Option Hook) (s : Scene) → Stands s → (is_protected n s.session.contexts ≡ true → parent_of n s.session.contexts ≡ Some cache_context → ⊥) → KeepsQuiet s (where_there o (hook_waits n) s).scene (where_there o (hook_waits n) s).events
-hook_so n None s h not_there = record { so = λ k. k }
-hook_so n (Some hook) s h not_there = hook_quiet n hook s h not_there
-
-module _ (w : Option ℕ) (m : Moment) (h : Stands m.scene) where
-  registers : (name : Text) → KeepsQuiet m.scene (hook_registered name m.scene).scene (hook_registered name m.scene).events
-  registers name =
-      at_name (context_named name m.scene.session) (λ n. where_there (first_of m.scene.around.shelf.fresh) (hook_waits n)) m.scene
-      (λ n is. hook_so n (first_of m.scene.around.shelf.fresh) m.scene h (named_elsewhere name m.scene n h is))
-
-  register_quiet : (name : Text) → Follows KeepsQuiet m.scene (does w (e.Register name) m)
-  unfolding does
-  register_quiet name = fallible_at KeepsQuiet quiet_ends.leaves w m _ (hook_registered name) (registers name)
-
-  reparent_quiet : (name parent : Text) → failure (e.MayMove name parent) m.scene ≡ None → Follows KeepsQuiet m.scene (does w (e.Reparent name parent) m)
-  unfolding does
-  reparent_quiet name parent ok = record {
-    so = at_name (context_named name m.scene.session) (λ n. at_context parent (context_moved n)) m.scene
-        (λ n is. at_name (context_named parent m.scene.session) (context_moved n) m.scene
-        (λ p q.
-        let may : set_parent_refusal n p m.scene.session.contexts ≡ None =
-        ap (option_and_then (λ (j : ℕ). set_parent_refusal n j m.scene.session.contexts)) (sym q)
-        ∙ checked name m.scene.session (λ j. option_and_then (λ i. set_parent_refusal j i m.scene.session.contexts) (context_named parent m.scene.session)) n is ok in
-        let b = both_none (is_protected n m.scene.session.contexts) (is_within n p m.scene.session.contexts) Protected Cycle may in
-        record { so = quiet_reparented n p m.scene.session.contexts b.0 }));
-  }
-
-owed_quiet : (w : Option ℕ) (x : Element) (m : Moment) → Meets x m.scene → OwesMoves KeepsQuiet w x m
-owed_quiet w (e.InTurn name x) m meets = owed_quiet w x m (record { stands = meets.stands; asks = meets.asks })
-owed_quiet w (e.Register name) m meets = register_quiet w m meets.stands name
-owed_quiet w (e.Reparent name parent) m meets = reparent_quiet w m meets.stands name parent meets.asks
-owed_quiet w other m meets = tt
+quiet_moves : StandingMoves KeepsQuiet
+quiet_moves = record {
+  hooked = λ name n hook s h is first. hook_quiet n hook s h (named_elsewhere name s n h is);
+  shifted = λ n p s h may. record { so = quiet_reparented n p s.session.contexts may.free };
+}
 
 pub quiet_owed : OwesTurns KeepsQuiet
-quiet_owed = owes_by KeepsQuiet quiet_ends (λ error s. record { so = λ k. k }) owed_quiet
+quiet_owed = owes_by KeepsQuiet quiet_ends (context_makes KeepsQuiet quiet_law) (λ error s. record { so = λ k. k }) (standing_moves KeepsQuiet quiet_ends.levels.leaves.acts quiet_moves)

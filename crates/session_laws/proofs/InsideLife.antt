@@ -144,9 +144,9 @@ record LevelRead (levels : List LevelState) (leaving : Leaving) (s : Scene) : Ty
 trees_gone : (level : LevelState) (levels : List LevelState) (s : Scene) (b : Bool) → Stands s → s.session.levels ≡ level ∷ levels → level.aborted ≡ b
     → KeepsTrees s (in_order (where_so (not b) aborted ∷ cleaned_up ∷ []) s).scene (in_order (where_so (not b) aborted ∷ cleaned_up ∷ []) s).events
 trees_gone level levels s true h are e = record {
-  contexts = contexts_owed.leaves.both (contexts_owed.ends.cleans level levels s h are e) (contexts_owed.leaves.none _);
-  owners = owners_owed.leaves.both (owners_owed.ends.cleans level levels s h are e) (owners_owed.leaves.none _);
-  quiet = quiet_owed.leaves.both (quiet_owed.ends.cleans level levels s h are e) (quiet_owed.leaves.none _);
+  contexts = contexts_owed.leaves.acts.both (contexts_owed.ends.cleans level levels s h are e) (contexts_owed.leaves.acts.none _);
+  owners = owners_owed.leaves.acts.both (owners_owed.ends.cleans level levels s h are e) (owners_owed.leaves.acts.none _);
+  quiet = quiet_owed.leaves.acts.both (quiet_owed.ends.cleans level levels s h are e) (quiet_owed.leaves.acts.none _);
 }
 trees_gone level levels s false h are e = record {
   contexts = subst (λ (b : Bool). KeepsContexts s (in_order (where_so (not b) aborted ∷ cleaned_up ∷ []) s).scene (in_order (where_so (not b) aborted ∷ cleaned_up ∷ []) s).events) e (contexts_owed.ends.rolls_back level levels s h are e);

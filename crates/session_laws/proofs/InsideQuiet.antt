@@ -1,17 +1,13 @@
 -- No hook waits on a context of the session itself below the one for caches.
-use Rattle.std.proofs.Common.{◌≡◌, ℕ, Bool, true, false, if◌then◌else◌, List, [], Option, Some, None, Result, Ok, Err, refl, sym, ap, ◌∙◌, subst, inl, inr}
+use Rattle.std.proofs.Common.{◌≡◌, ℕ, Bool, true, false, if◌then◌else◌, [], Option, Some, None, refl, sym, ap, ◌∙◌, subst, inl, inr}
 use Rattle.std.specs.Prelude.{◌==◌}
 use Rattle.std.specs.Option.{option_map_or}
 use Rattle.std.proofs.lemmas.Bool.{both_ways, cases_Bool, cond-false, eqb-true, false_from_ne_true}
-use Rattle.chunk_header.specs.declared.CtxError.{CtxError}
-use Rattle.chunk_header.specs.Answers.{Taken, Resized}
-use Rattle.any_ctx.specs.Ledgers.{Ledger, Place, give}
 use Rattle.forest.specs.Forest.{Empty, Node, Once, at, changed, children, either, has, is_root, moved, parent_of, put, removed, with_children}
 use Rattle.forest.proofs.Trees.{Apart, Below, Beside, Here, at_absent, at_some, apart_of, changed_absent, has_at, where_is}
 use Rattle.forest.proofs.Neighbours.{parent_root, root_absent}
 use Rattle.context_rules.specs.Contexts as rules
 use Rattle.context_rules.specs.Contexts.{Context, Contexts, Found, found, is_child, is_protected, new_context, placed_under}
-use Rattle.context_rules.specs.Chunks.{allocated, freed, freed_in, from_ok, refitted, resized, resized_in, served, with_changed, with_chunk, with_size, without, written, written_over}
 use Rattle.context_rules.specs.Ends as ends
 use Rattle.context_rules.specs.Ends.{emptied, reset_of, unchanged}
 use Rattle.session_rules.specs.State.{cache_context}
@@ -125,48 +121,6 @@ no_hooks n c t o h is own parent =
     let none : is_root n t ≡ false = false_from_ne_true (is_root n t) (λ r. let bad : None ≡ Some cache_context = sym (parent_root n t o r) ∙ parent in absurd (cc bad)) in
     let q : IsQuiet (up None n t) c = quiet_at None n c t o there is h in
     q (cond-false (is_root n t) None (parent_of n t) none ∙ parent) (ap (λ (x : Option Context). option_map_or (λ c. c.protected) x false) (sym is) ∙ own)
-
--- calls on chunks
-same_hooks : (t : Contexts) (n : ℕ) (f : Context → Context) → ((c : Context) → (f c).protected ≡ c.protected) → ((c : Context) → (f c).hooks ≡ c.hooks) → AreQuiet None t → AreQuiet None (changed n f t)
-same_hooks t n f p e h = quiet_changed None n f t (record { protected = p; hooks = λ c none. e c ∙ none }) h
-
-pub quiet_allocated : (t : Contexts) (n left : ℕ) (name : Option (List ℕ)) (bytes : ℕ) (known : List ℕ) → AreQuiet None t → AreQuiet None (allocated n left name bytes known t)
-quiet_allocated t n left name bytes known h = go (served n left bytes t)
-  where
-    go : (r : Result (Taken Ledger Place) CtxError) → AreQuiet None (from_ok (λ taken. changed n (with_chunk name bytes known taken) t) t r)
-    go (Ok taken) = same_hooks t n (with_chunk name bytes known taken) (λ c. refl) (λ c. refl) h
-    go (Err e) = h
-
-pub quiet_freed : (t : Contexts) (name : List ℕ) → AreQuiet None t → AreQuiet None (freed name t)
-quiet_freed t name h = go (found name t)
-  where
-    by_ledger : (f : Found) (r : Result Ledger CtxError) → AreQuiet None (from_ok (λ given. changed f.context (λ c. record c { ledger = given; chunks = without name c.chunks }) t) t r)
-    by_ledger f (Ok given) = same_hooks t f.context (λ c. record c { ledger = given; chunks = without name c.chunks }) (λ c. refl) (λ c. refl) h
-    by_ledger f (Err e) = h
-
-    go : (o : Option Found) → AreQuiet None (option_map_or (freed_in name t) o t)
-    go None = h
-    go (Some f) = by_ledger f (give f.ledger f.chunk.place)
-
-pub quiet_resized : (t : Contexts) (held limit : ℕ) (name : List ℕ) (bytes : ℕ) → AreQuiet None t → AreQuiet None (resized held limit name bytes t)
-quiet_resized t held limit name bytes h = go (found name t)
-  where
-    by_ledger : (f : Found) (r : Result (Resized Ledger Place) CtxError)
-        → AreQuiet None (from_ok (λ answer. changed f.context (λ c. record c { ledger = answer.ledger; chunks = with_changed name (with_size bytes answer.place) c.chunks }) t) t r)
-    by_ledger f (Ok answer) = same_hooks t f.context (λ c. record c { ledger = answer.ledger; chunks = with_changed name (with_size bytes answer.place) c.chunks }) (λ c. refl) (λ c. refl) h
-    by_ledger f (Err e) = h
-
-    go : (o : Option Found) → AreQuiet None (option_map_or (resized_in held limit name bytes t) o t)
-    go None = h
-    go (Some f) = by_ledger f (refitted held limit bytes f)
-
-pub quiet_written : (t : Contexts) (name : List ℕ) (place : ℕ) (bytes : List ℕ) → AreQuiet None t → AreQuiet None (written name place bytes t)
-quiet_written t name place bytes h = go (found name t)
-  where
-    go : (o : Option Found)
-        → AreQuiet None (option_map_or (λ f. changed f.context (λ c. record c { chunks = with_changed name (λ chunk. record chunk { known = written_over place bytes chunk.known }) c.chunks }) t) o t)
-    go None = h
-    go (Some f) = same_hooks t f.context (λ c. record c { chunks = with_changed name (λ chunk. record chunk { known = written_over place bytes chunk.known }) c.chunks }) (λ c. refl) (λ c. refl) h
 
 -- a context is reset
 pub quiet_alone : (n : ℕ) (t : Contexts) → AreQuiet None t → AreQuiet None (ends.cleared_alone n t).contexts

@@ -11,7 +11,6 @@ use Rattle.lifetime_laws.specs.Inside.{Leaving, awaited_behind, ends_behind, lev
 use Rattle.lifetime_laws.proofs.Readings.{allows_all-append, seen_after-append}
 use Rattle.session_rules.specs.State.{LevelState, first_of, is_aborted}
 use Rattle.session_rules.specs.World.{Moment, Scene}
-use Rattle.session_rules.specs.Elements as e
 use Rattle.session_rules.specs.Elements.{Element}
 use Rattle.session_rules.specs.Acts.{Ended, in_order, where_so, where_there}
 use Rattle.session_rules.specs.Ends.{aborted, cleaned_up, given_up, level_rolled_back, recovered}
@@ -20,10 +19,10 @@ use Rattle.session_rules.specs.Does.{does, does_all, then_done}
 use Rattle.session_rules.specs.Standing.{Stands, StandsBetweenLines}
 use Rattle.session_rules.specs.Transcript.{line_elements, turn, turn_of}
 use Rattle.session_rules.proofs.EndsStand.{Leaves as LeavesLevels, rolled_stands, settled}
-use Rattle.session_rules.proofs.Leaves.{AreSpoken, Follows, IsRun}
+use Rattle.session_rules.proofs.Leaves.{AreSpoken, IsRun}
 use Rattle.session_rules.proofs.Spoken.{line_spoken}
 use Rattle.session_rules.proofs.TurnStands.{Meets, Runs, command_leads, refused_leads}
-use Rattle.session_rules.proofs.WalkEnds.{all_owed}
+use Rattle.session_rules.proofs.WalkEnds.{aborts}
 use Rattle.session_laws.proofs.ReaderLaws.{Reads}
 use Rattle.session_laws.proofs.Lives.{turn_keeps}
 use Rattle.session_laws.proofs.ParentsFit.{FitsContexts}
@@ -149,11 +148,11 @@ at_start s = record { scene = s; calls = 0; fail = 0 }
 
 aborts_contexts : (s : Scene) → KeepsContexts s (aborted s).scene (aborted s).events
 unfolding does
-aborts_contexts s = let f : Follows KeepsContexts s (does None e.Abort (at_start s)) = all_owed KeepsContexts contexts_end_leaves None e.Abort (at_start s) tt in f.so
+aborts_contexts s = (aborts KeepsContexts contexts_end_leaves).so s
 
 aborts_quiet : (s : Scene) → KeepsQuiet s (aborted s).scene (aborted s).events
 unfolding does
-aborts_quiet s = let f : Follows KeepsQuiet s (does None e.Abort (at_start s)) = all_owed KeepsQuiet quiet_ends None e.Abort (at_start s) tt in f.so
+aborts_quiet s = (aborts KeepsQuiet quiet_ends).so s
 
 -- a level is rolled back
 pub rolled_read : (level : LevelState) (levels : List LevelState) (s : Scene) (leaving : Leaving) → Stands s → s.session.levels ≡ level ∷ levels → level.aborted ≡ false → Trees leaving s → Active leaving s → IsSoon leaving.awaited

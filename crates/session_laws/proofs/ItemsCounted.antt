@@ -16,7 +16,7 @@ use Rattle.owner_kinds.specs.KindShelf.{table_of}
 use Rattle.owner_items.specs.ItemList.{is_of, without_newest}
 use Rattle.owner_core.specs.Owners.{Owner, OwnerTree, AllAt, HoldsNothing, created, forgotten, remembered}
 use Rattle.owner_core.specs.Released.{own_released, released}
-use Rattle.owner_core.specs.Steps.{Step, Said, GivesBack, ReleasesLocks, PassesLocks, ReleasesAllLocks, release_steps}
+use Rattle.owner_core.specs.Steps.{Step, Said, GivesBack, ReleasesLocks, PassesLocks, ReleasesAllLocks, made_event, release_steps}
 use Rattle.lifetime_laws.specs.Reading.{Reader, allows_all, seen_after}
 use Rattle.lifetime_laws.specs.Balance.{count}
 use Rattle.lifetime_laws.specs.Once.{acquires, releases}
@@ -28,11 +28,11 @@ use Rattle.session_rules.specs.Making.{owner_made}
 use Rattle.session_rules.specs.Releases.{given_back, owner_gone, owner_moved, phase_released, step_done}
 use Rattle.session_rules.specs.Taking.{remembers}
 use Rattle.session_rules.proofs.Forests.{has_put_other, once_left}
-use Rattle.session_rules.proofs.Leaves.{Leaves}
 use Rattle.session_rules.proofs.Swept.{has_swept}
-use Rattle.session_laws.proofs.ReaderLaws.{Reads, read_both}
-use Rattle.session_laws.proofs.ItemsStill.{AreReleaseSteps, AreStill, IsReleaseStep, all_locks_still, and_still, is_release, is_still, lock_passes_still, lock_releases_still, made_still, no_step, owners_still, phase_release, still, still_one, then_step}
-use Rattle.session_laws.proofs.ItemsAside.{OwnerLeaves, Quiet, Stays, given_quiet, owner_leaves, steps_stay}
+use Rattle.session_laws.proofs.ReaderLaws.{Reads}
+use Rattle.session_rules.proofs.ReleaseSteps.{AreReleaseSteps, IsReleaseStep, is_release, no_step, phase_release, then_step, warned_step}
+use Rattle.session_rules.proofs.Said.{AreSaid, said_all_locks, said_lock_passes, said_lock_releases, said_map, said_more, said_none, said_one}
+use Rattle.session_laws.proofs.StepsRest.{Quiet, Stays, given_quiet, is_still, steps_stay}
 use Rattle.session_laws.proofs.ItemsHeld.{has_it, is_it, it_created, it_forgotten, it_moved, it_remembered, it_removed, says, says_phase}
 
 -- each owner's number stands once and is below the next one
@@ -101,6 +101,11 @@ pub record Counts (item : Item) (owner n : ℕ) (s : Scene) : Type 0 where
   pub numbered : AreNumbered s.session.owners s.session.next_owner
   pub is : n ≡ has_it item owner s.session.owners
 
+-- what is said of a new owner
+made_still : (parent : Option ℕ) (n : ℕ) → is_still (made_event parent n) ≡ true
+made_still None n = refl
+made_still (Some parent) n = refl
+
 module _ (item : Item) (owner : ℕ) where
   abbrev pub reader : Reader ℕ
   reader = count (acquires item owner) (releases item owner)
@@ -136,9 +141,9 @@ module _ (item : Item) (owner : ℕ) where
       let one : Leads n ((n + 0) - 0) (event ∷ []) = one_leads event n 0 0 (brings_none event h) (takes_none event h) (omega arith) in
       record { allowed = one.allowed; is = one.is ∙ omega arith }
 
-  still_leads : {events : List What} → AreStill events → (n : ℕ) → Leads n n events
-  still_leads still n = record { allowed = refl; is = refl }
-  still_leads (and_still {event = event} {events = events} h hs) n = leads_both n n n (event ∷ []) events (still_one_leads event n h) (still_leads hs n)
+  still_leads : {events : List What} → AreSaid is_still events → (n : ℕ) → Leads n n events
+  still_leads said_none n = record { allowed = refl; is = refl }
+  still_leads (said_more {event = event} {events = events} h hs) n = leads_both n n n (event ∷ []) events (still_one_leads event n h) (still_leads hs n)
 
   -- steps of a release
   release_brings : (event : What) → is_release event ≡ true → acquires item owner event ≡ 0
@@ -150,12 +155,12 @@ module _ (item : Item) (owner : ℕ) where
       let one : Leads n ((n + 0) - releases item owner event) (event ∷ []) = one_leads event n 0 (releases item owner event) (release_brings event h) refl (omega (arith, e)) in
       record { allowed = one.allowed; is = one.is ∙ omega (arith, e) }
   step_leads (GivesBack other) h s n k e =
-      let q : Quiet s (given_back other s).scene (given_back other s).events = given_quiet other s in
+      let q : Quiet s (given_back other s).scene (given_back other s).events = (given_quiet other).so s in
       let z : Leads n n (given_back other s).events = still_leads q.still n in
       record { allowed = z.allowed; is = z.is ∙ omega (arith, e) }
-  step_leads (ReleasesLocks o) h s n k e = let z = still_leads (lock_releases_still o s.session.locks) n in record { allowed = z.allowed; is = z.is ∙ omega (arith, e) }
-  step_leads (PassesLocks from to) h s n k e = let z = still_leads (lock_passes_still from to s.session.locks) n in record { allowed = z.allowed; is = z.is ∙ omega (arith, e) }
-  step_leads (ReleasesAllLocks top) h s n k e = let z = still_leads (all_locks_still top s.session.locks) n in record { allowed = z.allowed; is = z.is ∙ omega (arith, e) }
+  step_leads (ReleasesLocks o) h s n k e = let z = still_leads (said_lock_releases (λ object mode count by. refl) o s.session.locks) n in record { allowed = z.allowed; is = z.is ∙ omega (arith, e) }
+  step_leads (PassesLocks from to) h s n k e = let z = still_leads (said_lock_passes (λ object mode count by to. refl) from to s.session.locks) n in record { allowed = z.allowed; is = z.is ∙ omega (arith, e) }
+  step_leads (ReleasesAllLocks top) h s n k e = let z = still_leads (said_all_locks (λ object mode count by. refl) top s.session.locks) n in record { allowed = z.allowed; is = z.is ∙ omega (arith, e) }
 
   steps_lead : (steps : List Step) → AreReleaseSteps steps → (s : Scene) (n k : ℕ) → n ≡ says item owner steps + k → Leads n k (for_each step_done steps s).events
   steps_lead [] no_step s n k e = record { allowed = refl; is = omega (arith, e) }
@@ -163,6 +168,10 @@ module _ (item : Item) (owner : ℕ) where
       leads_both n (says item owner steps + k) k (step_done step s).events (for_each step_done steps (step_done step s).scene).events
       (step_leads step h s n (says item owner steps + k) (omega (arith, e)))
       (steps_lead steps hs (step_done step s).scene (says item owner steps + k) k refl)
+  steps_lead (Said warning ∷ Said release ∷ steps) (warned_step {n = by} {item = other} hs) s n k e =
+      leads_both n n k (what.NotClosed other by ∷ []) (what.Release other by ∷ (for_each step_done steps s).events) (still_one_leads (what.NotClosed other by) n refl)
+      (leads_both n (says item owner steps + k) k (what.Release other by ∷ []) (for_each step_done steps s).events (step_leads (Said (what.Release other by)) refl s n (says item owner steps + k) (omega (arith, e)))
+      (steps_lead steps hs s (says item owner steps + k) k refl))
 
   -- The law of the reader.
   abbrev pub Counted : Scene → Scene → List What → Type 0
@@ -181,21 +190,21 @@ module _ (item : Item) (owner : ℕ) where
 
   -- where owners stay, or hold the item as often as before
   still_reads : (s t : Scene) {events : List What} → (AreNumbered s.session.owners s.session.next_owner → AreNumbered t.session.owners t.session.next_owner)
-      → (AreNumbered s.session.owners s.session.next_owner → has_it item owner t.session.owners ≡ has_it item owner s.session.owners) → AreStill events → Counted s t events
+      → (AreNumbered s.session.owners s.session.next_owner → has_it item owner t.session.owners ≡ has_it item owner s.session.owners) → AreSaid is_still events → Counted s t events
   still_reads s t {events = events} numbered same h =
       reads_by s t events numbered
       (λ k. let z = still_leads h (has_it item owner s.session.owners) in record { allowed = z.allowed; is = z.is ∙ sym (same k) })
 
-  pub aside_reads : (s t : Scene) {events : List What} → t.session.owners ≡ s.session.owners → t.session.next_owner ≡ s.session.next_owner → AreStill events → Counted s t events
+  pub aside_reads : (s t : Scene) {events : List What} → t.session.owners ≡ s.session.owners → t.session.next_owner ≡ s.session.next_owner → AreSaid is_still events → Counted s t events
   aside_reads s t owners next h =
       still_reads s t (λ k. subst (λ (x : OwnerTree). AreNumbered x t.session.next_owner) (sym owners) (subst (AreNumbered s.session.owners) (sym next) k))
       (λ k. ap (has_it item owner) owners) h
 
   -- an owner is made
-  made_reads : (parent : Option ℕ) (s : Scene) → Counted s (owner_made parent s).scene (owner_made parent s).events
+  pub made_reads : (parent : Option ℕ) (s : Scene) → Counted s (owner_made parent s).scene (owner_made parent s).events
   made_reads parent s =
       still_reads s (owner_made parent s).scene (numbered_created parent s.session.owners s.session.next_owner)
-      (λ k. it_created item owner parent s.session.next_owner s.session.owners) (still_one _ (made_still parent s.session.next_owner))
+      (λ k. it_created item owner parent s.session.next_owner s.session.owners) (said_one _ (made_still parent s.session.next_owner))
 
   -- an item is given back
   abbrev forgets : ℕ → KindId → ℕ → Scene → Scene
@@ -212,7 +221,7 @@ module _ (item : Item) (owner : ℕ) where
       let l : Leads (has_it item owner x) ((has_it item owner x + 0) - one) (what.Release old n ∷ []) = one_leads (what.Release old n) (has_it item owner x) 0 one refl refl (omega (arith, sum)) in
       record { allowed = l.allowed; is = l.is ∙ omega (arith, sum) })
 
-  forgotten_reads : (n : ℕ) (kind : KindId) (key : ℕ) (old : Item) (s : Scene) → newest n kind key s.session ≡ Some old → Counted s (forgets n kind key s) (what.Release old n ∷ [])
+  pub forgotten_reads : (n : ℕ) (kind : KindId) (key : ℕ) (old : Item) (s : Scene) → newest n kind key s.session ≡ Some old → Counted s (forgets n kind key s) (what.Release old n ∷ [])
   forgotten_reads n kind key old s found = elim (cases_Bool (has n s.session.owners)) [
     | inl y ↦
         let a = at_some n s.session.owners y in
@@ -221,17 +230,6 @@ module _ (item : Item) (owner : ℕ) where
         let none : None ≡ Some old = ap (λ (z : Option Owner). find (is_of kind key) (option_map_or (λ o. o.items) z [])) (sym (at_absent n s.session.owners y)) ∙ found in
         absurd (cc none)
   ]
-
-  pub counted_leaves : OwnerLeaves Counted
-  counted_leaves = record {
-    aside = λ s t owners next_owner next_serial h. aside_reads s t owners next_owner h;
-    both = λ a b. read_both reader (Counts item owner) a b;
-    owner = λ parent. record { so = made_reads parent };
-    item = λ n kind key old s found. forgotten_reads n kind key old s found;
-  }
-
-  pub all_counted : Leaves Counted
-  all_counted = owner_leaves Counted counted_leaves
 
   -- an owner that is there takes an item
   pub remembered_reads : (n : ℕ) (kind : KindId) (key : ℕ) (s : Scene) → has n s.session.owners ≡ true → Counted s (remembers n kind key s).scene (remembers n kind key s).events
@@ -270,9 +268,9 @@ module _ (item : Item) (owner : ℕ) where
   pub discarded_reads : (n : ℕ) (s : Scene) → AllAt HoldsNothing n s.session.owners → Counted s (owner_gone n s).scene (owner_gone n s).events
   discarded_reads n s idle =
       still_reads s (owner_gone n s).scene (numbered_removed n s.session.owners s.session.next_owner)
-      (λ k. it_removed item owner n s.session.owners k.once idle) (owners_still (order_at n s.session.owners))
+      (λ k. it_removed item owner n s.session.owners k.once idle) (said_map (λ (m : ℕ). what.OwnerGone m) (λ m. refl) (order_at n s.session.owners))
 
   pub moved_reads : (n q : ℕ) (s : Scene) → Moves n q s.session.owners → Counted s (owner_moved n q s).scene (owner_moved n q s).events
   moved_reads n q s w =
       still_reads s (owner_moved n q s).scene (λ k. numbered_moved n q s.session.owners s.session.next_owner k w)
-      (λ k. it_moved item owner n q s.session.owners k.once w) (still_one (what.MoveOwner n q) refl)
+      (λ k. it_moved item owner n q s.session.owners k.once w) (said_one (what.MoveOwner n q) refl)

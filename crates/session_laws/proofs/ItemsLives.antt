@@ -13,8 +13,8 @@ use Rattle.session_rules.specs.World.{Around}
 use Rattle.session_laws.proofs.ReaderLaws.{IsLife}
 use Rattle.session_laws.proofs.Lives.{life_by}
 use Rattle.session_laws.proofs.ItemsCounted.{Counts, reader}
-use Rattle.session_laws.proofs.ItemsNumbered.{IsNext, numbers_turns}
-use Rattle.session_laws.proofs.Items.{counts_elsewhere, counts_ended, counts_open, counts_turns}
+use Rattle.session_laws.proofs.ItemsNumbered.{IsNext, numbers_exit, numbers_turns}
+use Rattle.session_laws.proofs.Items.{counts_elsewhere, counts_ended, counts_exit, counts_open, counts_turns}
 
 -- what there is in the end: nothing
 abbrev pub IsNone : ℕ → Type 0
@@ -25,7 +25,7 @@ pub items_life : (kinds : KindTable) (item : Item) (owner : ℕ) → IsLife kind
 items_life kinds item owner =
     life_by kinds (reader item owner) (Counts item owner) 0 IsNone (counts_turns item owner)
     (λ around is. counts_open item owner around)
-    (λ n session a b same h. counts_elsewhere item owner n session a b h)
+    (λ n session a b same h. counts_elsewhere item owner n session a b h) (counts_exit item owner)
     (λ n s h fits. counts_ended item owner n s h fits)
 
 -- of a session that has just opened there is nothing either
@@ -43,7 +43,7 @@ IsSome n = Unit {0}
 
 pub numbers_life : (kinds : KindTable) → IsLife kinds numbering IsNext 1 IsSome
 numbers_life kinds =
-    life_by kinds numbering IsNext 1 IsSome numbers_turns (λ around is. numbers_open around) (λ n session a b same h. h) (λ n s h fits. tt)
+    life_by kinds numbering IsNext 1 IsSome numbers_turns (λ around is. numbers_open around) (λ n session a b same h. h) numbers_exit (λ n s h fits. tt)
 
 -- what the law says then of a list of events
 pub items_balance : (item : Item) (owner : ℕ) (events : List What) → allows_all (reader item owner) 0 events ≡ true → IsNone (seen_after (reader item owner) 0 events)

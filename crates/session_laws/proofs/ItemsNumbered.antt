@@ -1,58 +1,35 @@
 -- Items are numbered as they are acquired.
-use Rattle.std.proofs.Common.{◌≡◌, ℕ, ◌+◌, true, List, [], ◌∷◌, refl, sym, ap, ◌∙◌}
+use Rattle.std.proofs.Common.{◌≡◌, ℕ, ◌+◌, true, List, refl, sym, ap, ◌∙◌}
 use Rattle.std.specs.Prelude.{◌==◌, Bool, false}
 use Rattle.std.proofs.lemmas.Bool.{and_from, eq-eqb}
 use Rattle.pgs_step.specs.declared.events.What.{What}
 use Rattle.pgs_step.specs.declared.events.What.TheVariants as what
 use Rattle.pgs_step.specs.declared.ids.KindId.{KindId}
-use Rattle.pgs_step.specs.declared.ids.Phase.{Phase}
-use Rattle.forest.specs.Walk.{order_at}
-use Rattle.owner_kinds.specs.KindTable.{KindTable}
-use Rattle.owner_kinds.specs.KindShelf.{table_of}
-use Rattle.owner_core.specs.Steps.{Step, Said, GivesBack, ReleasesLocks, PassesLocks, ReleasesAllLocks, release_steps}
 use Rattle.lifetime_laws.specs.Reading.{allows_all, seen_after}
 use Rattle.lifetime_laws.specs.Once.{numbering}
 use Rattle.session_rules.specs.World.{Scene}
-use Rattle.session_rules.specs.Acts.{for_each}
-use Rattle.session_rules.specs.Releases.{phase_released, step_done}
-use Rattle.session_rules.specs.Making.{owner_made}
+use Rattle.session_rules.specs.Acts.{say}
 use Rattle.session_rules.specs.Taking.{remembers}
-use Rattle.session_rules.proofs.Leaves.{EndLeaves, Law}
-use Rattle.session_laws.proofs.ReaderLaws.{OwesTurns, Reads, read_both, read_none}
+use Rattle.session_rules.proofs.Leaves.{EndLeaves, Keeps, Law, MakeLeaves, MoveLeaves, is_level_word, is_word}
+use Rattle.session_rules.proofs.Said.{AreSaid, said_more, said_none, said_one}
+use Rattle.session_rules.proofs.Sight.{FileLeaves, Part, Sight, end_leaves_of, hook_waits_so, item_goes, locks_one, makes_context, moves_context, of_next_serial, owner_goes, owner_makes, owner_moves, places, plans_one, pushes, unlocks, unseen_contexts, unseen_files, unseen_keys, unseen_locks, unseen_owners, unseen_stack}
+use Rattle.session_rules.proofs.Walk.{moves_owed}
+use Rattle.session_laws.proofs.ReaderLaws.{OwesTurns, Reads, read_both}
 use Rattle.session_laws.proofs.Lives.{owes_by}
-use Rattle.session_laws.proofs.ItemsStill.{AreReleaseSteps, AreStill, IsReleaseStep, all_locks_still, and_still, is_release, is_still, lock_passes_still, lock_releases_still, made_still, no_step, owners_still, phase_release, still, still_one, then_step}
-use Rattle.session_laws.proofs.ItemsAside.{OwnerLeaves, by_key, by_quiet, by_stack_gone, by_stack_passed, given_quiet, moves_owed, owner_leaves}
 
 -- an event that acquires no item
 abbrev is_past : What → Bool
 is_past (what.Acquire item owner) = false
 is_past other = true
 
-data ArePast : List What → Type 0 where
-  past : ArePast []
-  and_past : {event : What} {events : List What} → is_past event ≡ true → ArePast events → ArePast (event ∷ events)
-
-event_past : (event : What) → is_still event ≡ true → is_past event ≡ true
-event_past (what.Acquire item owner) h = h
-event_past (what.Release item owner) h = refl
-event_past other h = refl
-
-still_past : {events : List What} → AreStill events → ArePast events
-still_past still = past
-still_past (and_still {event = event} h hs) = and_past (event_past event h) (still_past hs)
-
-release_past : (event : What) → is_release event ≡ true → is_past event ≡ true
-release_past (what.Acquire item owner) h = h
-release_past other h = refl
-
 -- Such events are allowed, and change no number.
 event_passes : (event : What) → is_past event ≡ true → (n : ℕ) → (numbering.allows event n ≡ true) × (numbering.next event n ≡ n)
 event_passes (what.Acquire item owner) h n = absurd (cc h)
 event_passes other h n = (refl, refl)
 
-past_passes : {events : List What} → ArePast events → (n : ℕ) → (allows_all numbering n events ≡ true) × (seen_after numbering n events ≡ n)
-past_passes past n = (refl, refl)
-past_passes (and_past {event = event} {events = events} h hs) n =
+past_passes : {events : List What} → AreSaid is_past events → (n : ℕ) → (allows_all numbering n events ≡ true) × (seen_after numbering n events ≡ n)
+past_passes said_none n = (refl, refl)
+past_passes (said_more {event = event} {events = events} h hs) n =
     let one = event_passes event h n in
     let rest = past_passes hs n in (
       and_from (numbering.allows event n) (allows_all numbering (numbering.next event n) events) one.0 (ap (λ (k : ℕ). allows_all numbering k events) one.1 ∙ rest.0),
@@ -66,16 +43,15 @@ IsNext n s = n ≡ s.session.next_serial
 abbrev Numbers : Law
 Numbers = Reads numbering IsNext
 
-past_reads : (s t : Scene) {events : List What} → t.session.next_serial ≡ s.session.next_serial → ArePast events → Numbers s t events
+past_reads : (s t : Scene) {events : List What} → t.session.next_serial ≡ s.session.next_serial → AreSaid is_past events → Numbers s t events
 past_reads s t same h = record { so = λ n is. let p = past_passes h n in record { allowed = p.0; fits = p.1 ∙ is ∙ sym same } }
 
-number_leaves : OwnerLeaves Numbers
-number_leaves = record {
-  aside = λ s t owners next_owner next_serial h. past_reads s t next_serial (still_past h);
-  both = λ a b. read_both numbering IsNext a b;
-  owner = λ parent. record { so = λ s. past_reads s (owner_made parent s).scene refl (still_past (still_one _ (made_still parent s.session.next_owner))) };
-  item = λ n kind key item s is. past_reads s _ refl (and_past refl past);
-}
+abbrev sees_serial : Part → Bool
+sees_serial of_next_serial = true
+sees_serial other = false
+
+sight : Sight sees_serial is_past Numbers
+sight = record { both = λ a b. read_both numbering IsNext a b; aside = λ s t same h. past_reads s t (same.so of_next_serial refl) h }
 
 -- an item is acquired with the next number
 remembered_numbers : (n : ℕ) (kind : KindId) (key : ℕ) (s : Scene) → Numbers s (remembers n kind key s).scene (remembers n kind key s).events
@@ -86,37 +62,44 @@ remembered_numbers n kind key s = record {
   };
 }
 
--- a phase of a release
-step_numbers : (step : Step) → IsReleaseStep step → (s : Scene) → Numbers s (step_done step s).scene (step_done step s).events
-step_numbers (Said event) h s = past_reads s s refl (and_past (release_past event h) past)
-step_numbers (GivesBack item) h s = by_quiet Numbers number_leaves (given_quiet item s)
-step_numbers (ReleasesLocks owner) h s = past_reads s _ refl (still_past (lock_releases_still owner s.session.locks))
-step_numbers (PassesLocks from to) h s = past_reads s _ refl (still_past (lock_passes_still from to s.session.locks))
-step_numbers (ReleasesAllLocks top) h s = past_reads s _ refl (still_past (all_locks_still top s.session.locks))
+word_past : (event : What) → is_word event ≡ true → is_past event ≡ true
+word_past (what.Acquire item owner) h = absurd (cc h)
+word_past other h = refl
 
-steps_numbers : (steps : List Step) → AreReleaseSteps steps → (s : Scene) → Numbers s (for_each step_done steps s).scene (for_each step_done steps s).events
-steps_numbers [] no_step s = read_none numbering IsNext s
-steps_numbers (step ∷ steps) (then_step h hs) s = read_both numbering IsNext (step_numbers step h s) (steps_numbers steps hs (step_done step s).scene)
+level_past : (event : What) → is_level_word event ≡ true → is_past event ≡ true
+level_past (what.Acquire item owner) h = absurd (cc h)
+level_past other h = refl
 
-phase_numbers : (commit top : Bool) (n : ℕ) (phase : Phase) (s : Scene) → Numbers s (phase_released commit top n phase s).scene (phase_released commit top n phase s).events
-phase_numbers commit top n phase s =
-    let table : KindTable = table_of s.around.kinds in
-    read_both numbering IsNext
-    (steps_numbers (release_steps table phase commit top n s.session.owners) (phase_release table phase commit top n s.session.owners) s)
-    (past_reads _ _ refl past)
+file_leaves : FileLeaves Numbers
+file_leaves = unseen_files sees_serial is_past Numbers sight refl (λ file. refl) (λ file. refl)
 
 number_ends : EndLeaves Numbers
-number_ends = record {
-  leaves = owner_leaves Numbers number_leaves;
-  key_opened = by_key Numbers number_leaves;
-  remembered = λ n kind key. record { so = remembered_numbers n kind key };
-  phase = λ commit top n phase. record { so = phase_numbers commit top n phase };
-  discarded = λ n. record { so = λ s. past_reads s _ refl (still_past (owners_still (order_at n s.session.owners))) };
-  moved = λ n parent. record { so = λ s. past_reads s _ refl (and_past refl past) };
-  stack_gone = by_stack_gone Numbers number_leaves;
-  stack_passed = by_stack_passed Numbers number_leaves;
+number_ends =
+    end_leaves_of sees_serial is_past Numbers sight refl refl (unseen_contexts sees_serial is_past Numbers sight refl refl refl (λ word n. refl) (λ n. refl) (λ n. refl))
+    (record { word = word_past; line = λ depth n name stats. refl; total = λ total. refl }) level_past
+    (unseen_owners sees_serial is_past Numbers sight refl (λ item n. refl) (λ item n. refl) (λ n kind key. record { so = remembered_numbers n kind key }))
+    (item_goes sees_serial is_past Numbers sight refl (λ item n. refl)) (unseen_locks sees_serial is_past Numbers sight refl (λ object mode count owner. refl) (λ object mode count from to. refl))
+    file_leaves (unseen_keys sees_serial is_past Numbers sight refl) refl (unseen_stack sees_serial is_past Numbers sight refl (λ snapshot. refl))
+    (owner_goes sees_serial is_past Numbers sight refl (λ n. refl)) (owner_moves sees_serial is_past Numbers sight refl (λ n parent. refl))
+
+number_makes : MakeLeaves Numbers
+number_makes = record {
+  made = makes_context sees_serial is_past Numbers sight refl refl refl (λ n parent name. refl);
+  placed = places sees_serial is_past Numbers sight refl refl;
+  planned = plans_one sees_serial is_past Numbers sight refl refl (makes_context sees_serial is_past Numbers sight refl refl refl (λ n parent name. refl));
+  owner = owner_makes sees_serial is_past Numbers sight refl refl (λ n. refl) (λ n parent. refl);
+  locked = locks_one sees_serial is_past Numbers sight refl (λ object mode count owner. refl) (λ object mode owner. refl);
+  unlocked = unlocks sees_serial is_past Numbers sight refl (λ object mode count owner. refl);
+  used = file_leaves.used;
+  pushed = pushes sees_serial is_past Numbers sight refl (λ snapshot. refl);
 }
+
+number_moves : MoveLeaves Numbers
+number_moves = record { hooked = hook_waits_so sees_serial is_past Numbers sight refl refl refl (λ word n. refl); shifted = moves_context sees_serial is_past Numbers sight refl refl refl (λ n parent. refl) }
 
 -- what a line and an exit owe
 pub numbers_turns : OwesTurns (Reads numbering IsNext)
-numbers_turns = owes_by Numbers number_ends (λ error s. past_reads s s refl (and_past refl past)) (λ w x m meets. moves_owed Numbers number_leaves w x m)
+numbers_turns = owes_by Numbers number_ends number_makes (λ error s. past_reads s s refl (said_one (what.Error error) refl)) (λ w x m meets. moves_owed Numbers number_ends.levels.leaves.acts number_moves w x m)
+
+pub numbers_exit : Keeps Numbers (say what.Exit)
+numbers_exit = record { so = λ s. past_reads s s refl (said_one what.Exit refl) }

@@ -13,15 +13,14 @@ use Rattle.session_rules.specs.World.{Around, Moment, Scene}
 use Rattle.session_rules.specs.Acts.{Ended, context_gone, for_each, in_order, say, switched, where_so, where_there}
 use Rattle.session_rules.specs.Ends.{aborted, cleaned_up, exited, given_up, level_rolled_back, recovered}
 use Rattle.session_rules.specs.Calls.{Done}
-use Rattle.session_rules.specs.Does.{does, does_all}
-use Rattle.session_rules.specs.Elements as e
+use Rattle.session_rules.specs.Does.{does_all}
 use Rattle.session_rules.specs.Elements.{Element}
 use Rattle.session_rules.specs.Standing.{AreOuter, HasExited, Stands, StandsBetweenLines}
 use Rattle.session_rules.specs.Transcript.{line_elements, turn, turn_of}
 use Rattle.session_rules.proofs.EndsStand.{Leaves as Leaving, at_settled, behind_rollback, exited_left, is_left, rolled_stands, settled}
-use Rattle.session_rules.proofs.Leaves.{EndLeaves, Follows, Keeps, Law, OwesMoves, last, next}
-use Rattle.session_rules.proofs.Walk.{by_order, by_so, by_switch, run_follows}
-use Rattle.session_rules.proofs.WalkEnds.{all_owed}
+use Rattle.session_rules.proofs.Leaves.{EndLeaves, Follows, Keeps, Law, MakeLeaves, OwesMoves, last, next}
+use Rattle.session_rules.proofs.Walk.{by_order, run_follows}
+use Rattle.session_rules.proofs.WalkEnds.{aborts, all_owed, cleans_up, rolls_back}
 use Rattle.session_rules.proofs.Spoken.{line_spoken}
 use Rattle.session_rules.proofs.TurnStands.{Meets, Runs, command_leads, refused_leads}
 use Rattle.session_laws.proofs.ReaderLaws.{IsLife, IsRead, OwesTurns, Reads}
@@ -35,18 +34,18 @@ pub record HasGone (R : Law) (s : Scene) (behind : Ended) : Type 0 where
 
 module _ (R : Law) (o : OwesTurns R) where
   -- a level is rolled back, whether it is aborted already or not
-  level_keeps : (level : LevelState) (levels : List LevelState) (s : Scene) → Stands s → s.session.levels ≡ level ∷ levels → R s (level_rolled_back level s).scene (level_rolled_back level s).events
+  pub level_keeps : (level : LevelState) (levels : List LevelState) (s : Scene) → Stands s → s.session.levels ≡ level ∷ levels → R s (level_rolled_back level s).scene (level_rolled_back level s).events
   level_keeps level levels s h is = go level.aborted refl
     where
       go : (b : Bool) → level.aborted ≡ b → R s (in_order (where_so (not b) aborted ∷ cleaned_up ∷ []) s).scene (in_order (where_so (not b) aborted ∷ cleaned_up ∷ []) s).events
-      go true e = o.leaves.both (o.ends.cleans level levels s h is e) (o.leaves.none _)
+      go true e = o.leaves.acts.both (o.ends.cleans level levels s h is e) (o.leaves.acts.none _)
       go false e =
           subst (λ (b : Bool). R s (in_order (where_so (not b) aborted ∷ cleaned_up ∷ []) s).scene (in_order (where_so (not b) aborted ∷ cleaned_up ∷ []) s).events)
           e (o.ends.rolls_back level levels s h is e)
 
   -- the level above one that went is aborted
   above_keeps : (levels : List LevelState) (s : Scene) → Leaving levels s → AreOuter levels → R s (where_there (first_of levels) (λ above. aborted) s).scene (where_there (first_of levels) (λ above. aborted) s).events
-  above_keeps [] s h outer = o.leaves.none s
+  above_keeps [] s h outer = o.leaves.acts.none s
   above_keeps (level ∷ levels) s h outer = o.ends.aborts level levels s h.between.stands h.are outer.0.unaborted
 
   -- what becomes of the levels after an error
@@ -57,19 +56,19 @@ module _ (R : Law) (o : OwesTurns R) where
       ] in
       R (settled (level ∷ levels) s) given.scene given.events
   gives_keeps level levels s true i h active =
-      o.leaves.both (level_keeps level levels (settled (level ∷ levels) s) h refl)
-      (o.leaves.both (above_keeps levels (level_rolled_back level (settled (level ∷ levels) s)).scene (rolled_stands level levels s h) h.fit.1) (o.leaves.none _))
+      o.leaves.acts.both (level_keeps level levels (settled (level ∷ levels) s) h refl)
+      (o.leaves.acts.both (above_keeps levels (level_rolled_back level (settled (level ∷ levels) s)).scene (rolled_stands level levels s h) h.fit.1) (o.leaves.acts.none _))
   gives_keeps level levels s false true h active = level_keeps level levels (settled (level ∷ levels) s) h refl
   gives_keeps level levels s false false h active = o.ends.aborts level levels (settled (level ∷ levels) s) h refl active
 
   given_keeps : (levels : List LevelState) (s : Scene) → Stands (settled levels s)
       → R (settled levels s) (where_so (not (is_aborted levels)) (given_up levels) (settled levels s)).scene (where_so (not (is_aborted levels)) (given_up levels) (settled levels s)).events
-  given_keeps [] s h = o.leaves.none _
+  given_keeps [] s h = o.leaves.acts.none _
   given_keeps (level ∷ levels) s h = go level.aborted refl
     where
       go : (b : Bool) → level.aborted ≡ b
           → R (settled (level ∷ levels) s) (where_so (not b) (given_up (level ∷ levels)) (settled (level ∷ levels) s)).scene (where_so (not b) (given_up (level ∷ levels)) (settled (level ∷ levels) s)).events
-      go true e = o.leaves.none _
+      go true e = o.leaves.acts.none _
       go false e = gives_keeps level levels s level.starting level.implicit h e
 
   -- a recovery
@@ -77,11 +76,11 @@ module _ (R : Law) (o : OwesTurns R) where
   unfolding recovered
   recovered_keeps error s h =
       at_settled (λ (z : Scene). R z (recovered error z).scene (recovered error z).events)
-      (λ levels z k. o.leaves.both (o.error error (settled levels z)) (o.leaves.both (given_keeps levels z k) (o.leaves.none _))) s h
+      (λ levels z k. o.leaves.acts.both (o.error error (settled levels z)) (o.leaves.acts.both (given_keeps levels z k) (o.leaves.acts.none _))) s h
 
   turn_of_keeps : (s : Scene) (done : Done) (refusal : Option Error) → Stands done.moment.scene → Follows R s done → R s (turn_of done refusal).moment.scene (turn_of done refusal).events
   turn_of_keeps s done None h k = k.so
-  turn_of_keeps s done (Some error) h k = o.leaves.both k.so (recovered_keeps error done.moment.scene h)
+  turn_of_keeps s done (Some error) h k = o.leaves.acts.both k.so (recovered_keeps error done.moment.scene h)
 
   line_leads : (w : Option ℕ) (line : Option Command) (m : Moment) → StandsBetweenLines m.scene → Runs w StandsBetweenLines (line_elements line m.scene.session) m
   line_leads w None m h = refused_leads w StandsBetweenLines error.SyntaxError m h.stands
@@ -98,41 +97,31 @@ module _ (R : Law) (o : OwesTurns R) where
 
   -- So does what rolls back all levels, as an exit does first.
   pub rolled_keeps : (levels : List LevelState) (s : Scene) → Stands (settled levels s) → HasGone R (settled levels s) (for_each level_rolled_back levels (settled levels s))
-  rolled_keeps [] s h = record { left = s; stands = h; is = refl; keeps = o.leaves.none _ }
+  rolled_keeps [] s h = record { left = s; stands = h; is = refl; keeps = o.leaves.acts.none _ }
   rolled_keeps (level ∷ levels) s h =
       let behind : Scene = (level_rolled_back level (settled (level ∷ levels) s)).scene in
       let l : Leaving levels behind = rolled_stands level levels s h in
       let is : behind ≡ settled levels behind = is_left levels behind l in
       let k : HasGone R behind (for_each level_rolled_back levels behind) =
       subst (λ (z : Scene). HasGone R z (for_each level_rolled_back levels z)) (sym is) (rolled_keeps levels behind (subst Stands is l.between.stands)) in
-      record { left = k.left; stands = k.stands; is = k.is; keeps = o.leaves.both (level_keeps level levels (settled (level ∷ levels) s) h refl) k.keeps }
+      record { left = k.left; stands = k.stands; is = k.is; keeps = o.leaves.acts.both (level_keeps level levels (settled (level ∷ levels) s) h refl) k.keeps }
 
   -- and what an exit does then
-  pub tail_keeps : (s : Scene) → R s (in_order (switched top_context ∷ context_gone top_context ∷ say what.Exit ∷ []) s).scene (in_order (switched top_context ∷ context_gone top_context ∷ say what.Exit ∷ []) s).events
-  tail_keeps s = (by_order R o.leaves (next (by_switch R o.leaves top_context) (next (o.leaves.gone top_context) (next (o.leaves.word what.Exit refl) last)))).so s
+  pub tail_keeps : Keeps R (say what.Exit) → (s : Scene) → R s (in_order (switched top_context ∷ context_gone top_context ∷ say what.Exit ∷ []) s).scene (in_order (switched top_context ∷ context_gone top_context ∷ say what.Exit ∷ []) s).events
+  tail_keeps exit s = (by_order R o.leaves.acts (next (o.leaves.switch top_context) (next (o.leaves.acts.gone top_context) (next exit last)))).so s
 
 -- Where a law is kept in any scene, but for what registers a hook or moves a context, it has all that it owes.
-pub owes_by : (R : Law) → EndLeaves R → ((error : Error) (s : Scene) → R s s (what.Error error ∷ [])) → ((w : Option ℕ) (x : Element) (m : Moment) → Meets x m.scene → OwesMoves R w x m) → OwesTurns R
-unfolding does
-owes_by R l error moves = record {
-  leaves = l.leaves;
+pub owes_by : (R : Law) → EndLeaves R → MakeLeaves R → ((error : Error) (s : Scene) → R s s (what.Error error ∷ [])) → ((w : Option ℕ) (x : Element) (m : Moment) → Meets x m.scene → OwesMoves R w x m) → OwesTurns R
+owes_by R l k error moves = record {
+  leaves = l.levels.leaves;
   error = error;
-  owed = λ w x m meets. all_owed R l w x m (moves w x m meets);
+  owed = λ w x m meets. all_owed R l k w x m (moves w x m meets);
   ends = record {
-    aborts = λ level levels s h is active. aborts.so s;
-    cleans = λ level levels s h is gone. cleans.so s;
-    rolls_back = λ level levels s h is active. (by_order R l.leaves (next (by_so R l.leaves (not level.aborted) aborted aborts) (next cleans last))).so s;
+    aborts = λ level levels s h is active. (aborts R l).so s;
+    cleans = λ level levels s h is gone. (cleans_up R l).so s;
+    rolls_back = λ level levels s h is active. (rolls_back R l level).so s;
   };
 }
-  where
-    at : Scene → Moment
-    at s = record { scene = s; calls = 0; fail = 0 }
-
-    aborts : Keeps R aborted
-    aborts = record { so = λ s. (all_owed R l None e.Abort (at s) tt).so }
-
-    cleans : Keeps R cleaned_up
-    cleans = record { so = λ s. (all_owed R l None e.Cleanup (at s) tt).so }
 
 -- What a session says at its exit, once all its levels are rolled back.
 abbrev pub tail_of : Scene → Ended
@@ -176,9 +165,9 @@ module _ {Seen : Type 0} (kinds : KindTable) (reader : Reader Seen) (Fits : Seen
   -- The same, where what the leaves say of the end is enough: what was seen fits a scene in which nothing is left.
   pub life_by : ((around : Around) → table_of around.kinds ≡ kinds → Fits start (record { session = opening; around = around }))
       → ((seen : Seen) (session : SessionState) (a b : Around) → table_of b.kinds ≡ table_of a.kinds → Fits seen (record { session = session; around = a }) → Fits seen (record { session = session; around = b }))
-      → ((seen : Seen) (s : Scene) → HasExited s → Fits seen s → Last seen) → IsLife kinds reader Fits start Last
-  life_by opens elsewhere ends =
+      → Keeps (Reads reader Fits) (say what.Exit) → ((seen : Seen) (s : Scene) → HasExited s → Fits seen s → Last seen) → IsLife kinds reader Fits start Last
+  life_by opens elsewhere exit ends =
       life_of opens elsewhere
       (λ left seen h fit.
-      let read : IsRead reader Fits seen (tail_of (settled [] left)).scene (tail_of (settled [] left)).events = (tail_keeps (Reads reader Fits) o (settled [] left)).so seen fit in
+      let read : IsRead reader Fits seen (tail_of (settled [] left)).scene (tail_of (settled [] left)).events = (tail_keeps (Reads reader Fits) o exit (settled [] left)).so seen fit in
       (read.allowed, ends (seen_after reader seen (tail_of (settled [] left)).events) (behind_rollback (settled [] left)) (exited_left left h) read.fits))

@@ -39,8 +39,8 @@ use Rattle.session_laws.proofs.ParentsLife.{contexts_owed}
 use Rattle.session_laws.proofs.ParentsOwners.{KeepsOwners}
 use Rattle.session_laws.proofs.ParentsOwnersLife.{owners_owed}
 use Rattle.session_laws.proofs.MadeChildless.{FitsParents, NoneLeft, shed_reads, shedding_life}
-use Rattle.session_laws.proofs.MadeStill.{is_making}
-use Rattle.session_laws.proofs.MadeSaid.{NoneMade, and_none, element_silent, exits_silent, none_made, recovers_silent, says_made}
+use Rattle.session_rules.proofs.Said.{AreSaid, said_more, said_none}
+use Rattle.session_laws.proofs.MadeSaid.{element_silent, exits_silent, is_making, is_unmade, recovers_silent}
 
 -- The reader of parents that lets nothing be made but below what is there.
 abbrev pub placing : Reader Parents
@@ -56,14 +56,14 @@ pub same_seen : (events : List What) (parents : Parents) → seen_after shedding
 same_seen [] parents = refl
 same_seen (event ∷ events) parents = same_seen events (parents_behind event parents)
 
-one_placed : (event : What) (parents : Parents) → says_made event ≡ false → placing.allows event parents ≡ true
+one_placed : (event : What) (parents : Parents) → is_unmade event ≡ true → placing.allows event parents ≡ true
 one_placed (what.Create context name parent) parents h = absurd (cc h)
 one_placed (what.OwnerIn owner parent) parents h = absurd (cc h)
 one_placed other parents h = refl
 
-none_placed : {events : List What} → NoneMade events → (parents : Parents) → allows_all placing parents events ≡ true
-none_placed none_made parents = refl
-none_placed (and_none {event = event} {events = events} h hs) parents =
+none_placed : {events : List What} → AreSaid is_unmade events → (parents : Parents) → allows_all placing parents events ≡ true
+none_placed said_none parents = refl
+none_placed (said_more {event = event} {events = events} h hs) parents =
     and_from (placing.allows event parents) (allows_all placing (parents_behind event parents) events) (one_placed event parents h) (none_placed hs (parents_behind event parents))
 
 -- what is allowed from parents that fit a scene

@@ -30,10 +30,10 @@ use Rattle.session_laws.proofs.ReaderLaws.{OwesTurns}
 use Rattle.session_laws.proofs.Hushed.{AreDue, ContextNext, Hushed, IsDue, IsHushed, IsLevelContext, IsLevelOwner, IsLively, IsOwnWork, IsRest, IsSaid, OwnerNext, Stage, Working, above_of, hushed_next, stage_next, working_next}
 use Rattle.session_laws.proofs.ParentsOwners.{KeepsOwners}
 use Rattle.session_laws.proofs.ParentsOwnersLife.{owners_owed}
-use Rattle.session_laws.proofs.OrderSaid.{AreSaid, said_both, said_none, said_one}
+use Rattle.session_rules.proofs.Said.{AreSaid, said_both, said_none, said_one}
 use Rattle.session_laws.proofs.OrderMild.{Mild, own_mild}
 use Rattle.session_laws.proofs.OrderBase.{KeepsBase, base_owed}
-use Rattle.session_laws.proofs.OrderEnds.{Fit, abort_goes, clean_goes, commit_goes, keeps_fit, merge_goes, plain_unlined}
+use Rattle.session_laws.proofs.OrderEnds.{Fit, abort_goes, clean_goes, commit_goes, keeps_fit, merge_goes}
 use Rattle.session_laws.proofs.OrderOpen.{Goes, IsClosed, closed_goes, goes_both, goes_none, goes_weaker, lone_allows, is_unlined, nodes_after, ordered_nodes}
 
 -- the deepest level has its owner
@@ -119,7 +119,7 @@ module _ (kinds : KindTable) (w : Option ℕ) where
   -- work in a level
   own_step : (x : Element) (m : Moment) → IsOwnWork x → IsStep Working Working x m
   own_step x m h seen fit at =
-      let mild : Follows (Mild is_unlined) m.scene (does w x m) = own_mild is_unlined plain_unlined (λ item n. refl) w x m h in
+      let mild : Follows (Mild is_unlined) m.scene (does w x m) = own_mild w x m h in
       goes_weaker kinds (λ b closed none. (closed, subst HasOwner (sym mild.so.levels) at.1)) (closed_goes kinds mild.so.said seen at.0)
 
   level_step : (x : Element) (m : Moment) → LevelWork x → Meets x m.scene → IsStep Working (working_next x) x m

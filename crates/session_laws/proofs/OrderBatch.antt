@@ -20,7 +20,8 @@ use Rattle.lifetime_laws.specs.Order.{AnItem, ALock, Member, Owned, Releasing, g
 use Rattle.lifetime_laws.specs.Parents.{Node, is_above}
 use Rattle.lifetime_laws.specs.Reading.{allows_all, seen_after}
 use Rattle.lifetime_laws.proofs.Readings.{allows_all-append, seen_after-append}
-use Rattle.session_laws.proofs.OrderSaid.{AreSaid, is_aside, said_more, said_none}
+use Rattle.session_rules.proofs.Said.{AreSaid, said_more, said_none}
+use Rattle.session_laws.proofs.OrderSaid.{is_aside}
 use Rattle.session_laws.proofs.Warnings.{same_itself}
 
 -- a release that is going on, with what was released so far, the newest first, and the warning directly before

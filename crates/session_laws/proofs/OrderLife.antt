@@ -10,6 +10,7 @@ use Rattle.owner_kinds.specs.KindTable.{KindTable}
 use Rattle.owner_kinds.specs.KindShelf.{table_of}
 use Rattle.lifetime_laws.specs.Order.{Releasing, nothing_releasing, ordering}
 use Rattle.lifetime_laws.specs.Parents.{Node}
+use Rattle.forest.specs.Forest.{subtree}
 use Rattle.session_rules.specs.State.{LevelState, is_aborted, opening, top_context}
 use Rattle.session_rules.specs.World.{Around, Moment, Scene}
 use Rattle.session_rules.specs.Acts.{Ended, context_gone, for_each, in_order, say, switched}
@@ -26,9 +27,9 @@ use Rattle.session_laws.proofs.Lives.{turn_keeps}
 use Rattle.session_laws.proofs.Hushed.{Hushed, Working, above_of, line_due, stage_of}
 use Rattle.session_laws.proofs.ParentsOwners.{HasOwners, KeepsOwners}
 use Rattle.session_laws.proofs.ParentsOwnersLife.{opening_owners, owners_life, owners_owed}
-use Rattle.session_laws.proofs.OrderSaid.{AreSaid, said_both, said_context_gone, said_one, said_weaker}
+use Rattle.session_rules.proofs.Said.{AreSaid, said_both, said_gone, said_one}
 use Rattle.session_laws.proofs.OrderBase.{KeepsBase, base_owed, opening_based}
-use Rattle.session_laws.proofs.OrderEnds.{Fit, aside_unlined, keeps_fit}
+use Rattle.session_laws.proofs.OrderEnds.{Fit, keeps_fit}
 use Rattle.session_laws.proofs.OrderOpen.{Goes, IsClosed, by_error, closed_goes, closes, goes_both, is_unlined, nodes_after, ordered_nodes}
 use Rattle.session_laws.proofs.Order.{At, HasOwner, HasRun, IsOpened, rest_opened, run_goes}
 use Rattle.session_laws.proofs.OrderTurns.{all_rolls, recovers}
@@ -94,7 +95,7 @@ module _ (kinds : KindTable) where
 
   -- an exit
   tail_said : (s : Scene) → AreSaid is_unlined (in_order (switched top_context ∷ context_gone top_context ∷ say what.Exit ∷ []) s).events
-  tail_said s = said_both (said_weaker aside_unlined (said_context_gone top_context s.session.contexts)) (said_one what.Exit refl)
+  tail_said s = said_both (said_gone (λ word n. refl) (λ n. refl) (subtree top_context s.session.contexts)) (said_one what.Exit refl)
 
   exit_goes : (levels : List LevelState) (s : Scene) → Stands (settled levels s) → (seen : Releasing) → FitsOrder kinds seen (settled levels s) → Goes kinds seen (exited (settled levels s)).events (IsClosed kinds)
   unfolding exited

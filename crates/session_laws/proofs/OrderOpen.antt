@@ -12,7 +12,8 @@ use Rattle.lifetime_laws.specs.Parents.{Node, owners_behind}
 use Rattle.lifetime_laws.specs.Reading.{allows_all, seen_after}
 use Rattle.lifetime_laws.proofs.Readings.{allows_all-append, seen_after-append}
 use Rattle.session_laws.proofs.ParentsGrowth.{Growth, growing_owners}
-use Rattle.session_laws.proofs.OrderSaid.{AreSaid, is_aside, is_line, said_more, said_none}
+use Rattle.session_rules.proofs.Said.{AreSaid, said_more, said_none}
+use Rattle.session_laws.proofs.OrderSaid.{is_aside, is_line}
 use Rattle.session_laws.proofs.OrderBatch.{Adds, adds_aside, in_batch}
 
 -- the owners that are replayed behind these events

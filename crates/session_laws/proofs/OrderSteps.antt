@@ -23,12 +23,14 @@ use Rattle.lock_local.proofs.OrderLemmas.{IsInOrder-filter, IsInOrder-map, Keeps
 use Rattle.file_table.specs.Descriptors.{is_among, without}
 use Rattle.lifetime_laws.specs.Order.{ALock, Member, goes_before, may_precede, owner_of, place_of, place_of_phase}
 use Rattle.lifetime_laws.specs.Parents.{Node, is_above}
+use Rattle.forest.specs.Forest.{subtree}
 use Rattle.session_rules.specs.State.{StandingPlan}
 use Rattle.session_rules.specs.World.{Scene}
 use Rattle.session_rules.specs.Lookup.{plan_at}
 use Rattle.session_rules.specs.Acts.{Ended, behind, for_each, nothing, where_so, where_there}
 use Rattle.session_rules.specs.Releases.{Keeper, NoOne, ThePlans, TheDescriptors, TheKind, given_back, keeper_of, left_to, plan_becomes, plan_settled, plan_stays, step_done}
-use Rattle.session_laws.proofs.OrderSaid.{AreSaid, is_aside, said_context_gone, said_none, said_one}
+use Rattle.session_rules.proofs.Said.{AreSaid, said_gone, said_none, said_one}
+use Rattle.session_laws.proofs.OrderSaid.{is_aside}
 use Rattle.session_laws.proofs.OrderLists.{AreRanked, GoesBefore, order_passes, order_ranked}
 use Rattle.session_laws.proofs.OrderBatch.{Adds, MayFollow, adds_aside, adds_both, adds_none, adds_pass_lock, adds_release, adds_release_lock, adds_warned, item_member, same_phase}
 
@@ -55,7 +57,7 @@ beside_nothing : (s : Scene) → Beside s (nothing s)
 beside_nothing s = record { said = said_none; stays = stays_same s }
 
 plan_beside : (b : Bool) (plan : StandingPlan) (s : Scene) → Beside s (elim b as (λ _. Ended) [ true ↦ plan_settled plan s | false ↦ plan_stays plan s ])
-plan_beside true plan s = record { said = subst (AreSaid is_aside) (sym (append-nil _)) (said_context_gone plan.context s.session.contexts); stays = record { owners = refl; kinds = refl; locks = λ h. h; levels = refl; serial = refl } }
+plan_beside true plan s = record { said = subst (AreSaid is_aside) (sym (append-nil _)) (said_gone (λ word n. refl) (λ n. refl) (subtree plan.context s.session.contexts)); stays = record { owners = refl; kinds = refl; locks = λ h. h; levels = refl; serial = refl } }
 plan_beside false plan s = record { said = said_none; stays = record { owners = refl; kinds = refl; locks = λ h. h; levels = refl; serial = refl } }
 
 plan_left_beside : (o : Option StandingPlan) (s : Scene) → Beside s (where_there o (λ plan. plan_becomes (record plan { references = plan.references - 1 })) s)

@@ -12,24 +12,13 @@ use Rattle.session_rules.specs.Acts.{Ended, for_each, in_order, where_so, where_
 use Rattle.session_rules.specs.Ends.{aborted, cleaned_up, given_up, level_rolled_back, recovered}
 use Rattle.session_rules.specs.Standing.{AreOuter, IsOpen, Stands}
 use Rattle.session_rules.proofs.EndsStand.{Leaves as Leaving, aborted_stands, at_settled, is_left, rolled_stands, settled}
-use Rattle.session_rules.proofs.Leaves.{Law}
-use Rattle.session_laws.proofs.ReaderLaws.{OwesTurns}
+use Rattle.session_laws.proofs.Lives.{level_keeps}
 use Rattle.session_laws.proofs.ParentsOwners.{KeepsOwners}
 use Rattle.session_laws.proofs.ParentsOwnersLife.{owners_owed}
 use Rattle.session_laws.proofs.OrderBase.{KeepsBase, base_owed}
 use Rattle.session_laws.proofs.OrderEnds.{Fit, abort_goes, clean_goes, keeps_fit}
 use Rattle.session_laws.proofs.OrderOpen.{Goes, IsClosed, by_error, closes, goes_both, goes_none, goes_weaker, nodes_after, ordered_nodes}
 use Rattle.session_laws.proofs.Order.{IsOpened}
-
--- a level is rolled back, whether it is aborted already or not
-level_keeps : (R : Law) → OwesTurns R → (level : LevelState) (levels : List LevelState) (s : Scene) → Stands s → s.session.levels ≡ level ∷ levels → R s (level_rolled_back level s).scene (level_rolled_back level s).events
-level_keeps R o level levels s h is = go level.aborted refl
-  where
-    go : (b : Bool) → level.aborted ≡ b → R s (in_order (where_so (not b) aborted ∷ cleaned_up ∷ []) s).scene (in_order (where_so (not b) aborted ∷ cleaned_up ∷ []) s).events
-    go true e = o.leaves.both (o.ends.cleans level levels s h is e) (o.leaves.none _)
-    go false e =
-        subst (λ (b : Bool). R s (in_order (where_so (not b) aborted ∷ cleaned_up ∷ []) s).scene (in_order (where_so (not b) aborted ∷ cleaned_up ∷ []) s).events)
-        e (o.ends.rolls_back level levels s h is e)
 
 module _ (kinds : KindTable) where
   -- what a rollback leaves fits

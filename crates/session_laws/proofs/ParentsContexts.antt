@@ -1,5 +1,5 @@
 -- The replayed contexts are those of the session, whatever a line does.
-use Rattle.std.proofs.Common.{◌≡◌, ℕ, ◌+◌, ◌<◌, Bool, true, false, List, [], ◌∷◌, map, Option, Some, None, refl, sym, ap, ◌∙◌, subst, inl, inr, arith}
+use Rattle.std.proofs.Common.{◌≡◌, ℕ, ◌+◌, ◌<◌, Bool, true, false, List, [], ◌∷◌, Some, None, refl, sym, ap, ◌∙◌, subst, inl, inr, arith}
 use Rattle.std.specs.Prelude.{◌==◌, ◌&&◌}
 use Rattle.std.proofs.lemmas.Bool.{and_from, cases_Bool, cases_eq, eq-eqb, false_from_ne_true}
 use Rattle.pgs_step.specs.declared.events.What.{What}
@@ -15,20 +15,22 @@ use Rattle.context_rules.specs.Ends as ends
 use Rattle.context_rules.specs.Ends.{callbacks, gone_events}
 use Rattle.session_rules.specs.World.{Scene}
 use Rattle.session_rules.specs.Elements.{Text}
-use Rattle.session_rules.specs.Acts.{children_gone, context_gone}
+use Rattle.session_rules.specs.Acts.{children_gone, context_cleared, context_cleared_alone, context_gone}
 use Rattle.session_rules.specs.Parts.{context_moved}
-use Rattle.session_rules.specs.Making.{context_made, owner_made}
+use Rattle.session_rules.specs.Making.{context_made}
 use Rattle.session_rules.specs.Taking.{hook_waits}
 use Rattle.session_rules.proofs.Forests.{has_put_other, times_emptied}
+use Rattle.session_rules.proofs.Aside.{ContextLaw, context_ends, is_apart}
 use Rattle.session_rules.proofs.Leaves.{EndLeaves, Keeps, Law}
+use Rattle.session_rules.proofs.Said.{AreSaid, said_alone, said_map, said_weaker}
+use Rattle.session_rules.proofs.Sight.{of_contexts, of_next_context}
 use Rattle.lifetime_laws.specs.Parents.{Node as Kept, is_there, placed_where}
 use Rattle.lifetime_laws.specs.Reading.{seen_after}
 use Rattle.session_laws.proofs.ReaderLaws.{Reads, read_both}
 use Rattle.session_laws.proofs.ParentsFit.{FitsContexts, FitsTree, fits_moved, fits_put}
 use Rattle.session_laws.proofs.ParentsPlucked.{Plucked, plucked_children, plucked_gone}
-use Rattle.session_laws.proofs.ParentsQuiet.{callbacks_quiet}
-use Rattle.session_laws.proofs.ParentsAside.{AreAlike, TreeEnds, TreeLeaves, alike_same, bare, hook_so, tree_ends, tree_leaves}
-use Rattle.session_laws.proofs.ParentsGrowth.{AreRead, Growth, IsPruned, Takes, growing_contexts, passed_context, pruned, read_past, taken_context, takes_both, takes_none, takes_one, takes_past, takes_quiet}
+use Rattle.session_laws.proofs.ParentsAside.{AreAlike, alike_alone, alike_changed, alike_same, bare}
+use Rattle.session_laws.proofs.ParentsGrowth.{AreRead, Growth, IsPruned, Takes, growing_contexts, is_not_of_contexts, passed_context, pruned, read_past, taken_context, takes_both, takes_none, takes_one, takes_past, takes_quiet}
 
 -- what is seen of a session's contexts
 pub record HasContexts (growth : Growth) (s : Scene) : Type 0 where
@@ -72,7 +74,7 @@ takes_gone : (t : Contexts) → Takes growing_contexts (order t) (gone_events t)
 takes_gone Empty = takes_none
 takes_gone (Node n c below beside) =
     takes_both growing_contexts (takes_gone below)
-    (takes_both growing_contexts (takes_quiet growing_contexts passed_context (callbacks_quiet n c.hooks)) (takes_one (taken_context n) (takes_gone beside)))
+    (takes_both growing_contexts (takes_quiet growing_contexts passed_context (said_map (λ (hook : Hook). what.Callback hook.word n) (λ hook. refl) c.hooks)) (takes_one (taken_context n) (takes_gone beside)))
 
 -- what is left of contexts where some went
 left_so : (s : Scene) (ended : ends.Ended) (ns : List ℕ) → (Once s.session.contexts → Plucked ns s.session.contexts ended.contexts) → Takes growing_contexts ns ended.events
@@ -144,45 +146,46 @@ made_so parent name protected kind s =
       };
     }
 
--- owners
-passed_at : (event : What) → ((growth : Growth) → growing_contexts.next event growth ≡ growth) → ((growth : Growth) → growing_contexts.allows event growth ≡ true) → Takes growing_contexts [] (event ∷ [])
-passed_at event same allowed = takes_past (record { same = same; allowed = allowed }) takes_none
+not_of_contexts : (event : What) → is_apart event ≡ true → is_not_of_contexts event ≡ true
+not_of_contexts (what.Create context name parent) h = absurd (cc h)
+not_of_contexts (what.Delete context) h = absurd (cc h)
+not_of_contexts (what.Move context parent) h = absurd (cc h)
+not_of_contexts other h = refl
 
-owner_so : (parent : Option ℕ) (s : Scene) → KeepsContexts s (owner_made parent s).scene (owner_made parent s).events
-owner_so None s = contexts_past s _ (alike_same s.session.contexts) refl (passed_at _ (λ growth. refl) (λ growth. refl))
-owner_so (Some parent) s = contexts_past s _ (alike_same s.session.contexts) refl (passed_at _ (λ growth. refl) (λ growth. refl))
+same_contexts : (s t : Scene) {events : List What} → t.session.contexts ≡ s.session.contexts → t.session.next_context ≡ s.session.next_context → AreSaid is_not_of_contexts events → KeepsContexts s t events
+same_contexts s t contexts next h = contexts_past s t (subst (AreAlike s.session.contexts) (sym contexts) (alike_same s.session.contexts)) next (takes_quiet growing_contexts passed_context h)
 
-owners_gone : (ns : List ℕ) → Takes growing_contexts [] (map (λ n. what.OwnerGone n) ns)
-owners_gone [] = takes_none
-owners_gone (n ∷ ns) = takes_past (record { same = λ growth. refl; allowed = λ growth. refl }) (owners_gone ns)
+alone_so : (n : ℕ) (s : Scene) → KeepsContexts s (context_cleared_alone n s).scene (context_cleared_alone n s).events
+alone_so n s = contexts_past s _ (alike_alone n s.session.contexts) refl (takes_quiet growing_contexts passed_context (said_alone (λ word m. refl) (λ m. refl) n s.session.contexts))
 
-context_leaves : TreeLeaves KeepsContexts
-context_leaves = record {
-  aside = λ s t kept events. contexts_past s t kept.contexts kept.next_context (takes_quiet growing_contexts passed_context events);
-  both = λ h k. read_both growing_contexts HasContexts h k;
-  gone = λ n. record { so = gone_so n };
-  children = λ n. record { so = children_so n };
-  made = λ parent name protected kind. record { so = made_so parent name protected kind };
-  owner = λ parent. record { so = owner_so parent };
-}
+cleared_so : (n : ℕ) (s : Scene) → KeepsContexts s (context_cleared n s).scene (context_cleared n s).events
+cleared_so n s =
+    let low : Contexts = (ends.children_gone n s.session.contexts).contexts in
+    read_both growing_contexts HasContexts (children_so n s)
+    (contexts_past (children_gone n s).scene (context_cleared n s).scene (alike_alone n low) refl (takes_quiet growing_contexts passed_context (said_alone (λ word m. refl) (λ m. refl) n low)))
 
 -- In any scene whose contexts are those that were seen, so they are behind each part of what a session does, but for a context that moves.
+pub contexts_law : ContextLaw KeepsContexts
+contexts_law = record {
+  sight = record {
+    both = λ h k. read_both growing_contexts HasContexts h k;
+    aside = λ s t same h. same_contexts s t (same.so of_contexts refl) (same.so of_next_context refl) (said_weaker not_of_contexts h);
+  };
+  contexts = record {
+    gone = λ n. record { so = gone_so n };
+    children = λ n. record { so = children_so n };
+    alone = λ n. record { so = alone_so n };
+    cleared = λ n. record { so = cleared_so n };
+    chunk = λ s n f h. contexts_past s _ (alike_changed n f s.session.contexts) refl takes_none;
+  };
+  made = λ parent name protected kind. record { so = made_so parent name protected kind };
+}
+
 pub contexts_end_leaves : EndLeaves KeepsContexts
-contexts_end_leaves =
-    let ends : TreeEnds KeepsContexts = tree_ends KeepsContexts context_leaves in
-    record {
-      leaves = tree_leaves KeepsContexts context_leaves;
-      key_opened = ends.key_opened;
-      remembered = ends.remembered;
-      phase = ends.phase;
-      discarded = λ n. record { so = λ s. contexts_past s _ (alike_same s.session.contexts) refl (owners_gone (order_at n s.session.owners)) };
-      moved = λ n parent. record { so = λ s. contexts_past s _ (alike_same s.session.contexts) refl (passed_at (what.MoveOwner n parent) (λ growth. refl) (λ growth. refl)) };
-      stack_gone = ends.stack_gone;
-      stack_passed = ends.stack_passed;
-    }
+contexts_end_leaves = context_ends KeepsContexts contexts_law
 
 pub contexts_hook : (n : ℕ) (hook : Hook) → Keeps KeepsContexts (hook_waits n hook)
-contexts_hook n hook = hook_so KeepsContexts context_leaves n hook
+contexts_hook n hook = record { so = λ s. contexts_past s _ (alike_changed n _ s.session.contexts) refl (takes_past (passed_context (what.Hook hook.word n) refl) takes_none) }
 
 -- a context that moves
 moved_has : (m n p : ℕ) (t : Contexts) → Once t → Moves n p t → has m (moved n p t) ≡ true → has m t ≡ true

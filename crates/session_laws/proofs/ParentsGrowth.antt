@@ -9,7 +9,7 @@ use Rattle.lifetime_laws.specs.Parents.{Node as Kept, contexts_behind, has_child
 use Rattle.lifetime_laws.specs.Reading.{Reader, allows_all, seen_after}
 use Rattle.session_laws.proofs.ParentsFit.{FitsTree, fits_gone, same_childless}
 use Rattle.session_laws.proofs.ParentsPlucked.{Plucked, none_left, one_less}
-use Rattle.session_laws.proofs.ParentsQuiet.{AreQuiet, and_quiet, is_of_trees, quiet}
+use Rattle.session_rules.proofs.Said.{AreSaid, said_more, said_none}
 
 -- the nodes that are there, and the number that the next one gets
 pub record Growth : Type 0 where
@@ -57,13 +57,27 @@ pub record IsTaken (reader : Reader Growth) (n : ℕ) (event : What) : Type 0 wh
   pub next : (growth : Growth) → reader.next event growth ≡ record { nodes = without n growth.nodes; next = growth.next }
   pub allowed : (growth : Growth) → reader.allows event growth ≡ is_leaf n growth.nodes
 
-pub passed_context : (event : What) → is_of_trees event ≡ false → IsPassed growing_contexts event
+-- the events that say nothing of contexts, or of owners
+abbrev pub is_not_of_contexts : What → Bool
+is_not_of_contexts (what.Create context name parent) = false
+is_not_of_contexts (what.Delete context) = false
+is_not_of_contexts (what.Move context parent) = false
+is_not_of_contexts other = true
+
+abbrev pub is_not_of_owners : What → Bool
+is_not_of_owners (what.Owner owner) = false
+is_not_of_owners (what.OwnerIn owner parent) = false
+is_not_of_owners (what.MoveOwner owner parent) = false
+is_not_of_owners (what.OwnerGone owner) = false
+is_not_of_owners other = true
+
+pub passed_context : (event : What) → is_not_of_contexts event ≡ true → IsPassed growing_contexts event
 passed_context (what.Create context name parent) h = absurd (cc h)
 passed_context (what.Delete context) h = absurd (cc h)
 passed_context (what.Move context parent) h = absurd (cc h)
 passed_context other h = record { same = λ growth. refl; allowed = λ growth. refl }
 
-pub passed_owner : (event : What) → is_of_trees event ≡ false → IsPassed growing_owners event
+pub passed_owner : (event : What) → is_not_of_owners event ≡ true → IsPassed growing_owners event
 passed_owner (what.Owner owner) h = absurd (cc h)
 passed_owner (what.OwnerIn owner parent) h = absurd (cc h)
 passed_owner (what.MoveOwner owner parent) h = absurd (cc h)
@@ -111,9 +125,9 @@ module _ (reader : Reader Growth) where
         next = k.next ∙ ap (λ (g : Growth). g.next) (h.next growth);
       }
 
-  pub takes_quiet : ((event : What) → is_of_trees event ≡ false → IsPassed reader event) → {events : List What} → AreQuiet events → Takes [] events
-  takes_quiet passes quiet = takes_none
-  takes_quiet passes (and_quiet {event = event} h hs) = takes_past (passes event h) (takes_quiet passes hs)
+  pub takes_quiet : {P : What → Bool} → ((event : What) → P event ≡ true → IsPassed reader event) → {events : List What} → AreSaid P events → Takes [] events
+  takes_quiet passes said_none = takes_none
+  takes_quiet passes (said_more {event = event} h hs) = takes_past (passes event h) (takes_quiet passes hs)
 
   -- what is passed over changes nothing
   pub record AreRead (growth : Growth) (events : List What) : Type 0 where

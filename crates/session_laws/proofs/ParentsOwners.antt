@@ -4,25 +4,27 @@ use Rattle.std.specs.Prelude.{◌==◌, ◌&&◌, ◌||◌}
 use Rattle.std.proofs.lemmas.Bool.{and_from, cases_Bool, cases_eq, eq-eqb, false_from_ne_true, ne_eqb}
 use Rattle.pgs_step.specs.declared.events.What.{What}
 use Rattle.pgs_step.specs.declared.events.What.TheVariants as what
-use Rattle.forest.specs.Forest.{Empty, Node, Once, children, has, moved, put, removed, subtree, times}
+use Rattle.pgs_step.specs.declared.ids.KindId.{KindId}
+use Rattle.pgs_step.specs.declared.ids.Phase.{Phase}
+use Rattle.forest.specs.Forest.{Empty, Once, has, moved, put, removed, times}
 use Rattle.forest.specs.Walk.{order_at}
 use Rattle.forest.proofs.Trees.{Moves, at_some, has_of_removed, has_some, put_absent, times_moved, times_some}
-use Rattle.context_rules.specs.Contexts.{Contexts}
-use Rattle.context_rules.specs.Ends.{gone_events}
 use Rattle.owner_core.specs.Owners.{Owner, OwnerTree}
+use Rattle.owner_core.specs.Released.{own_released}
 use Rattle.session_rules.specs.World.{Scene}
-use Rattle.session_rules.specs.Acts.{children_gone, context_gone}
-use Rattle.session_rules.specs.Releases.{owner_gone, owner_moved}
+use Rattle.session_rules.specs.Releases.{owner_gone, owner_moved, phase_released}
+use Rattle.session_rules.specs.Taking.{item_taken}
 use Rattle.session_rules.specs.Making.{owner_made}
 use Rattle.session_rules.proofs.Forests.{has_put_other}
-use Rattle.session_rules.proofs.Leaves.{Law}
+use Rattle.session_rules.proofs.Leaves.{Keeps, Law, LevelLeaves, MakeLeaves, MoveLeaves, is_level_word, is_word}
+use Rattle.session_rules.proofs.Said.{AreSaid, said_more, said_none, said_one}
+use Rattle.session_rules.proofs.Sight.{ContextLeaves, FileLeaves, KeyLeaves, OwnerLeaves, Part, Sight, hook_waits_so, level_leaves_of, locks_one, makes_context, moves_context, of_next_owner, of_owners, phase_so, places, plans_one, pushes, releases, taken_so, unlocks, unseen_contexts, unseen_files, unseen_keys, unseen_locks, unseen_stack}
 use Rattle.lifetime_laws.specs.Parents.{Node as Kept, is_there, placed_where}
 use Rattle.session_laws.proofs.ReaderLaws.{Reads, read_both}
 use Rattle.session_laws.proofs.ParentsFit.{FitsOwners, FitsTree, fits_front, fits_moved, fits_put}
 use Rattle.session_laws.proofs.ParentsPlucked.{plucked_gone}
-use Rattle.session_laws.proofs.ParentsQuiet.{callbacks_quiet}
-use Rattle.session_laws.proofs.ParentsAside.{AreAlike, TreeLeaves, alike_same}
-use Rattle.session_laws.proofs.ParentsGrowth.{AreRead, Growth, IsPruned, Takes, growing_owners, passed_owner, pruned, read_past, taken_owner, takes_both, takes_none, takes_one, takes_past, takes_quiet}
+use Rattle.session_laws.proofs.ParentsAside.{AreAlike, alike_changed, alike_same, alike_swept}
+use Rattle.session_laws.proofs.ParentsGrowth.{AreRead, Growth, IsPruned, Takes, growing_owners, is_not_of_owners, passed_owner, pruned, read_past, taken_owner, takes_none, takes_one, takes_quiet}
 use Rattle.session_laws.proofs.ParentsContexts.{alike_has, fits_alike}
 
 -- what is seen of a session's owners
@@ -47,13 +49,6 @@ owners_past s t {events = events} alike next past = record {
       } in
       record { allowed = k.allowed; fits = subst (λ (g : Growth). HasOwners g t) (sym k.same) now };
 }
-
--- contexts
-contexts_gone : (t : Contexts) → Takes growing_owners [] (gone_events t)
-contexts_gone Empty = takes_none
-contexts_gone (Node n c below beside) =
-    takes_both growing_owners (contexts_gone below)
-    (takes_both growing_owners (takes_quiet growing_owners passed_owner (callbacks_quiet n c.hooks)) (takes_past (record { same = λ growth. refl; allowed = λ growth. refl }) (contexts_gone beside)))
 
 -- an owner that is made
 put_below : (m p n : ℕ) (a : Owner) (t : OwnerTree) → ((k : ℕ) → has k t ≡ true → k < n) → has m (put p n a Empty t) ≡ true → m < n + 1
@@ -110,14 +105,82 @@ owner_so (Some parent) s =
       };
     }
 
-pub owner_leaves : TreeLeaves KeepsOwners
-owner_leaves = record {
-  aside = λ s t kept events. owners_past s t kept.owners kept.next_owner (takes_quiet growing_owners passed_owner events);
+abbrev pub sees_owners : Part → Bool
+sees_owners of_owners = true
+sees_owners of_next_owner = true
+sees_owners other = false
+
+abbrev pub owners_sight : Sight sees_owners is_not_of_owners KeepsOwners
+owners_sight = record {
   both = λ h k. read_both growing_owners HasOwners h k;
-  gone = λ n. record { so = λ s. owners_past s (context_gone n s).scene (alike_same s.session.owners) refl (contexts_gone (subtree n s.session.contexts)) };
-  children = λ n. record { so = λ s. owners_past s (children_gone n s).scene (alike_same s.session.owners) refl (contexts_gone (children n s.session.contexts)) };
-  made = λ parent name protected kind. record { so = λ s. owners_past s _ (alike_same s.session.owners) refl (takes_past (record { same = λ growth. refl; allowed = λ growth. refl }) takes_none) };
+  aside = λ s t same h. owners_past s t (subst (AreAlike s.session.owners) (sym (same.so of_owners refl)) (alike_same s.session.owners)) (same.so of_next_owner refl) (takes_quiet growing_owners passed_owner h);
+}
+
+owner_file_leaves : FileLeaves KeepsOwners
+owner_file_leaves = unseen_files sees_owners is_not_of_owners KeepsOwners owners_sight refl (λ file. refl) (λ file. refl)
+
+owner_contexts : ContextLeaves KeepsOwners
+owner_contexts = unseen_contexts sees_owners is_not_of_owners KeepsOwners owners_sight refl refl refl (λ word n. refl) (λ n. refl) (λ n. refl)
+
+owner_keys : KeyLeaves KeepsOwners
+owner_keys = unseen_keys sees_owners is_not_of_owners KeepsOwners owners_sight refl
+
+word_past : (event : What) → is_word event ≡ true → is_not_of_owners event ≡ true
+word_past (what.Owner owner) h = absurd (cc h)
+word_past (what.OwnerIn owner parent) h = absurd (cc h)
+word_past (what.MoveOwner owner parent) h = absurd (cc h)
+word_past (what.OwnerGone owner) h = absurd (cc h)
+word_past other h = refl
+
+level_past : (event : What) → is_level_word event ≡ true → is_not_of_owners event ≡ true
+level_past (what.Owner owner) h = absurd (cc h)
+level_past (what.OwnerIn owner parent) h = absurd (cc h)
+level_past (what.MoveOwner owner parent) h = absurd (cc h)
+level_past (what.OwnerGone owner) h = absurd (cc h)
+level_past other h = refl
+
+-- owners whose data alone change
+data_so : (s : Scene) (t : OwnerTree) {events : List What} → AreAlike s.session.owners t → AreSaid is_not_of_owners events → KeepsOwners s (record s { session = record s.session { owners = t } }) events
+data_so s t alike said = owners_past s _ alike refl (takes_quiet growing_owners passed_owner said)
+
+pub owner_leaves : OwnerLeaves KeepsOwners
+owner_leaves = record {
+  releasing = λ item n. record { so = λ s. data_so s _ (alike_same s.session.owners) (said_one (what.Release item n) refl) };
+  warned = λ item n s. data_so s _ (alike_same s.session.owners) (said_more refl (said_one (what.Release item n) refl));
+  remembered = λ n kind key. record { so = λ s. owners_past s _ (alike_changed n _ s.session.owners) refl (takes_quiet growing_owners passed_owner (said_one _ refl)) };
+  swept = λ kinds phase n s. data_so s _ (alike_swept (own_released kinds phase) n s.session.owners) said_none;
+}
+
+pub owner_level_leaves : LevelLeaves KeepsOwners
+owner_level_leaves =
+    level_leaves_of sees_owners is_not_of_owners KeepsOwners owners_sight refl refl owner_contexts (record { word = word_past; line = λ depth n name stats. refl; total = λ total. refl }) level_past
+    (releases sees_owners is_not_of_owners KeepsOwners owners_sight refl refl owner_contexts.gone owner_contexts.children owner_file_leaves.closed owner_keys.closed (λ n kind key item s is. data_so s _ (alike_changed n _ s.session.owners) (said_one (what.Release item n) refl)))
+    refl (unseen_stack sees_owners is_not_of_owners KeepsOwners owners_sight refl (λ snapshot. refl))
+
+pub owner_phase : (commit top : Bool) (n : ℕ) (phase : Phase) → Keeps KeepsOwners (phase_released commit top n phase)
+owner_phase =
+    phase_so sees_owners is_not_of_owners KeepsOwners owners_sight refl refl owner_contexts.gone owner_contexts.children owner_file_leaves.closed owner_keys.closed owner_leaves
+    (unseen_locks sees_owners is_not_of_owners KeepsOwners owners_sight refl (λ object mode count owner. refl) (λ object mode count from to. refl))
+
+pub owner_taken : (owner : ℕ) (kind : KindId) (key : ℕ) → Keeps KeepsOwners (item_taken owner kind key)
+owner_taken = taken_so sees_owners is_not_of_owners KeepsOwners owners_sight refl refl owner_leaves owner_file_leaves owner_keys
+
+pub owner_make_leaves : MakeLeaves KeepsOwners
+owner_make_leaves = record {
+  made = makes_context sees_owners is_not_of_owners KeepsOwners owners_sight refl refl refl (λ n parent name. refl);
+  placed = places sees_owners is_not_of_owners KeepsOwners owners_sight refl refl;
+  planned = plans_one sees_owners is_not_of_owners KeepsOwners owners_sight refl refl (makes_context sees_owners is_not_of_owners KeepsOwners owners_sight refl refl refl (λ n parent name. refl));
   owner = λ parent. record { so = owner_so parent };
+  locked = locks_one sees_owners is_not_of_owners KeepsOwners owners_sight refl (λ object mode count owner. refl) (λ object mode owner. refl);
+  unlocked = unlocks sees_owners is_not_of_owners KeepsOwners owners_sight refl (λ object mode count owner. refl);
+  used = owner_file_leaves.used;
+  pushed = pushes sees_owners is_not_of_owners KeepsOwners owners_sight refl (λ snapshot. refl);
+}
+
+pub owner_move_leaves : MoveLeaves KeepsOwners
+owner_move_leaves = record {
+  hooked = hook_waits_so sees_owners is_not_of_owners KeepsOwners owners_sight refl refl refl (λ word n. refl);
+  shifted = moves_context sees_owners is_not_of_owners KeepsOwners owners_sight refl refl refl (λ n parent. refl);
 }
 
 -- an owner that is there goes with all below it

@@ -1,7 +1,7 @@
 -- Scripts whose transcripts keep the laws of lifetimes by these rules. Each of them breaks a law where the rule is another, as the edits in
 -- must-fail/ have it.
 use Rattle.std.proofs.Common.{◌≡◌, true, refl}
-use Rattle.std.specs.Prelude.{ℕ, Bool, List, [], ◌∷◌, codes, Option, None}
+use Rattle.std.specs.Prelude.{ℕ, Bool, List, [], ◌∷◌, codes, None}
 use Rattle.std.specs.Fmt.{digits}
 use Rattle.hex.specs.Hex.{decode_pairs, encode_with}
 use Rattle.pgs_step.specs.Text.{kind_name, error_text}

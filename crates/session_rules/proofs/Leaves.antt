@@ -1,25 +1,24 @@
 -- Laws over events: what one owes for the least parts of what a session does.
-use Rattle.std.proofs.Common.{◌≡◌, ℕ, Bool, true, false, List, [], ◌∷◌, ◌++◌, Option, Some, None}
+use Rattle.std.proofs.Common.{◌≡◌, ℕ, ◌≤◌, Bool, true, false, List, [], ◌∷◌, ◌++◌, Option, Some, None}
 use Rattle.pgs_step.specs.declared.events.What.{What}
 use Rattle.pgs_step.specs.declared.events.What.TheVariants as what
-use Rattle.pgs_step.specs.declared.ids.Item.{Item}
 use Rattle.pgs_step.specs.declared.ids.KindId.{KindId}
 use Rattle.pgs_step.specs.declared.ids.Phase.{Phase}
 use Rattle.pgs_step.specs.declared.lock_modes.Mode.{Mode}
+use Rattle.reset_callbacks.specs.Hook.{Hook}
 use Rattle.any_ctx.specs.declared.any.CtxKind.{CtxKind}
 use Rattle.context_rules.specs.Chunks.{freed, written}
 use Rattle.context_rules.specs.Reports.{report}
-use Rattle.owner_core.specs.Owners.{forgotten}
 use Rattle.session_rules.specs.State.{LevelState, OpenPortal, StandingPlan}
 use Rattle.session_rules.specs.World.{Moment, Scene}
 use Rattle.session_rules.specs.Elements as e
 use Rattle.session_rules.specs.Elements.{Element, Text}
-use Rattle.session_rules.specs.Lookup.{newest}
-use Rattle.session_rules.specs.Acts.{Ended, children_gone, context_cleared, context_cleared_alone, context_gone, say}
-use Rattle.session_rules.specs.Releases.{TheKind, descriptor_left, key_left, owner_gone, owner_moved, phase_released}
-use Rattle.session_rules.specs.Parts.{contexts_become, lock_given_back, snapshot_popped, tells}
-use Rattle.session_rules.specs.Making.{context_made, owner_made}
-use Rattle.session_rules.specs.Taking.{chunk_resized, descriptor_given, lock_taken, memory_taken, remembers, snapshot_pushed, taken_by}
+use Rattle.session_rules.specs.Lookup.{plan_at}
+use Rattle.session_rules.specs.Acts.{Ended, children_gone, context_cleared, context_cleared_alone, context_gone, portal_becomes, portal_gone, say, switched}
+use Rattle.session_rules.specs.Releases.{item_released, owner_gone, owner_moved, phase_released, plan_becomes}
+use Rattle.session_rules.specs.Parts.{context_moved, contexts_become, lock_given_back, snapshot_popped, tells}
+use Rattle.session_rules.specs.Making.{context_made, owner_made, plan_made, portal_made}
+use Rattle.session_rules.specs.Taking.{chunk_resized, descriptor_given, hook_waits, item_taken, lock_taken, memory_taken, snapshot_pushed}
 use Rattle.session_rules.specs.Ends.{stack_lowered, stack_popped}
 use Rattle.session_rules.specs.Calls.{Done}
 use Rattle.session_rules.specs.Does.{does}
@@ -40,12 +39,8 @@ pub data AllKeep (R : Law) : List (Scene → Ended) → Type 0 where
 pub record Follows (R : Law) (s : Scene) (done : Done) : Type 0 where
   pub so : R s done.moment.scene done.events
 
--- the events that say nothing of what a session holds
+-- a word that an element says, and a word on a level
 abbrev pub is_word : What → Bool
-is_word (what.BeginLevel level) = true
-is_word (what.CommitLevel level) = true
-is_word (what.AbortLevel level) = true
-is_word (what.CleanupLevel level) = true
 is_word (what.Row name row value) = true
 is_word (what.Fetched name rows) = true
 is_word (what.Bytes name place bytes) = true
@@ -54,67 +49,115 @@ is_word (what.Stat counts) = true
 is_word what.AlreadyInTransaction = true
 is_word what.NotInTransaction = true
 is_word what.Ok = true
-is_word what.Exit = true
 is_word other = false
+
+abbrev pub is_level_word : What → Bool
+is_level_word (what.BeginLevel level) = true
+is_level_word (what.CommitLevel level) = true
+is_level_word (what.AbortLevel level) = true
+is_level_word (what.CleanupLevel level) = true
+is_level_word other = false
+
+-- a portal that changes so keeps its context, and is of no deeper level
+pub record Lowers (change : OpenPortal → OpenPortal) : Type 0 where
+  pub context : (p : OpenPortal) → (change p).context ≡ p.context
+  pub created : (p : OpenPortal) → (change p).created ≤ p.created
+
+-- What a law owes for the ends of portals, wherever it has any walk.
+pub record Acts (R : Law) : Type 0 where
+  pub none : (s : Scene) → R s s []
+  pub both : {s t u : Scene} {xs ys : List What} → R s t xs → R t u ys → R s u (xs ++ ys)
+  pub portal : (name : Text) (change : OpenPortal → OpenPortal) → Lowers change → Keeps R (portal_becomes name change)
+  pub portal_goes : (name : Text) → Keeps R (portal_gone name)
+  pub gone : (n : ℕ) → Keeps R (context_gone n)
+  pub children : (n : ℕ) → Keeps R (children_gone n)
 
 -- What a law owes for all elements but those of `Owes`.
 pub record Leaves (R : Law) : Type 0 where
-  pub none : (s : Scene) → R s s []
-  pub both : {s t u : Scene} {xs ys : List What} → R s t xs → R t u ys → R s u (xs ++ ys)
-  -- a word; levels, portals, plans and the current context alone change
+  pub acts : Acts R
   pub word : (event : What) → is_word event ≡ true → Keeps R (say event)
-  pub rest : (levels : List LevelState) (portals : List OpenPortal) (plans : List StandingPlan) (current : ℕ) (s : Scene)
-      → R s (record s { session = record s.session { levels = levels; portals = portals; plans = plans; current = current } }) []
+  pub switch : (n : ℕ) → Keeps R (switched n)
+  pub portal_new : (name : Text) (object rows : ℕ) (bad : Option ℕ) → Keeps R (portal_made name object rows bad)
+  pub plan : (n : ℕ) (p q : StandingPlan) (s : Scene) → plan_at n s.session.plans ≡ Some p → q.context ≡ p.context → R s (plan_becomes q s).scene (plan_becomes q s).events
   -- contexts and their chunks
-  pub gone : (n : ℕ) → Keeps R (context_gone n)
-  pub children : (n : ℕ) → Keeps R (children_gone n)
   pub alone : (n : ℕ) → Keeps R (context_cleared_alone n)
   pub cleared : (n : ℕ) → Keeps R (context_cleared n)
-  pub made : (parent : ℕ) (name : Text) (protected : Bool) (kind : CtxKind) → Keeps R (context_made parent name protected kind)
   pub allocated : (name : Option Text) (bytes : ℕ) (zeroed : Bool) (n : ℕ) → Keeps R (memory_taken name bytes zeroed n)
   pub fitted : (name : Text) (bytes : ℕ) → Keeps R (chunk_resized name bytes)
   pub given : (name : Text) → Keeps R (contexts_become (freed name))
   pub put : (name : Text) (place : ℕ) (bytes : List ℕ) → Keeps R (contexts_become (written name place bytes))
   pub reported : Keeps R (λ s. tells (report s.session.contexts) s)
-  -- owners, and what an owner has
-  pub owner : (parent : Option ℕ) → Keeps R (owner_made parent)
-  pub item : (n : ℕ) (kind : KindId) (key : ℕ) (newest_item : Item) (s : Scene) → newest n kind key s.session ≡ Some newest_item
-      → R s (record s { session = record s.session { owners = forgotten n kind key s.session.owners } }) (what.Release newest_item n ∷ [])
-  pub locked : (object : ℕ) (mode : Mode) (n : ℕ) → Keeps R (lock_taken object mode n)
-  pub unlocked : (object : ℕ) (mode : Mode) (n : ℕ) → Keeps R (lock_given_back object mode n)
-  -- what else is counted
-  pub used : (file : ℕ) → Keeps R (descriptor_given file)
-  pub closed : (file : ℕ) → Keeps R (descriptor_left file)
-  pub key_closed : (place key : ℕ) → Keeps R (key_left place key)
-  pub pushed : (snapshot : ℕ) → Keeps R (snapshot_pushed snapshot)
-  pub popped : Keeps R snapshot_popped
+  -- an item that is given back
+  pub released : (owner : ℕ) (kind : KindId) (key : ℕ) → Keeps R (item_released owner kind key)
 
--- What a law owes besides, where it is kept in any scene, for what takes items and for the ends of portals and levels.
-pub record EndLeaves (R : Law) : Type 0 where
+-- What it owes for levels and active snapshots, where it is kept whatever becomes of them.
+pub record LevelLeaves (R : Law) : Type 0 where
   pub leaves : Leaves R
-  pub key_opened : (place key : ℕ) → Keeps R (taken_by (TheKind place) key)
-  pub remembered : (n : ℕ) (kind : KindId) (key : ℕ) → Keeps R (remembers n kind key)
-  pub phase : (commit top : Bool) (n : ℕ) (phase : Phase) → Keeps R (phase_released commit top n phase)
-  pub discarded : (n : ℕ) → Keeps R (owner_gone n)
-  pub moved : (n parent : ℕ) → Keeps R (owner_moved n parent)
+  pub levels : (levels : List LevelState) (s : Scene) → R s (record s { session = record s.session { levels = levels } }) []
+  pub level_word : (event : What) → is_level_word event ≡ true → Keeps R (say event)
+  pub popped : Keeps R snapshot_popped
   pub stack_gone : (level : ℕ) → Keeps R (stack_popped level)
   pub stack_passed : (level : ℕ) → Keeps R (stack_lowered level)
 
--- what a law owes apart, for each element that the leaves don't make up
+-- What it owes for items that are taken and for the ends of portals and levels, where it is kept in any scene.
+pub record EndLeaves (R : Law) : Type 0 where
+  pub levels : LevelLeaves R
+  pub taken : (owner : ℕ) (kind : KindId) (key : ℕ) → Keeps R (item_taken owner kind key)
+  pub phase : (commit top : Bool) (n : ℕ) (phase : Phase) → Keeps R (phase_released commit top n phase)
+  pub discarded : (n : ℕ) → Keeps R (owner_gone n)
+  pub moved : (n parent : ℕ) → Keeps R (owner_moved n parent)
+
+-- What it owes for what is made, and for locks, files and snapshots that are used, where it is kept in any scene.
+pub record MakeLeaves (R : Law) : Type 0 where
+  pub made : (parent : ℕ) (name : Text) (protected : Bool) (kind : CtxKind) → Keeps R (context_made parent name protected kind)
+  pub placed : (name : Text) (n : ℕ) → Keeps R (portal_becomes name (λ p. record p { context = Some n }))
+  pub planned : (plan : ℕ) → Keeps R (plan_made plan)
+  pub owner : (parent : Option ℕ) → Keeps R (owner_made parent)
+  pub locked : (object : ℕ) (mode : Mode) (n : ℕ) → Keeps R (lock_taken object mode n)
+  pub unlocked : (object : ℕ) (mode : Mode) (n : ℕ) → Keeps R (lock_given_back object mode n)
+  pub used : (file : ℕ) → Keeps R (descriptor_given file)
+  pub pushed : (snapshot : ℕ) → Keeps R (snapshot_pushed snapshot)
+
+-- What it owes for a hook that waits and a context that moves, where it is kept in any scene.
+pub record MoveLeaves (R : Law) : Type 0 where
+  pub hooked : (n : ℕ) (hook : Hook) → Keeps R (hook_waits n hook)
+  pub shifted : (n parent : ℕ) → Keeps R (context_moved n parent)
+
+-- what a law owes apart for what is made and used, and for the two elements that change contexts and their hooks
+abbrev pub OwesMakes : Law → Option ℕ → Element → Moment → Type 0
+OwesMakes R w (e.InTurn name x) m = OwesMakes R w x m
+OwesMakes R w (e.MakeContext new) m = Follows R m.scene (does w (e.MakeContext new) m)
+OwesMakes R w (e.MakeOwner role) m = Follows R m.scene (does w (e.MakeOwner role) m)
+OwesMakes R w (e.MakePlan plan) m = Follows R m.scene (does w (e.MakePlan plan) m)
+OwesMakes R w (e.TakeLock role object mode) m = Follows R m.scene (does w (e.TakeLock role object mode) m)
+OwesMakes R w (e.Unlock object mode) m = Follows R m.scene (does w (e.Unlock object mode) m)
+OwesMakes R w (e.Touch file) m = Follows R m.scene (does w (e.Touch file) m)
+OwesMakes R w (e.PushSnapshot snapshot) m = Follows R m.scene (does w (e.PushSnapshot snapshot) m)
+OwesMakes R w (e.Register name) m = Follows R m.scene (does w (e.Register name) m)
+OwesMakes R w (e.Reparent name parent) m = Follows R m.scene (does w (e.Reparent name parent) m)
+OwesMakes R w other m = Unit {0}
+
+-- besides, for items that are taken and for ends
+abbrev pub OwesEnds : Law → Option ℕ → Element → Moment → Type 0
+OwesEnds R w (e.InTurn name x) m = OwesEnds R w x m
+OwesEnds R w (e.Take role kind key) m = Follows R m.scene (does w (e.Take role kind key) m)
+OwesEnds R w (e.TakeNamed name key) m = Follows R m.scene (does w (e.TakeNamed name key) m)
+OwesEnds R w (e.EndPortal name) m = Follows R m.scene (does w (e.EndPortal name) m)
+OwesEnds R w e.CommitTop m = Follows R m.scene (does w e.CommitTop m)
+OwesEnds R w e.Subcommit m = Follows R m.scene (does w e.Subcommit m)
+OwesEnds R w e.Abort m = Follows R m.scene (does w e.Abort m)
+OwesEnds R w e.Cleanup m = Follows R m.scene (does w e.Cleanup m)
+OwesEnds R w x m = OwesMakes R w x m
+
+-- besides, for levels and the newest snapshot: each element that the leaves don't make up
 abbrev pub Owes : Law → Option ℕ → Element → Moment → Type 0
 Owes R w (e.InTurn name x) m = Owes R w x m
-Owes R w (e.Register name) m = Follows R m.scene (does w (e.Register name) m)
-Owes R w (e.Reparent name parent) m = Follows R m.scene (does w (e.Reparent name parent) m)
-Owes R w (e.Take role kind key) m = Follows R m.scene (does w (e.Take role kind key) m)
-Owes R w (e.TakeNamed name key) m = Follows R m.scene (does w (e.TakeNamed name key) m)
-Owes R w (e.EndPortal name) m = Follows R m.scene (does w (e.EndPortal name) m)
-Owes R w e.CommitTop m = Follows R m.scene (does w e.CommitTop m)
-Owes R w e.Subcommit m = Follows R m.scene (does w e.Subcommit m)
-Owes R w e.Abort m = Follows R m.scene (does w e.Abort m)
-Owes R w e.Cleanup m = Follows R m.scene (does w e.Cleanup m)
-Owes R w other m = Unit {0}
+Owes R w (e.MakeLevel name implicit) m = Follows R m.scene (does w (e.MakeLevel name implicit) m)
+Owes R w e.LevelStands m = Follows R m.scene (does w e.LevelStands m)
+Owes R w e.PopSnapshot m = Follows R m.scene (does w e.PopSnapshot m)
+Owes R w x m = OwesEnds R w x m
 
--- the two of these that change contexts and their hooks, and no element else
+-- of these the two alone that change contexts and their hooks
 abbrev pub OwesMoves : Law → Option ℕ → Element → Moment → Type 0
 OwesMoves R w (e.InTurn name x) m = OwesMoves R w x m
 OwesMoves R w (e.Register name) m = Follows R m.scene (does w (e.Register name) m)

@@ -1,216 +1,212 @@
 -- What follows from a law's leaves where it is kept in any scene: what takes items and the ends of portals, levels and sessions keep it too.
-use Rattle.std.proofs.Common.{ℕ, ◌+◌, ◌-◌, Bool, true, false, not, if◌then◌else◌, List, [], ◌∷◌, Option, None, refl}
-use Rattle.std.specs.Prelude.{◌==◌, drop}
+use Rattle.std.proofs.Common.{ℕ, ◌-◌, ◌≤◌, Bool, true, false, not, if◌then◌else◌, List, [], ◌∷◌, Option, None, refl, arith}
+use Rattle.std.specs.Prelude.{◌==◌, drop, unwrap_or}
+use Rattle.pgs_step.specs.declared.errors.Error.{Error}
 use Rattle.pgs_step.specs.declared.events.What.TheVariants as what
 use Rattle.pgs_step.specs.declared.ids.KindId.{KindId}
+use Rattle.pgs_step.specs.declared.ids.Phase.{Phase}
 use Rattle.pgs_step.specs.declared.ids.Phase.TheVariants.{BeforeLocks, Locks, AfterLocks}
 use Rattle.portal_store.specs.declared.portal.PortalState.TheVariants as portal
 use Rattle.portal_store.specs.Portal.{lowered as level_lowered}
 use Rattle.context_rules.specs.Contexts.{is_empty}
-use Rattle.session_rules.specs.State.{LevelState, OpenPortal, abort_context, buffer_pin, deepest_changed, depth, first_of, is_aborted, level_above, level_context, level_owner, owner_of, relcache_reference, snapshot_reference, top_context}
+use Rattle.session_rules.specs.State.{LevelState, OpenPortal, abort_context, buffer_pin, context_of, deepest_changed, depth, first_of, is_aborted, level_above, level_context, level_owner, owner_of, relcache_reference, snapshot_reference, top_context}
 use Rattle.session_rules.specs.World.{Moment, Scene}
 use Rattle.session_rules.specs.Elements as e
-use Rattle.session_rules.specs.Elements.{Element, OfLevel, OwnerRole}
-use Rattle.session_rules.specs.Lookup.{plan_changed}
+use Rattle.session_rules.specs.Elements.{Element, OfLevel}
 use Rattle.session_rules.specs.Checks.{has_failed}
-use Rattle.session_rules.specs.Acts.{children_gone, context_gone, in_order, portal_gone, where_so, where_there}
-use Rattle.session_rules.specs.Releases.{Keeper, NoOne, TheDescriptors, TheKind, ThePlans, item_released, keeper_of, owner_gone, owner_moved, owner_released, phase_released}
-use Rattle.session_rules.specs.Portals.{executor_ended, is_ready, portal_aborted, portal_closed, portal_ended, portal_failed, portal_owner_ended, portal_passed, portal_withdrawn}
-use Rattle.session_rules.specs.Ends.{aborted, cleaned_up, committed, empty_context_gone, exited, given_up, level_context_gone, level_owner_gone, level_popped, level_released, level_rolled_back, subcommitted, switched_up}
-use Rattle.session_rules.specs.Taking.{item_taken, taken_by}
+use Rattle.session_rules.specs.Acts.{changes, children_gone, context_gone, for_each, in_order, portal_becomes, portal_gone, say, switched, where_so, where_there}
+use Rattle.session_rules.specs.Releases.{item_released, owner_gone, owner_moved, owner_released, phase_released}
+use Rattle.session_rules.specs.Portals.{executor_ended, is_ready, portal_aborted, portal_closed, portal_ended, portal_failed, portal_passed, portal_withdrawn}
+use Rattle.session_rules.specs.Ends.{aborted, cleaned_up, committed, empty_context_gone, exited, given_up, level_context_gone, level_owner_gone, level_popped, level_released, level_rolled_back, recovered, stack_popped, subcommitted, switched_up}
+use Rattle.session_rules.specs.Taking.{item_taken}
 use Rattle.session_rules.specs.Parts.{at_kind, at_owner, at_portal}
 use Rattle.session_rules.specs.Does.{does}
-use Rattle.session_rules.proofs.Leaves.{EndLeaves, Keeps, Law, Leaves, Owes, OwesMoves, last, next}
-use Rattle.session_rules.proofs.Walk.{by_each, by_either, by_kind, by_levels, by_nothing, by_order, by_owner, by_plans, by_portal, by_portal_gone, by_portal_named, by_release, by_so, by_switch, by_there, fallible_so, unfailing_so}
+use Rattle.session_rules.proofs.Leaves.{Acts, EndLeaves, Keeps, Law, Leaves, LevelLeaves, MakeLeaves, Owes, OwesEnds, OwesMakes, OwesMoves, last, next}
+use Rattle.session_rules.proofs.Walk.{by_each, by_either, by_kind, by_levels, by_order, by_owner, by_portal, by_portal_named, by_so, by_there, fallible_so, levels_owed, makes_owed, unfailing_so}
 
-module _ (R : Law) (h : EndLeaves R) where
-  abbrev l : Leaves R
-  l = h.leaves
+-- the acts that the ends of portals are made of
+module _ (R : Law) (a : Acts R) where
+  pub context_goes : (o : Option ℕ) → Keeps R (where_there o context_gone)
+  context_goes o = by_there R a o context_gone a.gone
 
-  -- what is taken
-  takes : (keeper : Keeper) (key : ℕ) → Keeps R (taken_by keeper key)
-  takes NoOne key = record { so = l.none }
-  takes ThePlans key = record { so = (by_plans R l (plan_changed key (λ plan. record plan { references = plan.references + 1 }))).so }
-  takes TheDescriptors key = record { so = (l.used key).so }
-  takes (TheKind place) key = h.key_opened place key
+  pub portal_fails : (p : OpenPortal) → Keeps R (portal_failed p)
+  portal_fails p = by_order R a (next (by_portal R a p.name (λ old. record old { state = portal.Failed; owner = None; expr = None }) (λ p. refl) (λ p. refl)) (next (by_there R a p.context children_gone a.children) last))
 
-  item_is_taken : (role : OwnerRole) (kind : KindId) (key : ℕ) → Keeps R (at_owner role (λ owner. item_taken owner kind key))
-  item_is_taken role kind key =
-      by_owner R l role (λ owner. item_taken owner kind key) (λ owner. record { so = (by_order R l (next (takes (keeper_of kind) key) (next (h.remembered owner kind key) last))).so })
+  pub portal_cleans : (level : ℕ) (p : OpenPortal) → Keeps R (where_so (p.created == level) (in_order (where_there p.context context_gone ∷ portal_gone p.name ∷ [])))
+  portal_cleans level p =
+      by_so R a (p.created == level) (in_order (where_there p.context context_gone ∷ portal_gone p.name ∷ [])) (by_order R a (next (context_goes p.context) (next (a.portal_goes p.name) last)))
 
-  -- portals
-  owner_is_released : (commit top : Bool) (owner : ℕ) → Keeps R (owner_released commit top owner)
-  owner_is_released commit top owner = record { so = (by_each R l (phase_released commit top owner) (h.phase commit top owner) (BeforeLocks ∷ Locks ∷ AfterLocks ∷ [])).so }
+  -- a portal is of the level above then, and one that is withdrawn is active there
+  pub portal_lowers : (level : ℕ) (p : OpenPortal) → Keeps R (portal_becomes p.name (λ old. record old { created = level_lowered level old.created; active = level_lowered level old.active }))
+  portal_lowers level p = a.portal p.name (λ old. record old { created = level_lowered level old.created; active = level_lowered level old.active }) (record { context = λ q. refl; created = λ q. lower q.created (q.created == level) })
+    where
+      lower : (n : ℕ) (b : Bool) → (if b then n - 1 else n) ≤ n
+      lower n true = omega arith
+      lower n false = omega arith
 
-  executor_ends : (p : OpenPortal) → Keeps R (executor_ended p)
-  executor_ends p = record {
-    so = (by_there R l p.owner _
-        (λ (owner : ℕ). by_order R l
-        (next (by_there R l p.scan.page (item_released owner buffer_pin) (by_release R l owner buffer_pin))
-        (next (by_release R l owner relcache_reference p.scan.object)
-        (next (by_release R l owner snapshot_reference p.scan.object) last))))).so;
-  }
+  pub portal_returns : (level : ℕ) (p : OpenPortal) → Keeps R (portal_becomes p.name (λ old. record old { active = level - 1; owner = if has_failed old.state then None else old.owner }))
+  portal_returns level p = by_portal R a p.name (λ old. record old { active = level - 1; owner = if has_failed old.state then None else old.owner }) (λ p. refl) (λ p. refl)
 
-  portal_owner_ends : (p : OpenPortal) → Keeps R (portal_owner_ended p)
-  portal_owner_ends p = record { so = (by_there R l p.owner _ (λ (owner : ℕ). by_order R l (next (owner_is_released true false owner) (next (h.discarded owner) last)))).so }
+  pub level_context_goes : Keeps R level_context_gone
+  level_context_goes = record { so = λ s. (context_goes (level_context s.session)).so s }
 
-  portal_ends : (p : OpenPortal) → Keeps R (portal_ended p)
-  portal_ends p = record {
-    so = (by_order R l
-        (next (by_so R l (is_ready p.state) _ (by_order R l (next (executor_ends p) (next (portal_owner_ends p) last))))
-        (next (by_there R l p.context context_gone l.gone)
-        (next (by_portal_gone R l p.name) last)))).so;
-  }
+  pub empty_context_goes : Keeps R empty_context_gone
+  empty_context_goes = record { so = λ s. (by_there R a (level_context s.session) _ (λ (n : ℕ). by_so R a (is_empty n s.session.contexts) (context_gone n) (a.gone n))).so s }
 
-  portal_closes : (p : OpenPortal) → Keeps R (portal_closed p)
-  portal_closes p = record {
-    so = (by_order R l
-        (next (by_so R l (is_ready p.state) (executor_ended p) (executor_ends p))
-        (next (by_there R l p.context context_gone l.gone)
-        (next (by_portal_gone R l p.name) last)))).so;
-  }
+  module _ (release : (owner : ℕ) (kind : KindId) (key : ℕ) → Keeps R (item_released owner kind key)) where
+    pub executor_ends : (p : OpenPortal) → Keeps R (executor_ended p)
+    executor_ends p = record {
+      so = (by_there R a p.owner _
+          (λ (owner : ℕ). by_order R a
+          (next (by_there R a p.scan.page (item_released owner buffer_pin) (release owner buffer_pin))
+          (next (release owner relcache_reference p.scan.object)
+          (next (release owner snapshot_reference p.scan.object) last))))).so;
+    }
 
-  -- the owner of a portal, where it has one, moves to that of a level, where this has one
-  owner_passes : (own above : Option ℕ) → Keeps R (where_there own (λ owner. where_there above (owner_moved owner)))
-  owner_passes own above = by_there R l own _ (λ (owner : ℕ). by_there R l above (owner_moved owner) (h.moved owner))
+    pub portal_closes : (p : OpenPortal) → Keeps R (portal_closed p)
+    portal_closes p = by_order R a (next (by_so R a (is_ready p.state) (executor_ended p) (executor_ends p)) (next (context_goes p.context) (next (a.portal_goes p.name) last)))
 
-  portal_passes : (level : ℕ) (above : Option ℕ) (p : OpenPortal) → Keeps R (portal_passed level above p)
-  portal_passes level above p = record {
-    so = (by_order R l
-        (next (by_so R l (p.created == level) _ (owner_passes p.owner above))
-        (next (by_portal R l p.name (λ old. record old { created = level_lowered level old.created; active = level_lowered level old.active })) last))).so;
-  }
+  module _ (moves : (n parent : ℕ) → Keeps R (owner_moved n parent)) where
+    -- the owner of a portal, where it has one, moves to that of a level, where this has one
+    owner_passes : (own above : Option ℕ) → Keeps R (where_there own (λ owner. where_there above (owner_moved owner)))
+    owner_passes own above = by_there R a own _ (λ (owner : ℕ). by_there R a above (owner_moved owner) (moves owner))
 
-  portal_fails : (p : OpenPortal) → Keeps R (portal_failed p)
-  portal_fails p = record {
-    so = (by_order R l (next (by_portal R l p.name (λ old. record old { state = portal.Failed; owner = None; expr = None })) (next (by_there R l p.context children_gone l.children) last))).so;
-  }
+    pub portal_passes : (level : ℕ) (above : Option ℕ) (p : OpenPortal) → Keeps R (portal_passed level above p)
+    portal_passes level above p = by_order R a (next (by_so R a (p.created == level) _ (owner_passes p.owner above)) (next (portal_lowers level p) last))
 
-  portal_withdraws : (level : ℕ) (own : Option ℕ) (p : OpenPortal) → Keeps R (portal_withdrawn level own p)
-  portal_withdraws level own p = record {
-    so = (by_order R l
-        (next (by_so R l (has_failed p.state) _ (owner_passes p.owner own))
-        (next (by_portal R l p.name (λ old. record old { active = level - 1; owner = if has_failed old.state then None else old.owner })) last))).so;
-  }
+    pub portal_aborts : (level : ℕ) (own : Option ℕ) (p : OpenPortal) → Keeps R (portal_aborted level own p)
+    portal_aborts level own p = record {
+      so = λ s. by_either R a (p.created == level) (portal_failed p s) (where_so (p.active == level) (portal_withdrawn level own p) s) ((portal_fails p).so s)
+          ((by_so R a (p.active == level) (portal_withdrawn level own p) (by_order R a (next (by_so R a (has_failed p.state) _ (owner_passes p.owner own)) (next (portal_returns level p) last)))).so s);
+    }
 
-  portal_aborts : (level : ℕ) (own : Option ℕ) (p : OpenPortal) → Keeps R (portal_aborted level own p)
-  portal_aborts level own p = record {
-    so = λ s. by_either R l (p.created == level) (portal_failed p s) (where_so (p.active == level) (portal_withdrawn level own p) s)
-        ((portal_fails p).so s) ((by_so R l (p.active == level) (portal_withdrawn level own p) (portal_withdraws level own p)).so s);
-  }
+  module _ (phase : (commit top : Bool) (n : ℕ) (phase : Phase) → Keeps R (phase_released commit top n phase)) where
+    pub owner_releases : (commit top : Bool) (owner : ℕ) → Keeps R (owner_released commit top owner)
+    owner_releases commit top owner = record { so = (by_each R a (phase_released commit top owner) (phase commit top owner) (BeforeLocks ∷ Locks ∷ AfterLocks ∷ [])).so }
 
-  -- the parts of an end
-  level_releases : (commit top : Bool) → Keeps R (level_released commit top)
-  level_releases commit top = record { so = λ s. (by_there R l (level_owner s.session) (owner_released commit top) (owner_is_released commit top)).so s }
+    pub level_releases : (commit top : Bool) → Keeps R (level_released commit top)
+    level_releases commit top = record { so = λ s. (by_there R a (level_owner s.session) (owner_released commit top) (owner_releases commit top)).so s }
 
-  level_owner_goes : Keeps R level_owner_gone
-  level_owner_goes = record { so = λ s. (by_there R l (level_owner s.session) owner_gone h.discarded).so s }
+    -- the end of a portal that isn't that of its transaction
+    module _ (release : (owner : ℕ) (kind : KindId) (key : ℕ) → Keeps R (item_released owner kind key)) (discarded : (n : ℕ) → Keeps R (owner_gone n)) where
+      pub portal_ends : (p : OpenPortal) → Keeps R (portal_ended p)
+      portal_ends p =
+          by_order R a
+          (next (by_so R a (is_ready p.state) _ (by_order R a (next (executor_ends release p) (next (owner_ends p.owner) last))))
+          (next (context_goes p.context)
+          (next (a.portal_goes p.name) last)))
+        where
+          owner_ends : (o : Option ℕ) → Keeps R (where_there o (λ owner. in_order (owner_released true false owner ∷ owner_gone owner ∷ [])))
+          owner_ends o = by_there R a o _ (λ (owner : ℕ). by_order R a (next (owner_releases true false owner) (next (discarded owner) last)))
 
-  switches_up : Keeps R switched_up
-  switches_up = record { so = λ s. l.rest s.session.levels s.session.portals s.session.plans _ s }
-
-  level_context_goes : Keeps R level_context_gone
-  level_context_goes = record { so = λ s. (by_there R l (level_context s.session) context_gone l.gone).so s }
-
-  empty_context_goes : Keeps R empty_context_gone
-  empty_context_goes = record { so = λ s. (by_there R l (level_context s.session) _ (λ (n : ℕ). by_so R l (is_empty n s.session.contexts) (context_gone n) (l.gone n))).so s }
-
-  level_pops : Keeps R level_popped
+-- the acts that behind the release of a level's owner end it
+module _ (R : Law) (l : LevelLeaves R) where
+  pub level_pops : Keeps R level_popped
   level_pops = record { so = (by_levels R l (λ levels. drop 1 levels)).so }
 
+  pub level_marks : Keeps R (changes (λ session. record session { levels = deepest_changed (λ old. record old { aborted = true }) session.levels }))
+  level_marks = by_levels R l (deepest_changed (λ old. record old { aborted = true }))
+
+  pub switches_up : Keeps R switched_up
+  switches_up = record { so = λ s. (l.leaves.switch (unwrap_or (context_of (level_above s.session)) top_context)).so s }
+
+module _ (R : Law) (h : EndLeaves R) where
+  abbrev v : LevelLeaves R
+  v = h.levels
+
+  abbrev l : Leaves R
+  l = v.leaves
+
+  abbrev acts : Acts R
+  acts = l.acts
+
+  pub level_owner_goes : Keeps R level_owner_gone
+  level_owner_goes = record { so = λ s. (by_there R acts (level_owner s.session) owner_gone h.discarded).so s }
+
   -- the ends of the deepest level
-  commits : Keeps R committed
+  pub behind_commit : Keeps R (in_order (stack_popped 1 ∷ level_owner_gone ∷ switched top_context ∷ level_context_gone ∷ level_popped ∷ []))
+  behind_commit = by_order R acts (next (v.stack_gone 1) (next level_owner_goes (next (l.switch top_context) (next (level_context_goes R acts) (next (level_pops R v) last)))))
+
+  pub commits : Keeps R committed
   commits = record {
-    so = λ s. (by_order R l
-        (next (l.word (what.CommitLevel 1) refl)
-        (next (by_each R l portal_closed portal_closes s.session.portals)
-        (next (level_releases true true)
-        (next (h.stack_gone 1)
-        (next level_owner_goes
-        (next (by_switch R l top_context)
-        (next level_context_goes
-        (next level_pops last))))))))).so s;
+    so = λ s. (by_order R acts
+        (next (v.level_word (what.CommitLevel 1) refl)
+        (next (by_each R acts portal_closed (portal_closes R acts l.released) s.session.portals)
+        (next (level_releases R acts h.phase true true)
+        (next (v.stack_gone 1) (next level_owner_goes (next (l.switch top_context) (next (level_context_goes R acts) (next (level_pops R v) last))))))))).so s;
   }
 
-  subcommits : Keeps R subcommitted
+  pub subcommits : Keeps R subcommitted
   subcommits = record {
-    so = λ s. (by_order R l
-        (next (l.word (what.CommitLevel (depth s.session)) refl)
-        (next (by_each R l (portal_passed (depth s.session) (owner_of (level_above s.session))) (portal_passes (depth s.session) (owner_of (level_above s.session))) s.session.portals)
-        (next (level_releases true false)
-        (next (h.stack_passed (depth s.session))
-        (next level_owner_goes
-        (next switches_up
-        (next empty_context_goes
-        (next level_pops last))))))))).so s;
+    so = λ s. (by_order R acts
+        (next (v.level_word (what.CommitLevel (depth s.session)) refl)
+        (next (by_each R acts (portal_passed (depth s.session) (owner_of (level_above s.session))) (portal_passes R acts h.moved (depth s.session) (owner_of (level_above s.session))) s.session.portals)
+        (next (level_releases R acts h.phase true false)
+        (next (v.stack_passed (depth s.session)) (next level_owner_goes (next (switches_up R v) (next (empty_context_goes R acts) (next (level_pops R v) last))))))))).so s;
   }
 
-  aborts : Keeps R aborted
+  pub aborts : Keeps R aborted
   aborts = record {
-    so = λ s. (by_order R l
-        (next (l.word (what.AbortLevel (depth s.session)) refl)
-        (next (by_switch R l abort_context)
-        (next (by_each R l (portal_aborted (depth s.session) (level_owner s.session)) (portal_aborts (depth s.session) (level_owner s.session)) s.session.portals)
-        (next (level_releases false (depth s.session == 1))
-        (next (h.stack_gone (depth s.session))
-        (next (by_levels R l (deepest_changed (λ old. record old { aborted = true }))) last))))))).so s;
+    so = λ s. (by_order R acts
+        (next (v.level_word (what.AbortLevel (depth s.session)) refl)
+        (next (l.switch abort_context)
+        (next (by_each R acts (portal_aborted (depth s.session) (level_owner s.session)) (portal_aborts R acts h.moved (depth s.session) (level_owner s.session)) s.session.portals)
+        (next (level_releases R acts h.phase false (depth s.session == 1))
+        (next (v.stack_gone (depth s.session))
+        (next (level_marks R v) last))))))).so s;
   }
 
-  portal_cleans : (level : ℕ) (p : OpenPortal) → Keeps R (where_so (p.created == level) (in_order (where_there p.context context_gone ∷ portal_gone p.name ∷ [])))
-  portal_cleans level p =
-      by_so R l (p.created == level) (in_order (where_there p.context context_gone ∷ portal_gone p.name ∷ []))
-      (by_order R l (next (by_there R l p.context context_gone l.gone) (next (by_portal_gone R l p.name) last)))
-
-  cleans_up : Keeps R cleaned_up
+  pub cleans_up : Keeps R cleaned_up
   cleans_up = record {
-    so = λ s. (by_order R l
-        (next (l.word (what.CleanupLevel (depth s.session)) refl)
-        (next (by_each R l _ (portal_cleans (depth s.session)) s.session.portals)
-        (next level_owner_goes
-        (next switches_up
-        (next level_context_goes
-        (next level_pops last))))))).so s;
+    so = λ s. (by_order R acts
+        (next (v.level_word (what.CleanupLevel (depth s.session)) refl)
+        (next (by_each R acts _ (portal_cleans R acts (depth s.session)) s.session.portals)
+        (next level_owner_goes (next (switches_up R v) (next (level_context_goes R acts) (next (level_pops R v) last))))))).so s;
   }
 
-  rolls_back : (level : LevelState) → Keeps R (level_rolled_back level)
-  rolls_back level = record { so = (by_order R l (next (by_so R l (not level.aborted) aborted aborts) (next cleans_up last))).so }
+  pub rolls_back : (level : LevelState) → Keeps R (level_rolled_back level)
+  rolls_back level = record { so = (by_order R acts (next (by_so R acts (not level.aborted) aborted aborts) (next cleans_up last))).so }
 
   -- what comes behind the word of an error
   gives_up : (levels : List LevelState) → Keeps R (given_up levels)
-  gives_up [] = by_nothing R l
+  gives_up [] = record { so = acts.none }
   gives_up (level ∷ levels) = record {
-    so = λ s. by_either R l level.starting _ _
-        ((by_order R l (next (rolls_back level) (next (by_there R l (first_of levels) (λ (above : LevelState). aborted) (λ above. aborts)) last))).so s)
-        (by_either R l level.implicit _ _ ((rolls_back level).so s) (aborts.so s));
+    so = λ s. by_either R acts level.starting _ _
+        ((by_order R acts (next (rolls_back level) (next (by_there R acts (first_of levels) (λ (above : LevelState). aborted) (λ above. aborts)) last))).so s)
+        (by_either R acts level.implicit _ _ ((rolls_back level).so s) (aborts.so s));
   }
 
   pub recovery_follows : (s : Scene) → R s (in_order (where_so (not (is_aborted s.session.levels)) (given_up s.session.levels) ∷ []) s).scene
       (in_order (where_so (not (is_aborted s.session.levels)) (given_up s.session.levels) ∷ []) s).events
-  recovery_follows s = (by_order R l (next (by_so R l (not (is_aborted s.session.levels)) (given_up s.session.levels) (gives_up s.session.levels)) last)).so s
+  recovery_follows s = (by_order R acts (next (by_so R acts (not (is_aborted s.session.levels)) (given_up s.session.levels) (gives_up s.session.levels)) last)).so s
 
-  -- the end of a session
-  pub exit_follows : (s : Scene) → R s (exited s).scene (exited s).events
+  pub recovers : (error : Error) → Keeps R (say (what.Error error)) → Keeps R (recovered error)
+  unfolding recovered
+  recovers error said = record { so = λ s. acts.both (said.so s) (recovery_follows s) }
+
+  -- the end of a session, up to its last word
+  pub levels_follow : (s : Scene) → R s (for_each level_rolled_back s.session.levels s).scene (for_each level_rolled_back s.session.levels s).events
+  levels_follow s = (by_each R acts level_rolled_back rolls_back s.session.levels).so s
+
+  pub exit_follows : Keeps R (say what.Exit) → (s : Scene) → R s (exited s).scene (exited s).events
   unfolding exited
-  exit_follows s =
-      (by_order R l
-      (next (by_each R l level_rolled_back rolls_back s.session.levels)
-      (next (by_switch R l top_context)
-      (next (l.gone top_context)
-      (next (l.word what.Exit refl) last))))).so s
+  exit_follows said s = acts.both (levels_follow s) ((by_order R acts (next (l.switch top_context) (next (acts.gone top_context) (next said last)))).so _)
 
-  -- So each element is owed, but what registers a hook or moves a context.
-  pub all_owed : (w : Option ℕ) (x : Element) (m : Moment) → OwesMoves R w x m → Owes R w x m
+  -- So each element is owed, but what makes or uses something.
+  pub ends_owed : (w : Option ℕ) (x : Element) (m : Moment) → OwesMakes R w x m → OwesEnds R w x m
   unfolding does
-  all_owed w (e.InTurn name x) m owed = all_owed w x m owed
-  all_owed w (e.Register name) m owed = owed
-  all_owed w (e.Reparent name parent) m owed = owed
-  all_owed w (e.Take role kind key) m owed = fallible_so R l w m _ (at_owner role (λ owner. item_taken owner kind key)) (item_is_taken role kind key)
-  all_owed w (e.TakeNamed name key) m owed =
-      fallible_so R l w m _ (at_kind name (λ kind. at_owner OfLevel (λ owner. item_taken owner kind key)))
-      (by_kind R l name (λ kind. at_owner OfLevel (λ owner. item_taken owner kind key)) (λ kind. item_is_taken OfLevel kind key))
-  all_owed w (e.EndPortal name) m owed = unfailing_so R l m (at_portal name portal_ended) (by_portal_named R l name portal_ended portal_ends)
-  all_owed w e.CommitTop m owed = unfailing_so R l m committed commits
-  all_owed w e.Subcommit m owed = unfailing_so R l m subcommitted subcommits
-  all_owed w e.Abort m owed = unfailing_so R l m aborted aborts
-  all_owed w e.Cleanup m owed = unfailing_so R l m cleaned_up cleans_up
-  all_owed w other m owed = tt
+  ends_owed w (e.InTurn name x) m owed = ends_owed w x m owed
+  ends_owed w (e.Take role kind key) m owed = fallible_so R acts w m _ (at_owner role (λ owner. item_taken owner kind key)) (by_owner R acts role (λ owner. item_taken owner kind key) (λ owner. h.taken owner kind key))
+  ends_owed w (e.TakeNamed name key) m owed =
+      fallible_so R acts w m _ (at_kind name (λ kind. at_owner OfLevel (λ owner. item_taken owner kind key)))
+      (by_kind R acts name (λ kind. at_owner OfLevel (λ owner. item_taken owner kind key)) (λ kind. by_owner R acts OfLevel (λ owner. item_taken owner kind key) (λ owner. h.taken owner kind key)))
+  ends_owed w (e.EndPortal name) m owed = unfailing_so R acts m (at_portal name portal_ended) (by_portal_named R acts name portal_ended (portal_ends R acts h.phase l.released h.discarded))
+  ends_owed w e.CommitTop m owed = unfailing_so R acts m committed commits
+  ends_owed w e.Subcommit m owed = unfailing_so R acts m subcommitted subcommits
+  ends_owed w e.Abort m owed = unfailing_so R acts m aborted aborts
+  ends_owed w e.Cleanup m owed = unfailing_so R acts m cleaned_up cleans_up
+  ends_owed w other m owed = owed
+
+  -- and, where it is kept in any scene what is made and used, but what registers a hook or moves a context
+  pub all_owed : MakeLeaves R → (w : Option ℕ) (x : Element) (m : Moment) → OwesMoves R w x m → Owes R w x m
+  all_owed k w x m owed = levels_owed R v w x m (ends_owed w x m (makes_owed R v k w x m owed))

@@ -1,0 +1,88 @@
+-- The steps of a phase of a release: what they say themselves, and that a law which each of them keeps is kept by the phase.
+use Rattle.std.proofs.Common.{◌≡◌, ℕ, Bool, true, false, if◌then◌else◌, List, [], ◌∷◌, ◌++◌, Option, Some, None, refl}
+use Rattle.std.specs.Option.{option_map_or}
+use Rattle.pgs_step.specs.declared.events.What.{What}
+use Rattle.pgs_step.specs.declared.events.What.TheVariants as what
+use Rattle.pgs_step.specs.declared.ids.Item.{Item}
+use Rattle.pgs_step.specs.declared.ids.Phase.{Phase}
+use Rattle.pgs_step.specs.declared.ids.Phase.TheVariants.{BeforeLocks, Locks, AfterLocks}
+use Rattle.forest.specs.Forest.{Empty, Node, at, children, parent_of}
+use Rattle.owner_kinds.specs.KindShelf.{table_of}
+use Rattle.owner_kinds.specs.KindTable.{KindTable}
+use Rattle.owner_items.specs.Next.{release_order}
+use Rattle.owner_core.specs.Owners.{Owner, OwnerTree}
+use Rattle.owner_core.specs.Released.{released}
+use Rattle.owner_core.specs.Steps.{Step, Said, lock_step, own_steps, release_steps, releases_of, steps_below, top_locks}
+use Rattle.session_rules.specs.World.{Scene}
+use Rattle.session_rules.specs.Acts.{for_each}
+use Rattle.session_rules.specs.Releases.{phase_released, step_done}
+use Rattle.session_rules.proofs.Leaves.{Acts, Keeps, Law}
+
+-- A step says the release of an item or nothing itself. A warning stands directly before the release of its item.
+abbrev pub is_release : What → Bool
+is_release (what.Release item owner) = true
+is_release other = false
+
+abbrev pub IsReleaseStep : Step → Type 0
+IsReleaseStep (Said event) = is_release event ≡ true
+IsReleaseStep other = Unit {0}
+
+pub data AreReleaseSteps : List Step → Type 0 where
+  no_step : AreReleaseSteps []
+  then_step : {first : Step} {rest : List Step} → IsReleaseStep first → AreReleaseSteps rest → AreReleaseSteps (first ∷ rest)
+  warned_step : {n : ℕ} {item : Item} {rest : List Step} → AreReleaseSteps rest → AreReleaseSteps (Said (what.NotClosed item n) ∷ Said (what.Release item n) ∷ rest)
+
+both_steps : {xs ys : List Step} → AreReleaseSteps xs → AreReleaseSteps ys → AreReleaseSteps (xs ++ ys)
+both_steps no_step k = k
+both_steps (then_step h hs) k = then_step h (both_steps hs k)
+both_steps (warned_step hs) k = warned_step (both_steps hs k)
+
+items_release : (commit : Bool) (n : ℕ) (items : List Item) → AreReleaseSteps (releases_of commit n items)
+items_release commit n [] = no_step
+items_release true n (item ∷ items) = warned_step (then_step tt (items_release true n items))
+items_release false n (item ∷ items) = then_step refl (then_step tt (items_release false n items))
+
+own_release : (kinds : KindTable) (phase : Phase) (commit : Bool) (n : ℕ) (owner : Owner) (steps : List Step) → AreReleaseSteps steps → AreReleaseSteps (own_steps kinds phase commit n owner steps)
+own_release kinds Locks commit n owner steps h = h
+own_release kinds BeforeLocks commit n owner steps h = items_release commit n (release_order kinds BeforeLocks owner.items)
+own_release kinds AfterLocks commit n owner steps h = items_release commit n (release_order kinds AfterLocks owner.items)
+
+lock_release : (commit : Bool) (n parent : ℕ) → AreReleaseSteps (lock_step commit n parent ∷ [])
+lock_release true n parent = then_step tt no_step
+lock_release false n parent = then_step tt no_step
+
+below_release : (kinds : KindTable) (phase : Phase) (commit top : Bool) (parent : ℕ) (owners : OwnerTree) → AreReleaseSteps (steps_below kinds phase commit top parent owners)
+below_release kinds phase commit top parent Empty = no_step
+below_release kinds phase commit top parent (Node n owner below beside) =
+    both_steps (below_release kinds phase commit top n below)
+    (both_steps (own_release kinds phase commit n owner (if top then [] else lock_step commit n parent ∷ []) (locks top)) (below_release kinds phase commit top parent beside))
+  where
+    locks : (top : Bool) → AreReleaseSteps (if top then [] else lock_step commit n parent ∷ [])
+    locks true = no_step
+    locks false = lock_release commit n parent
+
+top_release : (top commit : Bool) (n : ℕ) (parent : Option ℕ) → AreReleaseSteps (top_locks top commit n parent)
+top_release true commit n parent = then_step tt no_step
+top_release false commit n None = no_step
+top_release false commit n (Some parent) = lock_release commit n parent
+
+pub phase_release : (kinds : KindTable) (phase : Phase) (commit top : Bool) (n : ℕ) (owners : OwnerTree) → AreReleaseSteps (release_steps kinds phase commit top n owners)
+phase_release kinds phase commit top n owners = go (at n owners)
+  where
+    go : (owner : Option Owner)
+        → AreReleaseSteps (option_map_or (λ o. steps_below kinds phase commit top n (children n owners) ++ own_steps kinds phase commit n o (top_locks top commit n (parent_of n owners))) owner [])
+    go None = no_step
+    go (Some owner) = both_steps (below_release kinds phase commit top n (children n owners)) (own_release kinds phase commit n owner (top_locks top commit n (parent_of n owners)) (top_release top commit n (parent_of n owners)))
+
+module _ (R : Law) (a : Acts R) (step : (x : Step) → IsReleaseStep x → Keeps R (step_done x)) (warned : (item : Item) (n : ℕ) (s : Scene) → R s s (what.NotClosed item n ∷ what.Release item n ∷ [])) where
+  steps_so : (steps : List Step) → AreReleaseSteps steps → (s : Scene) → R s (for_each step_done steps s).scene (for_each step_done steps s).events
+  steps_so [] no_step s = a.none s
+  steps_so (x ∷ steps) (then_step h hs) s = a.both ((step x h).so s) (steps_so steps hs (step_done x s).scene)
+  steps_so (Said w ∷ Said r ∷ steps) (warned_step {n = n} {item = item} hs) s = a.both (warned item n s) (steps_so steps hs s)
+
+  -- A phase keeps a law that its steps keep, where owners may change behind them.
+  pub by_phase : ((kinds : KindTable) (phase : Phase) (n : ℕ) (s : Scene) → R s (record s { session = record s.session { owners = released kinds phase n s.session.owners } }) [])
+      → (commit top : Bool) (n : ℕ) (phase : Phase) → Keeps R (phase_released commit top n phase)
+  by_phase swept commit top n phase = record {
+    so = λ s. a.both (steps_so _ (phase_release (table_of s.around.kinds) phase commit top n s.session.owners) s) (a.both (swept (table_of s.around.kinds) phase n _) (a.none _));
+  }
