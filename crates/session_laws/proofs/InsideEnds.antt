@@ -1,26 +1,23 @@
 -- The end of a level, from its abort to its cleanup, is read, and names nothing outside the level.
-use Rattle.std.proofs.Common.{◌≡◌, ℕ, ◌+◌, ◌-◌, Bool, true, false, not, if◌then◌else◌, List, [], ◌∷◌, ◌++◌, length, reverse, Option, Some, None, refl, sym, ap, ◌∙◌, subst, inl, inr, arith, append-nil}
-use Rattle.std.specs.Prelude.{◌==◌, ◌&&◌, ◌⊎◌, All, drop, filter, is_none, option_to_list}
+use Rattle.std.proofs.Common.{◌≡◌, ℕ, ◌+◌, Bool, true, false, not, List, [], ◌∷◌, ◌++◌, length, Option, Some, None, refl, sym, ap, ◌∙◌, subst, inl, inr, arith, append-nil}
+use Rattle.std.specs.Prelude.{◌==◌, ◌&&◌, ◌⊎◌, All, drop, is_none, option_to_list}
 use Rattle.std.specs.Option.{option_map_or}
 use Rattle.std.proofs.lemmas.Bool.{and_from, both_ways, cases_Bool, eq-eqb, eqb-true, or_left}
 use Rattle.pgs_step.specs.declared.events.What.{What}
 use Rattle.pgs_step.specs.declared.events.What.TheVariants as what
-use Rattle.portal_store.specs.declared.portal.PortalState.TheVariants as portal
 use Rattle.forest.specs.Forest.{Forest, Empty, Node, at, children, has, removed, subtree}
 use Rattle.forest.specs.Walk.{order, order_at}
 use Rattle.context_rules.specs.Contexts.{Context}
 use Rattle.context_rules.specs.Ends.{gone_events}
-use Rattle.snap_table.specs.declared.active.Active.{Active}
-use Rattle.snap_table.specs.Snapshots.{is_deep}
 use Rattle.lifetime_laws.specs.Reading.{allows_all, is_one_of, seen_after}
 use Rattle.lifetime_laws.specs.Parents.{is_there}
 use Rattle.lifetime_laws.specs.Inside.{Awaited, Begun, ItsOwner, Leaving, Neither, awaited_behind, contexts_inside, ends_behind, ends_with, level_begun, owners_inside, staying}
-use Rattle.session_rules.specs.State.{LevelState, OpenPortal, abort_context, context_of, deepest_changed, first_of, level_context, level_owner, owner_of}
+use Rattle.std.specs.Prelude.{unwrap_or}
+use Rattle.session_rules.specs.State.{top_context, level_above, LevelState, OpenPortal, abort_context, context_of, deepest_changed, first_of, level_context, level_owner, owner_of}
 use Rattle.session_rules.specs.World.{Scene}
-use Rattle.session_rules.specs.Checks.{has_failed}
-use Rattle.session_rules.specs.Acts.{Ended, changes, children_gone, context_gone, for_each, in_order, portal_gone, switched, where_so, where_there}
-use Rattle.session_rules.specs.Releases.{owner_gone, owner_moved, owner_released}
-use Rattle.session_rules.specs.Portals.{portal_aborted, portal_failed, portal_withdrawn}
+use Rattle.session_rules.specs.Acts.{Ended, changes, context_gone, for_each, in_order, portal_gone, switched, where_so, where_there}
+use Rattle.session_rules.specs.Releases.{owner_gone}
+use Rattle.session_rules.specs.Portals.{portal_aborted}
 use Rattle.session_rules.specs.Ends.{aborted, cleaned_up, level_context_gone, level_owner_gone, level_popped, level_released, stack_popped, switched_up}
 use Rattle.session_rules.specs.Standing.{IsPlan, Stands, active_depth}
 use Rattle.session_rules.specs.Ending.{Ending, gone_levels}
@@ -33,56 +30,26 @@ use Rattle.session_laws.proofs.ReaderLaws.{IsRead, Reads, read_both, read_none}
 use Rattle.session_laws.proofs.ParentsFit.{FitsContexts, FitsTree}
 use Rattle.session_laws.proofs.ParentsContexts.{contexts_end_leaves}
 use Rattle.session_laws.proofs.InsideEvents.{Confined, GoInside, InEnd, IsOver, Stayed, confined, confined_stays, all_in, confined_sees, gone_confined, next_in, next_over, node_inside, none_left, owners_confined, roots_of}
-use Rattle.session_laws.proofs.InsideSeen.{AreBegun, AreKnown, AreSeen, Lessens, Sees, calm_map, nothing_ends, number_of}
-use Rattle.session_laws.proofs.InsideWalk.{by_children, by_discarded, by_each, by_either, by_gone, by_moved, by_order, by_portal, by_portal_gone, by_released, by_so, by_switch, by_there, same_place, unmoved}
+use Rattle.session_laws.proofs.InsideSeen.{AreBegun, AreKnown, AreSeen, Lessens, Sees, nothing_ends, number_of}
+use Rattle.session_rules.proofs.Walk.{by_each, by_order, by_there}
+use Rattle.session_rules.proofs.WalkEnds.{level_context_goes, level_releases, portal_aborts, portal_cleans}
+use Rattle.session_laws.proofs.InsideWalk.{by_discarded, by_moved, by_switch, inside_acts, inside_phase, inside_stack}
 use Rattle.session_laws.proofs.InsideQuiet.{AreQuiet}
 use Rattle.session_laws.proofs.InsideAborts.{AreIn, HasOwnersSeen, InPortals, all_read, contexts_confined, gone_read, portals_read, read_then, release_read, seen_in, stack_read}
 
 -- what the parts of an end leave of levels, portals and plans
-pub owner_passes : (own above : Option ℕ) → Keeps Lessens (where_there own (λ owner. where_there above (owner_moved owner)))
-owner_passes own above = by_there own _ (λ (owner : ℕ). by_there above (owner_moved owner) (by_moved owner))
-
-portal_fails : (p : OpenPortal) → Keeps Lessens (portal_failed p)
-portal_fails p = record {
-  so = (by_order
-      (next (by_portal p.name (λ old. record old { state = portal.Failed; owner = None; expr = None }) (same_place _ (λ p. refl) (λ p. refl)))
-      (next (by_there p.context children_gone by_children) last))).so;
-}
-
-portal_withdraws : (level : ℕ) (own : Option ℕ) (p : OpenPortal) → Keeps Lessens (portal_withdrawn level own p)
-portal_withdraws level own p = record {
-  so = (by_order
-      (next (by_so (has_failed p.state) _ (owner_passes p.owner own))
-      (next (by_portal p.name (λ old. record old { active = level - 1; owner = if has_failed old.state then None else old.owner }) (same_place _ (λ p. refl) (λ p. refl))) last))).so;
-}
-
-portal_aborts : (level : ℕ) (own : Option ℕ) (p : OpenPortal) → Keeps Lessens (portal_aborted level own p)
-portal_aborts level own p = record {
-  so = λ s. by_either (p.created == level) (portal_failed p s) (where_so (p.active == level) (portal_withdrawn level own p) s)
-      ((portal_fails p).so s) ((by_so (p.active == level) (portal_withdrawn level own p) (portal_withdraws level own p)).so s);
-}
-
-pub level_releases : (commit top : Bool) → Keeps Lessens (level_released commit top)
-level_releases commit top = record { so = λ s. (by_there (level_owner s.session) (owner_released commit top) (by_released commit top)).so s }
-
-pub stack_pops : (n : ℕ) → Keeps Lessens (stack_popped n)
-stack_pops n = record { so = λ s. unmoved s _ _ refl refl refl (calm_map (λ (entry : Active). what.Pop entry.snapshot) (λ entry. refl) (filter (is_deep n) (reverse s.session.snapshots))) }
+pub switches_up : Keeps Lessens switched_up
+switches_up = record { so = λ s. (by_switch (unwrap_or (context_of (level_above s.session)) top_context)).so s }
 
 pub level_owner_goes : Keeps Lessens level_owner_gone
-level_owner_goes = record { so = λ s. (by_there (level_owner s.session) owner_gone by_discarded).so s }
-
-pub switches_up : Keeps Lessens switched_up
-switches_up = record { so = λ s. unmoved s _ [] refl refl refl tt }
-
-pub level_context_goes : Keeps Lessens level_context_gone
-level_context_goes = record { so = λ s. (by_there (level_context s.session) context_gone by_gone).so s }
+level_owner_goes = record { so = λ s. (by_there Lessens inside_acts (level_owner s.session) owner_gone by_discarded).so s }
 
 -- the parts of an abort behind its word, but for the last
 abbrev abort_parts : ℕ → Option ℕ → List OpenPortal → List (Scene → Ended)
 abort_parts n own ps = switched abort_context ∷ for_each (portal_aborted n own) ps ∷ level_released false (n == 1) ∷ stack_popped n ∷ []
 
 abort_lessens : (n : ℕ) (own : Option ℕ) (ps : List OpenPortal) → Keeps Lessens (in_order (abort_parts n own ps))
-abort_lessens n own ps = by_order (next (by_switch abort_context) (next (by_each (portal_aborted n own) (portal_aborts n own) ps) (next (level_releases false (n == 1)) (next (stack_pops n) last))))
+abort_lessens n own ps = by_order Lessens inside_acts (next (by_switch abort_context) (next (by_each Lessens inside_acts (portal_aborted n own) (portal_aborts Lessens inside_acts by_moved n own) ps) (next (level_releases Lessens inside_acts inside_phase false (n == 1)) (next (inside_stack.stack_gone n) last))))
 
 -- a level that is in its end
 pub record Halted (leaving : Leaving) (t : Scene) : Type 0 where
@@ -167,7 +134,7 @@ module _ (level : LevelState) (levels : List LevelState) (s : Scene) (h : Stands
       subst (λ (z : Scene). All (λ plan. IsPlan plan z.session.contexts z.session.current) z.session.plans) (sym loop.goes.is) loop.goes.ending.plans.each
 
   still_level : level_owner z1.session ≡ level.owner
-  still_level = ap (λ (ls : List LevelState). owner_of (first_of ls)) ((by_each (portal_aborted n level.owner) (portal_aborts n level.owner) s.session.portals).so z0).levels
+  still_level = ap (λ (ls : List LevelState). owner_of (first_of ls)) ((by_each Lessens inside_acts (portal_aborted n level.owner) (portal_aborts Lessens inside_acts by_moved n level.owner) s.session.portals).so z0).levels
 
   abbrev tail : Scene → Ended
   tail = in_order (level_released false (n == 1) ∷ stack_popped n ∷ changes (λ session. record session { levels = deepest_changed (λ old. record old { aborted = true }) session.levels }) ∷ [])
@@ -225,7 +192,7 @@ abbrev sweep : ℕ → OpenPortal → Scene → Ended
 sweep n p = where_so (p.created == n) (in_order (where_there p.context context_gone ∷ portal_gone p.name ∷ []))
 
 sweeps : (n : ℕ) (p : OpenPortal) → Keeps Lessens (sweep n p)
-sweeps n p = by_so (p.created == n) (in_order (where_there p.context context_gone ∷ portal_gone p.name ∷ [])) (by_order (next (by_there p.context context_gone by_gone) (next (by_portal_gone p.name) last)))
+sweeps n p = portal_cleans Lessens inside_acts n p
 
 -- what is seen of contexts alone
 record HasContextsSeen (leaving : Leaving) (s : Scene) : Type 0 where
@@ -321,13 +288,13 @@ module _ (level : LevelState) (levels : List LevelState) (s : Scene) (leaving : 
   sweeping = for_each (sweep m) s.session.portals ∷ level_owner_gone ∷ switched_up ∷ []
 
   swept_lessens : Lessens c0 c3 (in_order sweeping c0).events
-  swept_lessens = (by_order (next (by_each (sweep m) (sweeps m) s.session.portals) (next level_owner_goes (next switches_up last)))).so c0
+  swept_lessens = (by_order Lessens inside_acts (next (by_each Lessens inside_acts (sweep m) (sweeps m) s.session.portals) (next level_owner_goes (next switches_up last)))).so c0
 
   swept_in : InPortals behind c0
   swept_in = record { contexts = k.contexts; owners = k.owners; plans = k.sees.plans; quiet = k.quiet }
 
   first_level : level_owner c1.session ≡ level.owner
-  first_level = ap (λ (ls : List LevelState). owner_of (first_of ls)) ((by_each (sweep m) (sweeps m) s.session.portals).so c0).levels
+  first_level = ap (λ (ls : List LevelState). owner_of (first_of ls)) ((by_each Lessens inside_acts (sweep m) (sweeps m) s.session.portals).so c0).levels
 
   third_level : level_context c3.session ≡ level.context
   third_level = ap (λ (ls : List LevelState). context_of (first_of ls)) swept_lessens.levels
@@ -378,7 +345,7 @@ module _ (level : LevelState) (levels : List LevelState) (s : Scene) (leaving : 
       let stayed : Stayed ending behind all_events = confined_stays ending behind all_events (still_in i) whole.allowed in
       let now : Leaving = seen_after staying behind all_events in
       let l : Lessens c0 (level_context_gone c3).scene (in_order (sweeping ++ (level_context_gone ∷ [])) c0).events =
-      (by_order (next (by_each (sweep m) (sweeps m) s.session.portals) (next level_owner_goes (next switches_up (next level_context_goes last))))).so c0 in
+      (by_order Lessens inside_acts (next (by_each Lessens inside_acts (sweep m) (sweeps m) s.session.portals) (next level_owner_goes (next switches_up (next (level_context_goes Lessens inside_acts) last))))).so c0 in
       record {
         allowed = and_from (staying.allows (what.CleanupLevel m) leaving) _ (one_allowed i) stayed.allowed;
         sees = record {

@@ -22,7 +22,8 @@ use Rattle.session_laws.proofs.ParentsLife.{contexts_life, contexts_owed, openin
 use Rattle.session_laws.proofs.ParentsOwnersLife.{opening_owners, owners_life, owners_owed}
 use Rattle.session_laws.proofs.Hushed.{ContextNext, Hushed, OwnerNext, Stage, Working, stage_of}
 use Rattle.session_laws.proofs.InsideSeen.{AreBegun, Lessens}
-use Rattle.session_laws.proofs.InsideWalk.{by_gone, by_order, by_said, by_switch}
+use Rattle.session_rules.proofs.Walk.{by_order}
+use Rattle.session_laws.proofs.InsideWalk.{by_said, by_switch, inside_acts}
 use Rattle.session_laws.proofs.InsideQuiet.{AreQuiet}
 use Rattle.session_laws.proofs.InsideHooks.{KeepsQuiet, quiet_owed}
 use Rattle.session_laws.proofs.InsideEnds.{CleanRead, Halted}
@@ -196,7 +197,7 @@ unfolding exited
 exit_read s h leaving k =
     let z : Scene = (for_each level_rolled_back s.session.levels s).scene in
     let tail : Keeps Lessens (in_order (switched top_context ∷ context_gone top_context ∷ say what.Exit ∷ [])) =
-    by_order (next (by_switch top_context) (next (by_gone top_context) (next (by_said what.Exit refl) last))) in
+    by_order Lessens inside_acts (next (by_switch top_context) (next (inside_acts.gone top_context) (next (by_said what.Exit refl) last))) in
     let o : OneRead AwaitsNothing leaving z (for_each level_rolled_back s.session.levels s).events = levels_read s.session.levels s leaving h.stands refl k.trees k.at in
     let last_acts : Scene → Ended = in_order (switched top_context ∷ context_gone top_context ∷ say what.Exit ∷ []) in
     let t : Lessens z (last_acts z).scene (last_acts z).events = tail.so z in

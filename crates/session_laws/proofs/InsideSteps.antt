@@ -1,11 +1,9 @@
 -- Each element of a line is read, where the line stands by then.
-use Rattle.std.proofs.Common.{◌≡◌, ℕ, ◌+◌, ◌-◌, ◌≤◌, Bool, true, false, if◌then◌else◌, List, [], ◌∷◌, length, Option, Some, None, refl, sym, ap, subst, inr, arith}
-use Rattle.std.specs.Prelude.{◌==◌, drop}
+use Rattle.std.proofs.Common.{◌≡◌, ℕ, ◌+◌, true, false, List, [], ◌∷◌, length, Option, Some, None, refl, sym, ap, subst, inr, arith}
+use Rattle.std.specs.Prelude.{drop}
 use Rattle.pgs_step.specs.declared.errors.Error.{Error}
 use Rattle.pgs_step.specs.declared.events.What.{What}
 use Rattle.pgs_step.specs.declared.events.What.TheVariants as what
-use Rattle.portal_store.specs.Portal.{lowered as level_lowered}
-use Rattle.context_rules.specs.Contexts.{is_empty}
 use Rattle.lifetime_laws.specs.Reading.{allows_all, seen_after}
 use Rattle.lifetime_laws.specs.Parents.{Node as Replayed, owners_behind}
 use Rattle.lifetime_laws.specs.Inside.{Begun, Leaving, level_begun, staying}
@@ -14,9 +12,9 @@ use Rattle.session_rules.specs.World.{Moment, Scene}
 use Rattle.session_rules.specs.Elements as e
 use Rattle.session_rules.specs.Elements.{Element, LevelContext, NewContext, OfLevel, OwnerRole}
 use Rattle.session_rules.specs.Checks.{failure}
-use Rattle.session_rules.specs.Acts.{Ended, changes, context_gone, for_each, in_order, nothing, say, switched, where_there}
+use Rattle.session_rules.specs.Acts.{Ended, changes, for_each, in_order, nothing, say, switched, where_there}
 use Rattle.session_rules.specs.Parts.{level_stands}
-use Rattle.session_rules.specs.Portals.{executor_ended, is_ready, portal_closed, portal_passed}
+use Rattle.session_rules.specs.Portals.{portal_closed, portal_passed}
 use Rattle.session_rules.specs.Ends.{aborted, cleaned_up, committed, empty_context_gone, level_context_gone, level_owner_gone, level_released, stack_lowered, stack_popped, subcommitted, switched_up}
 use Rattle.session_rules.specs.Making.{level_made, new_context_made, new_owner_made}
 use Rattle.session_rules.specs.Calls.{Done, fallible, refused_call, unfailing, unless_refused}
@@ -25,7 +23,7 @@ use Rattle.session_rules.specs.Standing.{Stands}
 use Rattle.session_rules.proofs.EndsStand.{settled}
 use Rattle.session_rules.proofs.Leaves.{Follows, IsSpoken, Keeps, last, next}
 use Rattle.session_rules.proofs.TurnStands.{Meets}
-use Rattle.session_rules.proofs.Walk.{element_follows}
+use Rattle.session_rules.proofs.Walk.{by_each, by_order, element_follows}
 use Rattle.session_laws.proofs.ReaderLaws.{IsRead}
 use Rattle.session_laws.proofs.ParentsFit.{FitsContexts, FitsOwners, FitsTree}
 use Rattle.session_laws.proofs.ParentsGrowth.{Growth, growing_owners}
@@ -36,12 +34,13 @@ use Rattle.session_laws.proofs.ParentsOwnersLife.{owners_owed}
 use Rattle.session_laws.proofs.Hushed.{ContextNext, Hushed, IsDue, IsHushed, IsLevelContext, IsLevelOwner, IsLively, IsSaid, OwnerNext, Stage, Working, hushed_next, stage_next, working_next}
 use Rattle.session_laws.proofs.InsideEvents.{InEnd, IsOver, Stayed, confined, confined_stays}
 use Rattle.session_laws.proofs.InsideSeen.{AreBegun, AreKnown, AreSeen, Calming, Kept, Lessens, Seen, Sees, Works, calm_all, lessens_sees}
-use Rattle.session_laws.proofs.InsideWalk.{by_each, by_executor, by_gone, by_order, by_portal, by_portal_gone, by_said, by_so, by_switch, by_there, unmoved}
+use Rattle.session_rules.proofs.WalkEnds.{empty_context_goes, level_context_goes, level_releases, portal_closes, portal_passes}
+use Rattle.session_laws.proofs.InsideWalk.{by_moved, by_said, by_switch, inside_acts, inside_phase, inside_released, inside_stack, unmoved}
 use Rattle.session_laws.proofs.InsideElements.{element_works, low_of}
 use Rattle.session_laws.proofs.InsideQuiet.{AreQuiet}
 use Rattle.session_laws.proofs.InsideHooks.{KeepsQuiet, quiet_owed}
 use Rattle.session_laws.proofs.InsideAborts.{contexts_fit}
-use Rattle.session_laws.proofs.InsideEnds.{AbortRead, CleanRead, Halted, IsSoon, MayEnd, aborts_read, cleans_read, level_context_goes, level_owner_goes, level_releases, owner_passes, stack_pops, switches_up}
+use Rattle.session_laws.proofs.InsideEnds.{AbortRead, CleanRead, Halted, IsSoon, MayEnd, aborts_read, cleans_read, level_owner_goes, switches_up}
 use Rattle.session_laws.proofs.InsideStart.{Active, AwaitsContext, AwaitsNothing, AwaitsOwner, OneRead, context_begins, level_begins, owner_begins}
 
 -- the replayed parents, and the hooks of contexts that plans have
@@ -155,34 +154,6 @@ stands_step s leaving k = go (level_context s.session)
     go (Some c) = lessened s (switched c s).scene _ [] leaving ((by_switch c).so s) refl refl (started s.session.levels) k
 
 -- the ends of levels that commit
-portal_closes : (p : OpenPortal) → Keeps Lessens (portal_closed p)
-portal_closes p = record {
-  so = (by_order
-      (next (by_so (is_ready p.state) (executor_ended p) (by_executor p))
-      (next (by_there p.context context_gone by_gone)
-      (next (by_portal_gone p.name) last)))).so;
-}
-
-lower : (level n : ℕ) → level_lowered level n ≤ n
-lower level n = go (n == level)
-  where
-    go : (b : Bool) → (if b then n - 1 else n) ≤ n
-    go true = omega arith
-    go false = omega arith
-
-portal_passes : (level : ℕ) (above : Option ℕ) (p : OpenPortal) → Keeps Lessens (portal_passed level above p)
-portal_passes level above p = record {
-  so = (by_order
-      (next (by_so (p.created == level) _ (owner_passes p.owner above))
-      (next (by_portal p.name (λ old. record old { created = level_lowered level old.created; active = level_lowered level old.active }) (record { context = λ q. refl; created = λ q. lower level q.created })) last))).so;
-}
-
-stack_passes : (level : ℕ) → Keeps Lessens (stack_lowered level)
-stack_passes level = record { so = λ s. unmoved s _ [] refl refl refl tt }
-
-empty_context_goes : Keeps Lessens empty_context_gone
-empty_context_goes = record { so = λ s. (by_there (level_context s.session) _ (λ (n : ℕ). by_so (is_empty n s.session.contexts) (context_gone n) (by_gone n))).so s }
-
 outer : (levels : List LevelState) (begun : List Begun) → AreBegun levels begun → AreBegun (drop 1 levels) begun
 outer [] begun h = tt
 outer (level ∷ levels) begun h = h.1
@@ -190,14 +161,14 @@ outer (level ∷ levels) begun h = h.1
 commit_step : (s : Scene) (leaving : Leaving) → AwaitsNothing leaving s → OneRead AwaitsNothing leaving (committed s).scene (committed s).events
 commit_step s leaving k =
     let parts : Keeps Lessens (in_order (say (what.CommitLevel 1) ∷ for_each portal_closed s.session.portals ∷ level_released true true ∷ stack_popped 1 ∷ level_owner_gone ∷ switched top_context ∷ level_context_gone ∷ [])) =
-    by_order
+    by_order Lessens inside_acts
     (next (by_said (what.CommitLevel 1) refl)
-    (next (by_each portal_closed portal_closes s.session.portals)
-    (next (level_releases true true)
-    (next (stack_pops 1)
+    (next (by_each Lessens inside_acts portal_closed (portal_closes Lessens inside_acts inside_released) s.session.portals)
+    (next (level_releases Lessens inside_acts inside_phase true true)
+    (next (inside_stack.stack_gone 1)
     (next level_owner_goes
     (next (by_switch top_context)
-    (next level_context_goes last))))))) in
+    (next (level_context_goes Lessens inside_acts) last))))))) in
     let l = parts.so s in
     lessened s _ (committed s).scene (committed s).events leaving l refl refl (λ begun h. subst (λ (ls : List LevelState). AreBegun ls begun) (sym (ap (drop 1) l.levels)) (outer s.session.levels begun h)) k
 
@@ -206,14 +177,14 @@ subcommit_step s leaving k =
     let level : ℕ = depth s.session in
     let above : Option ℕ = owner_of (level_above s.session) in
     let parts : Keeps Lessens (in_order (say (what.CommitLevel level) ∷ for_each (portal_passed level above) s.session.portals ∷ level_released true false ∷ stack_lowered level ∷ level_owner_gone ∷ switched_up ∷ empty_context_gone ∷ [])) =
-    by_order
+    by_order Lessens inside_acts
     (next (by_said (what.CommitLevel level) refl)
-    (next (by_each (portal_passed level above) (portal_passes level above) s.session.portals)
-    (next (level_releases true false)
-    (next (stack_passes level)
+    (next (by_each Lessens inside_acts (portal_passed level above) (portal_passes Lessens inside_acts by_moved level above) s.session.portals)
+    (next (level_releases Lessens inside_acts inside_phase true false)
+    (next (inside_stack.stack_passed level)
     (next level_owner_goes
     (next switches_up
-    (next empty_context_goes last))))))) in
+    (next (empty_context_goes Lessens inside_acts) last))))))) in
     let l = parts.so s in
     lessened s _ (subcommitted s).scene (subcommitted s).events leaving l refl refl (λ begun h. subst (λ (ls : List LevelState). AreBegun ls begun) (sym (ap (drop 1) l.levels)) (outer s.session.levels begun h)) k
 

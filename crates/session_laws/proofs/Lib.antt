@@ -4,6 +4,7 @@ pub mod LiftKinds
 pub mod LiftHooks
 pub mod Lifts
 pub mod Hushed
+pub mod OwnWork
 pub mod CallHooks
 pub mod Calls
 pub mod CallWords
@@ -54,7 +55,6 @@ pub mod OrderBatch
 pub mod OrderSteps
 pub mod OrderTree
 pub mod OrderPhase
-pub mod OwnWork
 pub mod OrderMild
 pub mod OrderBase
 pub mod OrderOpen

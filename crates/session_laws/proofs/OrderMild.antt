@@ -11,8 +11,9 @@ use Rattle.session_rules.specs.Making.{new_context_made}
 use Rattle.session_rules.specs.Releases.{owner_gone}
 use Rattle.session_rules.specs.Does.{does}
 use Rattle.session_rules.proofs.Leaves.{Acts, Follows, Keeps, is_word, last, next}
+use Rattle.session_rules.proofs.ReleaseSteps.{OwnerLeaves}
 use Rattle.session_rules.proofs.Said.{AreSaid, said_both}
-use Rattle.session_rules.proofs.Sight.{ContextLeaves, FileLeaves, KeyLeaves, OwnerLeaves, Part, Sight, acts_of, children_go, goes, hook_waits_so, item_comes, item_goes, leaves_of, locks_one, makes_context, moves_context, of_levels, owner_goes, owner_makes, phase_so, places, plans_one, pushes, releases, taken_so, unlocks, unseen_contexts, unseen_files, unseen_keys, unseen_locks, unseen_owners, unseen_stack}
+use Rattle.session_rules.proofs.Sight.{ContextLeaves, FileLeaves, KeyLeaves, Part, Sight, acts_of, children_go, goes, hook_waits_so, item_comes, item_goes, leaves_of, locks_one, makes_context, moves_context, of_levels, owner_goes, owner_makes, phase_so, places, plans_one, pushes, releases, taken_so, unlocks, unseen_contexts, unseen_files, unseen_keys, unseen_locks, unseen_owners, unseen_stack}
 use Rattle.session_rules.proofs.Walk.{by_order}
 use Rattle.session_laws.proofs.Hushed.{IsOwnWork}
 use Rattle.session_laws.proofs.OrderOpen.{is_unlined}

@@ -17,8 +17,9 @@ use Rattle.session_rules.specs.Taking.{item_taken}
 use Rattle.session_rules.specs.Making.{owner_made}
 use Rattle.session_rules.proofs.Forests.{has_put_other}
 use Rattle.session_rules.proofs.Leaves.{Keeps, Law, LevelLeaves, MakeLeaves, MoveLeaves, is_level_word, is_word}
+use Rattle.session_rules.proofs.ReleaseSteps.{OwnerLeaves}
 use Rattle.session_rules.proofs.Said.{AreSaid, said_more, said_none, said_one}
-use Rattle.session_rules.proofs.Sight.{ContextLeaves, FileLeaves, KeyLeaves, OwnerLeaves, Part, Sight, hook_waits_so, level_leaves_of, locks_one, makes_context, moves_context, of_next_owner, of_owners, phase_so, places, plans_one, pushes, releases, taken_so, unlocks, unseen_contexts, unseen_files, unseen_keys, unseen_locks, unseen_stack}
+use Rattle.session_rules.proofs.Sight.{ContextLeaves, FileLeaves, KeyLeaves, Part, Sight, hook_waits_so, level_leaves_of, locks_one, makes_context, moves_context, of_next_owner, of_owners, phase_so, places, plans_one, pushes, releases, taken_so, unlocks, unseen_contexts, unseen_files, unseen_keys, unseen_locks, unseen_stack}
 use Rattle.lifetime_laws.specs.Parents.{Node as Kept, is_there, placed_where}
 use Rattle.session_laws.proofs.ReaderLaws.{Reads, read_both}
 use Rattle.session_laws.proofs.ParentsFit.{FitsOwners, FitsTree, fits_front, fits_moved, fits_put}

@@ -20,8 +20,9 @@ use Rattle.session_rules.specs.Ends.{exited, given_up, recovered}
 use Rattle.session_rules.specs.Transcript.{line_elements, turn, turn_of}
 use Rattle.session_rules.proofs.Leaves.{EndLeaves, Follows, Law, MakeLeaves, MoveLeaves, is_level_word, is_word, runs_anyhow}
 use Rattle.session_rules.proofs.Walk.{moves_owed, run_follows}
+use Rattle.session_rules.proofs.ReleaseSteps.{OwnerLeaves}
 use Rattle.session_rules.proofs.Said.{AreSaid, said_more, said_none, said_one}
-use Rattle.session_rules.proofs.Sight.{FileLeaves, OwnerLeaves, Sight, end_leaves_of, hook_waits_so, item_comes, item_goes, locks_one, makes_context, moves_context, no_part, owner_goes, owner_makes, owner_moves, places, plans_one, pushes, unlocks, unseen_contexts, unseen_files, unseen_keys, unseen_locks, unseen_stack}
+use Rattle.session_rules.proofs.Sight.{FileLeaves, Sight, end_leaves_of, hook_waits_so, item_comes, item_goes, locks_one, makes_context, moves_context, no_part, owner_goes, owner_makes, owner_moves, places, plans_one, pushes, unlocks, unseen_contexts, unseen_files, unseen_keys, unseen_locks, unseen_stack}
 use Rattle.session_rules.proofs.WalkEnds.{all_owed, exit_follows, recovery_follows}
 use Rattle.session_rules.proofs.Spoken.{line_spoken}
 use Rattle.session_laws.proofs.ReaderLaws.{IsLife, IsRead, Reads, read_both}

@@ -10,13 +10,32 @@ use Rattle.forest.specs.Forest.{Empty, Node, at, children, parent_of}
 use Rattle.owner_kinds.specs.KindShelf.{table_of}
 use Rattle.owner_kinds.specs.KindTable.{KindTable}
 use Rattle.owner_items.specs.Next.{release_order}
-use Rattle.owner_core.specs.Owners.{Owner, OwnerTree}
+use Rattle.pgs_step.specs.declared.ids.KindId.{KindId}
+use Rattle.owner_core.specs.Owners.{Owner, OwnerTree, forgotten}
 use Rattle.owner_core.specs.Released.{released}
-use Rattle.owner_core.specs.Steps.{Step, Said, lock_step, own_steps, release_steps, releases_of, steps_below, top_locks}
+use Rattle.owner_core.specs.Steps.{Step, Said, GivesBack, ReleasesLocks, PassesLocks, ReleasesAllLocks, lock_step, own_steps, release_steps, releases_of, steps_below, top_locks}
 use Rattle.session_rules.specs.World.{Scene}
-use Rattle.session_rules.specs.Acts.{for_each}
-use Rattle.session_rules.specs.Releases.{phase_released, step_done}
+use Rattle.session_rules.specs.Lookup.{newest}
+use Rattle.session_rules.specs.Acts.{changes, for_each, in_order, say, where_there}
+use Rattle.session_rules.specs.Releases.{Keeper, NoOne, TheDescriptors, TheKind, ThePlans, descriptor_left, given_back, item_released, keeper_of, key_left, left_to, phase_released, plan_left, step_done}
+use Rattle.session_rules.specs.Taking.{remembers}
 use Rattle.session_rules.proofs.Leaves.{Acts, Keeps, Law}
+
+-- What a law owes for an item that is forgotten, for owners and their items, and for locks that go.
+abbrev pub ItemGoes : Law → Type 0
+ItemGoes R = (n : ℕ) (kind : KindId) (key : ℕ) (newest_item : Item) (s : Scene) → newest n kind key s.session ≡ Some newest_item
+    → R s (record s { session = record s.session { owners = forgotten n kind key s.session.owners } }) (what.Release newest_item n ∷ [])
+
+pub record OwnerLeaves (R : Law) : Type 0 where
+  pub releasing : (item : Item) (n : ℕ) → Keeps R (say (what.Release item n))
+  pub warned : (item : Item) (n : ℕ) (s : Scene) → R s s (what.NotClosed item n ∷ what.Release item n ∷ [])
+  pub remembered : (n : ℕ) (kind : KindId) (key : ℕ) → Keeps R (remembers n kind key)
+  pub swept : (kinds : KindTable) (phase : Phase) (n : ℕ) (s : Scene) → R s (record s { session = record s.session { owners = released kinds phase n s.session.owners } }) []
+
+pub record LockLeaves (R : Law) : Type 0 where
+  pub let_go : (owner : ℕ) → Keeps R (step_done (ReleasesLocks owner))
+  pub passed : (from to : ℕ) → Keeps R (step_done (PassesLocks from to))
+  pub all_gone : (top : ℕ) → Keeps R (step_done (ReleasesAllLocks top))
 
 -- A step says the release of an item or nothing itself. A warning stands directly before the release of its item.
 abbrev pub is_release : What → Bool
@@ -86,3 +105,38 @@ module _ (R : Law) (a : Acts R) (step : (x : Step) → IsReleaseStep x → Keeps
   by_phase swept commit top n phase = record {
     so = λ s. a.both (steps_so _ (phase_release (table_of s.around.kinds) phase commit top n s.session.owners) s) (a.both (swept (table_of s.around.kinds) phase n _) (a.none _));
   }
+
+-- an item that is given back, one that is released, and a phase of a release
+module _ (R : Law) (a : Acts R) (plan_goes : (key : ℕ) → Keeps R (plan_left key)) (closed : (file : ℕ) → Keeps R (descriptor_left file)) (key_closed : (place key : ℕ) → Keeps R (key_left place key)) where
+  left : (keeper : Keeper) (key : ℕ) → Keeps R (left_to keeper key)
+  left NoOne key = record { so = a.none }
+  left ThePlans key = record { so = (plan_goes key).so }
+  left TheDescriptors key = record { so = (closed key).so }
+  left (TheKind place) key = record { so = (key_closed place key).so }
+
+  pub item_given_back : (item : Item) → Keeps R (given_back item)
+  item_given_back item = record { so = (left (keeper_of item.kind) item.key).so }
+
+  pub item_releases : ItemGoes R → (owner : ℕ) (kind : KindId) (key : ℕ) → Keeps R (item_released owner kind key)
+  item_releases goes owner kind key = record { so = λ s. go s (newest owner kind key s.session) refl }
+    where
+      go : (s : Scene) (found : Option Item) → newest owner kind key s.session ≡ found
+          → R s (where_there found (λ (item : Item). in_order (changes (λ session. record session { owners = forgotten owner kind key session.owners }) ∷ say (what.Release item owner) ∷ given_back item ∷ [])) s).scene
+          (where_there found (λ (item : Item). in_order (changes (λ session. record session { owners = forgotten owner kind key session.owners }) ∷ say (what.Release item owner) ∷ given_back item ∷ [])) s).events
+      go s None is = a.none s
+      go s (Some item) is = a.both (goes owner kind key item s is) (a.both ((item_given_back item).so (record s { session = record s.session { owners = forgotten owner kind key s.session.owners } })) (a.none _))
+
+  module _ (n : OwnerLeaves R) (k : LockLeaves R) where
+    step : (x : Step) → IsReleaseStep x → Keeps R (step_done x)
+    step (Said event) h = said event h
+      where
+        said : (event : What) → is_release event ≡ true → Keeps R (say event)
+        said (what.Release item owner) h = n.releasing item owner
+        said other h = absurd (cc h)
+    step (GivesBack item) h = record { so = (item_given_back item).so }
+    step (ReleasesLocks owner) h = k.let_go owner
+    step (PassesLocks from to) h = k.passed from to
+    step (ReleasesAllLocks top) h = k.all_gone top
+
+    pub phase_keeps : (commit top : Bool) (m : ℕ) (phase : Phase) → Keeps R (phase_released commit top m phase)
+    phase_keeps commit top m phase = by_phase R a step n.warned n.swept commit top m phase

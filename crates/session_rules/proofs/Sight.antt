@@ -21,24 +21,22 @@ use Rattle.context_rules.specs.Contexts.{Context, Contexts}
 use Rattle.file_table.specs.Descriptors.{is_among}
 use Rattle.lock_local.specs.Locks.{Lock}
 use Rattle.owner_kinds.specs.Kind.{Kind}
-use Rattle.owner_kinds.specs.KindTable.{KindTable}
-use Rattle.owner_core.specs.Owners.{OwnerTree, forgotten}
+use Rattle.owner_core.specs.Owners.{OwnerTree}
 use Rattle.owner_core.specs.Released.{released}
-use Rattle.owner_core.specs.Steps.{Step, Said, GivesBack, ReleasesLocks, PassesLocks, ReleasesAllLocks}
 use Rattle.snap_table.specs.declared.active.Active.{Active}
 use Rattle.session_rules.specs.State.{LevelState, OpenPortal, StandingPlan, cache_context, last_of as last_snapshot}
 use Rattle.session_rules.specs.World.{Scene}
 use Rattle.session_rules.specs.Elements.{Text}
-use Rattle.session_rules.specs.Lookup.{newest, plan_at}
+use Rattle.session_rules.specs.Lookup.{plan_at}
 use Rattle.session_rules.specs.Acts.{changes, children_gone, context_cleared, context_cleared_alone, context_gone, in_order, portal_becomes, say, where_there}
-use Rattle.session_rules.specs.Releases.{Keeper, NoOne, TheDescriptors, TheKind, ThePlans, descriptor_left, given_back, item_released, keeper_of, key_left, left_to, owner_gone, owner_moved, phase_released, plan_becomes, plan_settled, plan_stays, step_done}
+use Rattle.session_rules.specs.Releases.{Keeper, NoOne, TheDescriptors, TheKind, ThePlans, descriptor_left, given_back, item_released, keeper_of, key_left, owner_gone, owner_moved, phase_released, plan_becomes, plan_left, plan_settled, plan_stays}
 use Rattle.session_rules.specs.Parts.{context_moved, lock_given_back, snapshot_popped}
 use Rattle.session_rules.specs.Making.{context_made, held, left as bytes_left, owner_made, plan_made}
 use Rattle.session_rules.specs.Taking.{descriptor_given, files, hook_waits, item_taken, lock_taken, remembers, snapshot_pushed, taken_by}
 use Rattle.session_rules.specs.Ends.{stack_lowered, stack_popped}
 use Rattle.session_rules.proofs.Leaves.{Acts, EndLeaves, Keeps, Law, Leaves, LevelLeaves, is_level_word, is_word}
 use Rattle.session_rules.proofs.Chunked.{LeavesHooks, by_allocated, by_freed, by_resized, by_written}
-use Rattle.session_rules.proofs.ReleaseSteps.{IsReleaseStep, by_phase, is_release}
+use Rattle.session_rules.proofs.ReleaseSteps.{ItemGoes, LockLeaves, OwnerLeaves, item_given_back, item_releases, phase_keeps}
 use Rattle.session_rules.proofs.Said.{AreSaid, said_all_locks, said_alone, said_cleared, said_gone, said_lock_passes, said_lock_releases, said_map, said_more, said_moved, said_none, said_one, said_pops, said_report, said_touch}
 use Rattle.session_rules.proofs.Walk.{by_either, by_there}
 
@@ -101,21 +99,6 @@ pub record ContextLeaves (R : Law) : Type 0 where
   pub alone : (n : ℕ) → Keeps R (context_cleared_alone n)
   pub cleared : (n : ℕ) → Keeps R (context_cleared n)
   pub chunk : (s : Scene) (n : ℕ) (f : Context → Context) → LeavesHooks f → R s (record s { session = record s.session { contexts = changed n f s.session.contexts } }) []
-
-abbrev pub ItemGoes : Law → Type 0
-ItemGoes R = (n : ℕ) (kind : KindId) (key : ℕ) (newest_item : Item) (s : Scene) → newest n kind key s.session ≡ Some newest_item
-    → R s (record s { session = record s.session { owners = forgotten n kind key s.session.owners } }) (what.Release newest_item n ∷ [])
-
-pub record OwnerLeaves (R : Law) : Type 0 where
-  pub releasing : (item : Item) (n : ℕ) → Keeps R (say (what.Release item n))
-  pub warned : (item : Item) (n : ℕ) (s : Scene) → R s s (what.NotClosed item n ∷ what.Release item n ∷ [])
-  pub remembered : (n : ℕ) (kind : KindId) (key : ℕ) → Keeps R (remembers n kind key)
-  pub swept : (kinds : KindTable) (phase : Phase) (n : ℕ) (s : Scene) → R s (record s { session = record s.session { owners = released kinds phase n s.session.owners } }) []
-
-pub record LockLeaves (R : Law) : Type 0 where
-  pub let_go : (owner : ℕ) → Keeps R (step_done (ReleasesLocks owner))
-  pub passed : (from to : ℕ) → Keeps R (step_done (PassesLocks from to))
-  pub all_gone : (top : ℕ) → Keeps R (step_done (ReleasesAllLocks top))
 
 pub record FileLeaves (R : Law) : Type 0 where
   pub used : (file : ℕ) → Keeps R (descriptor_given file)
@@ -378,40 +361,19 @@ module _ (sees : Part → Bool) (P : What → Bool) (R : Law) (o : Sight sees P 
       plan_so plan s =
           by_either R acts_of (plan.discarded && (plan.references == 0)) (plan_settled plan s) (plan_stays plan s) (o.both (plans_so s _) (o.both ((gone plan.context).so _) (none_so _))) (plans_so s _)
 
-      -- an item that is given back, and one that is released
-      module _ (closed : (file : ℕ) → Keeps R (descriptor_left file)) (key_closed : (place key : ℕ) → Keeps R (key_left place key)) where
-        left : (keeper : Keeper) (key : ℕ) → Keeps R (left_to keeper key)
-        left NoOne key = record { so = none_so }
-        left ThePlans key = record { so = λ s. (by_there R acts_of (plan_at key s.session.plans) _ (λ (plan : StandingPlan). record { so = plan_so (record plan { references = plan.references - 1 }) })).so s }
-        left TheDescriptors key = record { so = (closed key).so }
-        left (TheKind place) key = record { so = (key_closed place key).so }
+      plan_goes : (key : ℕ) → Keeps R (plan_left key)
+      plan_goes key = record { so = λ s. (by_there R acts_of (plan_at key s.session.plans) _ (λ (plan : StandingPlan). record { so = plan_so (record plan { references = plan.references - 1 }) })).so s }
 
+      -- an item that is given back, one that is released, and a phase of a release
+      module _ (closed : (file : ℕ) → Keeps R (descriptor_left file)) (key_closed : (place key : ℕ) → Keeps R (key_left place key)) where
         pub gives_back : (item : Item) → Keeps R (given_back item)
-        gives_back item = record { so = (left (keeper_of item.kind) item.key).so }
+        gives_back = item_given_back R acts_of plan_goes closed key_closed
 
         pub releases : ItemGoes R → (owner : ℕ) (kind : KindId) (key : ℕ) → Keeps R (item_released owner kind key)
-        releases goes owner kind key = record { so = λ s. go s (newest owner kind key s.session) refl }
-          where
-            go : (s : Scene) (found : Option Item) → newest owner kind key s.session ≡ found
-                → R s (where_there found (λ (item : Item). in_order (changes (λ session. record session { owners = forgotten owner kind key session.owners }) ∷ say (what.Release item owner) ∷ given_back item ∷ [])) s).scene
-                (where_there found (λ (item : Item). in_order (changes (λ session. record session { owners = forgotten owner kind key session.owners }) ∷ say (what.Release item owner) ∷ given_back item ∷ [])) s).events
-            go s None is = none_so s
-            go s (Some item) is = o.both (goes owner kind key item s is) (o.both ((gives_back item).so (record s { session = record s.session { owners = forgotten owner kind key s.session.owners } })) (none_so _))
+        releases = item_releases R acts_of plan_goes closed key_closed
 
-        module _ (n : OwnerLeaves R) (k : LockLeaves R) where
-          step : (x : Step) → IsReleaseStep x → Keeps R (step_done x)
-          step (Said event) h = said event h
-            where
-              said : (event : What) → is_release event ≡ true → Keeps R (say event)
-              said (what.Release item owner) h = n.releasing item owner
-              said other h = absurd (cc h)
-          step (GivesBack item) h = record { so = (gives_back item).so }
-          step (ReleasesLocks owner) h = k.let_go owner
-          step (PassesLocks from to) h = k.passed from to
-          step (ReleasesAllLocks top) h = k.all_gone top
-
-          pub phase_so : (commit top : Bool) (m : ℕ) (phase : Phase) → Keeps R (phase_released commit top m phase)
-          phase_so commit top m phase = by_phase R acts_of step n.warned n.swept commit top m phase
+        pub phase_so : OwnerLeaves R → LockLeaves R → (commit top : Bool) (m : ℕ) (phase : Phase) → Keeps R (phase_released commit top m phase)
+        phase_so = phase_keeps R acts_of plan_goes closed key_closed
 
     pub takes : FileLeaves R → KeyLeaves R → (keeper : Keeper) (key : ℕ) → Keeps R (taken_by keeper key)
     takes f y NoOne key = record { so = none_so }
