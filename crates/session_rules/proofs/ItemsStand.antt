@@ -14,7 +14,7 @@ use Rattle.pgs_step.specs.declared.ids.KindId.{KindId}
 use Rattle.pgs_step.specs.declared.lock_modes.Mode.{Mode}
 use Rattle.pgs_step.specs.declared.events.What.TheVariants as what
 use Rattle.pgs_command.specs.declared.kinds.ReferenceClass.{ReferenceClass}
-use Rattle.pgs_command.specs.declared.kinds.ReferenceClass.TheVariants.{Relcache, Catcache, CatcacheList, TupleDescriptor}
+use Rattle.pgs_command.specs.declared.kinds.ReferenceClass.TheVariants.{Relcache}
 use Rattle.pgs_command.specs.Kinds.{class_kind}
 use Rattle.pgs_command.specs.Words.{is_text}
 use Rattle.context_rules.specs.Contexts.{Contexts}
@@ -191,21 +191,15 @@ owner_there (level ∷ levels) t x n l e = (l.0.owner n e).there
 -- a reference is an item of a known kind that nothing but owners keeps count of
 pub class_unkept : (class : ReferenceClass) → keeper_of (class_kind class) ≡ NoOne
 class_unkept Relcache = refl
-class_unkept Catcache = refl
-class_unkept CatcacheList = refl
-class_unkept TupleDescriptor = refl
+class_unkept other = refl
 
 pub class_other : (class : ReferenceClass) → (class_kind class).0 ≢ 5
 class_other Relcache = λ z. absurd (omega (arith, z))
-class_other Catcache = λ z. absurd (omega (arith, z))
-class_other CatcacheList = λ z. absurd (omega (arith, z))
-class_other TupleDescriptor = λ z. absurd (omega (arith, z))
+class_other other = λ z. absurd (omega (arith, z))
 
 pub class_item : (kinds : KindTable) (class : ReferenceClass) (key serial : ℕ) → IsItem kinds (record { kind = class_kind class; key = key; serial = serial })
 class_item kinds Relcache key serial = record { kind = inl (record { from = omega arith; to = omega arith }); buffer = λ e. absurd (omega (arith, e)) }
-class_item kinds Catcache key serial = record { kind = inl (record { from = omega arith; to = omega arith }); buffer = λ e. absurd (omega (arith, e)) }
-class_item kinds CatcacheList key serial = record { kind = inl (record { from = omega arith; to = omega arith }); buffer = λ e. absurd (omega (arith, e)) }
-class_item kinds TupleDescriptor key serial = record { kind = inl (record { from = omega arith; to = omega arith }); buffer = λ e. absurd (omega (arith, e)) }
+class_item kinds other key serial = record { kind = inl (record { from = omega arith; to = omega arith }); buffer = λ e. absurd (omega (arith, e)) }
 
 -- so are a registered snapshot and a file
 pub snapshot_item : (kinds : KindTable) (snapshot serial : ℕ) → IsItem kinds (record { kind = snapshot_reference; key = snapshot; serial = serial })

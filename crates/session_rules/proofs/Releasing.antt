@@ -1,8 +1,8 @@
 -- What a release leaves: the owners without their items, and of all else only what tables count.
 use Rattle.std.proofs.Common.{◌≡◌, ◌≢◌, ℕ, ◌<◌, ◌≤◌, Bool, true, false, Option, None, List, [], ◌∷◌, length, slice_get, All, refl, sym, ap, ◌∙◌, subst, inl, inr, arith}
-use Rattle.std.specs.Prelude.{zero, suc, ◌-◌, not, filter, unwrap_or}
+use Rattle.std.specs.Prelude.{zero, suc, ◌-◌, not, filter, unwrap_or, if◌then◌else◌}
 use Rattle.std.specs.Option.{option_map}
-use Rattle.std.proofs.lemmas.Bool.{cases_Bool, le-ltb}
+use Rattle.std.proofs.lemmas.Bool.{cases_Bool, le-ltb, lt-ltb, ne_eqb}
 use Rattle.std.proofs.lemmas.List.Elements.{All-nil, All-head, All-tail, All-filter}
 use Rattle.pgs_step.specs.declared.events.What.TheVariants as what
 use Rattle.pgs_step.specs.declared.ids.Item.{Item}
@@ -10,7 +10,7 @@ use Rattle.pgs_step.specs.declared.ids.Phase.{Phase}
 use Rattle.pgs_step.specs.declared.ids.Phase.TheVariants.{BeforeLocks, Locks, AfterLocks}
 use Rattle.forest.specs.Walk.{swept}
 use Rattle.owner_kinds.specs.Kind.{Kind, changed_at, closed}
-use Rattle.owner_kinds.specs.KindTable.{KindTable, row_of, IsSound as IsSoundTable}
+use Rattle.owner_kinds.specs.KindTable.{KindTable, built_in_rows, row_of, IsSound as IsSoundTable}
 use Rattle.owner_kinds.specs.KindShelf.{table_of}
 use Rattle.owner_kinds.specs.Place.{IsPlace}
 use Rattle.owner_kinds.specs.declared.kind_row.KindRow.{KindRow}
@@ -126,31 +126,13 @@ released_swept kinds p owners =
     ap (released kinds AfterLocks p) (both_swept (own_released kinds BeforeLocks) (own_released kinds Locks) p owners)
     ∙ both_swept (λ (x : Owner). own_released kinds Locks (own_released kinds BeforeLocks x)) (own_released kinds AfterLocks) p owners
 
--- numbers from 1 to 8, one by one
-one_of_eight : (P : ℕ → Type 0) → P 1 → P 2 → P 3 → P 4 → P 5 → P 6 → P 7 → P 8 → (k : ℕ) → 1 ≤ k → k ≤ 8 → P k
-one_of_eight P a b c d e f g h zero l u = absurd (omega arith)
-one_of_eight P a b c d e f g h (suc zero) l u = a
-one_of_eight P a b c d e f g h (suc (suc zero)) l u = b
-one_of_eight P a b c d e f g h (suc (suc (suc zero))) l u = c
-one_of_eight P a b c d e f g h (suc (suc (suc (suc zero)))) l u = d
-one_of_eight P a b c d e f g h (suc (suc (suc (suc (suc zero))))) l u = e
-one_of_eight P a b c d e f g h (suc (suc (suc (suc (suc (suc zero)))))) l u = f
-one_of_eight P a b c d e f g h (suc (suc (suc (suc (suc (suc (suc zero))))))) l u = g
-one_of_eight P a b c d e f g h (suc (suc (suc (suc (suc (suc (suc (suc zero)))))))) l u = h
-one_of_eight P a b c d e f g h (suc (suc (suc (suc (suc (suc (suc (suc (suc k))))))))) l u = absurd (omega arith)
-
 -- what isn't released before the locks is released behind them
 abbrev IsLast : KindTable → ℕ → ℕ → ℕ → Type 0
 IsLast kinds key serial k =
     is_of_phase kinds BeforeLocks (record { kind = record { 0 = k }; key = key; serial = serial }) ≡ false
     → is_of_phase kinds AfterLocks (record { kind = record { 0 = k }; key = key; serial = serial }) ≡ true
 
-last_of_eight : (kinds : KindTable) (key serial k : ℕ) → 1 ≤ k → k ≤ 8 → IsLast kinds key serial k
-unfolding row_of
-last_of_eight kinds key serial k l u =
-    one_of_eight (IsLast kinds key serial) (λ e. sym e) (λ e. sym e) (λ _. refl) (λ _. refl) (λ _. refl) (λ _. refl) (λ _. refl) (λ _. refl) k l u
-
--- the same of the rows of extension kinds: none of them is released with the locks
+-- the rows of no kind are released with the locks
 abbrev in_phase : Phase → Option KindRow → Bool
 in_phase phase o = unwrap_or (option_map (is_phase phase) (option_map (λ r. r.phase) o)) false
 
@@ -164,13 +146,37 @@ last_of_rows [] i places within e = absurd (omega arith)
 last_of_rows (r ∷ rs) zero places within e = last_phase r.phase (All-head IsPlace r rs places).0 e
 last_of_rows (r ∷ rs) (suc i) places within e = last_of_rows rs i (All-tail IsPlace r rs places) (omega arith) e
 
+-- the kinds that are built in, by their rows, however many there are
+abbrev are_apart : List KindRow → Bool
+are_apart [] = true
+are_apart (r ∷ rs) = if is_phase Locks r.phase then false else are_apart rs
+
+own_last : (phase : Phase) (rest : Bool) → (if is_phase Locks phase then false else rest) ≡ true → is_phase BeforeLocks phase ≡ false → is_phase AfterLocks phase ≡ true
+own_last BeforeLocks rest apart e = sym e
+own_last Locks rest apart e = absurd (cc apart)
+own_last AfterLocks rest apart e = refl
+
+rest_apart : (phase : Phase) (rest : Bool) → (if is_phase Locks phase then false else rest) ≡ true → rest ≡ true
+rest_apart Locks rest apart = absurd (cc apart)
+rest_apart other rest apart = apart
+
+last_of_own : (rows : List KindRow) (i : ℕ) → are_apart rows ≡ true → i < length rows → in_phase BeforeLocks (slice_get rows i) ≡ false → in_phase AfterLocks (slice_get rows i) ≡ true
+last_of_own [] i apart within e = absurd (omega arith)
+last_of_own (r ∷ rs) zero apart within e = own_last r.phase (are_apart rs) apart e
+last_of_own (r ∷ rs) (suc i) apart within e = last_of_own rs i (rest_apart r.phase (are_apart rs) apart) (omega arith) e
+
+last_of_built_in : (kinds : KindTable) (key serial k : ℕ) → 1 ≤ k → k ≤ length built_in_rows → IsLast kinds key serial k
+unfolding row_of
+last_of_built_in kinds key serial k l u =
+    rw (lt-ltb k 16 (omega (arith, u)), ne_eqb k 0 (λ e. absurd (omega (arith, e, l)))) (last_of_own built_in_rows (k - 1) refl (omega (arith, l, u)))
+
 last_of_kinds : (kinds : KindTable) (key serial k : ℕ) → IsSoundTable kinds → 16 ≤ k → k - 16 < length kinds.rows → IsLast kinds key serial k
 unfolding row_of
 last_of_kinds kinds key serial k sound high within = rw (le-ltb k 16 high) (last_of_rows kinds.rows (k - 16) sound.places within)
 
 released_last : (kinds : KindTable) (item : Item) → IsSoundTable kinds → IsItem kinds item → is_of_phase kinds BeforeLocks item ≡ false → is_of_phase kinds AfterLocks item ≡ true
 released_last kinds item sound is e = elim is.kind [
-  | inl own ↦ last_of_eight kinds item.key item.serial item.kind.0 own.from own.to e
+  | inl own ↦ last_of_built_in kinds item.key item.serial item.kind.0 own.from own.to e
   | inr extension ↦ last_of_kinds kinds item.key item.serial item.kind.0 sound extension.from extension.placed e
 ]
 
