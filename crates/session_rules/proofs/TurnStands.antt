@@ -540,49 +540,77 @@ module _ (w : Option ℕ) (levels : List LevelState) (active : IsWorking levels)
   works_in : (m : Moment) → At levels m.scene → IsWorking m.scene.session.levels
   works_in m k = working_at levels m.scene active k
 
+  -- A step that asks nothing of what was checked before it: a command of such a step has no case of its own below.
+  abbrev IsPlain : Element → Type 0
+  IsPlain (element.Switch name) = Unit {0}
+  IsPlain (element.Register name) = Unit {0}
+  IsPlain (element.ResetOnly name) = Unit {0}
+  IsPlain (element.Alloc InCurrent (Some name) size zeroed) = Unit {0}
+  IsPlain (element.Realloc name size) = Unit {0}
+  IsPlain (element.FreeChunk name) = Unit {0}
+  IsPlain (element.Put name place bytes) = Unit {0}
+  IsPlain (element.Show name place n) = Unit {0}
+  IsPlain (element.Touch file) = Unit {0}
+  IsPlain (element.GiveBack kind key) = Unit {0}
+  IsPlain (element.GiveBackNamed kind key) = Unit {0}
+  IsPlain (element.TakeLock OfLevel object mode) = Unit {0}
+  IsPlain (element.Unlock object mode) = Unit {0}
+  IsPlain (element.PushSnapshot key) = Unit {0}
+  IsPlain element.PopSnapshot = Unit {0}
+  IsPlain (element.DropPlan number) = Unit {0}
+  IsPlain other = ⊥
+
+  by_plain : (x : Element) (m : Moment) → At levels m.scene → IsPlain x → Runs w (At levels) (x ∷ []) m
+  by_plain (element.Switch name) m k plain = by_step (element.Switch name) m k tt (switch_works w m k.stands (works_in m k) name)
+  by_plain (element.Register name) m k plain = by_step (element.Register name) m k tt (register_works w m k.stands (works_in m k) name)
+  by_plain (element.ResetOnly name) m k plain = by_step (element.ResetOnly name) m k tt (reset_only_works w m k.stands (works_in m k) name)
+  by_plain (element.Alloc InCurrent (Some name) size zeroed) m k plain = by_step (element.Alloc InCurrent (Some name) size zeroed) m k tt (alloc_works w m k.stands (works_in m k) (Some name) size zeroed)
+  by_plain (element.Realloc name size) m k plain = by_step (element.Realloc name size) m k tt (realloc_works w m k.stands (works_in m k) name size)
+  by_plain (element.FreeChunk name) m k plain = by_step (element.FreeChunk name) m k tt (free_works w m k.stands (works_in m k) name)
+  by_plain (element.Put name place bytes) m k plain = by_step (element.Put name place bytes) m k tt (put_works w m k.stands (works_in m k) name place bytes)
+  by_plain (element.Show name place n) m k plain = by_step (element.Show name place n) m k tt (show_works w name place n m k.stands)
+  by_plain (element.Touch file) m k plain = by_step (element.Touch file) m k tt (touch_works w m k.stands (works_in m k) file)
+  by_plain (element.GiveBack kind key) m k plain = by_step (element.GiveBack kind key) m k tt (give_back_works w m k.stands (works_in m k) kind key)
+  by_plain (element.GiveBackNamed kind key) m k plain = by_step (element.GiveBackNamed kind key) m k tt (give_back_named_works w m k.stands (works_in m k) kind key)
+  by_plain (element.TakeLock OfLevel object mode) m k plain = by_step (element.TakeLock OfLevel object mode) m k tt (lock_works w m k.stands (works_in m k) object mode)
+  by_plain (element.Unlock object mode) m k plain = by_step (element.Unlock object mode) m k tt (unlock_works w m k.stands (works_in m k) object mode)
+  by_plain (element.PushSnapshot key) m k plain = by_step (element.PushSnapshot key) m k tt (push_works w m k.stands (works_in m k) key)
+  by_plain element.PopSnapshot m k plain = by_step element.PopSnapshot m k tt (pop_works w m k.stands)
+  by_plain (element.DropPlan number) m k plain = by_step (element.DropPlan number) m k tt (drop_plan_works w m k.stands (works_in m k) number)
+  by_plain other m k plain = elim plain [ ]
+
   contexts_lead : (c : ContextCommand) (m : Moment) → At levels m.scene → Steps (context_row c) m
   contexts_lead (context.Create name parent kind) m k ok = by_step _ m k tt (make_script_context_works w m k.stands (works_in m k) name parent _)
-  contexts_lead (context.Switch name) m k ok = by_step (element.Switch name) m k tt (switch_works w m k.stands (works_in m k) name)
-  contexts_lead (context.OnReset name) m k ok = by_step (element.Register name) m k tt (register_works w m k.stands (works_in m k) name)
   contexts_lead (context.Reset name) m k ok = by_step (element.Reset name) m k tt (reset_works w m k.stands (works_in m k) name ok.1.0)
-  contexts_lead (context.ResetOnly name) m k ok = by_step (element.ResetOnly name) m k tt (reset_only_works w m k.stands (works_in m k) name)
   contexts_lead (context.Delete name) m k ok = by_step (element.Delete name) m k tt (delete_works w m k.stands (works_in m k) name ok.1.0)
   contexts_lead (context.DeleteChildren name) m k ok = by_step (element.DeleteChildren name) m k tt (delete_children_works w m k.stands (works_in m k) name ok.1.0)
   contexts_lead (context.Reparent name parent) m k ok = by_step (element.Reparent name parent) m k ok.1.1.0 (reparent_works w m k.stands (works_in m k) name parent ok.1.1.0)
+  contexts_lead other m k ok = by_plain _ m k tt
 
   chunks_lead : (c : ChunkCommand) (m : Moment) → At levels m.scene → Steps (chunk_row c) m
-  chunks_lead (chunk.Alloc name size) m k ok = by_step (element.Alloc InCurrent (Some name) size false) m k tt (alloc_works w m k.stands (works_in m k) (Some name) size false)
-  chunks_lead (chunk.AllocZeroed name size) m k ok = by_step (element.Alloc InCurrent (Some name) size true) m k tt (alloc_works w m k.stands (works_in m k) (Some name) size true)
-  chunks_lead (chunk.Realloc name size) m k ok = by_step (element.Realloc name size) m k tt (realloc_works w m k.stands (works_in m k) name size)
-  chunks_lead (chunk.Free name) m k ok = by_step (element.FreeChunk name) m k tt (free_works w m k.stands (works_in m k) name)
-  chunks_lead (chunk.Put name place bytes) m k ok = by_step (element.Put name place bytes) m k tt (put_works w m k.stands (works_in m k) name place bytes)
-  chunks_lead (chunk.Show name place n) m k ok = by_step (element.Show name place n) m k tt (show_works w name place n m k.stands)
+  chunks_lead (chunk.Free name) m k ok = by_plain _ m k tt
+  chunks_lead other m k ok = by_plain _ m k tt
 
   items_lead : (c : ItemCommand) (m : Moment) → At levels m.scene → Steps (item_row c) m
   items_lead (item.Pin buffer) m k ok =
       by_take (element.Take OfLevel buffer_pin buffer) m k works_in (λ n l. pin_works w n l.stands (works_in n l) buffer (is_buffer buffer (nat_lt buffer 1024) error.NoSuchBuffer refl ok.0))
-  items_lead (item.Unpin buffer) m k ok = by_step (element.GiveBack buffer_pin buffer) m k tt (give_back_works w m k.stands (works_in m k) buffer_pin buffer)
   items_lead (item.Open file) m k ok = by_take (element.Take OfLevel file_kind file) m k works_in (λ n l. file_works w n l.stands (works_in n l) file)
-  items_lead (item.Touch file) m k ok = by_step (element.Touch file) m k tt (touch_works w m k.stands (works_in m k) file)
-  items_lead (item.Close file) m k ok = by_step (element.GiveBack file_kind file) m k tt (give_back_works w m k.stands (works_in m k) file_kind file)
   items_lead (item.Reference class key) m k ok =
       by_take (element.Take OfLevel (class_kind class) key) m k works_in
       (λ n l. take_works w n l.stands (works_in n l) (class_kind class) key (class_unkept class) (class_other class) (class_item (table_of n.scene.around.kinds) class key))
-  items_lead (item.Unreference class key) m k ok = by_step (element.GiveBack (class_kind class) key) m k tt (give_back_works w m k.stands (works_in m k) (class_kind class) key)
   items_lead (item.Acquire kind key) m k ok = by_take (element.TakeNamed kind key) m k works_in (λ n l. take_named_works w n l.stands (works_in n l) kind key)
-  items_lead (item.Drop kind key) m k ok = by_step (element.GiveBackNamed kind key) m k tt (give_back_named_works w m k.stands (works_in m k) kind key)
   items_lead (item.Snapshot key) m k ok =
       by_take (element.Take OfLevel snapshot_reference key) m k works_in
       (λ n l. take_works w n l.stands (works_in n l) snapshot_reference key refl (λ z. absurd (omega (arith, z))) (snapshot_item (table_of n.scene.around.kinds) key))
-  items_lead (item.Unsnapshot key) m k ok = by_step (element.GiveBack snapshot_reference key) m k tt (give_back_works w m k.stands (works_in m k) snapshot_reference key)
+  items_lead other m k ok = by_plain _ m k tt
 
   locks_lead : (c : LockCommand) (m : Moment) → At levels m.scene → Steps (lock_row c) m
-  locks_lead (lock.Lock object mode) m k ok = by_step (element.TakeLock OfLevel object mode) m k tt (lock_works w m k.stands (works_in m k) object mode)
-  locks_lead (lock.Unlock object mode) m k ok = by_step (element.Unlock object mode) m k tt (unlock_works w m k.stands (works_in m k) object mode)
+  locks_lead (lock.Lock object mode) m k ok = by_plain _ m k tt
+  locks_lead other m k ok = by_plain _ m k tt
 
   snapshots_lead : (c : SnapshotCommand) (m : Moment) → At levels m.scene → Steps (snapshot_row c) m
-  snapshots_lead (snapshot.Push key) m k ok = by_step (element.PushSnapshot key) m k tt (push_works w m k.stands (works_in m k) key)
-  snapshots_lead snapshot.Pop m k ok = by_step element.PopSnapshot m k tt (pop_works w m k.stands)
+  snapshots_lead snapshot.Pop m k ok = by_plain _ m k tt
+  snapshots_lead other m k ok = by_plain _ m k tt
 
   plans_lead : (c : PlanCommand) (m : Moment) → At levels m.scene → Steps (plan_row c) m
   plans_lead (plan.Create number) m k ok = by_step (element.MakePlan number) m k tt (make_plan_works w m k.stands (works_in m k) number (is_new (plan_at number m.scene.session.plans) error.NameTaken ok.0))
@@ -591,8 +619,7 @@ module _ (w : Option ℕ) (levels : List LevelState) (active : IsWorking levels)
       (λ n l ok.
       let p = is_standing (plan_at number n.scene.session.plans) error.NoSuchName ok in
       by_step (element.Take OfLevel plan_reference number) n l (works_in n l) (take_plan_works w n l.stands (works_in n l) number p.0 p.1))
-  plans_lead (plan.Unreference number) m k ok = by_step (element.GiveBack plan_reference number) m k tt (give_back_works w m k.stands (works_in m k) plan_reference number)
-  plans_lead (plan.Drop number) m k ok = by_step (element.DropPlan number) m k tt (drop_plan_works w m k.stands (works_in m k) number)
+  plans_lead other m k ok = by_plain _ m k tt
 
   portals_lead : (c : PortalCommand) (portals : List OpenPortal) (m : Moment) → At levels m.scene → Steps (portal_row c portals) m
   portals_lead (portal.Open name object rows bad) portals m k ok = portal_leads w levels active name object rows bad m k (is_unnamed (portal_named name m.scene.session.portals) error.PortalTaken ok.0)
