@@ -21,7 +21,7 @@ use Rattle.session_rules.specs.Taking.{descriptor_given, files}
 use Rattle.session_laws.proofs.ReaderLaws.{IsRead, Reads, read_both}
 use Rattle.session_laws.proofs.LocksSight.{ArePlain, PassesOver, Same, Sees, Subject, hides, of_files, plain_none, read_plain, subject}
 use Rattle.session_laws.proofs.LocksHidden.{locks_hidden, stack_gone_hidden, stack_passed_hidden}
-use Rattle.session_laws.proofs.LocksEnds.{Ending}
+use Rattle.session_laws.proofs.LocksWalk.{Ending}
 use Rattle.session_laws.proofs.LocksItems.{Base, least_of}
 
 -- 1 where two files are one

@@ -11,9 +11,8 @@ use Rattle.session_rules.specs.Transcript.{turn}
 use Rattle.session_laws.proofs.ReaderLaws.{Reads}
 use Rattle.session_laws.proofs.LocksSight.{of_files, plain_one}
 use Rattle.session_laws.proofs.LocksHidden.{locked_hidden, popped_hidden, pushed_hidden, unlocked_hidden}
-use Rattle.session_laws.proofs.LocksEnds.{session_exits}
+use Rattle.session_laws.proofs.LocksWalk.{any_turn, session_exits}
 use Rattle.session_laws.proofs.LocksItems.{by_owner_made}
-use Rattle.session_laws.proofs.LocksWalk.{any_turn}
 use Rattle.session_laws.proofs.FilesCount.{FilesFit, Turning, files_base, files_ending, files_seen, used_so}
 
 -- a file of a session as it opens
@@ -40,4 +39,4 @@ module _ (f : ℕ) (reader : Reader ℕ) (Counted : ℕ → ℕ → Type 0) (tur
 
   -- So does the end of a session.
   pub files_exit : (s : Scene) → Reads reader (FilesFit f Counted) s (exited s).scene (exited s).events
-  files_exit s = (session_exits of_files (Reads reader (FilesFit f Counted)) (files_ending f reader Counted turning)).so s
+  files_exit s = session_exits of_files (Reads reader (FilesFit f Counted)) (record { ending = files_ending f reader Counted turning; popped = popped_hidden of_files (Reads reader (FilesFit f Counted)) (files_seen f reader Counted turning) refl }) s

@@ -27,9 +27,8 @@ use Rattle.session_rules.proofs.StepsStand.{below_limit, own_refusal}
 use Rattle.session_rules.proofs.TurnStands.{Meets, line_runs}
 use Rattle.session_laws.proofs.LocksSight.{of_items, plain_one}
 use Rattle.session_laws.proofs.LocksHidden.{locked_hidden, pushed_hidden, unlocked_hidden}
-use Rattle.session_laws.proofs.LocksGlue.{stays}
-use Rattle.session_laws.proofs.LocksEnds.{Least, session_exits}
-use Rattle.session_laws.proofs.LocksWalk.{OwesUnlocks, ending_turn, fallible_at, fallible_so, lock_owed, unlock_owed}
+use Rattle.session_rules.proofs.Walk.{fallible_at, fallible_so}
+use Rattle.session_laws.proofs.LocksWalk.{Least, OwesUnlocks, ending_turn, least_acts, lock_owed, session_exits, unlock_owed}
 use Rattle.session_laws.proofs.LocksChecked.{IsChecked, line_checked}
 use Rattle.session_laws.proofs.FilesOwners.{held_some}
 use Rattle.session_laws.proofs.FilesHeld.{ItemFits, ReadsItems, items_law, items_seen, role_so, used_so}
@@ -63,13 +62,13 @@ module _ (f : ℕ) where
 
       go : (r : Option Error) → (r ≡ None → limit 65536 (size m.scene.session.owners) ≡ None) → Follows (ReadsItems f) m.scene (unless_refused r (record m { calls = m.calls + 1 }) (new_owner_made role))
       go None room = record { so = role_so f role m.scene (once (room refl)) }
-      go (Some error) room = record { so = stays of_items (ReadsItems f) (items_seen f) m.scene }
+      go (Some error) room = record { so = (least_acts of_items (ReadsItems f) least).none m.scene }
 
   -- a file that is open is used
   used_owed : (w : Option ℕ) (file : ℕ) (m : Moment) → failure (e.IsFile file) m.scene ≡ None → Follows (ReadsItems f) m.scene (does w (e.Touch file) m)
   unfolding does
   used_owed w file m checked =
-      fallible_at of_items (ReadsItems f) least w m None (descriptor_given file)
+      fallible_at (ReadsItems f) (least_acts of_items (ReadsItems f) least) w m None (descriptor_given file)
       (used_so f file m.scene
       (λ same.
       let some : holds file_kind file m.scene.session ≡ true = passed_unless (holds file_kind file m.scene.session) _ checked in
@@ -82,7 +81,7 @@ module _ (f : ℕ) where
   items_owed w (e.TakeLock role o mo) m known = lock_owed of_items (ReadsItems f) least w role o mo m (locked_hidden of_items (ReadsItems f) (items_seen f) refl o mo)
   items_owed w (e.Unlock o mo) m known = unlock_owed of_items (ReadsItems f) least w o mo m (unlocked_hidden of_items (ReadsItems f) (items_seen f) refl o mo)
   items_owed w (e.Touch file) m known = used_owed w file m known.1
-  items_owed w (e.PushSnapshot snapshot) m known = fallible_so of_items (ReadsItems f) least w m _ (snapshot_pushed snapshot) (pushed_hidden of_items (ReadsItems f) (items_seen f) refl snapshot)
+  items_owed w (e.PushSnapshot snapshot) m known = fallible_so (ReadsItems f) (least_acts of_items (ReadsItems f) least) w m _ (snapshot_pushed snapshot) (pushed_hidden of_items (ReadsItems f) (items_seen f) refl snapshot)
   items_owed w other m known = tt
 
   -- Each line keeps it, in a session that stands between lines.
@@ -93,7 +92,7 @@ module _ (f : ℕ) where
 
   -- So does the end of a session.
   pub items_exit : (s : Scene) → ReadsItems f s (exited s).scene (exited s).events
-  items_exit s = (session_exits of_items (ReadsItems f) (items_law f).ending).so s
+  items_exit s = session_exits of_items (ReadsItems f) (items_law f) s
 
   -- a session as it opens
   pub items_open : (around : Around) → ItemFits f 0 (record { session = opening; around = around })

@@ -32,8 +32,8 @@ pub mod OrderSaid
 pub mod Warnings
 pub mod LocksSight
 pub mod LocksHidden
-pub mod LocksEnds
 pub mod LocksWalk
+pub mod LocksItems
 pub mod FilesCount
 pub mod FilesLife
 pub mod StackOrder
@@ -75,8 +75,6 @@ pub mod InsideStart
 pub mod InsideSteps
 pub mod InsideTurns
 pub mod InsideLife
-pub mod LocksGlue
-pub mod LocksItems
 pub mod FilesOwners
 pub mod FilesItems
 pub mod FilesHeld

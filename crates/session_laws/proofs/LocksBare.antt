@@ -29,9 +29,9 @@ use Rattle.session_rules.proofs.PortalsStand.{Named, named_in}
 use Rattle.session_rules.proofs.TurnStands.{Meets}
 use Rattle.session_laws.proofs.LocksSight.{Sees, of_levels, of_locks}
 use Rattle.session_laws.proofs.LocksHidden.{files_hidden, locked_hidden, locks_hidden, popped_hidden, pushed_hidden, unlocked_hidden}
-use Rattle.session_laws.proofs.LocksEnds.{Least}
+use Rattle.session_rules.proofs.Walk.{element_follows, fallible_so, unfailing_so}
+use Rattle.session_laws.proofs.LocksWalk.{Least, OwesApart, OwesUnlocks, element_keeps, least_acts, least_leaves, lock_owed, owner_owed, touch_owed, turns_owed, unlock_owed}
 use Rattle.session_laws.proofs.LocksItems.{by_owner_made, least_of}
-use Rattle.session_laws.proofs.LocksWalk.{OwesApart, OwesUnlocks, element_keeps, ends_owed, fallible_so, lock_owed, owner_owed, touch_owed, unfailing_so, unlock_owed}
 use Rattle.session_laws.proofs.LocksChecked.{IsChecked}
 use Rattle.session_laws.proofs.LocksNone.{KeepsNone, none_base, none_law, none_seen, none_unlocked}
 use Rattle.session_laws.proofs.LocksEnded.{Bare, aborted_none, committed_none, may_hold}
@@ -73,8 +73,8 @@ steady_owed w e.Cleanup m h = absurd h
 steady_owed w (e.TakeLock role object mode) m h = lock_owed of_levels KeepsLevels levels_least w role object mode m (locked_hidden of_levels KeepsLevels levels_seen refl object mode)
 steady_owed w (e.Unlock object mode) m h = unlock_owed of_levels KeepsLevels levels_least w object mode m (unlocked_hidden of_levels KeepsLevels levels_seen refl object mode)
 steady_owed w (e.Touch file) m h = touch_owed of_levels KeepsLevels levels_least w file m ((files_hidden of_levels KeepsLevels levels_seen refl).used file)
-steady_owed w (e.PushSnapshot snapshot) m h = fallible_so of_levels KeepsLevels levels_least w m _ (snapshot_pushed snapshot) (pushed_hidden of_levels KeepsLevels levels_seen refl snapshot)
-steady_owed w e.PopSnapshot m h = unfailing_so of_levels KeepsLevels levels_least m snapshot_popped (popped_hidden of_levels KeepsLevels levels_seen refl)
+steady_owed w (e.PushSnapshot snapshot) m h = fallible_so KeepsLevels (least_acts of_levels KeepsLevels levels_least) w m _ (snapshot_pushed snapshot) (pushed_hidden of_levels KeepsLevels levels_seen refl snapshot)
+steady_owed w e.PopSnapshot m h = unfailing_so KeepsLevels (least_acts of_levels KeepsLevels levels_least) m snapshot_popped (popped_hidden of_levels KeepsLevels levels_seen refl)
 steady_owed w other m h = tt
 
 steady_levels : (w : Option ℕ) (x : Element) (m : Moment) → IsSpoken false x → IsSteady x → (does w x m).moment.scene.session.levels ≡ m.scene.session.levels
@@ -93,12 +93,12 @@ none_owed w (e.TakeLock role object mode) m h = absurd h
 none_owed w (e.MakeOwner role) m h = owner_owed of_locks KeepsNone none_law w role m (by_owner_made of_locks KeepsNone none_base refl)
 none_owed w (e.Unlock object mode) m h = unlock_owed of_locks KeepsNone none_law.ending.least w object mode m (none_unlocked object mode)
 none_owed w (e.Touch file) m h = touch_owed of_locks KeepsNone none_law.ending.least w file m ((files_hidden of_locks KeepsNone none_seen refl).used file)
-none_owed w (e.PushSnapshot snapshot) m h = fallible_so of_locks KeepsNone none_law.ending.least w m _ (snapshot_pushed snapshot) (pushed_hidden of_locks KeepsNone none_seen refl snapshot)
+none_owed w (e.PushSnapshot snapshot) m h = fallible_so KeepsNone (least_acts of_locks KeepsNone none_law.ending.least) w m _ (snapshot_pushed snapshot) (pushed_hidden of_locks KeepsNone none_seen refl snapshot)
 none_owed w other m h = tt
 
 none_behind : (w : Option ℕ) (x : Element) (m : Moment) → IsSpoken false x → TakesNone x → m.scene.session.locks ≡ [] → (does w x m).moment.scene.session.locks ≡ []
 none_behind w x m spoken h none =
-    let all : Follows KeepsNone m.scene (does w x m) = element_keeps of_locks KeepsNone none_law.ending.least w x m spoken (ends_owed of_locks KeepsNone none_law w x m (none_owed w x m h)) in
+    let all : Follows KeepsNone m.scene (does w x m) = element_follows KeepsNone (least_leaves of_locks KeepsNone none_law.ending.least) false w x m spoken (turns_owed of_locks KeepsNone none_law w x m (none_owed w x m h)) in
     all.so.so none
 
 -- levels above another one may hold locks

@@ -15,9 +15,10 @@ use Rattle.session_rules.proofs.Failing.{all_aborted}
 use Rattle.session_rules.proofs.EndsStand.{begins, off_begins, owner_when_active, resettled, settled, switched_off}
 use Rattle.session_rules.specs.Ending.{gone_levels}
 use Rattle.session_laws.proofs.LocksSight.{of_locks}
-use Rattle.session_laws.proofs.LocksEnds.{behind_commit, cleans_up, portal_aborts, portal_closes}
-use Rattle.session_laws.proofs.LocksGlue.{by_each}
-use Rattle.session_laws.proofs.LocksNone.{KeepsNone, none_law, none_seen, released_none}
+use Rattle.session_rules.proofs.Walk.{by_each}
+use Rattle.session_rules.proofs.WalkEnds.{behind_commit, cleans_up, portal_aborts, portal_closes}
+use Rattle.session_laws.proofs.LocksWalk.{least_acts, turn_ends}
+use Rattle.session_laws.proofs.LocksNone.{KeepsNone, none_law, released_none}
 
 -- whether locks may be held: by an active level that has its owner, or by more levels than one
 abbrev pub may_hold : List LevelState → Bool
@@ -47,12 +48,12 @@ committed_none level s stands bare =
     let st : Scene = settled (level ∷ []) s in
     let made : (p : OpenPortal) → IsLive p (level ∷ []) → (lo : ℕ) × (level.owner ≡ Some lo) = λ p l. owner_when_active level [] stands.fit.0.made (omega (arith, l.some, l.within, l.active)) in
     let loop : Leads level [] [] [] st (for_each portal_closed s.session.portals st).scene = all_closed level made s.session.portals st (resettled level [] [] [] s.session.portals s (begins level [] [] s stands)) in
-    let kept : KeepsNone st (for_each portal_closed s.session.portals st).scene _ = (by_each of_locks KeepsNone none_seen portal_closed (portal_closes of_locks KeepsNone none_law.ending.least) s.session.portals).so st in
+    let kept : KeepsNone st (for_each portal_closed s.session.portals st).scene _ = (by_each KeepsNone (least_acts of_locks KeepsNone none_law.ending.least) portal_closed (portal_closes KeepsNone (least_acts of_locks KeepsNone none_law.ending.least) none_law.ending.least.items.released) s.session.portals).so st in
     let z : Scene = with_parts loop.goes.parts st in
     let none : (level_released true true z).scene.session.locks ≡ [] =
     level_none true level.owner z (λ e. sym (ap (λ (y : Scene). y.session.locks) loop.goes.is) ∙ kept.so (bare_owner level s bare e)) (λ n e. (loop.goes.ending.all.0.owner n e).there) in
     let behind : KeepsNone (level_released true true (for_each portal_closed s.session.portals st).scene).scene _ _ =
-    (behind_commit of_locks KeepsNone none_law.ending).so (level_released true true (for_each portal_closed s.session.portals st).scene).scene in
+    (behind_commit KeepsNone (turn_ends of_locks KeepsNone none_law)).so (level_released true true (for_each portal_closed s.session.portals st).scene).scene in
     behind.so (ap (λ (y : Scene). (level_released true true y).scene.session.locks) loop.goes.is ∙ none)
 
 -- Level 1 aborts.
@@ -64,7 +65,7 @@ aborted_none level s stands bare =
     let loop : Leads level [] done [] st (for_each (portal_aborted 1 level.owner) s.session.portals st).scene =
     all_aborted level [] made s.session.portals st (resettled level [] done [] s.session.portals (switched_off s) (off_begins level [] done s stands)) in
     let kept : KeepsNone st (for_each (portal_aborted 1 level.owner) s.session.portals st).scene _ =
-    (by_each of_locks KeepsNone none_seen (portal_aborted 1 level.owner) (portal_aborts of_locks KeepsNone none_law.ending.least 1 level.owner) s.session.portals).so st in
+    (by_each KeepsNone (least_acts of_locks KeepsNone none_law.ending.least) (portal_aborted 1 level.owner) (portal_aborts KeepsNone (least_acts of_locks KeepsNone none_law.ending.least) none_law.ending.least.items.moved 1 level.owner) s.session.portals).so st in
     let z : Scene = with_parts loop.goes.parts st in
     ap (λ (y : Scene). (level_released false true y).scene.session.locks) loop.goes.is
     ∙ level_none false level.owner z (λ e. sym (ap (λ (y : Scene). y.session.locks) loop.goes.is) ∙ kept.so (bare_owner level s bare e)) (λ n e. (loop.goes.ending.all.0.owner n e).there)
@@ -77,7 +78,7 @@ rolled_none level s stands bare = go level.aborted refl
     st = settled (level ∷ []) s
 
     cleaned : (z : Scene) → z.session.locks ≡ [] → (cleaned_up z).scene.session.locks ≡ []
-    cleaned z none = let all : KeepsNone z (cleaned_up z).scene (cleaned_up z).events = (cleans_up of_locks KeepsNone none_law.ending).so z in all.so none
+    cleaned z none = let all : KeepsNone z (cleaned_up z).scene (cleaned_up z).events = (cleans_up KeepsNone (turn_ends of_locks KeepsNone none_law)).so z in all.so none
 
     go : (b : Bool) → level.aborted ≡ b → (cleaned_up (where_so (not b) aborted st).scene).scene.session.locks ≡ []
     go true e = cleaned st (bare.so (ap (λ (b : Bool). not b && is_some level.owner) e))

@@ -18,7 +18,9 @@ use Rattle.session_rules.specs.Parts.{lock_given_back, snapshot_popped}
 use Rattle.session_rules.specs.Taking.{files, lock_taken, snapshot_pushed}
 use Rattle.session_rules.specs.Ends.{stack_lowered, stack_popped}
 use Rattle.session_rules.proofs.Leaves.{Keeps, Law}
-use Rattle.session_laws.proofs.LocksSight.{ArePlain, Sees, SeesFiles, SeesLocks, Subject, hides, of_files, of_locks, of_stack, plain_flat, plain_if, plain_map, plain_more, plain_none, plain_one, same_but_files, same_but_locks, same_but_stack}
+use Rattle.session_rules.proofs.ReleaseSteps.{LockLeaves}
+use Rattle.session_rules.proofs.Sight.{FileLeaves}
+use Rattle.session_laws.proofs.LocksSight.{ArePlain, Sees, Subject, hides, of_files, of_locks, of_stack, plain_flat, plain_if, plain_map, plain_more, plain_none, plain_one, same_but_files, same_but_locks, same_but_stack}
 
 module _ (k : Subject) (R : Law) (sees : Sees k R) where
   -- locks
@@ -35,7 +37,7 @@ module _ (k : Subject) (R : Law) (sees : Sees k R) where
       plain_flat k (locks.pass_of from to)
       (λ lock. plain_if k (owner_count from lock == 0) plain_none (plain_one k (what.PassLock lock.object lock.mode (owner_count from lock) from to) refl)) all
 
-  pub locks_hidden : hides of_locks k ≡ true → SeesLocks R
+  pub locks_hidden : hides of_locks k ≡ true → LockLeaves R
   locks_hidden h = record {
     let_go = λ owner. record { so = λ s. but_locks h s _ refl refl refl refl refl refl (releases_plain h owner s.session.locks) };
     passed = λ from to. record { so = λ s. but_locks h s _ refl refl refl refl refl refl (passes_plain from to s.session.locks) };
@@ -69,7 +71,7 @@ module _ (k : Subject) (R : Law) (sees : Sees k R) where
       go true = but_files h s _ refl refl refl refl refl (plain_one k (what.DescriptorClosed file) h)
       go false = but_files h s _ refl refl refl refl refl plain_none
 
-  pub files_hidden : hides of_files k ≡ true → SeesFiles R
+  pub files_hidden : hides of_files k ≡ true → FileLeaves R
   files_hidden h = record {
     used = λ file. record { so = λ s. but_files h s _ refl refl refl refl refl (plain_if k (is_among file s.session.recent) plain_none (given_plain h (loser (files s)) file)) };
     closed = λ file. record { so = closed_so h file };

@@ -25,9 +25,8 @@ use Rattle.session_rules.proofs.Leaves.{Keeps}
 use Rattle.session_rules.proofs.Swept.{has_swept}
 use Rattle.session_laws.proofs.LocksSight.{Sees, of_locks, plain_none}
 use Rattle.session_laws.proofs.LocksHidden.{files_hidden, popped_hidden, stack_gone_hidden, stack_passed_hidden}
-use Rattle.session_laws.proofs.LocksEnds.{Least}
+use Rattle.session_laws.proofs.LocksWalk.{Least, Turns}
 use Rattle.session_laws.proofs.LocksItems.{Base, least_of}
-use Rattle.session_laws.proofs.LocksWalk.{Turns}
 
 -- where no lock is held, none is behind
 pub record KeepsNone (s t : Scene) (events : List What) : Type 0 where

@@ -13,11 +13,10 @@ use Rattle.context_rules.specs.Contexts.{Context, Contexts, is_child, move_event
 use Rattle.context_rules.specs.Ends as contexts
 use Rattle.context_rules.specs.Ends.{callbacks, children_gone, cleared, cleared_alone, gone_events, reset_of, unchanged}
 use Rattle.context_rules.specs.Reports.{lines, report, summed}
-use Rattle.owner_core.specs.Steps.{ReleasesLocks, PassesLocks, ReleasesAllLocks}
 use Rattle.lifetime_laws.specs.Reading.{Reader, allows_all}
 use Rattle.session_rules.specs.World.{Scene}
-use Rattle.session_rules.specs.Releases.{descriptor_left, item_released, owner_gone, owner_moved, phase_released, step_done}
-use Rattle.session_rules.specs.Taking.{descriptor_given, item_taken}
+use Rattle.session_rules.specs.Releases.{item_released, owner_gone, owner_moved, phase_released}
+use Rattle.session_rules.specs.Taking.{item_taken}
 use Rattle.session_rules.proofs.Leaves.{Keeps, Law, is_word}
 use Rattle.session_laws.proofs.ReaderLaws.{IsRead}
 
@@ -202,15 +201,10 @@ same_but_items of_stack s t h v l r d n = n
 same_but_items of_levels s t h v l r d n = v
 same_but_items of_items s t h v l r d n = absurd (cc h)
 
--- What a law owes for what passes it by, and for locks, for files and for snapshots one by one.
+-- What a law owes for what passes it by.
 pub record Sees (k : Subject) (R : Law) : Type 0 where
   pub both : {s t u : Scene} {xs ys : List What} → R s t xs → R t u ys → R s u (xs ++ ys)
   pub aside : (s t : Scene) {events : List What} → Same k s t → ArePlain k events → R s t events
-
-pub record SeesLocks (R : Law) : Type 0 where
-  pub let_go : (owner : ℕ) → Keeps R (step_done (ReleasesLocks owner))
-  pub passed : (from to : ℕ) → Keeps R (step_done (PassesLocks from to))
-  pub all_gone : (top : ℕ) → Keeps R (step_done (ReleasesAllLocks top))
 
 -- what a law owes for owners and their items
 pub record SeesItems (R : Law) : Type 0 where
@@ -219,10 +213,6 @@ pub record SeesItems (R : Law) : Type 0 where
   pub phase : (commit top : Bool) (n : ℕ) (phase : Phase) → Keeps R (phase_released commit top n phase)
   pub gone : (n : ℕ) → Keeps R (owner_gone n)
   pub moved : (n parent : ℕ) → Keeps R (owner_moved n parent)
-
-pub record SeesFiles (R : Law) : Type 0 where
-  pub used : (file : ℕ) → Keeps R (descriptor_given file)
-  pub closed : (file : ℕ) → Keeps R (descriptor_left file)
 
 -- a reader that passes over what is not about its subject
 pub record PassesOver (k : Subject) {Seen : Type 0} (reader : Reader Seen) : Type 0 where

@@ -20,9 +20,9 @@ use Rattle.session_rules.specs.Ends.{exited}
 use Rattle.session_rules.specs.Transcript.{turn}
 use Rattle.session_laws.proofs.LocksSight.{of_locks}
 use Rattle.session_laws.proofs.LocksHidden.{files_hidden, pushed_hidden}
-use Rattle.session_laws.proofs.LocksEnds.{session_exits}
+use Rattle.session_rules.proofs.Walk.{fallible_so}
+use Rattle.session_laws.proofs.LocksWalk.{OwesUnlocks, ending_turn, least_acts, lock_owed, owner_owed, session_exits, touch_owed}
 use Rattle.session_laws.proofs.LocksItems.{by_owner_made}
-use Rattle.session_laws.proofs.LocksWalk.{OwesUnlocks, ending_turn, fallible_so, lock_owed, owner_owed, touch_owed}
 use Rattle.session_laws.proofs.LocksRead.{ReadsLocks, given_back_so, locks_base, locks_law, locks_seen, taken_so}
 use Rattle.session_laws.proofs.LocksChecked.{IsChecked, line_checked}
 
@@ -49,7 +49,7 @@ module _ (object mode : ℕ) where
   locks_owed w (e.Touch file) m checked =
       touch_owed of_locks (ReadsLocks object mode) (locks_law object mode).ending.least w file m ((files_hidden of_locks (ReadsLocks object mode) (locks_seen object mode) refl).used file)
   locks_owed w (e.PushSnapshot snapshot) m checked =
-      fallible_so of_locks (ReadsLocks object mode) (locks_law object mode).ending.least w m _ (snapshot_pushed snapshot) (pushed_hidden of_locks (ReadsLocks object mode) (locks_seen object mode) refl snapshot)
+      fallible_so (ReadsLocks object mode) (least_acts of_locks (ReadsLocks object mode) (locks_law object mode).ending.least) w m _ (snapshot_pushed snapshot) (pushed_hidden of_locks (ReadsLocks object mode) (locks_seen object mode) refl snapshot)
   locks_owed w other m checked = tt
 
   -- Each line keeps it, in any session.
@@ -58,4 +58,4 @@ module _ (object mode : ℕ) where
 
   -- So does the end of a session.
   pub locks_exit : (s : Scene) → ReadsLocks object mode s (exited s).scene (exited s).events
-  locks_exit s = (session_exits of_locks (ReadsLocks object mode) (locks_law object mode).ending).so s
+  locks_exit s = session_exits of_locks (ReadsLocks object mode) (locks_law object mode) s

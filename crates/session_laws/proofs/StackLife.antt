@@ -29,9 +29,9 @@ use Rattle.session_rules.proofs.TurnStands.{Meets, line_runs}
 use Rattle.session_laws.proofs.ReaderLaws.{IsLife, IsRead, Reads, read_both}
 use Rattle.session_laws.proofs.LocksSight.{PassesOver, Sees, hides, of_stack, plain_none, plain_one, read_plain, subject}
 use Rattle.session_laws.proofs.LocksHidden.{files_hidden, locked_hidden, locks_hidden, unlocked_hidden}
-use Rattle.session_laws.proofs.LocksEnds.{Ending, session_exits}
+use Rattle.session_rules.proofs.Walk.{fallible_at}
+use Rattle.session_laws.proofs.LocksWalk.{Ending, OwesUnlocks, Turns, ending_turn, least_acts, lock_owed, owner_owed, session_exits, touch_owed, unlock_owed}
 use Rattle.session_laws.proofs.LocksItems.{Base, by_owner_made, least_of}
-use Rattle.session_laws.proofs.LocksWalk.{OwesUnlocks, Turns, ending_turn, fallible_at, lock_owed, owner_owed, touch_owed, unlock_owed}
 use Rattle.session_laws.proofs.StackOrder.{IsRising, newest_first, newest_lowered, newest_pushed, newest_taken, numbers, popped_first, rising_kept, rising_lowered, rising_pushed, rising_taken}
 
 -- The stack that the reader has seen is that of the scene, and its levels never fall.
@@ -144,7 +144,7 @@ stack_owed w (e.MakeOwner role) m meets = owner_owed of_stack ReadsStack stack_l
 stack_owed w (e.TakeLock role object mode) m meets = lock_owed of_stack ReadsStack stack_ending.least w role object mode m (locked_hidden of_stack ReadsStack stack_seen refl object mode)
 stack_owed w (e.Unlock object mode) m meets = unlock_owed of_stack ReadsStack stack_ending.least w object mode m (unlocked_hidden of_stack ReadsStack stack_seen refl object mode)
 stack_owed w (e.Touch file) m meets = touch_owed of_stack ReadsStack stack_ending.least w file m ((files_hidden of_stack ReadsStack stack_seen refl).used file)
-stack_owed w (e.PushSnapshot snapshot) m meets = fallible_at of_stack ReadsStack stack_ending.least w m _ (snapshot_pushed snapshot) (pushed_so snapshot m.scene meets.stands)
+stack_owed w (e.PushSnapshot snapshot) m meets = fallible_at ReadsStack (least_acts of_stack ReadsStack stack_ending.least) w m _ (snapshot_pushed snapshot) (pushed_so snapshot m.scene meets.stands)
 stack_owed w other m meets = tt
 
 stack_turn : (w : Option ℕ) (line : Option Command) (m : Moment) → StandsBetweenLines m.scene → ReadsStack m.scene (turn w line m).moment.scene (turn w line m).events
@@ -157,7 +157,7 @@ stack_opens around = record { is = refl; rises = tt }
 
 stack_exit : (s : Scene) → StandsBetweenLines s → (stack : List ℕ) → StackFits stack s → (allows_all stacking stack (exited s).events ≡ true) × (none_left (seen_after stacking stack (exited s).events) ≡ true)
 stack_exit s h stack fits =
-    let read : IsRead stacking StackFits stack (exited s).scene (exited s).events = ((session_exits of_stack ReadsStack stack_ending).so s).so stack fits in
+    let read : IsRead stacking StackFits stack (exited s).scene (exited s).events = (session_exits of_stack ReadsStack stack_law s).so stack fits in
     let left : HasExited (exited s).scene = exited_stands s h.stands in
     (read.allowed, ap none_left (read.fits.is ∙ ap newest_first left.snapshots))
 

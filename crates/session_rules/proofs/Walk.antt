@@ -6,6 +6,7 @@ use Rattle.pgs_step.specs.declared.errors.Error.{Error}
 use Rattle.pgs_step.specs.declared.events.What.{What}
 use Rattle.pgs_step.specs.declared.events.What.TheVariants as what
 use Rattle.pgs_step.specs.declared.ids.KindId.{KindId}
+use Rattle.any_ctx.specs.declared.any.CtxKind.{CtxKind}
 use Rattle.any_ctx.specs.declared.any.CtxKind.TheVariants as kind
 use Rattle.exec_core.specs.declared.steps.ScanStep.{ScanStep}
 use Rattle.exec_core.specs.declared.steps.ScanStep.TheVariants as step
@@ -21,7 +22,7 @@ use Rattle.session_rules.specs.Lookup.{context_named, kind_named, memory_in, own
 use Rattle.session_rules.specs.Checks.{failure}
 use Rattle.session_rules.specs.Acts.{Ended, changes, children_gone, context_cleared, context_cleared_alone, context_gone, for_each, in_order, nothing, portal_becomes, say, switched, where_so, where_there}
 use Rattle.session_rules.specs.Releases.{item_released, plan_becomes}
-use Rattle.session_rules.specs.Making.{level_context_name, level_made, level_parent, new_context_made, new_owner_made, plan_made, portal_made}
+use Rattle.session_rules.specs.Making.{context_made, level_context_name, level_made, level_parent, new_context_made, new_owner_made, owner_made, plan_made, portal_made}
 use Rattle.session_rules.specs.Taking.{chunk_resized, descriptor_given, hook_registered, hook_waits, lock_taken, memory_taken, snapshot_pushed}
 use Rattle.session_rules.specs.Parts.{at_context, at_kind, at_owner, at_portal, context_moved, contexts_become, level_stands, lock_given_back, pinning, scan_part, scanned, snapshot_popped}
 use Rattle.session_rules.specs.Calls.{Done, fallible, refused_call, unfailing, unless_refused}
@@ -207,38 +208,38 @@ module _ (R : Law) (l : LevelLeaves R) where
   levels_owed w other m owed = owed
 
   -- what is made
-  module _ (v : MakeLeaves R) where
-    context_is_made : (new : NewContext) → Keeps R (new_context_made new)
+  module _ (made : (parent : ℕ) (name : Text) (protected : Bool) (kind : CtxKind) → Keeps R (context_made parent name protected kind)) (placed : (name : Text) (n : ℕ) → Keeps R (portal_becomes name (λ p. record p { context = Some n }))) where
+    pub context_is_made : (new : NewContext) → Keeps R (new_context_made new)
     context_is_made LevelContext = record {
       so = λ s. (by_order R acts
-          (next (v.made (level_parent (level_above s.session)) (level_context_name (level_above s.session)) true kind.Default)
+          (next (made (level_parent (level_above s.session)) (level_context_name (level_above s.session)) true kind.Default)
           (next (by_levels (deepest_changed (λ level. record level { context = Some s.session.next_context }))) last))).so s;
     }
     context_is_made (PortalContext name) = record {
-      so = λ s. (by_order R acts (next (v.made portals_context (codes "PortalContext") true kind.Small) (next (v.placed name s.session.next_context) last))).so s;
+      so = λ s. (by_order R acts (next (made portals_context (codes "PortalContext") true kind.Small) (next (placed name s.session.next_context) last))).so s;
     }
     context_is_made (RowContext name) = record {
       so = λ s. (by_there R acts (option_and_then (λ p. p.context) (portal_named name s.session.portals)) _
-          (λ (parent : ℕ). by_order R acts (next (v.made parent (codes "ExprContext") true kind.Small) (next (by_portal R acts name (λ p. record p { expr = Some s.session.next_context }) (λ p. refl) (λ p. refl)) last)))).so s;
+          (λ (parent : ℕ). by_order R acts (next (made parent (codes "ExprContext") true kind.Small) (next (by_portal R acts name (λ p. record p { expr = Some s.session.next_context }) (λ p. refl) (λ p. refl)) last)))).so s;
     }
-    context_is_made (ScriptContext name parent kind) = record { so = λ s. (by_there R acts (context_named parent s.session) _ (λ (n : ℕ). v.made n name false kind)).so s }
+    context_is_made (ScriptContext name parent kind) = record { so = λ s. (by_there R acts (context_named parent s.session) _ (λ (n : ℕ). made n name false kind)).so s }
 
-    owner_is_made : (role : OwnerRole) → Keeps R (new_owner_made role)
-    owner_is_made OfLevel = record {
-      so = λ s. (by_order R acts (next (v.owner (owner_of (level_above s.session))) (next (by_levels (deepest_changed (λ level. record level { owner = Some s.session.next_owner }))) last))).so s;
-    }
-    owner_is_made (OfPortal name) = record {
-      so = λ s. (by_order R acts (next (v.owner (level_owner s.session)) (next (by_portal R acts name (λ p. record p { owner = Some s.session.next_owner }) (λ p. refl) (λ p. refl)) last))).so s;
-    }
+  pub owner_is_made : ((parent : Option ℕ) → Keeps R (owner_made parent)) → (role : OwnerRole) → Keeps R (new_owner_made role)
+  owner_is_made owner OfLevel = record {
+    so = λ s. (by_order R acts (next (owner (owner_of (level_above s.session))) (next (by_levels (deepest_changed (λ level. record level { owner = Some s.session.next_owner }))) last))).so s;
+  }
+  owner_is_made owner (OfPortal name) = record {
+    so = λ s. (by_order R acts (next (owner (level_owner s.session)) (next (by_portal R acts name (λ p. record p { owner = Some s.session.next_owner }) (λ p. refl) (λ p. refl)) last))).so s;
+  }
 
-    pub makes_owed : (w : Option ℕ) (x : Element) (m : Moment) → OwesMoves R w x m → OwesMakes R w x m
-    unfolding does
-    makes_owed w (e.InTurn name x) m owed = makes_owed w x m owed
-    makes_owed w (e.MakeContext new) m owed = fallible_so R acts w m _ (new_context_made new) (context_is_made new)
-    makes_owed w (e.MakeOwner role) m owed = fallible_so R acts w m _ (new_owner_made role) (owner_is_made role)
-    makes_owed w (e.MakePlan plan) m owed = fallible_so R acts w m _ (plan_made plan) (v.planned plan)
-    makes_owed w (e.TakeLock role object mode) m owed = fallible_so R acts w m _ (at_owner role (lock_taken object mode)) (by_owner R acts role (lock_taken object mode) (v.locked object mode))
-    makes_owed w (e.Unlock object mode) m owed = unfailing_so R acts m (at_owner OfLevel (lock_given_back object mode)) (by_owner R acts OfLevel (lock_given_back object mode) (v.unlocked object mode))
-    makes_owed w (e.Touch file) m owed = fallible_so R acts w m _ (descriptor_given file) (v.used file)
-    makes_owed w (e.PushSnapshot snapshot) m owed = fallible_so R acts w m _ (snapshot_pushed snapshot) (v.pushed snapshot)
-    makes_owed w other m owed = owed
+  pub makes_owed : MakeLeaves R → (w : Option ℕ) (x : Element) (m : Moment) → OwesMoves R w x m → OwesMakes R w x m
+  unfolding does
+  makes_owed v w (e.InTurn name x) m owed = makes_owed v w x m owed
+  makes_owed v w (e.MakeContext new) m owed = fallible_so R acts w m _ (new_context_made new) (context_is_made v.made v.placed new)
+  makes_owed v w (e.MakeOwner role) m owed = fallible_so R acts w m _ (new_owner_made role) (owner_is_made v.owner role)
+  makes_owed v w (e.MakePlan plan) m owed = fallible_so R acts w m _ (plan_made plan) (v.planned plan)
+  makes_owed v w (e.TakeLock role object mode) m owed = fallible_so R acts w m _ (at_owner role (lock_taken object mode)) (by_owner R acts role (lock_taken object mode) (v.locked object mode))
+  makes_owed v w (e.Unlock object mode) m owed = unfailing_so R acts m (at_owner OfLevel (lock_given_back object mode)) (by_owner R acts OfLevel (lock_given_back object mode) (v.unlocked object mode))
+  makes_owed v w (e.Touch file) m owed = fallible_so R acts w m _ (descriptor_given file) (v.used file)
+  makes_owed v w (e.PushSnapshot snapshot) m owed = fallible_so R acts w m _ (snapshot_pushed snapshot) (v.pushed snapshot)
+  makes_owed v w other m owed = owed
