@@ -37,13 +37,6 @@ swapped a b = grind (arith, nat_tests)
 pub mark_swapped : (a b : ℕ) → mark a b ≡ mark b a
 mark_swapped a b = ap (λ t. cond t 1 0) (swapped a b)
 
-mark_small : (f c : ℕ) → mark f c ≤ 1
-mark_small f c = go (nat_eq f c)
-  where
-    go : (b : Bool) → cond b 1 0 ≤ 1
-    go true = omega arith
-    go false = omega arith
-
 -- the file that was used least recently loses its descriptor
 pub without_last : (f k : ℕ) (xs : List ℕ) (c : ℕ) → length xs ≤ k + 1 → slice_get xs k ≡ Some c → times f xs ≡ times f (take k xs) + mark f c
 without_last f k [] c l e = absurd (cc e)

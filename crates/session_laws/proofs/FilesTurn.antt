@@ -3,13 +3,12 @@ use Rattle.std.proofs.Common.{◌≡◌, ℕ, ◌+◌, Bool, true, false, List, 
 use Rattle.std.specs.List.{list_any}
 use Rattle.std.proofs.lemmas.Bool.{eqb-true}
 use Rattle.pgs_step.specs.declared.errors.Error.{Error}
-use Rattle.pgs_step.specs.declared.events.What.TheVariants as what
 use Rattle.pgs_command.specs.declared.commands.Command.{Command}
 use Rattle.forest.specs.Forest.{Once, size}
 use Rattle.owner_items.specs.ItemList.{is_of}
 use Rattle.owner_core.specs.Owners.{created}
 use Rattle.owner_core.proofs.Sounds.{once_of, sound_created}
-use Rattle.session_rules.specs.State.{SessionState, file_kind, opening}
+use Rattle.session_rules.specs.State.{file_kind, opening}
 use Rattle.session_rules.specs.Counts.{all_items, holds}
 use Rattle.session_rules.specs.World.{Around, Moment, Scene}
 use Rattle.session_rules.specs.Elements as e
@@ -25,7 +24,7 @@ use Rattle.session_rules.specs.Transcript.{line_elements, turn}
 use Rattle.session_rules.proofs.Leaves.{Follows, IsRun}
 use Rattle.session_rules.proofs.StepsStand.{below_limit, own_refusal}
 use Rattle.session_rules.proofs.TurnStands.{Meets, line_runs}
-use Rattle.session_laws.proofs.LocksSight.{of_items, plain_one}
+use Rattle.session_laws.proofs.LocksSight.{of_items}
 use Rattle.session_laws.proofs.LocksHidden.{locked_hidden, pushed_hidden, unlocked_hidden}
 use Rattle.session_rules.proofs.Walk.{fallible_at, fallible_so}
 use Rattle.session_laws.proofs.LocksWalk.{Least, OwesUnlocks, ending_turn, least_acts, lock_owed, session_exits, unlock_owed}
@@ -98,10 +97,3 @@ module _ (f : ℕ) where
   pub items_open : (around : Around) → ItemFits f 0 (record { session = opening; around = around })
   unfolding opening
   items_open around = record { few = omega arith; covered = omega arith; covers = omega arith; once = record { once = λ m. omega arith } }
-
-  -- What is around a session doesn't matter.
-  pub items_elsewhere : (m : ℕ) (session : SessionState) (a b : Around) → ItemFits f m (record { session = session; around = a }) → ItemFits f m (record { session = session; around = b })
-  items_elsewhere m session a b h = record { few = h.few; covered = h.covered; covers = h.covers; once = h.once }
-
-  pub items_error : (error : Error) (s : Scene) → ReadsItems f s s (what.Error error ∷ [])
-  items_error error s = (items_seen f).aside s s (refl, refl, refl) (plain_one of_items (what.Error error) refl)

@@ -150,14 +150,6 @@ pub calm_both : (xs ys : List What) → AreCalm xs → AreCalm ys → AreCalm (x
 calm_both [] ys h k = k
 calm_both (x ∷ xs) ys h k = (h.0, calm_both xs ys h.1 k)
 
-pub calm_map : {A : Type 0} (f : A → What) → ((a : A) → is_calm (f a) ≡ true) → (xs : List A) → AreCalm (map f xs)
-calm_map f h [] = tt
-calm_map f h (x ∷ xs) = (h x, calm_map f h xs)
-
-pub calm_if : (b : Bool) (xs ys : List What) → AreCalm xs → AreCalm ys → AreCalm (if b then xs else ys)
-calm_if true xs ys h k = h
-calm_if false xs ys h k = k
-
 -- what such events leave of what was seen
 pub record Calmed (a b : Leaving) : Type 0 where
   pub grows : Grows a.begun b.begun

@@ -143,9 +143,6 @@ one_then {G = G} leaving t u xs ys a next =
 one_nothing : {F : Leaving → Scene → Type 0} (leaving : Leaving) (s : Scene) → F leaving s → OneRead F leaving s []
 one_nothing leaving s k = record { allowed = refl; fits = k }
 
-abbrev at_start : Scene → Moment
-at_start s = record { scene = s; calls = 0; fail = 0 }
-
 aborts_contexts : (s : Scene) → KeepsContexts s (aborted s).scene (aborted s).events
 unfolding does
 aborts_contexts s = (aborts KeepsContexts contexts_end_leaves).so s

@@ -29,10 +29,6 @@ items_life kinds item owner =
     (λ n s h fits. counts_ended item owner n s h fits)
 
 -- of a session that has just opened there is nothing either
-pub items_fresh : (item : Item) (owner n : ℕ) (around : Around) → Counts item owner n (record { session = opening; around = around }) → IsNone n
-unfolding opening
-items_fresh item owner n around h = h.is
-
 numbers_open : (around : Around) → IsNext 1 (record { session = opening; around = around })
 unfolding opening
 numbers_open around = refl

@@ -1,18 +1,14 @@
 -- Laws that see locks alone, files alone, the stack of snapshots alone or levels alone, and what passes them by.
-use Rattle.std.proofs.Common.{◌≡◌, ℕ, ◌+◌, Bool, true, false, if◌then◌else◌, List, [], ◌∷◌, ◌++◌, map, flat_map, Option, Some, None, refl, sym, subst}
-use Rattle.std.specs.Option.{option_map_or}
+use Rattle.std.proofs.Common.{◌≡◌, ℕ, Bool, true, false, if◌then◌else◌, List, [], ◌∷◌, ◌++◌, map, flat_map, refl, sym, subst}
 use Rattle.std.proofs.lemmas.Bool.{and_from}
 use Rattle.pgs_step.specs.declared.events.What.{What}
 use Rattle.pgs_step.specs.declared.events.What.TheVariants as what
 use Rattle.pgs_step.specs.declared.ids.KindId.{KindId}
 use Rattle.pgs_step.specs.declared.ids.Phase.{Phase}
-use Rattle.forest.specs.Forest.{Empty, Node, children}
+use Rattle.forest.specs.Forest.{Empty, Node}
 use Rattle.reset_callbacks.specs.Hook.{Hook}
-use Rattle.context_report.specs.Lines.{last_of, no_total}
-use Rattle.context_rules.specs.Contexts.{Context, Contexts, is_child, move_events, reparented_events}
-use Rattle.context_rules.specs.Ends as contexts
-use Rattle.context_rules.specs.Ends.{callbacks, children_gone, cleared, cleared_alone, gone_events, reset_of, unchanged}
-use Rattle.context_rules.specs.Reports.{lines, report, summed}
+use Rattle.context_rules.specs.Contexts.{Contexts}
+use Rattle.context_rules.specs.Ends.{gone_events}
 use Rattle.lifetime_laws.specs.Reading.{Reader, allows_all}
 use Rattle.session_rules.specs.World.{Scene}
 use Rattle.session_rules.specs.Releases.{item_released, owner_gone, owner_moved, phase_released}
@@ -112,36 +108,6 @@ module _ (k : Subject) where
       plain_both (gone_plain below)
       (plain_both (plain_map (λ (hook : Hook). what.Callback hook.word n) (λ hook. refl) c.hooks) (plain_more refl (gone_plain beside)))
 
-  either_plain : (b : Bool) (x y : contexts.Ended) → ArePlain k x.events → ArePlain k y.events → ArePlain k (if b then x else y).events
-  either_plain true x y p q = p
-  either_plain false x y p q = q
-
-  reset_plain : (n : ℕ) (t : Contexts) (o : Option Context) → ArePlain k (option_map_or (reset_of n t) o (unchanged t)).events
-  reset_plain n t None = plain_none
-  reset_plain n t (Some c) =
-      either_plain c.used _ _
-      (plain_both (plain_map (λ (hook : Hook). what.Callback hook.word n) (λ hook. refl) c.hooks) (plain_one (what.Reset n) refl)) plain_none
-
-  pub cleared_alone_plain : (n : ℕ) (t : Contexts) → ArePlain k (cleared_alone n t).events
-  cleared_alone_plain n t = reset_plain n t _
-
-  pub cleared_plain : (n : ℕ) (t : Contexts) → ArePlain k (cleared n t).events
-  cleared_plain n t = plain_both (gone_plain (children n t)) (cleared_alone_plain n (children_gone n t).contexts)
-
-  move_plain : (b : Bool) (n parent : ℕ) → ArePlain k (move_events b n parent)
-  move_plain true n parent = plain_none
-  move_plain false n parent = plain_one (what.Move n parent) refl
-
-  pub moved_plain : (n parent : ℕ) (t : Contexts) → ArePlain k (reparented_events n parent t)
-  moved_plain n parent t = move_plain (is_child n parent t) n parent
-
-  lines_plain : (depth : ℕ) (t : Contexts) → ArePlain k (lines depth t)
-  lines_plain depth Empty = plain_none
-  lines_plain depth (Node n c below beside) = plain_more refl (plain_both (lines_plain (depth + 1) below) (lines_plain depth beside))
-
-  pub report_plain : (t : Contexts) → ArePlain k (report t)
-  report_plain t = plain_both (lines_plain 0 t) (plain_one (last_of (summed no_total t)) refl)
-
 -- what a law sees is the same in two scenes
 abbrev pub Same : Subject → Scene → Scene → Type 0
 Same of_none s t = Unit {0}
@@ -152,23 +118,6 @@ Same of_levels s t = t.session.levels ≡ s.session.levels
 Same of_items s t = (t.session.recent ≡ s.session.recent) × (t.session.owners ≡ s.session.owners) × (t.session.next_owner ≡ s.session.next_owner)
 
 -- all of these are the same in two scenes
-pub record Unmoved (s t : Scene) : Type 0 where
-  pub levels : t.session.levels ≡ s.session.levels
-  pub locks : t.session.locks ≡ s.session.locks
-  pub recent : t.session.recent ≡ s.session.recent
-  pub descriptors : t.around.descriptors ≡ s.around.descriptors
-  pub snapshots : t.session.snapshots ≡ s.session.snapshots
-  pub owners : t.session.owners ≡ s.session.owners
-  pub next_owner : t.session.next_owner ≡ s.session.next_owner
-
-pub same_all : (k : Subject) (s t : Scene) → Unmoved s t → Same k s t
-same_all of_none s t h = tt
-same_all of_locks s t h = h.locks
-same_all of_files s t h = (h.recent, h.descriptors)
-same_all of_stack s t h = h.snapshots
-same_all of_levels s t h = h.levels
-same_all of_items s t h = (h.recent, h.owners, h.next_owner)
-
 pub same_but_locks : (k : Subject) (s t : Scene) → hides of_locks k ≡ true → t.session.levels ≡ s.session.levels → t.session.recent ≡ s.session.recent → t.around.descriptors ≡ s.around.descriptors → t.session.snapshots ≡ s.session.snapshots → t.session.owners ≡ s.session.owners → t.session.next_owner ≡ s.session.next_owner → Same k s t
 same_but_locks of_none s t h v r d n o x = tt
 same_but_locks of_locks s t h v r d n o x = absurd (cc h)

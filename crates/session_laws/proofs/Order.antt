@@ -106,10 +106,6 @@ owner_said : (parent : Option ℕ) (s : Scene) → AreSaid is_unlined (owner_mad
 owner_said None s = said_one (what.Owner s.session.next_owner) refl
 owner_said (Some parent) s = said_one (what.OwnerIn s.session.next_owner parent) refl
 
-owner_levels : (parent : Option ℕ) (s : Scene) → (owner_made parent s).scene.session.levels ≡ s.session.levels
-owner_levels None s = refl
-owner_levels (Some parent) s = refl
-
 module _ (kinds : KindTable) (w : Option ℕ) where
   -- what an element says is in order, and the line stands so behind it where it was not refused
   abbrev IsStep : Stage → Stage → Element → Moment → Type 0

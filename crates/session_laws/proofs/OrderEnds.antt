@@ -47,11 +47,6 @@ own = owner_level_leaves.leaves.acts
 abbrev aborted_levels : List LevelState → List LevelState
 aborted_levels levels = deepest_changed (λ old. record old { aborted = true }) levels
 
-aside_unlined : (event : What) → is_aside event ≡ true → is_unlined event ≡ true
-aside_unlined (what.CommitLevel level) h = absurd (cc h)
-aside_unlined (what.AbortLevel level) h = absurd (cc h)
-aside_unlined other h = refl
-
 -- what is said of portals
 abbrev Pass : Bool → Law
 Pass aborts = Mild (is_passing aborts)

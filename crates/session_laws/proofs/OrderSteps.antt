@@ -292,10 +292,6 @@ step_stays (ReleasesLocks n) s = record {
 step_stays (PassesLocks n to) s = record { owners = refl; kinds = refl; locks = λ h. IsInOrder-map (locks.passed_lock n to) (keeps_passed n to) s.session.locks h; levels = refl; serial = refl }
 step_stays (ReleasesAllLocks n) s = record { owners = refl; kinds = refl; locks = λ h. tt; levels = refl; serial = refl }
 
-pub steps_stay : (steps : List Step) (s : Scene) → Stays s (for_each step_done steps s).scene
-steps_stay [] s = stays_same s
-steps_stay (x ∷ steps) s = stays_both s (step_done x s).scene (for_each step_done steps (step_done x s).scene).scene (step_stays x s) (steps_stay steps (step_done x s).scene)
-
 module _ (kinds : KindTable) (nodes : List Node) (commit : Bool) (n : ℕ) (out : is_above n n nodes ≡ false) where
   -- the locks of an owner, in their order
   pub locks_release : {steps : List Step} → AreLockSteps n steps → (s : Scene) (old : List Member) → IsInOrder s.session.locks → MayRelease nodes 2 n old

@@ -25,10 +25,6 @@ pub rising_from : (low least : ℕ) (entries : List Active) → low ≤ least �
 rising_from low least [] l h = tt
 rising_from low least (entry ∷ entries) l h = (omega (arith, l, h.0), h.1)
 
-pub rising_stacked : (least most : ℕ) (entries : List Active) → AreStacked least most entries → IsRising least entries
-rising_stacked least most [] h = tt
-rising_stacked least most (entry ∷ entries) h = (h.0, rising_stacked entry.level most entries h.2)
-
 -- one is pushed at a level that is at least theirs
 pub rising_pushed : (low least most : ℕ) (new : Active) (entries : List Active) → AreStacked least most entries → low ≤ least → low ≤ new.level → most ≤ new.level → IsRising low (entries ++ (new ∷ []))
 rising_pushed low least most new [] h l u m = (u, tt)

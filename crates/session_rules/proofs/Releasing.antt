@@ -4,31 +4,22 @@ use Rattle.std.specs.Prelude.{zero, suc, ◌-◌, not, filter, unwrap_or, if◌t
 use Rattle.std.specs.Option.{option_map}
 use Rattle.std.proofs.lemmas.Bool.{cases_Bool, le-ltb, lt-ltb, ne_eqb}
 use Rattle.std.proofs.lemmas.List.Elements.{All-nil, All-head, All-tail, All-filter}
-use Rattle.pgs_step.specs.declared.events.What.TheVariants as what
 use Rattle.pgs_step.specs.declared.ids.Item.{Item}
 use Rattle.pgs_step.specs.declared.ids.Phase.{Phase}
 use Rattle.pgs_step.specs.declared.ids.Phase.TheVariants.{BeforeLocks, Locks, AfterLocks}
 use Rattle.forest.specs.Walk.{swept}
-use Rattle.owner_kinds.specs.Kind.{Kind, changed_at, closed}
+use Rattle.owner_kinds.specs.Kind.{Kind}
 use Rattle.owner_kinds.specs.KindTable.{KindTable, built_in_rows, row_of, IsSound as IsSoundTable}
 use Rattle.owner_kinds.specs.KindShelf.{table_of}
 use Rattle.owner_kinds.specs.Place.{IsPlace}
 use Rattle.owner_kinds.specs.declared.kind_row.KindRow.{KindRow}
-use Rattle.owner_kinds.proofs.Places.{table-closed}
 use Rattle.owner_items.specs.Next.{is_of_phase, is_phase}
 use Rattle.owner_core.specs.Owners.{Owner, OwnerTree, HoldsNothing}
 use Rattle.owner_core.specs.Released.{own_released, released}
 use Rattle.owner_core.specs.Sound.{IsSound}
-use Rattle.owner_core.specs.Steps.{Step, Said, GivesBack, ReleasesLocks, PassesLocks, ReleasesAllLocks}
 use Rattle.owner_core.proofs.Sounds.{sound_released}
 use Rattle.lock_local.specs.Locks.{Lock}
-use Rattle.lock_local.specs.Changes as locks
-use Rattle.file_table.specs.Descriptors.{is_among, without}
-use Rattle.session_rules.specs.State.{StandingPlan}
 use Rattle.session_rules.specs.World.{Scene}
-use Rattle.session_rules.specs.Lookup.{plan_at}
-use Rattle.session_rules.specs.Acts.{for_each, where_so, where_there}
-use Rattle.session_rules.specs.Releases.{Keeper, NoOne, ThePlans, TheDescriptors, TheKind, keeper_of, left_to, plan_becomes, step_done}
 use Rattle.session_rules.specs.Standing.{HasItems, IsItem}
 use Rattle.session_rules.proofs.Swept.{both_swept}
 
@@ -49,60 +40,6 @@ tables_of scene = record { locks = scene.session.locks; recent = scene.session.r
 
 abbrev pub with_owners : OwnerTree → Scene → Scene
 with_owners owners scene = record scene { session = record scene.session { owners = owners } }
-
--- a scene changed in its tables alone, and in nothing that never changes of kinds
-pub record OnlyTables (s t : Scene) : Type 0 where
-  pub tables : Tables
-  pub same : table_of tables.kinds ≡ table_of s.around.kinds
-  pub is : t ≡ tabled tables s
-
-pub only_nothing : (s : Scene) → OnlyTables s s
-only_nothing s = record { tables = tables_of s; same = refl; is = refl }
-
-pub only_both : (s t z : Scene) → OnlyTables s t → OnlyTables t z → OnlyTables s z
-only_both s t z a b = record {
-  tables = b.tables;
-  same = b.same ∙ ap (λ (x : Scene). table_of x.around.kinds) a.is ∙ a.same;
-  is = b.is ∙ ap (tabled b.tables) a.is;
-}
-
-pub left_tables : (keeper : Keeper) (key : ℕ) (s : Scene) → s.session.plans ≡ [] → OnlyTables s (left_to keeper key s).scene
-left_tables NoOne key s none = only_nothing s
-left_tables ThePlans key s none =
-    let e : plan_at key s.session.plans ≡ None = ap (plan_at key) none in
-    record {
-      tables = tables_of s;
-      same = refl;
-      is = ap (λ (o : Option StandingPlan). (where_there o (λ plan. plan_becomes (record plan { references = plan.references - 1 })) s).scene) e;
-    }
-left_tables TheDescriptors key s none = go (is_among key s.session.recent)
-  where
-    go : (b : Bool) → OnlyTables s (where_so b (λ scene. record {
-      scene = record scene { session = record scene.session { recent = without key scene.session.recent } };
-      events = what.DescriptorClosed key ∷ [];
-    }) s).scene
-    go true = record { tables = record (tables_of s) { recent = without key s.session.recent }; same = refl; is = refl }
-    go false = only_nothing s
-left_tables (TheKind place) key s none = record {
-  tables = record (tables_of s) { kinds = changed_at place (closed key) s.around.kinds };
-  same = table-closed s.around.kinds place key;
-  is = refl;
-}
-
-step_tables : (step : Step) (s : Scene) → s.session.plans ≡ [] → OnlyTables s (step_done step s).scene
-step_tables (Said event) s none = only_nothing s
-step_tables (GivesBack item) s none = left_tables (keeper_of item.kind) item.key s none
-step_tables (ReleasesLocks owner) s none = record { tables = record (tables_of s) { locks = locks.released owner s.session.locks }; same = refl; is = refl }
-step_tables (PassesLocks from to) s none = record { tables = record (tables_of s) { locks = locks.passed from to s.session.locks }; same = refl; is = refl }
-step_tables (ReleasesAllLocks top) s none = record { tables = record (tables_of s) { locks = [] }; same = refl; is = refl }
-
-steps_tables : (steps : List Step) (s : Scene) → s.session.plans ≡ [] → OnlyTables s (for_each step_done steps s).scene
-steps_tables [] s none = only_nothing s
-steps_tables (step ∷ steps) s none =
-    let a : OnlyTables s (step_done step s).scene = step_tables step s none in
-    let still : (step_done step s).scene.session.plans ≡ [] = ap (λ (z : Scene). z.session.plans) a.is ∙ none in
-    let b : OnlyTables (step_done step s).scene (for_each step_done steps (step_done step s).scene).scene = steps_tables steps (step_done step s).scene still in
-    only_both s (step_done step s).scene (for_each step_done steps (step_done step s).scene).scene a b
 
 -- one phase, by the kinds of the scene
 record HasPhase (kinds : KindTable) (owner : ℕ) (phase : Phase) (s t : Scene) : Type 0 where
