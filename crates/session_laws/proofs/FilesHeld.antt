@@ -36,7 +36,7 @@ use Rattle.session_laws.proofs.ReaderLaws.{IsRead, Reads, read_both}
 use Rattle.session_laws.proofs.LocksSight.{Sees, of_items, plain_map, plain_none}
 use Rattle.session_laws.proofs.LocksHidden.{popped_hidden, stack_gone_hidden, stack_passed_hidden}
 use Rattle.session_laws.proofs.LocksWalk.{Turns}
-use Rattle.session_laws.proofs.LocksNone.{steps_owners}
+use Rattle.session_laws.proofs.StepsRest.{steps_stay}
 use Rattle.session_laws.proofs.FilesCount.{mark, mark_swapped, times_more}
 use Rattle.session_laws.proofs.FilesOwners.{held_less_moved, held_less_removed, once_less_moved, once_less_removed, once_swept}
 use Rattle.session_laws.proofs.FilesItems.{AreStill, Falls, falls_both, falls_still, given_falls, item_reader, of_file, phase_units, plain_still, release_falls, still_allowed, still_left, still_more, still_none, still_one, units_fall}
@@ -104,7 +104,7 @@ module _ (f : ℕ) where
           given_falls f item (held file_kind f y) (m + 0 - r) t h.few (omega (arith, h.covered, h.covers, one)) (omega (arith, h.covers, one)) in
           let last : Falls f (held file_kind f y) (m + 0 - r) (given_back item t).scene ((given_back item t).events ++ []) =
           falls_both f back (falls_still f (held file_kind f y) _ (given_back item t).scene still_none back.few back.covered back.left) in
-          let owners : (given_back item t).scene.session.owners ≡ y = steps_owners (GivesBack item ∷ []) t in
+          let owners : (given_back item t).scene.session.owners ≡ y = (steps_stay (GivesBack item ∷ []) t).owners in
           fallen (release_falls f item owner (omega (arith, h.covers, one)) last) (subst (λ (z : OwnerTree). held file_kind f z ≤ held file_kind f y) (sym owners) (omega arith))
           (subst Once (sym owners) (once_changed owner (λ (o : Owner). record o { items = without_newest (is_of kind key) o.items }) x h.once))
 
@@ -118,7 +118,7 @@ module _ (f : ℕ) where
         let K : ℕ = held file_kind f (released table phase n x) in
         let all : Falls f K m (for_each step_done steps s).scene (for_each step_done steps s).events =
         units_fall f (phase_units f table phase commit top n x) s K m h.few h.covered (omega (arith, gives_phase file_kind f table phase commit top n x h.once, h.covers)) in
-        let same : (for_each step_done steps s).scene.session.owners ≡ x = steps_owners steps s in
+        let same : (for_each step_done steps s).scene.session.owners ≡ x = (steps_stay steps s).owners in
         fallen (falls_both f all (falls_still f K _ (phase_released commit top n phase s).scene still_none all.few all.covered all.left))
         (subst (λ (z : OwnerTree). held file_kind f (released table phase n z) ≤ K) (sym same) (omega arith))
         (subst (λ (z : OwnerTree). Once (released table phase n z)) (sym same) (once_swept (own_released table phase) n x h.once));

@@ -1,28 +1,24 @@
 -- Where no lock is held, none is behind what doesn't take one; and behind the end of level 1 none is held.
-use Rattle.std.proofs.Common.{◌≡◌, ℕ, Bool, true, false, List, [], ◌∷◌, ◌++◌, Option, Some, None, refl, ap, ◌∙◌}
-use Rattle.std.specs.Prelude.{◌==◌, ◌&&◌, ◌-◌}
+use Rattle.std.proofs.Common.{◌≡◌, ℕ, Bool, true, List, [], ◌∷◌, ◌++◌, Option, refl, ap, ◌∙◌}
 use Rattle.std.specs.Option.{option_map_or}
 use Rattle.pgs_step.specs.declared.events.What.{What}
-use Rattle.pgs_step.specs.declared.events.What.TheVariants as what
 use Rattle.pgs_step.specs.declared.lock_modes.Mode.{Mode}
 use Rattle.pgs_step.specs.declared.ids.Phase.TheVariants.{BeforeLocks, Locks, AfterLocks}
 use Rattle.forest.specs.Forest.{children, has}
 use Rattle.forest.proofs.Trees.{at_some}
 use Rattle.lock_local.specs.Changes.{given_back, passed, released}
-use Rattle.file_table.specs.Descriptors.{is_among, without}
 use Rattle.owner_kinds.specs.KindShelf.{table_of}
 use Rattle.owner_kinds.specs.KindTable.{KindTable}
 use Rattle.owner_core.specs.Owners.{Owner}
 use Rattle.owner_core.specs.Released.{own_released}
-use Rattle.owner_core.specs.Steps.{GivesBack, PassesLocks, ReleasesAllLocks, ReleasesLocks, Said, Step, own_steps, release_steps, steps_below}
-use Rattle.session_rules.specs.State.{StandingPlan}
+use Rattle.owner_core.specs.Steps.{ReleasesAllLocks, Step, own_steps, release_steps, steps_below}
 use Rattle.session_rules.specs.World.{Scene}
-use Rattle.session_rules.specs.Acts.{Ended, for_each, where_so, where_there}
-use Rattle.session_rules.specs.Releases.{Keeper, NoOne, TheDescriptors, TheKind, ThePlans, keeper_of, left_to, owner_released, phase_released, plan_becomes, plan_settled, plan_stays, step_done}
-use Rattle.session_rules.specs.Lookup.{plan_at}
+use Rattle.session_rules.specs.Acts.{for_each}
+use Rattle.session_rules.specs.Releases.{owner_released, phase_released, step_done}
 use Rattle.session_rules.specs.Parts.{lock_given_back}
 use Rattle.session_rules.proofs.Leaves.{Keeps}
 use Rattle.session_rules.proofs.Swept.{has_swept}
+use Rattle.session_laws.proofs.StepsRest.{steps_stay}
 use Rattle.session_laws.proofs.LocksSight.{Sees, of_locks, plain_none}
 use Rattle.session_laws.proofs.LocksHidden.{files_hidden, popped_hidden, stack_gone_hidden, stack_passed_hidden}
 use Rattle.session_laws.proofs.LocksWalk.{Least, Turns}
@@ -68,48 +64,12 @@ last_releases : (n : ℕ) (steps : List Step) (s : Scene) → (for_each step_don
 last_releases n [] s = refl
 last_releases n (step ∷ steps) s = last_releases n steps (step_done step s).scene
 
--- the owners in the middle of a phase are those before it
-plan_owners : (plan : StandingPlan) (s : Scene) → (plan_becomes plan s).scene.session.owners ≡ s.session.owners
-plan_owners plan s = go (plan.discarded && (plan.references == 0))
-  where
-    go : (b : Bool) → (elim b as (λ _. Ended) [ true ↦ plan_settled plan s | false ↦ plan_stays plan s ]).scene.session.owners ≡ s.session.owners
-    go true = refl
-    go false = refl
-
-left_owners : (keeper : Keeper) (key : ℕ) (s : Scene) → (left_to keeper key s).scene.session.owners ≡ s.session.owners
-left_owners NoOne key s = refl
-left_owners ThePlans key s = go (plan_at key s.session.plans)
-  where
-    go : (o : Option StandingPlan) → (where_there o (λ plan. plan_becomes (record plan { references = plan.references - 1 })) s).scene.session.owners ≡ s.session.owners
-    go None = refl
-    go (Some plan) = plan_owners (record plan { references = plan.references - 1 }) s
-left_owners TheDescriptors key s = go (is_among key s.session.recent)
-  where
-    go : (b : Bool) → (where_so b (λ scene. record {
-      scene = record scene { session = record scene.session { recent = without key scene.session.recent } };
-      events = what.DescriptorClosed key ∷ [];
-    }) s).scene.session.owners ≡ s.session.owners
-    go true = refl
-    go false = refl
-left_owners (TheKind place) key s = refl
-
-step_owners : (step : Step) (s : Scene) → (step_done step s).scene.session.owners ≡ s.session.owners
-step_owners (Said event) s = refl
-step_owners (GivesBack item) s = left_owners (keeper_of item.kind) item.key s
-step_owners (ReleasesLocks owner) s = refl
-step_owners (PassesLocks from to) s = refl
-step_owners (ReleasesAllLocks top) s = refl
-
-pub steps_owners : (steps : List Step) (s : Scene) → (for_each step_done steps s).scene.session.owners ≡ s.session.owners
-steps_owners [] s = refl
-steps_owners (step ∷ steps) s = steps_owners steps (step_done step s).scene ∙ step_owners step s
-
 -- an owner that is there is there behind a phase
 phase_has : (commit top : Bool) (n : ℕ) (s : Scene) → has n s.session.owners ≡ true → has n (phase_released commit top n BeforeLocks s).scene.session.owners ≡ true
 phase_has commit top n s there =
     let table : KindTable = table_of s.around.kinds in
     let steps : List Step = release_steps table BeforeLocks commit top n s.session.owners in
-    has_swept (own_released table BeforeLocks) n n (for_each step_done steps s).scene.session.owners ∙ ap (has n) (steps_owners steps s) ∙ there
+    has_swept (own_released table BeforeLocks) n n (for_each step_done steps s).scene.session.owners ∙ ap (has n) (steps_stay steps s).owners ∙ there
 
 -- the phase of locks releases all where it does so for its owner
 locks_phase : (commit : Bool) (n : ℕ) (s : Scene) → has n s.session.owners ≡ true → (phase_released commit true n Locks s).scene.session.locks ≡ []

@@ -54,6 +54,25 @@ module _ {A : Type 0} where
     length = f.length ∙ sym (sym (mapped-size bare u) ∙ ap size h.shape ∙ mapped-size bare t);
   }
 
+  -- a node that is made, and one that moves
+  pub put_has : (m p n : ℕ) (a : A) (t : Forest A) → ((k : ℕ) → has k t ≡ true → k < n) → has m (put p n a Empty t) ≡ true → m < n + 1
+  put_has m p n a t below u = elim (cases_eq m n) [
+    | inl e ↦ omega (arith, e)
+    | inr ne ↦ omega (arith, below m (sym (has_put_other m p n a Empty t ne refl) ∙ u))
+  ]
+
+  pub made_fits : (p n : ℕ) (a : A) (nodes : List Kept) (t : Forest A) → FitsTree nodes t → ((k : ℕ) → has k t ≡ true → k < n) → FitsTree (placed_where (is_there p nodes) n (Some p) nodes) (put p n a Empty t)
+  made_fits p n a nodes t f below = elim (cases_Bool (has p t)) [
+    | inl y ↦ rw (f.there p ∙ y) (fits_put p n a nodes t f y (false_from_ne_true (has n t) (λ u. omega (arith, below n u))))
+    | inr z ↦ rw (f.there p ∙ z, put_absent p n a Empty t z) f
+  ]
+
+  pub moved_has : (m n p : ℕ) (t : Forest A) → Once t → Moves n p t → has m (moved n p t) ≡ true → has m t ≡ true
+  moved_has m n p t o w u =
+      let a = at_some n t w.node in
+      let same : times m (moved n p t) ≡ times m t = rw a.1 (times_moved m n p a.0 t o w) in
+      has_some m t (omega (arith, same, times_some m (moved n p t) u))
+
 -- what leaves the contexts as they are
 pub contexts_past : (s t : Scene) {events : List What} → AreAlike s.session.contexts t.session.contexts → t.session.next_context ≡ s.session.next_context → Takes growing_contexts [] events → KeepsContexts s t events
 contexts_past s t {events = events} alike next past = record {
@@ -117,18 +136,6 @@ children_so n s =
     (takes_gone (children n s.session.contexts)) (λ m o u. emptied_has m n s.session.contexts o u) (children_gone n s).scene refl refl
 
 -- a context that is made
-put_has : (m p n : ℕ) (c : Context) (t : Contexts) → ((k : ℕ) → has k t ≡ true → k < n) → has m (put p n c Empty t) ≡ true → m < n + 1
-put_has m p n c t below u = elim (cases_eq m n) [
-  | inl e ↦ omega (arith, e)
-  | inr ne ↦ omega (arith, below m (sym (has_put_other m p n c Empty t ne refl) ∙ u))
-]
-
-made_fits : (p n : ℕ) (c : Context) (nodes : List Kept) (t : Contexts) → FitsTree nodes t → ((k : ℕ) → has k t ≡ true → k < n) → FitsTree (placed_where (is_there p nodes) n (Some p) nodes) (put p n c Empty t)
-made_fits p n c nodes t f below = elim (cases_Bool (has p t)) [
-  | inl y ↦ rw (f.there p ∙ y) (fits_put p n c nodes t f y (false_from_ne_true (has n t) (λ u. omega (arith, below n u))))
-  | inr z ↦ rw (f.there p ∙ z, put_absent p n c Empty t z) f
-]
-
 made_so : (parent : ℕ) (name : Text) (protected : Bool) (kind : CtxKind) (s : Scene) → KeepsContexts s (context_made parent name protected kind s).scene (context_made parent name protected kind s).events
 made_so parent name protected kind s =
     let n : ℕ = s.session.next_context in
@@ -188,12 +195,6 @@ pub contexts_hook : (n : ℕ) (hook : Hook) → Keeps KeepsContexts (hook_waits 
 contexts_hook n hook = record { so = λ s. contexts_past s _ (alike_changed n _ s.session.contexts) refl (takes_past (passed_context (what.Hook hook.word n) refl) takes_none) }
 
 -- a context that moves
-moved_has : (m n p : ℕ) (t : Contexts) → Once t → Moves n p t → has m (moved n p t) ≡ true → has m t ≡ true
-moved_has m n p t o w u =
-    let a = at_some n t w.node in
-    let same : times m (moved n p t) ≡ times m t = rw a.1 (times_moved m n p a.0 t o w) in
-    has_some m t (omega (arith, same, times_some m (moved n p t) u))
-
 moved_so : (n p : ℕ) (s : Scene) → Moves n p s.session.contexts → KeepsContexts s (record s { session = record s.session { contexts = moved n p s.session.contexts } }) (what.Move n p ∷ [])
 moved_so n p s w = record {
   so = λ growth h.

@@ -1,32 +1,31 @@
 -- The replayed owners are those of the session, whatever it does but for owners that go or move.
 use Rattle.std.proofs.Common.{◌≡◌, ℕ, ◌+◌, ◌<◌, Bool, true, false, List, [], ◌∷◌, map, Option, Some, None, refl, sym, ap, ◌∙◌, subst, inl, inr, arith}
 use Rattle.std.specs.Prelude.{◌==◌, ◌&&◌, ◌||◌}
-use Rattle.std.proofs.lemmas.Bool.{and_from, cases_Bool, cases_eq, eq-eqb, false_from_ne_true, ne_eqb}
+use Rattle.std.proofs.lemmas.Bool.{and_from, cases_eq, eq-eqb, false_from_ne_true, ne_eqb}
 use Rattle.pgs_step.specs.declared.events.What.{What}
 use Rattle.pgs_step.specs.declared.events.What.TheVariants as what
 use Rattle.pgs_step.specs.declared.ids.KindId.{KindId}
 use Rattle.pgs_step.specs.declared.ids.Phase.{Phase}
-use Rattle.forest.specs.Forest.{Empty, Once, has, moved, put, removed, times}
+use Rattle.forest.specs.Forest.{has, moved, removed}
 use Rattle.forest.specs.Walk.{order_at}
-use Rattle.forest.proofs.Trees.{Moves, at_some, has_of_removed, has_some, put_absent, times_moved, times_some}
+use Rattle.forest.proofs.Trees.{Moves, has_of_removed}
 use Rattle.owner_core.specs.Owners.{Owner, OwnerTree}
 use Rattle.owner_core.specs.Released.{own_released}
 use Rattle.session_rules.specs.World.{Scene}
 use Rattle.session_rules.specs.Releases.{owner_gone, owner_moved, phase_released}
 use Rattle.session_rules.specs.Taking.{item_taken}
 use Rattle.session_rules.specs.Making.{owner_made}
-use Rattle.session_rules.proofs.Forests.{has_put_other}
 use Rattle.session_rules.proofs.Leaves.{Keeps, Law, LevelLeaves, MakeLeaves, MoveLeaves, is_level_word, is_word}
 use Rattle.session_rules.proofs.ReleaseSteps.{OwnerLeaves}
 use Rattle.session_rules.proofs.Said.{AreSaid, said_more, said_none, said_one}
 use Rattle.session_rules.proofs.Sight.{ContextLeaves, FileLeaves, KeyLeaves, Part, Sight, hook_waits_so, level_leaves_of, locks_one, makes_context, moves_context, of_next_owner, of_owners, phase_so, places, plans_one, pushes, releases, taken_so, unlocks, unseen_contexts, unseen_files, unseen_keys, unseen_locks, unseen_stack}
-use Rattle.lifetime_laws.specs.Parents.{Node as Kept, is_there, placed_where}
+use Rattle.lifetime_laws.specs.Parents.{is_there, placed_where}
 use Rattle.session_laws.proofs.ReaderLaws.{Reads, read_both}
-use Rattle.session_laws.proofs.ParentsFit.{FitsOwners, FitsTree, fits_front, fits_moved, fits_put}
+use Rattle.session_laws.proofs.ParentsFit.{FitsOwners, FitsTree, fits_front, fits_moved}
 use Rattle.session_laws.proofs.ParentsPlucked.{plucked_gone}
 use Rattle.session_laws.proofs.ParentsAside.{AreAlike, alike_changed, alike_same, alike_swept}
 use Rattle.session_laws.proofs.ParentsGrowth.{AreRead, Growth, IsPruned, Takes, growing_owners, is_not_of_owners, passed_owner, pruned, read_past, taken_owner, takes_none, takes_one, takes_quiet}
-use Rattle.session_laws.proofs.ParentsContexts.{alike_has, fits_alike}
+use Rattle.session_laws.proofs.ParentsContexts.{alike_has, fits_alike, made_fits, moved_has, put_has}
 
 -- what is seen of a session's owners
 pub record HasOwners (growth : Growth) (s : Scene) : Type 0 where
@@ -52,12 +51,6 @@ owners_past s t {events = events} alike next past = record {
 }
 
 -- an owner that is made
-put_below : (m p n : ℕ) (a : Owner) (t : OwnerTree) → ((k : ℕ) → has k t ≡ true → k < n) → has m (put p n a Empty t) ≡ true → m < n + 1
-put_below m p n a t below u = elim (cases_eq m n) [
-  | inl e ↦ omega (arith, e)
-  | inr ne ↦ omega (arith, below m (sym (has_put_other m p n a Empty t ne refl) ∙ u))
-]
-
 front_below : (m n : ℕ) (t : OwnerTree) → ((k : ℕ) → has k t ≡ true → k < n) → ((n == m) || has m t) ≡ true → m < n + 1
 front_below m n t below u = elim (cases_eq n m) [
   | inl e ↦ omega (arith, e)
@@ -66,12 +59,6 @@ front_below m n t below u = elim (cases_eq n m) [
 
 fresh_owner : (n : ℕ) (t : OwnerTree) → ((k : ℕ) → has k t ≡ true → k < n) → has n t ≡ false
 fresh_owner n t below = false_from_ne_true (has n t) (λ u. omega (arith, below n u))
-
-made_fits : (p n : ℕ) (a : Owner) (nodes : List Kept) (t : OwnerTree) → FitsTree nodes t → ((k : ℕ) → has k t ≡ true → k < n) → FitsTree (placed_where (is_there p nodes) n (Some p) nodes) (put p n a Empty t)
-made_fits p n a nodes t f below = elim (cases_Bool (has p t)) [
-  | inl y ↦ rw (f.there p ∙ y) (fits_put p n a nodes t f y (fresh_owner n t below))
-  | inr z ↦ rw (f.there p ∙ z, put_absent p n a Empty t z) f
-]
 
 abbrev new_owner : Owner
 new_owner = record { begun = false; items = [] }
@@ -99,7 +86,7 @@ owner_so (Some parent) s =
         fits = record {
           fits = record {
             tree = made_fits parent n new_owner growth.nodes s.session.owners h.fits.tree h.fits.below;
-            below = λ m u. put_below m parent n new_owner s.session.owners h.fits.below u;
+            below = λ m u. put_has m parent n new_owner s.session.owners h.fits.below u;
           };
           next = ap (λ (k : ℕ). k + 1) h.next;
         };
@@ -204,12 +191,6 @@ owners_gone n s there = record {
 }
 
 -- an owner moves to another one that isn't below it
-moved_has : (m n p : ℕ) (t : OwnerTree) → Once t → Moves n p t → has m (moved n p t) ≡ true → has m t ≡ true
-moved_has m n p t o w u =
-    let a = at_some n t w.node in
-    let same : times m (moved n p t) ≡ times m t = rw a.1 (times_moved m n p a.0 t o w) in
-    has_some m t (omega (arith, same, times_some m (moved n p t) u))
-
 pub owners_moved : (n p : ℕ) (s : Scene) → Moves n p s.session.owners → KeepsOwners s (owner_moved n p s).scene (owner_moved n p s).events
 owners_moved n p s w = record {
   so = λ growth h.
