@@ -20,7 +20,7 @@ pub const MAX_PORTALS: usize = 1024;
 /// The portals of one session, of which there are at most 1,024, no two with one name.
 ///
 /// Contracts see the list of the portals, newest first. Only `create` may take memory. A portal is found by its name in
-/// a time that doesn't grow with the others.
+/// a time that doesn't grow with the others; where one ends, those on its shorter side move up.
 #[derive(Drop)]
 pub struct Portals {
     portals: VecDeque<Portal>,
