@@ -8,7 +8,8 @@ use Rattle.lifetime_laws.specs.Inside.{StaysInside, stays_inside}
 use Rattle.lifetime_laws.specs.Called.{CallsBack, calls_back}
 
 -- What the events of a run of so many sessions owe: each resource that is acquired is released exactly once; the end of a level releases
--- descendants first, by phase and priority; it touches nothing outside the level; and each callback runs once, before its memory goes.
+-- descendants first, by phase and priority; that of a level that aborts touches nothing outside the level; and each callback runs once,
+-- before its memory goes.
 pub record IsLawful (kinds : KindTable) (sessions : ℕ) (events : List Event) : Type 0 where
   pub released_once : ReleasesOnce sessions events
   pub released_in_order : ReleasesInOrder kinds events

@@ -94,9 +94,9 @@ pub fn run<S: Source, K: Sink, H: ResetHook, X: ExtKind>(
     ensures taken { (o : Asked) → AskFor (map string_text words.now) o → o.generate ≡ 0 → (result.status ≡ 0) ⊎ (result.status ≡ 1) → TakesAll (setting_for o shelf.old kinds.old) (S.left src.old) space.old space.new }
 
     // Unless not all sessions were started, each transcript that these clauses speak of keeps the laws of lifetimes: what is acquired is
-    // released exactly once, descendants first, by phase and priority; the end of a level touches nothing outside it; and each callback runs once,
-    // before its memory goes. So does that of the script that is made. And in each no context and no owner is made twice, and none goes that was
-    // not made.
+    // released exactly once, descendants first, by phase and priority; the end of a level that aborts touches nothing outside it; and each callback
+    // runs once, before its memory goes. So does that of the script that is made. And in each no context and no owner is made twice, and none goes
+    // that was not made.
     ensures lawful { (o : Asked) → AskFor (map string_text words.now) o → (result.status ≡ 5 → 0 < result.call) → AreLawful (setting_for o shelf.old kinds.old) }
     ensures generated_lawful { (o : Asked) → AskFor (map string_text words.now) o → 0 < o.generate → (result.status ≡ 5 → 0 < result.call) → IsMadeLawfully o.generate (setting_for o shelf.old kinds.old) }
     ensures made_once { (o : Asked) → AskFor (map string_text words.now) o → (result.status ≡ 5 → 0 < result.call) → AreMadeOnce (setting_for o shelf.old kinds.old) }
