@@ -8,3 +8,4 @@ pub mod Placed
 pub mod Swept
 pub mod Tables
 pub mod Rows
+pub mod Phases

@@ -4,3 +4,4 @@ pub mod Released
 pub mod Locks
 pub mod Sound
 pub mod TableCode
+pub mod Phases

@@ -7,6 +7,7 @@
 
 mod discard_tree;
 mod errors;
+mod laws;
 mod locks;
 mod node;
 mod owners;
@@ -16,5 +17,6 @@ mod release_tree;
 mod table;
 
 pub use errors::OwnerError;
+pub use laws::whole_release;
 pub use owners::{MOST_OWNERS, Owners};
 pub use table::Release;

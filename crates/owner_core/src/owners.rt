@@ -259,6 +259,8 @@ impl Owners {
         ensures steps { (events : List What) × R.does table.old (release_steps (R.kind_table table.old) phase commit top owner.number (owners_of self.old)) events table.new × E.emits out.old events out.new }
         ensures fit { R.IsFit table.new }
         ensures kinds { R.kind_table table.new ≡ R.kind_table table.old }
+        ensures still_kinds { AllAt (λ o. All (λ item. IsKind (R.kind_table table.new) item.kind) o.items) owner.number (owners_of self.new) }
+        ensures parents { (n : ℕ) → parent_of n (owners_of self.new) ≡ parent_of n (owners_of self.old) }
         ensures counted { (kind : Kind) (key : ℕ) → R.counted table.new kind key + held kind key (owners_of self.old) ≡ R.counted table.old kind key + held kind key (owners_of self.new) }
     {
         let how = How { phase, commit, top };

@@ -1,15 +1,13 @@
 -- Each turn takes out the first of what is still to go.
-use Rattle.std.proofs.Common.{◌≡◌, ◌≢◌, ◌<◌, ℕ, true, List, [], ◌∷◌, ◌++◌, map, arith, ap, refl, sym, ◌∙◌, subst, append_assoc}
+use Rattle.std.proofs.Common.{◌≡◌, ◌≢◌, ℕ, List, [], ◌∷◌, ◌++◌, map, arith, ap, refl, sym, ◌∙◌, subst, append_assoc}
 use Rattle.std.proofs.lemmas.Bool.{both_ways}
-use Rattle.pgs_step.specs.declared.events.What.{What}
 use Rattle.pgs_step.specs.declared.events.What.TheVariants.{OwnerGone}
-use Rattle.forest.specs.Forest.{Forest, Once, has, at, size, children, removed}
+use Rattle.forest.specs.Forest.{Forest, Once, has, size, children, removed}
 use Rattle.forest.specs.Walk.{lead, follows, order_at}
 use Rattle.forest.proofs.Trees.{removed_has, has_of_removed}
 use Rattle.owner_core.specs.Owners.{Roomy}
-use Rattle.owner_core.proofs.Gone.{Takes, takes, bare, order_bare, stays_apart}
+use Rattle.owner_core.proofs.Gone.{takes, bare, order_bare, stays_apart}
 use Rattle.owner_core.proofs.discard_tree.discard_tree.Goals as goal
-use Rattle.owner_core.proofs.discard_tree.discard_tree.Given as given
 
 pub loop-current-init : goal.loop-current-init
 loop-current-init g c = record {

@@ -1,5 +1,5 @@
 -- Each turn adds the steps of an item's release to those that were done.
-use Rattle.std.proofs.Common.{◌≡◌, ◌+◌, [], ◌∷◌, ◌++◌, All, List, arith, ap, refl, sym, ◌∙◌, subst, rules, length}
+use Rattle.std.proofs.Common.{◌≡◌, ◌+◌, [], ◌∷◌, ◌++◌, All, arith, ap, refl, sym, ◌∙◌, subst, rules, length}
 use Rattle.owner_kinds.specs.KindTable.{KindTable, IsKind}
 use Rattle.owner_kinds.specs.KindShelf.{table_of}
 use Rattle.owner_items.specs.ItemList.{uses}

@@ -1,11 +1,10 @@
 -- The owner at the node changes, and no other.
-use Rattle.std.proofs.Common.{◌≡◌, Some, refl, ap, sym, ◌∙◌, arith, ◌+◌}
+use Rattle.std.proofs.Common.{◌≡◌, Some, refl, ap, sym, ◌∙◌, ◌+◌}
 use Rattle.std.specs.Option.{option_map}
-use Rattle.forest.specs.Forest.{at, changed}
 use Rattle.forest.proofs.Trees.{once_changed}
 use Rattle.forest.proofs.Mapped.{mapped-at, mapped-changed}
 use Rattle.owner_items.specs.ItemList.{uses}
-use Rattle.owner_core.specs.Owners.{Owner, Roomy, tree_of}
+use Rattle.owner_core.specs.Owners.{Owner, Roomy}
 use Rattle.owner_core.specs.Released.{own_released}
 use Rattle.owner_core.proofs.release_tree.release_one.Goals as goal
 

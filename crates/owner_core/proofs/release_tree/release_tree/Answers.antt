@@ -1,20 +1,19 @@
 -- Each turn adds what happens at a node of the walk to what was done.
-use Rattle.std.proofs.Common.{◌≡◌, ◌≢◌, ◌⊎◌, ◌+◌, ◌≤◌, Some, [], ◌∷◌, ◌++◌, List, Option, true, ℕ, Bool, arith, ap, refl, sym, ◌∙◌, subst, inl, inr, append_assoc, length, All}
+use Rattle.std.proofs.Common.{◌≡◌, ◌≤◌, [], ◌++◌, List, Option, true, ℕ, arith, ap, refl, sym, ◌∙◌, subst, inl, inr, append_assoc, All}
 use Rattle.std.specs.List.{flat_map}
-use Rattle.forest.specs.Forest.{Forest, Once, at, has, children, parent_of, changed}
-use Rattle.forest.specs.Walk.{lead, follows, todo, order_at}
+use Rattle.forest.specs.Forest.{Once, has, children, parent_of, changed}
+use Rattle.forest.specs.Walk.{todo}
 use Rattle.forest.proofs.Mapped.{mapped-has}
-use Rattle.forest.proofs.Trees.{has_at, at_some}
+use Rattle.forest.proofs.Trees.{at_some}
 use Rattle.std.proofs.lemmas.List.{append-nil}
 use Rattle.owner_kinds.specs.KindTable.{KindTable, IsKind}
-use Rattle.owner_items.specs.ItemList.{uses}
-use Rattle.owner_core.specs.Owners.{Owner, OwnerTree, Roomy, tree_of, held, subtree_of}
+use Rattle.owner_core.specs.Owners.{Owner, OwnerTree, Roomy, tree_of, held}
 use Rattle.owner_core.specs.Locks.{steps_of_locks, locks_below}
-use Rattle.owner_core.specs.Released.{own_released, released}
-use Rattle.owner_core.specs.Steps.{Step, own_steps, top_locks, release_steps}
+use Rattle.owner_core.specs.Released.{own_released}
+use Rattle.owner_core.specs.Steps.{Step, own_steps, top_locks}
 use Rattle.owner_core.proofs.Lists.{Each}
 use Rattle.owner_core.proofs.Walking.{Visit, walked, walk_tree, walked_at, tree_swept}
-use Rattle.owner_core.proofs.Releasing.{visit_steps, visit_uses, uses_first, uses_all, each_all, steps_all, steps_at, steps_top, held_changed, Turn, turn, Start, start, Finish, finish, lead_tree, follows_tree, inside_tree, inside_changed, enough_here, kinds_here, enough_end, kinds_end, parent_tree, once_tree}
+use Rattle.owner_core.proofs.Releasing.{visit_steps, visit_uses, uses_first, uses_all, each_all, steps_all, steps_at, steps_top, held_changed, Turn, turn, start, finish, lead_tree, follows_tree, inside_tree, inside_changed, enough_here, kinds_here, enough_end, kinds_end, parent_tree, once_tree}
 use Rattle.owner_core.proofs.release_tree.release_tree.Goals as goal
 use Rattle.owner_core.proofs.release_tree.release_tree.Given as given
 

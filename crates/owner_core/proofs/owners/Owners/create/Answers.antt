@@ -1,22 +1,12 @@
-use Rattle.std.proofs.Common.{◌≡◌, ◌≢◌, ℕ, ◌+◌, ◌≤◌, Bool, true, false, Option, Some, None, Ok, Err, List, [], ◌∷◌, ◌++◌, map, refl, sym, ap, ◌∙◌, subst, IfSome, arith, rules}
+use Rattle.std.proofs.Common.{◌≡◌, ℕ, ◌+◌, Option, refl, sym, ap, ◌∙◌, subst, IfSome, arith}
 use Rattle.std.specs.Option.{option_map, option_map_or}
-use Rattle.pgs_step.specs.declared.ids.Item.{Item}
-use Rattle.pgs_step.specs.declared.events.What.{What}
-use Rattle.pgs_step.specs.declared.events.What.TheVariants.{OwnerGone}
-use Rattle.forest.specs.declared.id.NodeId.{NodeId}
-use Rattle.forest.specs.Forest.{Forest, Empty, Node, has, Once, size, at, children, removed, changed, moved}
-use Rattle.forest.specs.Walk.{order_at}
-use Rattle.forest.proofs.Trees.{at_some}
-use Rattle.forest.proofs.Mapped.{mapped-size, mapped-has, mapped-removed, at_changed}
-use Rattle.owner_kinds.specs.KindTable.{KindTable}
-use Rattle.owner_items.specs.ItemList.{is_of, without_newest}
-use Rattle.owner_core.specs.Owners.{Owner, OwnerTree, OwnerTable, Roomy, IsLive, tree_of, owners_of, has_begun, items_of, spare_of, created, entered, remembered, forgotten}
-use Rattle.owner_core.specs.Released.{released, own_released}
+use Rattle.forest.specs.Forest.{Forest, size, at}
+use Rattle.forest.proofs.Mapped.{mapped-size, mapped-has}
+use Rattle.owner_core.specs.Owners.{OwnerTree, OwnerTable, Roomy, IsLive, tree_of, owners_of, spare_of, created}
 use Rattle.owner_core.specs.Sound.{IsSound, AreGiven}
-use Rattle.owner_core.proofs.Sounds.{once_of, fresh, newest, sound_created, sound_removed, sound_moved, sound_remembered, sound_forgotten, sound_released}
+use Rattle.owner_core.proofs.Sounds.{fresh, sound_created}
 use Rattle.owner_core.proofs.Placed.{given_entered, live_entered, stays_entered, older_than}
-use Rattle.owner_core.proofs.Tables.{spare_entered, at_tree, once_rooms, changed_to, changed_same, changed_back, tree_entered, tree_moved, tree_order}
-use Rattle.owner_core.proofs.Releasing.{inside_tree}
+use Rattle.owner_core.proofs.Tables.{spare_entered, tree_entered}
 use Rattle.owner_core.proofs.owners.Owners.create.Goals as goal
 
 pub returns-then-len-ge-MOST_OWNERS-clause-fresh : goal.returns-then-len-ge-MOST_OWNERS-clause-fresh

@@ -1,27 +1,17 @@
-use Rattle.std.proofs.Common.{◌≡◌, ◌≢◌, ℕ, ◌+◌, ◌≤◌, Bool, true, false, Option, Some, None, Ok, Err, List, [], ◌∷◌, ◌++◌, map, refl, sym, ap, ◌∙◌, subst, arith, rules}
-use Rattle.std.specs.Option.{option_map, option_map_or}
+use Rattle.std.proofs.Common.{◌≡◌, false, Option, Some, List, [], sym, ap, ◌∙◌, subst}
+use Rattle.std.specs.Option.{option_map_or}
 use Rattle.pgs_step.specs.declared.ids.Item.{Item}
-use Rattle.pgs_step.specs.declared.events.What.{What}
-use Rattle.pgs_step.specs.declared.events.What.TheVariants.{OwnerGone}
 use Rattle.forest.specs.declared.id.NodeId.{NodeId}
-use Rattle.forest.specs.Forest.{Forest, Empty, Node, has, Once, size, at, children, removed, changed, moved}
-use Rattle.forest.specs.Walk.{order_at}
-use Rattle.forest.proofs.Trees.{at_some}
-use Rattle.forest.proofs.Mapped.{mapped-size, mapped-has, mapped-removed, at_changed}
-use Rattle.owner_kinds.specs.KindTable.{KindTable}
+use Rattle.forest.specs.Forest.{Once, at}
 use Rattle.owner_items.specs.ItemList.{is_of, without_newest}
-use Rattle.owner_core.specs.Owners.{Owner, OwnerTree, OwnerTable, Roomy, tree_of, owners_of, has_begun, items_of, spare_of, created, entered, remembered, forgotten}
-use Rattle.owner_core.specs.Released.{released, own_released}
+use Rattle.owner_core.specs.Owners.{Owner, OwnerTree, OwnerTable, Roomy, tree_of, owners_of, has_begun, items_of, spare_of, forgotten}
 use Rattle.owner_core.specs.Sound.{IsSound}
-use Rattle.owner_core.proofs.Sounds.{once_of, fresh, newest, sound_created, sound_removed, sound_moved, sound_remembered, sound_forgotten, sound_released}
-use Rattle.owner_core.proofs.Tables.{spare_other, at_tree, once_rooms, changed_to, changed_same, changed_back, tree_entered, tree_moved, tree_order}
-use Rattle.owner_core.proofs.Releasing.{inside_tree}
+use Rattle.owner_core.proofs.Sounds.{once_of, sound_forgotten}
+use Rattle.owner_core.proofs.Tables.{spare_other, at_tree, once_rooms, changed_to, changed_same}
 use Rattle.owner_core.proofs.owners.Owners.forget.Goals as goal
-use Rattle.owner_core.proofs.owners.Owners.forget.Given as given
 use Rattle.std.specs.Prelude.{find}
 use Rattle.std.specs.Option.{ok_or}
 use Rattle.owner_core.proofs.Tables.{room_back}
-use Rattle.owner_core.specs.declared.errors.OwnerError.{OwnerError}
 use Rattle.owner_core.specs.declared.errors.OwnerError.TheVariants.{NotOwned}
 
 pub invariant_of-self : goal.invariant_of-self
