@@ -5,3 +5,4 @@ pub mod Sound
 pub mod Footprint
 pub mod Live
 pub mod Contexts
+pub mod Spared

@@ -6,16 +6,20 @@
 //! offsets are bytes, and a region has 1 to 2^31 of them.
 #![tactic(auto)]
 
-ghost use Rattle.std.specs.Prelude.{◌≡◌, ◌≢◌, ℕ, ◌+◌, ◌-◌, ◌^◌, ◌<◌, ◌≤◌, ◌==◌, ◌↔◌, [], length, map, Ok, Err, Some, None, IsTrue, IsOk, IfOk, OnOk, OnErr, if◌then◌else◌, replicate, min, slice_index_or, IfSome, IfNone};
+ghost use Rattle.std.specs.Prelude.{◌≡◌, ◌≢◌, ℕ, ◌+◌, ◌-◌, ◌*◌, ◌^◌, ◌<◌, ◌≤◌, ◌==◌, ◌↔◌, [], length, map, Ok, Err, Some, None, IsTrue, IsOk, IfOk, OnOk, OnErr, if◌then◌else◌, replicate, min, slice_index_or, IfSome, IfNone};
 ghost use Rattle.std.specs.Option.{SomeIff};
+ghost use Rattle.addr_space.specs.Spared.{without_spare};
+ghost use Rattle.addr_space.specs.declared.spare.TheConstants.{MOST_SPARE, LARGE, SMALL};
 ghost use Rattle.addr_space.specs.Space.{Space as Regions, accounts, region_at, bytes_of, held, taken, Fits, IsInside, IsRegion, IsKnown, IsApart, part, unwritten, overwritten, resized, raised, raised_by, risen, share, IsOverLimit, Changes};
 
 mod laws;
 mod region;
+mod spare;
 
 pub use laws::{framing, listing};
 use region::Region;
 use slab::Slab;
+use spare::Spare;
 use std::alloc::{AllocError, Global};
 use std::marker::Model;
 use thiserror::Error;
@@ -72,42 +76,16 @@ fn within(limit: u64, held: u64, gave: u64, got: u64) -> Option<u64>
     }
 }
 
-// Regions that were given back, whose memory serves again.
-#[derive(Drop)]
-struct Spare {
-    large: Vec<Region>,
-    small: Vec<Region>,
-}
-
 // A region of `n` bytes for an account, none of which is known: one of those that are kept, where these have so many.
 fn new_region(spare: &mut Spare, alloc: Global, account: u8, n: u32) -> Result<Region, AllocError>
     requires { 1 ≤ n }
     ensures account { IfOk result (λ r. r.account ≡ account) }
     ensures bytes { IfOk result (λ r. r.bytes ≡ replicate n None) }
+    ensures spare { spare.new ≡ without_spare n spare.old }
 {
-    let kept = match n as usize {
-        LARGE => spare.large.pop(),
-        SMALL => spare.small.pop(),
-        _ => None,
-    };
-    match kept {
-        Some(region) if region.len() == n as usize => Ok(region.renewed(account)),
-        _ => Region::unwritten(alloc, account, n),
-    }
-}
-
-// Keeps a region that was given back, where it is one of those that are kept and there is room.
-fn keep(spare: &mut Spare, region: Region) {
-    match region.len() {
-        LARGE => keep_in(&mut spare.large, region),
-        SMALL => keep_in(&mut spare.small, region),
-        _ => {}
-    }
-}
-
-fn keep_in(spare: &mut Vec<Region>, region: Region) {
-    if spare.len() < spare.capacity() {
-        spare.push_reserved(region);
+    match spare.pop(n as usize) {
+        Some(region) => Ok(region.renewed(account)),
+        None => Region::unwritten(alloc, account, n),
     }
 }
 
@@ -125,16 +103,6 @@ fn admit(regions: &mut Slab<Region>, region: Region) -> Option<u32>
     regions.insert_reserved(region);
     Some(number)
 }
-
-/// How many regions of one length that were given back are kept for the next ones, as PostgreSQL's aset.c keeps
-/// `MAX_FREE_CONTEXTS`: more than a session has levels, so that a deep stack of savepoints finds its memory again.
-const MOST_SPARE: usize = 1024;
-
-/// The bytes of a region that is kept so: the first block of most contexts.
-const LARGE: usize = 8192;
-
-/// Those of the first block of a small context, likewise.
-const SMALL: usize = 1024;
 
 /// A set of regions with their bytes, and what each account holds of them.
 ///
@@ -178,10 +146,7 @@ impl Space {
         Ok(Space {
             alloc,
             regions: Slab::new(alloc),
-            spare: Spare {
-                large: Vec::with_capacity(alloc, MOST_SPARE)?,
-                small: Vec::with_capacity(alloc, MOST_SPARE)?,
-            },
+            spare: Spare::new(alloc)?,
             accounts: list,
             limit,
         })
@@ -234,6 +199,13 @@ impl Space {
         self.entry(account).taken
     }
 
+    /// The bytes of the memory that is kept of regions that were given back: 9,437,184 at most. They count for no account.
+    pub fn kept(&self) -> usize
+        ensures { result ≤ MOST_SPARE * (LARGE + SMALL) }
+    {
+        self.spare.bytes()
+    }
+
     /// Takes a region of `n` bytes, 1 to 2^31, for an account, and answers its start. No byte of it is known.
     ///
     /// `NoSpace` comes before `Memory`. A refused call changes nothing.
@@ -279,7 +251,7 @@ impl Space {
         let region = self.regions.remove(at.region as usize);
         let entry = &mut self.accounts[region.account() as usize];
         entry.held -= region.len() as u64;
-        keep(&mut self.spare, region);
+        self.spare.keep(region);
     }
 
     /// Makes a region `n` bytes long, 1 to 2^31, at the same address. It keeps the bytes that both lengths have, and
