@@ -11,4 +11,5 @@ pub mod Flipped
 pub mod Taken
 pub mod Leads
 pub mod Places
+pub mod Aligned
 mod Rows

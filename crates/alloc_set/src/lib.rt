@@ -126,6 +126,13 @@ impl AllocSet {
         let _ = &self.books;
     }
 
+    /// The address of each live chunk is a multiple of 8. A caller cites the clause.
+    pub fn aligned(&self)
+        ensures { (at : Addr) (size : ℕ) → (footprint self.now).live at ≡ Some size → at.offset % 8 ≡ 0 }
+    {
+        let _ = &self.books;
+    }
+
     /// Takes a chunk of `size` bytes, which may be 0, and answers its address: `AllocSetAlloc`. A chunk that was
     /// freed before has the bytes that stood there, but for the first 8, which may be others.
     ///
@@ -140,6 +147,7 @@ impl AllocSet {
         // The chunk was not live, and every other chunk keeps its size.
         ensures fresh { IfOk result (λ at. (footprint self.old).live at ≡ None) }
         ensures live { IfOk result (λ at. PutsLive (footprint self.old) (footprint self.new) at (Some size)) }
+        ensures aligned { IfOk result (λ at. at.offset % 8 ≡ 0) }
         ensures moves { Moves (footprint self.old) (footprint self.new) space.old space.new }
         ensures keeps { Keeps (footprint self.old) (footprint self.new) space.old space.new }
 
@@ -197,6 +205,7 @@ impl AllocSet {
         // Where the chunk is at another address, none was live there, and the old address has none.
         ensures fresh { IfOk result (λ to. to ≢ at → (footprint self.old).live to ≡ None) }
         ensures live { IfOk result (λ to. MovesLive (footprint self.old) (footprint self.new) at to size) }
+        ensures aligned { IfOk result (λ to. to.offset % 8 ≡ 0) }
         ensures bytes { IfOk result (λ to. HasBytesOf space.old space.new at to (min keep size)) }
         ensures known { IfOk result (λ to. IsKnown space.new to (min keep size)) }
         ensures moves { Moves (footprint self.old) (footprint self.new) space.old space.new }

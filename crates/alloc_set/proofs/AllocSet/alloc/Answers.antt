@@ -1,9 +1,10 @@
 use Rattle.std.proofs.Common.{ap, sym, subst, ◌∙◌}
 use Rattle.addr_space.specs.Footprint.{Agrees}
-use Rattle.addr_space.proofs.Options.{on_ok, on_err, both_err, either_way}
+use Rattle.addr_space.proofs.Options.{if_ok, on_ok, on_err, both_err, either_way}
 use Rattle.addr_space.proofs.Steps.{Moves-same, Keeps-same}
 use Rattle.alloc_set.specs.State.{SetState, footprint}
 use Rattle.alloc_set.specs.Kept.{state_of}
+use Rattle.alloc_set.proofs.Aligned.{put_whole}
 use Rattle.alloc_set.proofs.AllocSet.alloc.Goals as goal
 
 pub returns-clause-moves : goal.returns-clause-moves
@@ -18,3 +19,8 @@ returns-clause-keeps c =
     let g = footprint (state_of c.alloc.new.self) in
     rw (← (ap state_of c.deref_mut.ensures.value ∙ c.self.view_is))
     (either_way c.alloc.result (on_ok c.alloc.result (λ at had. had.keeps) c.alloc.ensures.ok) (on_err c.alloc.result (Keeps-same f g c.args.space.now c.alloc.new.space) c.alloc.ensures.err_space))
+
+pub returns-clause-aligned : goal.returns-clause-aligned
+returns-clause-aligned c =
+    let b = c.alloc.new.self in
+    if_ok c.alloc.result (λ at had. put_whole (state_of b) b.active.region b.active.size had.kept.settled (state_of c.deref_mut.result.now) at c.args.size had.live) c.alloc.ensures.ok

@@ -1,9 +1,10 @@
 use Rattle.std.proofs.Common.{ap, sym, subst, ◌∙◌}
 use Rattle.addr_space.specs.Footprint.{Agrees}
-use Rattle.addr_space.proofs.Options.{on_ok, on_err, both_err, either_way}
+use Rattle.addr_space.proofs.Options.{if_ok, on_ok, on_err, both_err, either_way}
 use Rattle.addr_space.proofs.Steps.{Moves-same, KeepsBut-same}
 use Rattle.alloc_set.specs.State.{SetState, footprint}
 use Rattle.alloc_set.specs.Kept.{state_of}
+use Rattle.alloc_set.proofs.Aligned.{move_whole}
 use Rattle.alloc_set.proofs.AllocSet.realloc.Goals as goal
 
 pub returns-clause-moves : goal.returns-clause-moves
@@ -18,3 +19,8 @@ returns-clause-keeps c =
     let g = footprint (state_of c.realloc.new.self) in
     rw (← (ap state_of c.deref_mut.ensures.value ∙ c.self.view_is))
     (either_way c.realloc.result (on_ok c.realloc.result (λ to had. had.2.keeps) c.realloc.ensures.ok) (on_err c.realloc.result (KeepsBut-same c.args.at f g c.args.space.now c.realloc.new.space) c.realloc.ensures.err_space))
+
+pub returns-clause-aligned : goal.returns-clause-aligned
+returns-clause-aligned c =
+    let b = c.realloc.new.self in
+    if_ok c.realloc.result (λ to had. move_whole (state_of b) b.active.region b.active.size had.2.kept.settled (state_of c.deref_mut.result.now) c.args.at to c.args.size had.2.live) c.realloc.ensures.ok
