@@ -3,3 +3,4 @@ pub mod Ledgers
 pub mod Allocated
 pub mod Resets
 pub mod Rows
+pub mod Aligned

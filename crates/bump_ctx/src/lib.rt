@@ -97,6 +97,13 @@ impl BumpCtx {
         let _ = &self.books;
     }
 
+    /// The address of each live chunk is a multiple of 8. A caller cites the clause.
+    pub fn aligned(&self)
+        ensures { (at : Addr) (size : ℕ) → (footprint self.now).live at ≡ Some size → at.offset % 8 ≡ 0 }
+    {
+        self.books.blocks.laid();
+    }
+
     /// Takes a chunk of `size` bytes, which may be 0, and answers its address: `BumpAlloc`.
     ///
     /// `TooBig`, where `size` is over `LARGEST`, `NoSpace` and `Memory` are tried in this order. A refused call
@@ -111,6 +118,7 @@ impl BumpCtx {
         // The chunk was not live, and every other chunk stays.
         ensures fresh { IfOk result (λ at. (footprint self.old).live at ≡ None) }
         ensures live { IfOk result (λ at. PutsLive (footprint self.old) (footprint self.new) at (Some size)) }
+        ensures aligned { IfOk result (λ at. at.offset % 8 ≡ 0) }
         ensures moves { Moves (footprint self.old) (footprint self.new) space.old space.new }
         ensures keeps { Keeps (footprint self.old) (footprint self.new) space.old space.new }
 
@@ -120,7 +128,9 @@ impl BumpCtx {
         ensures err { OnErr result (self.new ≡ self.old) }
         ensures err_space { OnErr result (space.new ≡ space.old) }
     {
-        self.books.alloc(space, size)
+        let taken = self.books.alloc(space, size);
+        self.books.blocks.laid();
+        taken
     }
 
     /// Refuses to free a live chunk: the answer is `Unsupported`, and nothing changes (`BumpFree`).
