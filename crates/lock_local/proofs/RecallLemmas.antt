@@ -381,13 +381,15 @@ module _ (xs ys : List Lock) (from to : ℕ) (both : HoldsBoth xs ys from to) wh
       joined q s e some just true f = let none : Some q ≡ None = sym e ∙ beside true f in absurd (cc)
       joined q s e some just false f = λ few.
           let k = just few in
-          let p = known rs xs to (Some q) h (sym (beside false f) ∙ e) k.0 in
-          (some p.0, λ a n.
-              k.2 a n
-              ∙ ap (λ b. b || recalls q a n) ((from_is k.1).1 a n)
-              ∙ ap (λ b. has_lock xs from a n || b) (p.1 a n)
-              ∙ or_swapped (has_lock xs from a n) (has_lock xs to a n)
-              ∙ sym (passed_at to false true f (eq-eqb to to refl) a n))
+          let p = known rs xs to (Some q) h (sym (beside false f) ∙ e) k.0 in (
+            some p.0,
+            λ a n.
+                k.2 a n
+                ∙ ap (λ b. b || recalls q a n) ((from_is k.1).1 a n)
+                ∙ ap (λ b. has_lock xs from a n || b) (p.1 a n)
+                ∙ or_swapped (has_lock xs from a n) (has_lock xs to a n)
+                ∙ sym (passed_at to false true f (eq-eqb to to refl) a n),
+          )
 
       by_mid : (q : Option Recall) → recall_of mid to ≡ q → Joins added q (recall_of ss to) → IsRecall ys to (recall_of ss to)
       by_mid None e j = subst (IsRecall ys to) (sym j) (λ few. let k = from_is few in (k.0, λ a n. k.1 a n ∙ sym (alone (nat_eq from to) refl e a n)))

@@ -55,4 +55,4 @@ abbrev pub Joins : Recall → Option Recall → Option Recall → Type 0
 Joins added old new =
     MatchOption old (new ≡ Some added)
     (λ q. (r : Recall) × (new ≡ Some r) × (0 < length q.tags → 0 < length r.tags)
-        × (r.more ≡ false → (q.more ≡ false) × (added.more ≡ false) × ((object : ℕ) (mode : Mode) → recalls r object mode ≡ (recalls added object mode || recalls q object mode))))
+    × (r.more ≡ false → (q.more ≡ false) × (added.more ≡ false) × ((object : ℕ) (mode : Mode) → recalls r object mode ≡ (recalls added object mode || recalls q object mode))))

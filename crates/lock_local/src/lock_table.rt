@@ -186,13 +186,7 @@ impl LockTable {
         ensures held { (object : ℕ) (mode : Mode) → is_held self.new.locks object mode ≡ is_held self.old.locks object mode }
         ensures locks { AreLocks self.new.locks }
     {
-        pass_recalled(
-            &mut self.locks,
-            &self.recalled,
-            from.number,
-            to.number,
-            out,
-        );
+        pass_recalled(&mut self.locks, &self.recalled, from.number, to.number, out);
         hand_on(&mut self.recalled, from.number, to.number);
     }
 

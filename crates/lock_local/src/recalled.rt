@@ -266,7 +266,13 @@ pub fn note(recalled: &mut VecDeque<OwnerLocks>, owner: u64, object: u32, mode: 
 }
 
 /// Forgets a lock that an owner holds once less, where it held it just once.
-pub fn forget_last(recalled: &mut VecDeque<OwnerLocks>, count: u64, owner: u64, object: u32, mode: Mode)
+pub fn forget_last(
+    recalled: &mut VecDeque<OwnerLocks>,
+    count: u64,
+    owner: u64,
+    object: u32,
+    mode: Mode,
+)
     requires by_owner { IsByOwner recalled.old.items }
     ensures by_owner { IsByOwner recalled.new.items }
     ensures remembers { (xs : List Lock) (ys : List Lock) → Remembers recalled.old.items xs → count ≡ count_of xs object mode owner → (count ≡ 0 → ys ≡ xs) → (0 < count → HoldsOneLess xs ys object mode owner) → Remembers recalled.new.items ys }

@@ -1,4 +1,4 @@
-use Rattle.std.proofs.Common.{◌≡◌, ap, sym, subst, ◌∙◌, List, Some, set, remove, arith}
+use Rattle.std.proofs.Common.{◌≡◌, ap, sym, subst, ◌∙◌, List, Some, remove, arith}
 use Rattle.lock_local.specs.Recalled.{Recall, recall_of, IsByOwner}
 use Rattle.lock_local.proofs.PlaceLemmas.{taken_some}
 use Rattle.lock_local.proofs.RecallLemmas.{at_place, no_place, written, removed, remove-set, IsByOwner-set, IsByOwner-remove, not_unknown, remembers_less, remembers_last}

@@ -1,4 +1,4 @@
-use Rattle.std.proofs.Common.{◌≢◌, ◌<◌, length, get_or, ap, sym, ◌∙◌, arith, rules, ltb}
+use Rattle.std.proofs.Common.{◌≢◌, ◌<◌, length, get_or, ap, ◌∙◌, arith, rules, ltb}
 use Rattle.std.proofs.lemmas.Bool.{ltb-true, ltb-false}
 use Rattle.std.proofs.lemmas.List.{get_or_default}
 use Rattle.std.proofs.lemmas.List.Sorted.{IsPartitionPoint-from_clause, IsPartitionedBy-ltb}

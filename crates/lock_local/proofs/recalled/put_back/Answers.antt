@@ -3,12 +3,11 @@ use Rattle.lock_local.specs.Recalled.{Recall, recall_of, Joins, IsByOwner}
 use Rattle.lock_local.specs.OwnerPlaces.{HasOwnerAt, WouldHaveOwnerAt}
 use Rattle.lock_local.proofs.RecallLemmas.{written, inserted, joined_at, joined_new, IsByOwner-set, IsByOwner-insert}
 use Rattle.lock_local.proofs.recalled.put_back.Goals as goal
-use Rattle.lock_local.proofs.recalled.put_back.Goals.{After-take_over}
 
-here : (c : After-take_over) → HasOwnerAt c.args.recall.owner c.args.recalled.now.items c.in-Ok.at
+here : (c : goal.After-recalled-1) → HasOwnerAt c.args.recall.owner c.args.recalled.now.items c.in-Ok.at
 here c = subst (λ (n : ℕ). HasOwnerAt n c.args.recalled.now.items c.in-Ok.at) c.owner.ensures c.in-Ok.ensures
 
-owned : (c : After-take_over) → c.take_over.new.self.owner ≡ c.args.recall.owner
+owned : (c : goal.After-recalled-1) → c.take_over.new.self.owner ≡ c.args.recall.owner
 owned c = c.take_over.ensures.owner ∙ ap (λ (r : Recall). r.owner) c.index_mut-other.ensures.value ∙ (here c).here c.index_mut-other.result.now
 
 pub returns-in-Ok-clause-by_owner : goal.returns-in-Ok-clause-by_owner

@@ -1,7 +1,7 @@
 use Rattle.std.proofs.Common.{◌≡◌, List, length, map, filter, sym, subst, ap, ◌∙◌}
 use Rattle.std.proofs.lemmas.List.{length-map}
 use Rattle.lock_local.specs.Locks.{Lock, has_owner, is_held, IsInOrder}
-use Rattle.lock_local.specs.Changes.{without, released, releases}
+use Rattle.lock_local.specs.Changes.{without, releases}
 use Rattle.lock_local.proofs.ChangeLemmas.{is_held-filter}
 use Rattle.lock_local.proofs.walks.give_up_all.Goals as goal
 

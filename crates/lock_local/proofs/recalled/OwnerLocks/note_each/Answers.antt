@@ -21,10 +21,12 @@ loop-tag-preserved c =
       some = λ more. c.note.ensures.some (c.loop-tag.invariant.some more);
       just = λ few.
           let k = c.note.ensures.just few in
-          let p = c.loop-tag.invariant.just k.0 in
-          (p.0, λ o m.
-              k.1 o m
-              ∙ ap (λ b. same_lock t.object t.mode o m || b) (p.1 o m)
-              ∙ or_last (same_lock t.object t.mode o m) (list_any (is_tag o m) (take i c.args.tags.now)) (recalls c.args.self.now o m)
-              ∙ ap (λ b. b || recalls c.args.self.now o m) (sym (list_any_more (is_tag o m) c.args.tags.now i no_tag c.loop-tag-test.true)));
+          let p = c.loop-tag.invariant.just k.0 in (
+            p.0,
+            λ o m.
+                k.1 o m
+                ∙ ap (λ b. same_lock t.object t.mode o m || b) (p.1 o m)
+                ∙ or_last (same_lock t.object t.mode o m) (list_any (is_tag o m) (take i c.args.tags.now)) (recalls c.args.self.now o m)
+                ∙ ap (λ b. b || recalls c.args.self.now o m) (sym (list_any_more (is_tag o m) c.args.tags.now i no_tag c.loop-tag-test.true)),
+          );
     }
