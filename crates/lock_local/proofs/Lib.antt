@@ -8,5 +8,5 @@ pub mod TagLemmas
 pub mod StepLemmas
 pub mod PlaceLemmas
 pub mod TotalLemmas
-pub mod CoverLemmas
+pub mod TableLemmas
 pub mod LawLemmas

@@ -1,6 +1,6 @@
 -- The place of a lock among others that are in order.
-use Rattle.std.proofs.Common.{◌≡◌, ◌≢◌, ℕ, suc, zero, ◌<◌, ◌≤◌, Bool, true, false, cond, nat_eq, List, [], ◌∷◌, length, get_or, filter, inl, inr, refl, ap, sym, ◌∙◌, arith}
-use Rattle.std.specs.Prelude.{remove}
+use Rattle.std.proofs.Common.{◌≡◌, ◌≢◌, ℕ, suc, zero, ◌<◌, ◌≤◌, Bool, true, false, cond, nat_eq, List, [], ◌∷◌, Option, Some, None, length, get_or, filter, inl, inr, refl, ap, sym, ◌∙◌, arith}
+use Rattle.std.specs.Prelude.{remove, OnSome}
 use Rattle.std.proofs.lemmas.Bool.{true≢false, cases_Bool, eqb-true, eqb-false}
 use Rattle.std.proofs.lemmas.List.{get_or_default}
 use Rattle.std.proofs.lemmas.List.Elements.{All-get_or, All-from_get_or}
@@ -39,6 +39,11 @@ later_back o m xs j x h w r e k d l v = elim (cases_Bool (sooner o m (get_or xs 
   | inl f ↦ absurd (true≢false (sym (sooner_front o m xs k (get_or xs k d) h v (get_or_default xs k d (get_or xs k d) v) f j x l) ∙ ap (sooner o m) (sym r) ∙ e))
   | inr f ↦ f
 ]
+
+-- what is taken out where there is something
+pub taken_some : {X : Type 0} {P : Type 0} (r : Option X) (x : X) → r ≡ Some x → OnSome r P → P
+taken_some None x e h = absurd (cc)
+taken_some (Some y) x e h = h
 
 -- the one lock without an owner is taken off
 pub ownerless_gone : (xs : List Lock) (i : ℕ) (d : Lock) → i < length xs → has_owner (get_or xs i d) ≡ false → ((k : ℕ) → k < length xs → k ≢ i → has_owner (get_or xs k d) ≡ true) → remove xs i ≡ filter has_owner xs

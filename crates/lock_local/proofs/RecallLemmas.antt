@@ -1,31 +1,38 @@
 -- What is remembered of the owners' locks after a change.
-use Rattle.std.proofs.Common.{◌≡◌, ℕ, suc, zero, ◌<◌, Bool, true, false, cond, nat_eq, nat_lt, List, [], ◌∷◌, ◌++◌, length, get_or, set, Option, Some, None, refl, ap, sym, subst, ◌∙◌, arith}
-use Rattle.std.specs.Prelude.{position, remove}
-use Rattle.std.specs.Option.{option_map_or}
+use Rattle.std.proofs.Common.{◌≡◌, ◌≢◌, ℕ, suc, zero, ◌<◌, ◌≤◌, ◌+◌, Bool, true, false, ◌&&◌, ◌||◌, not, cond, nat_eq, nat_lt, List, [], ◌∷◌, length, get_or, set, Option, Some, None, refl, ap, sym, subst, ◌∙◌, arith}
+use Rattle.std.specs.Prelude.{All, MatchOption, position, insert, remove}
 use Rattle.std.specs.List.{find, list_any, position_or_len}
-use Rattle.std.proofs.lemmas.Bool.{false≢true, eqb-true, eq-eqb, ltb-false}
+use Rattle.std.proofs.lemmas.Bool.{true≢false, eqb-true, eqb-false, eq-eqb, ltb-true, ltb-false, lt-ltb, and_parts}
+use Rattle.std.proofs.lemmas.Bool.Decides.{nat_tests}
 use Rattle.std.proofs.lemmas.List.Sums.{fails_before_first}
-use Rattle.std.proofs.lemmas.List.Quantifiers.{position-Some}
 use Rattle.std.proofs.lemmas.List.Folds.{find_past, list_any_none}
-use Rattle.std.proofs.lemmas.List.Elements.{All-from_get_or}
+use Rattle.std.specs.List.Sorted.{IsNonDecreasingBy}
+use Rattle.std.proofs.lemmas.List.{get_or_default}
+use Rattle.std.proofs.lemmas.List.Elements.{All-nil, All-cons, All-head, All-tail, All-weaker, All-set, All-get_or, All-from_get_or}
 use Rattle.pgs_step.specs.declared.lock_modes.Mode.{Mode}
-use Rattle.lock_local.specs.Recalled.{Recall, recalls, may_hold, holds_more}
+use Rattle.lock_shared.specs.Holdings.{same_lock}
+use Rattle.lock_local.specs.declared.recalled.LockTag.{LockTag}
+use Rattle.lock_local.specs.Locks.{Lock, count_of}
+use Rattle.lock_local.specs.Counts.{HoldsOneMore, HoldsOneLess, HoldsNothing, HoldsBoth}
+use Rattle.lock_local.specs.Recalled.{Recall, is_tag, recalls, recall_of, has_lock, IsByOwner, IsRecall, Remembers, Joins}
+use Rattle.lock_local.specs.OwnerPlaces.{HasOwnerAt, WouldHaveOwnerAt}
+use Rattle.lock_local.specs.Tagged.{AreTagged}
+use Rattle.lock_local.proofs.StepLemmas.{tagged_by}
+use Rattle.lock_local.proofs.TableLemmas.{count_like}
+use Rattle.lock_local.proofs.TagLemmas.{All-insert, All-remove}
 
 -- the first element that passes
 module _ {X : Type 0} (p : X → Bool) where
-  pub find_nothing : (xs : List X) (d : X) → ((k : ℕ) → k < length xs → p (get_or xs k d) ≡ false) → find p xs ≡ None
-  find_nothing [] d h = refl
-  find_nothing (x ∷ xs) d h = ap (λ b. cond b (Some x) (find p xs)) (h zero (omega arith)) ∙ find_nothing xs d (λ k l. h (suc k) (omega (arith, l)))
+  pub find_nothing : (xs : List X) → All (λ x. p x ≡ false) xs → find p xs ≡ None
+  find_nothing [] h = refl
+  find_nothing (x ∷ xs) h = ap (λ b. cond b (Some x) (find p xs)) (All-head (λ y. p y ≡ false) x xs h) ∙ find_nothing xs (All-tail (λ y. p y ≡ false) x xs h)
 
-  pub none_passes : (xs : List X) (d : X) → position p xs ≡ None → (k : ℕ) → k < length xs → p (get_or xs k d) ≡ false
+  none_passes : (xs : List X) (d : X) → position p xs ≡ None → (k : ℕ) → k < length xs → p (get_or xs k d) ≡ false
   none_passes xs d e k l = fails_before_first p xs k d (by_test (nat_lt (position_or_len p xs) (length xs)) refl e)
     where
       by_test : (t : Bool) → nat_lt (position_or_len p xs) (length xs) ≡ t → cond t (Some (position_or_len p xs)) None ≡ None → k < position_or_len p xs
       by_test true f g = absurd (cc)
       by_test false f g = omega (arith, l, ltb-false (position_or_len p xs) (length xs) f)
-
-  pub find_none : (xs : List X) (d : X) → position p xs ≡ None → find p xs ≡ None
-  find_none xs d e = find_nothing xs d (none_passes xs d e)
 
   pub find_here : (xs : List X) (i : ℕ) (d : X) → i < length xs → p (get_or xs i d) ≡ true → ((k : ℕ) → k < i → p (get_or xs k d) ≡ false) → find p xs ≡ Some (get_or xs i d)
   find_here [] i d l h b = absurd (omega (arith, l))
@@ -38,128 +45,393 @@ module _ {X : Type 0} (p : X → Bool) where
   find_written (x ∷ xs) zero d y l h b = ap (λ t. cond t (Some y) (find p xs)) h
   find_written (x ∷ xs) (suc i) d y l h b = ap (λ t. cond t (Some x) (find p (set xs i y))) (b zero (omega arith)) ∙ find_written xs i d y (omega (arith, l)) h (λ k m. b (suc k) (omega (arith, m)))
 
-  pub find_pushed : (xs : List X) (y : X) → find p xs ≡ None → p y ≡ true → find p (xs ++ y ∷ []) ≡ Some y
-  find_pushed [] y e h = ap (λ t. cond t (Some y) None) h
-  find_pushed (x ∷ xs) y e h = by_test (find_pushed xs y) (p x) refl
-    where
-      by_test : (find p xs ≡ None → p y ≡ true → find p (xs ++ y ∷ []) ≡ Some y) → (t : Bool) → p x ≡ t → cond (p x) (Some x) (find p (xs ++ y ∷ [])) ≡ Some y
-      by_test ih true f = let stands : Some x ≡ None = sym (ap (λ t. cond t (Some x) (find p xs)) f) ∙ e in absurd (cc)
-      by_test ih false f = ap (λ t. cond t (Some x) (find p (xs ++ y ∷ []))) f ∙ ih (sym (ap (λ t. cond t (Some x) (find p xs)) f) ∙ e) h
-
-  pub find_beside : (xs : List X) (y : X) → p y ≡ false → find p (xs ++ y ∷ []) ≡ find p xs
-  find_beside [] y h = ap (λ t. cond t (Some y) None) h
-  find_beside (x ∷ xs) y h = ap (λ r. cond (p x) (Some x) r) (find_beside xs y h)
-
   pub find_left : (xs : List X) (i : ℕ) (d : X) → i < length xs → p (get_or xs i d) ≡ false → find p (remove xs i) ≡ find p xs
   find_left [] i d l h = absurd (omega (arith, l))
   find_left (x ∷ xs) zero d l h = sym (ap (λ t. cond t (Some x) (find p xs)) h)
   find_left (x ∷ xs) (suc i) d l h = ap (λ r. cond (p x) (Some x) r) (find_left xs i d (omega (arith, l)) h)
 
+-- where none is found, none passes
+pub any_none : {X : Type 0} (p : X → Bool) (xs : List X) (d : X) → position p xs ≡ None → list_any p xs ≡ false
+any_none {X} p xs d e = list_any_none p xs (All-from_get_or (λ x. p x ≡ false) xs d (none_passes p xs d e))
+
 -- whether it is what is remembered of that owner
-abbrev pub is_of : ℕ → Recall → Bool
+abbrev is_of : ℕ → Recall → Bool
 is_of owner recall = nat_eq recall.owner owner
 
-abbrev told : ℕ → Mode → Option Recall → Bool
-told o m found = option_map_or (λ (r : Recall). recalls r o m) found false
+-- that an owner's number is less than another's
+abbrev Less : Recall → Recall → Type 0
+Less r s = r.owner < s.owner
 
 -- to read where nothing is remembered
 abbrev pub no_recall : Recall
 no_recall = record { owner = 0; tags = []; more = false }
 
--- what a search for the owner tells
-pub placed : (w : ℕ) (ys xs : List Recall) (r v : Option ℕ) → r ≡ position (is_of w) ys → ys ≡ xs → r ≡ v → position (is_of w) xs ≡ v
-placed w ys xs r v e s o = ap (position (is_of w)) (sym s) ∙ sym e ∙ o
-
 apart_from : (w v n : ℕ) → n ≡ w → nat_eq w v ≡ false → nat_eq n v ≡ false
 apart_from w v n e h = ap (λ (k : ℕ). nat_eq k v) e ∙ h
 
--- the place of an owner among those for which something is remembered
-pub may_first : (w : ℕ) (xs : List Recall) (i : ℕ) (d : Recall) (o : ℕ) (m : Mode) → position (is_of w) xs ≡ Some i → may_hold xs o m w ≡ recalls (get_or xs i d) o m
-may_first w xs i d o m e =
-    let at = position-Some (is_of w) xs i d e in
-    ap (told o m) (find_here (is_of w) xs i d at.0 at.1 at.2)
+less_apart : (n v : ℕ) → n < v → nat_eq n v ≡ false
+less_apart n v l = grind (arith, nat_tests)
 
-pub may_none : (w : ℕ) (xs : List Recall) (o : ℕ) (m : Mode) → position (is_of w) xs ≡ None → may_hold xs o m w ≡ false
-may_none w xs o m e = ap (told o m) (find_none (is_of w) xs no_recall e)
+more_apart : (n v : ℕ) → v < n → nat_eq n v ≡ false
+more_apart n v l = grind (arith, nat_tests)
 
-pub may_written : (w : ℕ) (xs : List Recall) (i : ℕ) (y : Recall) (o : ℕ) (m : Mode) → position (is_of w) xs ≡ Some i → y.owner ≡ w → may_hold (set xs i y) o m w ≡ recalls y o m
-may_written w xs i y o m e h =
-    let at = position-Some (is_of w) xs i y e in
-    ap (told o m) (find_written (is_of w) xs i y y at.0 (eq-eqb y.owner w h) at.2)
+pub rising : (xs : List Recall) (k j : ℕ) (d : Recall) → IsByOwner xs → k < j → j < length xs → (get_or xs k d).owner < (get_or xs j d).owner
+rising [] k j d h l w = absurd (omega (arith, w))
+rising (x ∷ xs) k zero d h l w = absurd (omega (arith, l))
+rising (x ∷ xs) zero (suc j) d h l w = All-get_or (Less x) xs j d (omega (arith, w)) h.0
+rising (x ∷ xs) (suc k) (suc j) d h l w = rising xs k j d h.1 (omega (arith, l)) (omega (arith, w))
 
-pub may_beside : (w : ℕ) (xs : List Recall) (i : ℕ) (y : Recall) (o : ℕ) (m : Mode) (v : ℕ) → position (is_of w) xs ≡ Some i → y.owner ≡ w → nat_eq w v ≡ false → may_hold (set xs i y) o m v ≡ may_hold xs o m v
-may_beside w xs i y o m v e h n =
-    let at = position-Some (is_of w) xs i y e in
-    ap (told o m) (find_past (is_of v) xs i y y (apart_from w v (get_or xs i y).owner (eqb-true (get_or xs i y).owner w at.1) n) (apart_from w v y.owner h n))
-
-pub may_pushed : (w : ℕ) (xs : List Recall) (y : Recall) (o : ℕ) (m : Mode) → position (is_of w) xs ≡ None → y.owner ≡ w → may_hold (xs ++ y ∷ []) o m w ≡ recalls y o m
-may_pushed w xs y o m e h = ap (told o m) (find_pushed (is_of w) xs y (find_none (is_of w) xs no_recall e) (eq-eqb y.owner w h))
-
-pub may_unpushed : (w : ℕ) (xs : List Recall) (y : Recall) (o : ℕ) (m : Mode) (v : ℕ) → y.owner ≡ w → nat_eq w v ≡ false → may_hold (xs ++ y ∷ []) o m v ≡ may_hold xs o m v
-may_unpushed w xs y o m v h n = ap (told o m) (find_beside (is_of v) xs y (apart_from w v y.owner h n))
-
-pub may_left : (w : ℕ) (xs : List Recall) (i : ℕ) (o : ℕ) (m : Mode) (v : ℕ) → position (is_of w) xs ≡ Some i → nat_eq w v ≡ false → may_hold (remove xs i) o m v ≡ may_hold xs o m v
-may_left w xs i o m v e n =
-    let at = position-Some (is_of w) xs i no_recall e in
-    ap (told o m) (find_left (is_of v) xs i no_recall at.0 (apart_from w v (get_or xs i no_recall).owner (eqb-true (get_or xs i no_recall).owner w at.1) n))
-
--- by whether it is that owner
-pub by_owner : (P : ℕ → Type 0) (w v : ℕ) → P w → (nat_eq w v ≡ false → P v) → P v
-by_owner P w v same other = by_test (nat_eq w v) refl
+pub never_falls : (xs : List Recall) → IsByOwner xs → IsNonDecreasingBy (λ r. r.owner) xs
+never_falls xs b i j d l w = by_test (nat_lt i j) refl
   where
-    by_test : (t : Bool) → nat_eq w v ≡ t → P v
-    by_test true e = subst P (eqb-true w v e) same
-    by_test false e = other e
+    by_test : (t : Bool) → nat_lt i j ≡ t → (get_or xs i d).owner ≤ (get_or xs j d).owner
+    by_test true e = omega (arith, rising xs i j d b (ltb-true i j e) w)
+    by_test false e =
+        let same : i ≡ j = omega (arith, l, ltb-false i j e) in
+        let alike : (get_or xs i d).owner ≡ (get_or xs j d).owner = ap (λ (n : ℕ). (get_or xs n d).owner) same in
+        omega (arith, alike)
 
--- what was remembered still is
-pub kept_written : (w : ℕ) (xs : List Recall) (i : ℕ) (x y : Recall) → position (is_of w) xs ≡ Some i → x ≡ get_or xs i x → y.owner ≡ w → ((o : ℕ) (m : Mode) → recalls x o m ≡ true → recalls y o m ≡ true) → (o : ℕ) (m : Mode) (v : ℕ) → may_hold xs o m v ≡ true → may_hold (set xs i y) o m v ≡ true
-kept_written w xs i x y e r h k o m v =
-    by_owner (λ (u : ℕ). may_hold xs o m u ≡ true → may_hold (set xs i y) o m u ≡ true) w v
-    (λ old. may_written w xs i y o m e h ∙ k o m (ap (λ (z : Recall). recalls z o m) r ∙ sym (may_first w xs i x o m e) ∙ old))
-    (λ n old. may_beside w xs i y o m v e h n ∙ old)
+-- where an owner would stand
+pub would_stand_at : (w : ℕ) (xs : List Recall) (i : ℕ) → IsByOwner xs → i ≤ length xs → ((k : ℕ) (d : Recall) → k < i → (get_or xs k d).owner < w) → ((k : ℕ) (d : Recall) → i ≤ k → k < length xs → w ≤ (get_or xs k d).owner) → (i < length xs → (get_or xs i no_recall).owner ≢ w) → WouldHaveOwnerAt w xs i
+would_stand_at w xs i b l before least other = record {
+  within = l;
+  before = before;
+  behind = λ k d m n.
+      let here : (get_or xs i d).owner ≢ w = (λ e. other (omega (arith, m, n)) (ap (λ (r : Recall). r.owner) (get_or_default xs i no_recall d (omega (arith, m, n))) ∙ e)) in
+      let first : w ≤ (get_or xs i d).owner = least i d (omega arith) (omega (arith, m, n)) in
+      let later : (get_or xs i d).owner ≤ (get_or xs k d).owner = never_falls xs b i k d m n in
+      omega (arith, here, first, later);
+}
 
-pub kept_pushed : (w : ℕ) (xs : List Recall) (y : Recall) → position (is_of w) xs ≡ None → y.owner ≡ w → (o : ℕ) (m : Mode) (v : ℕ) → may_hold xs o m v ≡ true → may_hold (xs ++ y ∷ []) o m v ≡ true
-kept_pushed w xs y e h o m v =
-    by_owner (λ (u : ℕ). may_hold xs o m u ≡ true → may_hold (xs ++ y ∷ []) o m u ≡ true) w v
-    (λ old. absurd (false≢true (sym (may_none w xs o m e) ∙ old)))
-    (λ n old. may_unpushed w xs y o m v h n ∙ old)
+before_place : (w : ℕ) (xs : List Recall) (i : ℕ) (d : Recall) → IsByOwner xs → HasOwnerAt w xs i → (k : ℕ) → k < i → nat_eq (get_or xs k d).owner w ≡ false
+before_place w xs i d b h k l = less_apart (get_or xs k d).owner w (omega (arith, rising xs k i d b l h.within, h.here d))
 
--- what was remembered of one owner is remembered of another one, of which nothing was
-pub kept_renamed : (w v : ℕ) (xs : List Recall) (i : ℕ) (x y : Recall) → position (is_of w) xs ≡ Some i → position (is_of v) xs ≡ None → x ≡ get_or xs i x → y.owner ≡ v → ((o : ℕ) (m : Mode) → recalls y o m ≡ recalls x o m) → (o : ℕ) (m : Mode) (u : ℕ) → may_hold xs o m u ≡ true → may_hold (set xs i y) o m (cond (nat_eq w u) v u) ≡ true
-kept_renamed w v xs i x y e f r h k o m u old = by_test (nat_eq w u) refl
+-- what is remembered of an owner, by its place
+pub at_place : (w : ℕ) (xs : List Recall) (i : ℕ) (d : Recall) → IsByOwner xs → HasOwnerAt w xs i → recall_of xs w ≡ Some (get_or xs i d)
+at_place w xs i d b h = find_here (is_of w) xs i d h.within (eq-eqb (get_or xs i d).owner w (h.here d)) (before_place w xs i d b h)
+
+pub no_place : (w : ℕ) (xs : List Recall) (i : ℕ) → WouldHaveOwnerAt w xs i → recall_of xs w ≡ None
+no_place w xs i h = find_nothing (is_of w) xs (All-from_get_or (λ r. is_of w r ≡ false) xs no_recall (λ k l. by_side k l (nat_lt k i) refl))
   where
-    at : (i < length xs) × (is_of w (get_or xs i y) ≡ true) × ((n : ℕ) → n < i → is_of w (get_or xs n y) ≡ false)
-    at = position-Some (is_of w) xs i y e
+    by_side : (k : ℕ) → k < length xs → (t : Bool) → nat_lt k i ≡ t → nat_eq (get_or xs k no_recall).owner w ≡ false
+    by_side k l true e = less_apart (get_or xs k no_recall).owner w (h.before k no_recall (ltb-true k i e))
+    by_side k l false e = more_apart (get_or xs k no_recall).owner w (h.behind k no_recall (ltb-false k i e) l)
 
-    there : may_hold (set xs i y) o m v ≡ recalls y o m
-    there = ap (told o m) (find_written (is_of v) xs i y y at.0 (eq-eqb y.owner v h) (λ n l. none_passes (is_of v) xs y f n (omega (arith, l, at.0))))
+-- one owner's is written over, put in, or taken out
+pub written : (w : ℕ) (xs : List Recall) (i : ℕ) (y : Recall) → IsByOwner xs → HasOwnerAt w xs i → y.owner ≡ w → (v : ℕ) → recall_of (set xs i y) v ≡ cond (nat_eq w v) (Some y) (recall_of xs v)
+written w xs i y b h e v = by_test (nat_eq w v) refl
+  where
+    by_test : (t : Bool) → nat_eq w v ≡ t → recall_of (set xs i y) v ≡ cond t (Some y) (recall_of xs v)
+    by_test true f =
+        let same : w ≡ v = eqb-true w v f in
+        find_written (is_of v) xs i y y h.within (eq-eqb y.owner v (e ∙ same)) (λ k l. less_apart (get_or xs k y).owner v (omega (arith, rising xs k i y b l h.within, h.here y, same)))
+    by_test false f = find_past (is_of v) xs i y y (apart_from w v (get_or xs i y).owner (h.here y) f) (apart_from w v y.owner e f)
 
-    beside : nat_eq w u ≡ false → nat_eq v u ≡ false → may_hold (set xs i y) o m u ≡ true
-    beside n t = ap (told o m) (find_past (is_of u) xs i y y (apart_from w u (get_or xs i y).owner (eqb-true (get_or xs i y).owner w at.1) n) (apart_from v u y.owner h t)) ∙ old
+swapped : {X : Type 0} (a b : Bool) (p q r : X) → (a ≡ true → b ≡ true → ⊥) → cond a p (cond b q r) ≡ cond b q (cond a p r)
+swapped true true p q r h = absurd (h refl refl)
+swapped true false p q r h = refl
+swapped false b p q r h = refl
 
-    by_other : nat_eq w u ≡ false → (t : Bool) → nat_eq v u ≡ t → may_hold (set xs i y) o m u ≡ true
-    by_other n true t = absurd (false≢true (sym (may_none v xs o m f) ∙ subst (λ (q : ℕ). may_hold xs o m q ≡ true) (sym (eqb-true v u t)) old))
-    by_other n false t = beside n t
+pub inserted : (w : ℕ) (xs : List Recall) (i : ℕ) (y : Recall) → ((k : ℕ) (d : Recall) → k < i → (get_or xs k d).owner < w) → i ≤ length xs → y.owner ≡ w → (v : ℕ) → recall_of (insert xs i y) v ≡ cond (nat_eq w v) (Some y) (recall_of xs v)
+inserted w [] zero y h l e v = ap (λ (n : ℕ). cond (nat_eq n v) (Some y) None) e
+inserted w [] (suc i) y h l e v = absurd (omega (arith, l))
+inserted w (x ∷ xs) zero y h l e v = ap (λ (n : ℕ). cond (nat_eq n v) (Some y) (recall_of (x ∷ xs) v)) e
+inserted w (x ∷ xs) (suc i) y h l e v =
+    let less : x.owner < w = h zero x (omega arith) in
+    ap (λ (r : Option Recall). cond (nat_eq x.owner v) (Some x) r) (inserted w xs i y (λ k d m. h (suc k) d (omega (arith, m))) (omega (arith, l)) e v)
+    ∙ swapped (nat_eq x.owner v) (nat_eq w v) (Some x) (Some y) (recall_of xs v) (λ f g. omega (arith, eqb-true x.owner v f, eqb-true w v g, less))
 
-    by_test : (t : Bool) → nat_eq w u ≡ t → may_hold (set xs i y) o m (cond t v u) ≡ true
-    by_test true t = there ∙ k o m ∙ ap (λ (z : Recall). recalls z o m) r ∙ sym (may_first w xs i x o m e) ∙ subst (λ (q : ℕ). may_hold xs o m q ≡ true) (sym (eqb-true w u t)) old
-    by_test false t = by_other t (nat_eq v u) refl
+taken : (xs : List Recall) (i : ℕ) (d : Recall) → IsByOwner xs → i < length xs → recall_of (remove xs i) (get_or xs i d).owner ≡ None
+taken [] i d b l = absurd (omega (arith, l))
+taken (x ∷ xs) zero d b l = find_nothing (is_of x.owner) xs (All-weaker (Less x) (λ s. is_of x.owner s ≡ false) (λ s m. more_apart s.owner x.owner m) xs b.0)
+taken (x ∷ xs) (suc i) d b l =
+    ap (λ t. cond t (Some x) (recall_of (remove xs i) (get_or xs i d).owner)) (less_apart x.owner (get_or xs i d).owner (All-get_or (Less x) xs i d (omega (arith, l)) b.0))
+    ∙ taken xs i d b.1 (omega (arith, l))
 
--- all but one lock is remembered as before
-pub but_one : (w : ℕ) (xs : List Recall) (i : ℕ) (x y : Recall) (same : ℕ → Mode → Bool) → position (is_of w) xs ≡ Some i → x ≡ get_or xs i x → y.owner ≡ w → ((o : ℕ) (m : Mode) → same o m ≡ false → recalls y o m ≡ recalls x o m) → (o : ℕ) (m : Mode) (v : ℕ) → (nat_eq w v ≡ true → same o m ≡ false) → may_hold (set xs i y) o m v ≡ may_hold xs o m v
-but_one w xs i x y same e r h k o m v = by_owner (λ (u : ℕ). (nat_eq w u ≡ true → same o m ≡ false) → may_hold (set xs i y) o m u ≡ may_hold xs o m u) w v
-    (λ other. may_written w xs i y o m e h ∙ k o m (other (eq-eqb w w refl)) ∙ ap (λ (z : Recall). recalls z o m) r ∙ sym (may_first w xs i x o m e))
-    (λ n other. may_beside w xs i y o m v e h n)
+pub removed : (w : ℕ) (xs : List Recall) (i : ℕ) (d : Recall) → IsByOwner xs → HasOwnerAt w xs i → (v : ℕ) → recall_of (remove xs i) v ≡ cond (nat_eq w v) None (recall_of xs v)
+removed w xs i d b h v = by_test (nat_eq w v) refl
+  where
+    by_test : (t : Bool) → nat_eq w v ≡ t → recall_of (remove xs i) v ≡ cond t None (recall_of xs v)
+    by_test true f = subst (λ (n : ℕ). recall_of (remove xs i) n ≡ None) (h.here d ∙ eqb-true w v f) (taken xs i d b h.within)
+    by_test false f = find_left (is_of v) xs i d h.within (apart_from w v (get_or xs i d).owner (h.here d) f)
 
--- the owner of what was found
-pub owner_at : (w : ℕ) (xs : List Recall) (i : ℕ) (x : Recall) → position (is_of w) xs ≡ Some i → x ≡ get_or xs i x → x.owner ≡ w
-owner_at w xs i x e r = ap (λ (z : Recall). z.owner) r ∙ eqb-true (get_or xs i x).owner w (position-Some (is_of w) xs i x e).1
+-- an owner of which nothing is remembered
+pub absent : (w : ℕ) (xs : List Recall) → recall_of xs w ≡ None → (v : ℕ) → recall_of xs v ≡ cond (nat_eq w v) None (recall_of xs v)
+absent w xs e v = by_test (nat_eq w v) refl
+  where
+    by_test : (t : Bool) → nat_eq w v ≡ t → recall_of xs v ≡ cond t None (recall_of xs v)
+    by_test true f = subst (λ (n : ℕ). recall_of xs n ≡ None) (eqb-true w v f) e
+    by_test false f = refl
 
-pub more_written : (w : ℕ) (xs : List Recall) (i : ℕ) (y : Recall) → position (is_of w) xs ≡ Some i → y.owner ≡ w → holds_more (set xs i y) w ≡ y.more
-more_written w xs i y e h =
-    let at = position-Some (is_of w) xs i y e in
-    ap (λ (o : Option Recall). option_map_or (λ (r : Recall). r.more) o false) (find_written (is_of w) xs i y y at.0 (eq-eqb y.owner w h) at.2)
+pub remove-set : {X : Type 0} (xs : List X) (i : ℕ) (y : X) → remove (set xs i y) i ≡ remove xs i
+remove-set [] zero y = refl
+remove-set [] (suc i) y = refl
+remove-set (x ∷ xs) zero y = refl
+remove-set (x ∷ xs) (suc i) y = ap (λ zs. x ∷ zs) (remove-set xs i y)
 
--- where none is found, none passes
-pub any_none : {X : Type 0} (p : X → Bool) (xs : List X) (d : X) → position p xs ≡ None → list_any p xs ≡ false
-any_none {X} p xs d e = list_any_none p xs (All-from_get_or (λ x. p x ≡ false) xs d (none_passes p xs d e))
+-- the owners stay in order
+pub IsByOwner-set : (w : ℕ) (xs : List Recall) (i : ℕ) (y : Recall) → IsByOwner xs → HasOwnerAt w xs i → y.owner ≡ w → IsByOwner (set xs i y)
+IsByOwner-set w xs i y b h e = over xs i b h.within (h.here y ∙ sym e)
+  where
+    over : (zs : List Recall) (j : ℕ) → IsByOwner zs → j < length zs → (get_or zs j y).owner ≡ y.owner → IsByOwner (set zs j y)
+    over [] j c l f = absurd (omega (arith, l))
+    over (z ∷ zs) zero c l f = let same : z.owner ≡ y.owner = f in (All-weaker (Less z) (Less y) (λ s m. omega (arith, m, same)) zs c.0, c.1)
+    over (z ∷ zs) (suc j) c l f =
+        let same : (get_or zs j y).owner ≡ y.owner = f in
+        let less : z.owner < (get_or zs j y).owner = All-get_or (Less z) zs j y (omega (arith, l)) c.0 in
+        (All-set (Less z) zs j y (omega (arith, same, less)) c.0, over zs j c.1 (omega (arith, l)) same)
+
+pub IsByOwner-insert : (xs : List Recall) (i : ℕ) (y : Recall) → IsByOwner xs → WouldHaveOwnerAt y.owner xs i → IsByOwner (insert xs i y)
+IsByOwner-insert xs i y b h = among xs i b h.within (λ k l. h.before k y l) (λ k l m. h.behind k y l m)
+  where
+    among : (zs : List Recall) (j : ℕ) → IsByOwner zs → j ≤ length zs → ((k : ℕ) → k < j → (get_or zs k y).owner < y.owner) → ((k : ℕ) → j ≤ k → k < length zs → y.owner < (get_or zs k y).owner) → IsByOwner (insert zs j y)
+    among [] zero c l f g = (All-nil (Less y), tt)
+    among [] (suc j) c l f g = absurd (omega (arith, l))
+    among (z ∷ zs) zero c l f g = (All-from_get_or (Less y) (z ∷ zs) y (λ k m. g k (omega arith) m), c)
+    among (z ∷ zs) (suc j) c l f g = (
+      All-insert (Less z) zs j y (f zero (omega arith)) c.0,
+      among zs j c.1 (omega (arith, l)) (λ k m. f (suc k) (omega (arith, m))) (λ k m n. g (suc k) (omega (arith, m)) (omega (arith, n))),
+    )
+
+pub IsByOwner-remove : (xs : List Recall) (i : ℕ) → IsByOwner xs → IsByOwner (remove xs i)
+IsByOwner-remove [] zero b = b
+IsByOwner-remove [] (suc i) b = b
+IsByOwner-remove (x ∷ xs) zero b = b.1
+IsByOwner-remove (x ∷ xs) (suc i) b = (All-remove (Less x) xs i b.0, IsByOwner-remove xs i b.1)
+
+-- which locks an owner has after a change
+and_true : (b : Bool) → (b && true) ≡ b
+and_true true = refl
+and_true false = refl
+
+and_false : (b : Bool) → (b && false) ≡ false
+and_false true = refl
+and_false false = refl
+
+or_false : (b : Bool) → (b || false) ≡ b
+or_false true = refl
+or_false false = refl
+
+or_swapped : (a b : Bool) → (a || b) ≡ (b || a)
+or_swapped true true = refl
+or_swapped true false = refl
+or_swapped false true = refl
+or_swapped false false = refl
+
+one_more : (b : Bool) (n m : ℕ) → m ≡ n + cond b 1 0 → nat_lt 0 m ≡ (b || nat_lt 0 n)
+one_more true n m e = lt-ltb 0 m (omega (arith, e))
+one_more false n m e = let same : m ≡ n = omega (arith, e) in ap (nat_lt 0) same
+
+module _ (xs ys : List Lock) (owner o : ℕ) (m : Mode) where
+  more_at : HoldsOneMore xs ys o m owner → (w a : ℕ) (n : Mode) (t : Bool) → nat_eq owner w ≡ t → has_lock ys w a n ≡ ((same_lock o m a n && t) || has_lock xs w a n)
+  more_at h w a n t e = one_more (same_lock o m a n && nat_eq owner w) (count_of xs a n w) (count_of ys a n w) (h a n w) ∙ ap (λ b. (same_lock o m a n && b) || has_lock xs w a n) e
+
+  more_here : HoldsOneMore xs ys o m owner → (a : ℕ) (n : Mode) → has_lock ys owner a n ≡ (same_lock o m a n || has_lock xs owner a n)
+  more_here h a n = more_at h owner a n true (eq-eqb owner owner refl) ∙ ap (λ b. b || has_lock xs owner a n) (and_true (same_lock o m a n))
+
+  more_beside : HoldsOneMore xs ys o m owner → (w : ℕ) → nat_eq owner w ≡ false → (a : ℕ) (n : Mode) → has_lock ys w a n ≡ has_lock xs w a n
+  more_beside h w e a n = more_at h w a n false e ∙ ap (λ b. b || has_lock xs w a n) (and_false (same_lock o m a n))
+
+  less_beside : HoldsOneLess xs ys o m owner → (w : ℕ) → nat_eq owner w ≡ false → (a : ℕ) (n : Mode) → has_lock ys w a n ≡ has_lock xs w a n
+  less_beside h w e a n =
+      let none : (same_lock o m a n && nat_eq owner w) ≡ false = ap (λ b. same_lock o m a n && b) e ∙ and_false (same_lock o m a n) in
+      let less : count_of ys a n w + 0 ≡ count_of xs a n w = sym (ap (λ b. count_of ys a n w + cond b 1 0) none) ∙ h a n w in
+      let same : count_of ys a n w ≡ count_of xs a n w = omega (arith, less) in
+      ap (nat_lt 0) same
+
+  less_here : HoldsOneLess xs ys o m owner → count_of xs o m owner ≡ 1 → (a : ℕ) (n : Mode) → has_lock ys owner a n ≡ (not (same_lock o m a n) && has_lock xs owner a n)
+  less_here h one a n = by_test (same_lock o m a n) refl
+    where
+      less : (t : Bool) → same_lock o m a n ≡ t → count_of ys a n owner + cond t 1 0 ≡ count_of xs a n owner
+      less t e = sym (ap (λ b. count_of ys a n owner + cond b 1 0) (ap (λ b. same_lock o m a n && b) (eq-eqb owner owner refl) ∙ and_true (same_lock o m a n) ∙ e)) ∙ h a n owner
+
+      by_test : (t : Bool) → same_lock o m a n ≡ t → has_lock ys owner a n ≡ (not t && has_lock xs owner a n)
+      by_test true e = let none : count_of ys a n owner ≡ 0 = omega (arith, less true e, count_like xs o m a n owner e, one) in ap (nat_lt 0) none
+      by_test false e = let same : count_of ys a n owner ≡ count_of xs a n owner = omega (arith, less false e) in ap (nat_lt 0) same
+
+  -- a lock that was held twice at least is still held
+  less_still : HoldsOneLess xs ys o m owner → 1 < count_of xs o m owner → (w a : ℕ) (n : Mode) → has_lock ys w a n ≡ has_lock xs w a n
+  less_still h two w a n = by_test (same_lock o m a n && nat_eq owner w) refl
+    where
+      less : (t : Bool) → (same_lock o m a n && nat_eq owner w) ≡ t → count_of ys a n w + cond t 1 0 ≡ count_of xs a n w
+      less t e = sym (ap (λ b. count_of ys a n w + cond b 1 0) e) ∙ h a n w
+
+      by_test : (t : Bool) → (same_lock o m a n && nat_eq owner w) ≡ t → has_lock ys w a n ≡ has_lock xs w a n
+      by_test true e =
+          let p = and_parts (same_lock o m a n) (nat_eq owner w) e in
+          let alike : count_of xs o m owner ≡ count_of xs a n w = count_like xs o m a n owner p.0 ∙ ap (λ (v : ℕ). count_of xs a n v) (eqb-true owner w p.1) in
+          lt-ltb 0 (count_of ys a n w) (omega (arith, less true e, alike, two)) ∙ sym (lt-ltb 0 (count_of xs a n w) (omega (arith, alike, two)))
+      by_test false e = let same : count_of ys a n w ≡ count_of xs a n w = omega (arith, less false e) in ap (nat_lt 0) same
+
+-- what is remembered of one owner, after a change
+pub alike : (xs ys : List Lock) (w : ℕ) (r : Option Recall) → ((o : ℕ) (m : Mode) → has_lock ys w o m ≡ has_lock xs w o m) → IsRecall xs w r → IsRecall ys w r
+alike xs ys w None e h = λ o m. e o m ∙ h o m
+alike xs ys w (Some r) e h = λ f. let k = h f in (k.0, λ o m. k.1 o m ∙ sym (e o m))
+
+pub remembers_alike : (rs : List Recall) (xs ys : List Lock) → ((w o : ℕ) (m : Mode) → has_lock ys w o m ≡ has_lock xs w o m) → Remembers rs xs → Remembers rs ys
+remembers_alike rs xs ys e h w = alike xs ys w (recall_of rs w) (e w) (h w)
+
+pub changed : (rs ss : List Recall) (xs ys : List Lock) (owner : ℕ) (new : Option Recall) → Remembers rs xs → ((v : ℕ) → recall_of ss v ≡ cond (nat_eq owner v) new (recall_of rs v)) → IsRecall ys owner new → ((v : ℕ) → nat_eq owner v ≡ false → (o : ℕ) (m : Mode) → has_lock ys v o m ≡ has_lock xs v o m) → Remembers ss ys
+changed rs ss xs ys owner new h at here others v = subst (IsRecall ys v) (sym (at v)) (by_test (nat_eq owner v) refl)
+  where
+    by_test : (t : Bool) → nat_eq owner v ≡ t → IsRecall ys v (cond t new (recall_of rs v))
+    by_test true e = subst (λ (n : ℕ). IsRecall ys n new) (eqb-true owner v e) here
+    by_test false e = alike xs ys v (recall_of rs v) (others v e) (h v)
+
+known : (rs : List Recall) (xs : List Lock) (w : ℕ) (r : Option Recall) → Remembers rs xs → recall_of rs w ≡ r → IsRecall xs w r
+known rs xs w r h e = subst (IsRecall xs w) e (h w)
+
+-- a lock is noted
+pub remembers_noted : (rs ss : List Recall) (xs ys : List Lock) (owner o : ℕ) (m : Mode) (r s : Recall) → Remembers rs xs → HoldsOneMore xs ys o m owner → recall_of rs owner ≡ Some r → ((v : ℕ) → recall_of ss v ≡ cond (nat_eq owner v) (Some s) (recall_of rs v)) → (0 < length r.tags → 0 < length s.tags) → (s.more ≡ false → (r.more ≡ false) × ((a : ℕ) (n : Mode) → recalls s a n ≡ (same_lock o m a n || recalls r a n))) → Remembers ss ys
+remembers_noted rs ss xs ys owner o m r s h more was at some just = changed rs ss xs ys owner (Some s) h at here (more_beside xs ys owner o m more)
+  where
+    here : IsRecall ys owner (Some s)
+    here f =
+        let k = just f in
+        let q = known rs xs owner (Some r) h was k.0 in
+        (some q.0, λ a n. k.1 a n ∙ ap (λ b. same_lock o m a n || b) (q.1 a n) ∙ sym (more_here xs ys owner o m more a n))
+
+pub remembers_new : (rs ss : List Recall) (xs ys : List Lock) (owner o : ℕ) (m : Mode) (s : Recall) → Remembers rs xs → HoldsOneMore xs ys o m owner → recall_of rs owner ≡ None → ((v : ℕ) → recall_of ss v ≡ cond (nat_eq owner v) (Some s) (recall_of rs v)) → 0 < length s.tags → ((a : ℕ) (n : Mode) → recalls s a n ≡ same_lock o m a n) → Remembers ss ys
+remembers_new rs ss xs ys owner o m s h more was at some just = changed rs ss xs ys owner (Some s) h at here (more_beside xs ys owner o m more)
+  where
+    here : IsRecall ys owner (Some s)
+    here f = (some, λ a n. just a n ∙ sym (more_here xs ys owner o m more a n ∙ ap (λ b. same_lock o m a n || b) (known rs xs owner None h was a n) ∙ or_false (same_lock o m a n)))
+
+-- a lock is forgotten
+pub remembers_less : (rs ss : List Recall) (xs ys : List Lock) (owner o : ℕ) (m : Mode) (r s : Recall) → Remembers rs xs → HoldsOneLess xs ys o m owner → count_of xs o m owner ≡ 1 → recall_of rs owner ≡ Some r → ((v : ℕ) → recall_of ss v ≡ cond (nat_eq owner v) (Some s) (recall_of rs v)) → 0 < length s.tags → s.more ≡ r.more → (s.more ≡ false → (a : ℕ) (n : Mode) → recalls s a n ≡ (not (same_lock o m a n) && recalls r a n)) → Remembers ss ys
+remembers_less rs ss xs ys owner o m r s h less one was at some more just = changed rs ss xs ys owner (Some s) h at here (less_beside xs ys owner o m less)
+  where
+    here : IsRecall ys owner (Some s)
+    here f =
+        let q = known rs xs owner (Some r) h was (sym more ∙ f) in
+        (some, λ a n. just f a n ∙ ap (λ b. not (same_lock o m a n) && b) (q.1 a n) ∙ sym (less_here xs ys owner o m less one a n))
+
+pub remembers_last : (rs ss : List Recall) (xs ys : List Lock) (owner o : ℕ) (m : Mode) (r s : Recall) → Remembers rs xs → HoldsOneLess xs ys o m owner → count_of xs o m owner ≡ 1 → recall_of rs owner ≡ Some r → ((v : ℕ) → recall_of ss v ≡ cond (nat_eq owner v) None (recall_of rs v)) → s.more ≡ r.more → (s.more ≡ false → (a : ℕ) (n : Mode) → recalls s a n ≡ (not (same_lock o m a n) && recalls r a n)) → (s.more ≡ false) × ((a : ℕ) (n : Mode) → recalls s a n ≡ false) → Remembers ss ys
+remembers_last rs ss xs ys owner o m r s h less one was at more just none = changed rs ss xs ys owner None h at here (less_beside xs ys owner o m less)
+  where
+    here : IsRecall ys owner None
+    here a n =
+        let q = known rs xs owner (Some r) h was (sym more ∙ none.0) in
+        less_here xs ys owner o m less one a n ∙ ap (λ b. not (same_lock o m a n) && b) (sym (q.1 a n)) ∙ sym (just none.0 a n) ∙ none.1 a n
+
+-- a lock that the owner holds is remembered of it
+pub not_unknown : (rs : List Recall) (xs : List Lock) (owner o : ℕ) (m : Mode) → Remembers rs xs → recall_of rs owner ≡ None → count_of xs o m owner ≡ 1 → ⊥
+not_unknown rs xs owner o m h was one = true≢false (sym (lt-ltb 0 (count_of xs o m owner) (omega (arith, one))) ∙ known rs xs owner None h was o m)
+
+pub remembers_lowered : (rs : List Recall) (xs ys : List Lock) (owner o : ℕ) (m : Mode) (count : ℕ) → Remembers rs xs → count ≡ count_of xs o m owner → (count ≡ 0 → ys ≡ xs) → (0 < count → HoldsOneLess xs ys o m owner) → count ≢ 1 → Remembers rs ys
+remembers_lowered rs xs ys owner o m count h is none less other = by_count (nat_eq count 0) refl
+  where
+    by_count : (t : Bool) → nat_eq count 0 ≡ t → Remembers rs ys
+    by_count true e = subst (Remembers rs) (sym (none (eqb-true count 0 e))) h
+    by_count false e = let some : count ≢ 0 = eqb-false count 0 e in remembers_alike rs xs ys (less_still xs ys owner o m (less (omega (arith, some))) (omega (arith, is, some, other))) h
+
+-- all locks of an owner are forgotten
+pub remembers_nothing : (rs ss : List Recall) (xs ys : List Lock) (owner : ℕ) → Remembers rs xs → HoldsNothing xs ys owner → ((v : ℕ) → recall_of ss v ≡ cond (nat_eq owner v) None (recall_of rs v)) → Remembers ss ys
+remembers_nothing rs ss xs ys owner h nothing at =
+    changed rs ss xs ys owner None h at
+    (λ a n. ap (nat_lt 0) (nothing a n owner ∙ ap (λ b. cond b 0 (count_of xs a n owner)) (eq-eqb owner owner refl)))
+    (λ v e a n. ap (nat_lt 0) (nothing a n v ∙ ap (λ b. cond b 0 (count_of xs a n v)) e))
+
+-- all locks of an owner are passed
+any_of_both : (a b : Bool) (p q r : ℕ) → r ≡ cond a 0 p + cond b q 0 → nat_lt 0 r ≡ (cond a false (nat_lt 0 p) || cond b (nat_lt 0 q) false)
+any_of_both a b p q r e = ap (nat_lt 0) e ∙ both a b
+  where
+    sums : (i j : ℕ) → nat_lt 0 (i + j) ≡ (nat_lt 0 i || nat_lt 0 j)
+    sums i j = grind (arith, nat_tests)
+
+    both : (c d : Bool) → nat_lt 0 (cond c 0 p + cond d q 0) ≡ (cond c false (nat_lt 0 p) || cond d (nat_lt 0 q) false)
+    both true true = sums 0 q
+    both true false = refl
+    both false true = sums p q
+    both false false = sums p 0
+
+module _ (xs ys : List Lock) (from to : ℕ) (both : HoldsBoth xs ys from to) where
+  passed_at : (w : ℕ) (s t : Bool) → nat_eq from w ≡ s → nat_eq to w ≡ t → (a : ℕ) (n : Mode) → has_lock ys w a n ≡ (cond s false (has_lock xs w a n) || cond t (has_lock xs from a n) false)
+  passed_at w s t e f a n =
+      any_of_both (nat_eq from w) (nat_eq to w) (count_of xs a n w) (count_of xs a n from) (count_of ys a n w) (both a n w)
+      ∙ ap (λ b. cond b false (has_lock xs w a n) || cond (nat_eq to w) (has_lock xs from a n) false) e
+      ∙ ap (λ b. cond s false (has_lock xs w a n) || cond b (has_lock xs from a n) false) f
+
+  -- where the one owner had none
+  pub passed_none : IsRecall xs from None → (w a : ℕ) (n : Mode) → has_lock ys w a n ≡ has_lock xs w a n
+  passed_none none w a n = by_tests (nat_eq from w) refl (nat_eq to w) refl
+    where
+      rest : (b : Bool) → cond b (has_lock xs from a n) false ≡ false
+      rest true = none a n
+      rest false = refl
+
+      by_tests : (s : Bool) → nat_eq from w ≡ s → (t : Bool) → nat_eq to w ≡ t → has_lock ys w a n ≡ has_lock xs w a n
+      by_tests true e t f = passed_at w true t e f a n ∙ rest t ∙ sym (none a n) ∙ ap (λ (v : ℕ). has_lock xs v a n) (eqb-true from w e)
+      by_tests false e t f = passed_at w false t e f a n ∙ ap (λ b. has_lock xs w a n || b) (rest t) ∙ or_false (has_lock xs w a n)
+
+  pub remembers_passed : (rs mid ss : List Recall) (r added : Recall) → Remembers rs xs → recall_of rs from ≡ Some r → ((v : ℕ) → recall_of mid v ≡ cond (nat_eq from v) None (recall_of rs v)) → added ≡ record { owner = to; tags = r.tags; more = r.more } → Joins added (recall_of mid to) (recall_of ss to) → ((v : ℕ) → nat_eq to v ≡ false → recall_of ss v ≡ recall_of mid v) → Remembers ss ys
+  remembers_passed rs mid ss r added h was left named joins others v = by_to (nat_eq to v) refl
+    where
+      from_is : added.more ≡ false → (0 < length added.tags) × ((a : ℕ) (n : Mode) → recalls added a n ≡ has_lock xs from a n)
+      from_is = subst (λ (z : Recall). z.more ≡ false → (0 < length z.tags) × ((a : ℕ) (n : Mode) → recalls z a n ≡ has_lock xs from a n)) (sym named) (known rs xs from (Some r) h was)
+
+      beside : (t : Bool) → nat_eq from to ≡ t → recall_of mid to ≡ cond t None (recall_of rs to)
+      beside t f = left to ∙ ap (λ b. cond b None (recall_of rs to)) f
+
+      alone : (t : Bool) → nat_eq from to ≡ t → recall_of mid to ≡ None → (a : ℕ) (n : Mode) → has_lock ys to a n ≡ has_lock xs from a n
+      alone true f e a n = passed_at to true true f (eq-eqb to to refl) a n
+      alone false f e a n = passed_at to false true f (eq-eqb to to refl) a n ∙ ap (λ b. b || has_lock xs from a n) (known rs xs to None h (sym (beside false f) ∙ e) a n)
+
+      joined : (q s : Recall) → recall_of mid to ≡ Some q → (0 < length q.tags → 0 < length s.tags) → (s.more ≡ false → (q.more ≡ false) × (added.more ≡ false) × ((a : ℕ) (n : Mode) → recalls s a n ≡ (recalls added a n || recalls q a n))) → (t : Bool) → nat_eq from to ≡ t → IsRecall ys to (Some s)
+      joined q s e some just true f = let none : Some q ≡ None = sym e ∙ beside true f in absurd (cc)
+      joined q s e some just false f = λ few.
+          let k = just few in
+          let p = known rs xs to (Some q) h (sym (beside false f) ∙ e) k.0 in (
+            some p.0,
+            λ a n.
+                k.2 a n
+                ∙ ap (λ b. b || recalls q a n) ((from_is k.1).1 a n)
+                ∙ ap (λ b. has_lock xs from a n || b) (p.1 a n)
+                ∙ or_swapped (has_lock xs from a n) (has_lock xs to a n)
+                ∙ sym (passed_at to false true f (eq-eqb to to refl) a n),
+          )
+
+      by_mid : (q : Option Recall) → recall_of mid to ≡ q → Joins added q (recall_of ss to) → IsRecall ys to (recall_of ss to)
+      by_mid None e j = subst (IsRecall ys to) (sym j) (λ few. let k = from_is few in (k.0, λ a n. k.1 a n ∙ sym (alone (nat_eq from to) refl e a n)))
+      by_mid (Some q) e j = subst (IsRecall ys to) (sym j.1) (joined q j.0 e j.2 j.3 (nat_eq from to) refl)
+
+      at_to : IsRecall ys to (recall_of ss to)
+      at_to = by_mid (recall_of mid to) refl joins
+
+      by_from : nat_eq to v ≡ false → (s : Bool) → nat_eq from v ≡ s → IsRecall ys v (cond s None (recall_of rs v))
+      by_from f true e = λ a n. passed_at v true false e f a n
+      by_from f false e = alike xs ys v (recall_of rs v) (λ a n. passed_at v false false e f a n ∙ or_false (has_lock xs v a n)) (h v)
+
+      by_to : (t : Bool) → nat_eq to v ≡ t → IsRecall ys v (recall_of ss v)
+      by_to true f = subst (λ (n : ℕ). IsRecall ys n (recall_of ss n)) (eqb-true to v f) at_to
+      by_to false f = subst (IsRecall ys v) (sym (others v f ∙ left v)) (by_from f (nat_eq from v) refl)
+
+  pub remembers_unpassed : (rs ss : List Recall) → Remembers rs xs → recall_of rs from ≡ None → ((v : ℕ) → recall_of ss v ≡ cond (nat_eq from v) None (recall_of rs v)) → Remembers ss ys
+  remembers_unpassed rs ss h was left =
+      let none = known rs xs from None h was in
+      changed rs ss xs ys from None h left (λ a n. passed_none none from a n ∙ none a n) (λ v e a n. passed_none none v a n)
+
+-- what is remembered of two owners, joined
+pub joined_at : (w : ℕ) (rs : List Recall) (i : ℕ) (x y added : Recall) → IsByOwner rs → HasOwnerAt w rs i → x ≡ get_or rs i x → y.owner ≡ w → (0 < length x.tags → 0 < length y.tags) → (y.more ≡ false → (x.more ≡ false) × (added.more ≡ false) × ((a : ℕ) (n : Mode) → recalls y a n ≡ (recalls added a n || recalls x a n))) → Joins added (recall_of rs w) (recall_of (set rs i y) w)
+joined_at w rs i x y added b h r e some just =
+    let P : Option Recall → Type 0 = λ q. Joins added q (recall_of (set rs i y) w) in
+    subst P (ap Some r ∙ sym (at_place w rs i x b h)) (y, written w rs i y b h e w ∙ ap (λ t. cond t (Some y) (recall_of rs w)) (eq-eqb w w refl), some, just)
+
+pub joined_new : (rs : List Recall) (i : ℕ) (added : Recall) → WouldHaveOwnerAt added.owner rs i → Joins added (recall_of rs added.owner) (recall_of (insert rs i added) added.owner)
+joined_new rs i added h =
+    let P : Option Recall → Type 0 = λ q. Joins added q (recall_of (insert rs i added) added.owner) in
+    subst P (sym (no_place added.owner rs i h)) (inserted added.owner rs i added h.before h.within refl added.owner ∙ ap (λ t. cond t (Some added) (recall_of rs added.owner)) (eq-eqb added.owner added.owner refl))
+
+-- what is taken out, and what room it leaves
+pub match_some : (P Q : Type 0) (r : Option Recall) (x : Recall) → r ≡ Some x → Q → MatchOption r P (λ _. Q)
+match_some P Q None x e q = absurd (cc)
+match_some P Q (Some y) x e q = q
+
+-- the locks of an owner, by what is remembered
+pub tagged_known : (rs : List Recall) (xs : List Lock) (w : ℕ) (r : Recall) (ts : List LockTag) → Remembers rs xs → recall_of rs w ≡ Some r → r.more ≡ false → ts ≡ r.tags → AreTagged w ts xs
+tagged_known rs xs w r ts h was few same = tagged_by w ts xs (λ o m some.
+    let q = known rs xs w (Some r) h was few in
+    ap (λ (us : List LockTag). list_any (is_tag o m) us) same ∙ sym (ap (λ b. b || list_any (is_tag o m) r.tags) few) ∙ q.1 o m ∙ lt-ltb 0 (count_of xs o m w) some)
+
+pub tagged_unknown : (rs : List Recall) (xs : List Lock) (w : ℕ) (ts : List LockTag) → Remembers rs xs → recall_of rs w ≡ None → AreTagged w ts xs
+tagged_unknown rs xs w ts h was = tagged_by w ts xs (λ o m some. absurd (true≢false (sym (lt-ltb 0 (count_of xs o m w) some) ∙ known rs xs w None h was o m)))

@@ -1,12 +1,13 @@
 -- Tags of locks in their order.
-use Rattle.std.proofs.Common.{◌≡◌, ℕ, suc, zero, ◌<◌, Bool, true, false, ◌||◌, cond, List, [], ◌∷◌, length, get_or, refl, ap, sym, subst, ◌∙◌, arith}
+use Rattle.std.proofs.Common.{◌≡◌, ℕ, suc, zero, ◌<◌, Bool, true, false, ◌&&◌, ◌||◌, not, cond, nat_eq, List, [], ◌∷◌, length, get_or, refl, ap, sym, subst, ◌∙◌, arith}
 use Rattle.std.specs.Prelude.{All, insert, remove, count_by}
 use Rattle.std.specs.List.{list_any}
-use Rattle.std.proofs.lemmas.Bool.{true≢false, false≢true}
+use Rattle.std.proofs.lemmas.Bool.{true≢false, false≢true, eqb-true, and_parts}
 use Rattle.std.proofs.lemmas.List.Elements.{All-nil, All-cons, All-head, All-tail, All-weaker, All-get_or}
 use Rattle.std.proofs.lemmas.List.Folds.{list_any_none}
 use Rattle.std.proofs.lemmas.List.Sums.{sum_by-cons}
 use Rattle.pgs_step.specs.declared.lock_modes.Mode.{Mode}
+use Rattle.pgs_step.specs.Mode.{mode_number}
 use Rattle.lock_shared.specs.Holdings.{same_lock}
 use Rattle.lock_local.specs.declared.recalled.LockTag.{LockTag}
 use Rattle.lock_local.specs.Locks.{Lock, comes_before}
@@ -47,13 +48,13 @@ module _ {X : Type 0} (p : X → Bool) where
   count_zero x xs h k = count_nothing (x ∷ xs) (All-cons (λ y. p y ≡ false) x xs h k)
 
 module _ {X : Type 0} (P : X → Type 0) where
-  All-insert : (xs : List X) (i : ℕ) (y : X) → P y → All P xs → All P (insert xs i y)
+  pub All-insert : (xs : List X) (i : ℕ) (y : X) → P y → All P xs → All P (insert xs i y)
   All-insert [] zero y h a = All-cons P y [] h (All-nil P)
   All-insert [] (suc i) y h a = All-cons P y [] h (All-nil P)
   All-insert (x ∷ xs) zero y h a = All-cons P y (x ∷ xs) h a
   All-insert (x ∷ xs) (suc i) y h a = All-cons P x (insert xs i y) (All-head P x xs a) (All-insert xs i y h (All-tail P x xs a))
 
-  All-remove : (xs : List X) (i : ℕ) → All P xs → All P (remove xs i)
+  pub All-remove : (xs : List X) (i : ℕ) → All P xs → All P (remove xs i)
   All-remove [] zero a = a
   All-remove [] (suc i) a = a
   All-remove (x ∷ xs) zero a = All-tail P x xs a
@@ -127,3 +128,18 @@ taken_out o m (t ∷ ts) zero d h l e = list_any_none (is_tag o m) ts (All-weake
 taken_out o m (t ∷ ts) (suc i) d h l e =
     let sooner_tag : comes_before t.object t.mode o m ≡ true = order_other t.object t.mode (get_or ts i d).object (get_or ts i d).mode o m (All-get_or (TagBefore t) ts i d (omega (arith, l)) h.0) e in
     ap (λ b. b || list_any (is_tag o m) (remove ts i)) (before_lock (bare t) o m sooner_tag) ∙ taken_out o m ts i d h.1 (omega (arith, l)) e
+
+-- a lock may be named by any mode of its number
+pub tags_like : (ts : List LockTag) (o : ℕ) (m : Mode) (a : ℕ) (n : Mode) → same_lock o m a n ≡ true → list_any (is_tag o m) ts ≡ list_any (is_tag a n) ts
+tags_like ts o m a n e =
+    let p = and_parts (nat_eq o a) (nat_eq (mode_number m) (mode_number n)) e in
+    ap (λ (k : ℕ). list_any (λ (t : LockTag). nat_eq t.object k && nat_eq (mode_number t.mode) (mode_number m)) ts) (eqb-true o a p.0)
+    ∙ ap (λ (k : ℕ). list_any (λ (t : LockTag). nat_eq t.object a && nat_eq (mode_number t.mode) k) ts) (eqb-true (mode_number m) (mode_number n) p.1)
+
+-- the tags that are left without that of one lock
+pub untagged : (o : ℕ) (m : Mode) (ts us : List LockTag) → list_any (is_tag o m) us ≡ false → ((a : ℕ) (n : Mode) → same_lock o m a n ≡ false → list_any (is_tag a n) us ≡ list_any (is_tag a n) ts) → (a : ℕ) (n : Mode) → list_any (is_tag a n) us ≡ (not (same_lock o m a n) && list_any (is_tag a n) ts)
+untagged o m ts us gone kept a n = by_test (same_lock o m a n) refl
+  where
+    by_test : (t : Bool) → same_lock o m a n ≡ t → list_any (is_tag a n) us ≡ (not t && list_any (is_tag a n) ts)
+    by_test true e = sym (tags_like us o m a n e) ∙ gone
+    by_test false e = kept a n e

@@ -11,11 +11,12 @@ use crate::places::{find, keep_if_held, put_in};
 use lock_shared::SharedLocks;
 use pgs_step::Mode;
 use std::alloc::{AllocError, Global};
+use std::collections::VecDeque;
 
 /// The owner holds the lock once more. It fails for want of memory alone.
 pub fn count_up(
     alloc: Global,
-    locks: &mut Vec<LocalLock>,
+    locks: &mut VecDeque<LocalLock>,
     session: u8,
     shared: &mut SharedLocks,
     owner: u64,
@@ -31,7 +32,7 @@ pub fn count_up(
     ensures agrees { (o : ℕ) (m : Mode) → holds shared.new o m session ≡ is_held locks.new.items o m }
     ensures others { OthersStay session shared.old shared.new }
 {
-    match find(locks.as_slice(), object, mode) {
+    match find(locks, object, mode) {
         Ok(at) => {
             let lock = &mut locks[at];
             lock.count_up(owner)?;
@@ -48,7 +49,7 @@ pub fn count_up(
 
 /// The owner holds the lock once less, where it holds it. The answer is how often it did before.
 pub fn count_down(
-    locks: &mut Vec<LocalLock>,
+    locks: &mut VecDeque<LocalLock>,
     session: u8,
     shared: &mut SharedLocks,
     owner: u64,
@@ -67,7 +68,7 @@ pub fn count_down(
     ensures agrees { (o : ℕ) (m : Mode) → holds shared.new o m session ≡ is_held locks.new.items o m }
     ensures others { OthersStay session shared.old shared.new }
 {
-    let Ok(at) = find(locks.as_slice(), object, mode) else {
+    let Ok(at) = find(locks, object, mode) else {
         return 0;
     };
     let count = locks[at].count(owner);

@@ -14,12 +14,13 @@ ghost use Rattle.lock_local.specs.Changes.{acquired, given_back, released, passe
 use crate::counting::{count_down, count_up};
 use crate::errors::LockError;
 use crate::local_lock::LocalLock;
-use crate::recalled::{OwnerLocks, forget_last, hand_on, note, take_out};
+use crate::recalled::{OwnerLocks, forget_last, forget_owner, hand_on, note};
 use crate::tag_walks::{give_up_recalled, pass_recalled};
 use crate::walks::release_each;
 use lock_shared::SharedLocks;
 use pgs_step::{Emit, Mode, OwnerId, What};
 use std::alloc::{AllocError, Global};
+use std::collections::VecDeque;
 use std::marker::Model;
 
 /// The locks of one session: how often each owner holds each object in each mode.
@@ -32,8 +33,8 @@ use std::marker::Model;
 pub struct LockTable {
     alloc: Global,
     session: u8,
-    locks: Vec<LocalLock>,
-    recalled: Vec<OwnerLocks>,
+    locks: VecDeque<LocalLock>,
+    recalled: VecDeque<OwnerLocks>,
     /// How often a lock was taken since the session last gave up all: no sum of counts is greater.
     taken: u64,
 }
@@ -44,13 +45,13 @@ const MOST_TAKEN: u64 = 1 << 62;
 impl Model for LockTable {
     ghost use Rattle.std.specs.Prelude.{◌≤◌, ◌^◌};
     ghost use Rattle.lock_local.specs.Locks.{SessionLocks, AreLocks, total};
-    ghost use Rattle.lock_local.specs.Recalled.{Covers};
+    ghost use Rattle.lock_local.specs.Recalled.{IsByOwner, Remembers};
 
     ghost Value = { SessionLocks };
 
     ghost view = { λ t. record { session = t.session; locks = t.locks.items } };
 
-    ghost invariant = { λ t. record { fits : AreLocks t.locks.items × (total t.locks.items ≤ 2 ^ 62); covers : Covers t.recalled.items t.locks.items; taken : total t.locks.items ≤ t.taken } };
+    ghost invariant = { λ t. record { fits : AreLocks t.locks.items × (total t.locks.items ≤ 2 ^ 62); by_owner : IsByOwner t.recalled.items; remembers : Remembers t.recalled.items t.locks.items; taken : total t.locks.items ≤ t.taken } };
 }
 
 impl LockTable {
@@ -61,8 +62,8 @@ impl LockTable {
         LockTable {
             alloc,
             session,
-            locks: Vec::new(alloc),
-            recalled: Vec::new(alloc),
+            locks: VecDeque::new(alloc),
+            recalled: VecDeque::new(alloc),
             taken: 0,
         }
     }
@@ -165,13 +166,13 @@ impl LockTable {
     {
         give_up_recalled(
             &mut self.locks,
-            self.recalled.as_slice(),
+            &self.recalled,
             self.session,
             owner.number,
             shared,
             out,
         );
-        let _ = take_out(&mut self.recalled, owner.number);
+        forget_owner(&mut self.recalled, owner.number);
     }
 
     /// All that the owner `from` holds goes to the owner `to`, its parent, as at the commit of a
@@ -185,13 +186,7 @@ impl LockTable {
         ensures held { (object : ℕ) (mode : Mode) → is_held self.new.locks object mode ≡ is_held self.old.locks object mode }
         ensures locks { AreLocks self.new.locks }
     {
-        pass_recalled(
-            &mut self.locks,
-            self.recalled.as_slice(),
-            from.number,
-            to.number,
-            out,
-        );
+        pass_recalled(&mut self.locks, &self.recalled, from.number, to.number, out);
         hand_on(&mut self.recalled, from.number, to.number);
     }
 
@@ -205,7 +200,13 @@ impl LockTable {
         ensures others { OthersStay self.old.session shared.old shared.new }
         ensures was { AreLocks self.old.locks }
     {
-        release_each(self.locks.as_slice(), self.session, top.number, shared, out);
+        release_each(
+            self.locks.make_contiguous(),
+            self.session,
+            top.number,
+            shared,
+            out,
+        );
         self.locks.clear();
         self.recalled.clear();
         self.taken = 0;

@@ -1,13 +1,17 @@
 //! The locks that are remembered for each owner.
-ghost use Rattle.std.specs.Prelude.{◌≡◌, ◌==◌, ◌<◌, ◌||◌, ◌&&◌, ℕ, true, false, if◌then◌else◌, List, ◌∷◌, [], position, count_by, vec_len, vec_capacity, IsTrue, MatchOption};
+ghost use Rattle.std.specs.Prelude.{◌≡◌, ◌==◌, ◌<◌, ◌≤◌, ◌||◌, ◌&&◌, ℕ, true, false, not, if◌then◌else◌, List, Some, None, length, insert, position, count_by, IsTrue, MatchOption, MatchResult};
 ghost use Rattle.std.specs.List.{list_any};
+ghost use Rattle.std.specs.VecDeque.{deque_len, deque_capacity};
 ghost use Rattle.pgs_step.specs.declared.lock_modes.Mode.{Mode};
 ghost use Rattle.lock_shared.specs.Holdings.{same_lock};
-ghost use Rattle.lock_local.specs.Locks.{comes_before};
-ghost use Rattle.lock_local.specs.Recalled.{Recall, is_tag, recalls, may_hold, holds_more, IsRising};
+ghost use Rattle.lock_local.specs.Locks.{Lock, comes_before, count_of};
+ghost use Rattle.lock_local.specs.Counts.{HoldsOneMore, HoldsOneLess, HoldsNothing, HoldsBoth};
+ghost use Rattle.lock_local.specs.Recalled.{Recall, is_tag, recalls, recall_of as recall_in, IsRising, IsByOwner, Joins, Remembers};
+ghost use Rattle.lock_local.specs.OwnerPlaces.{HasOwnerAt, WouldHaveOwnerAt};
 
 use arrayvec::ArrayVec;
 use pgs_step::Mode;
+use std::collections::VecDeque;
 use std::marker::Model;
 
 /// How many locks of an owner are remembered one by one: PostgreSQL's `MAX_RESOWNER_LOCKS`.
@@ -57,20 +61,22 @@ pub struct OwnerLocks {
 }
 
 impl Model for OwnerLocks {
+    ghost use Rattle.std.specs.Prelude.{◌≡◌, ◌≤◌, true, length};
     ghost use Rattle.lock_local.specs.Recalled.{Recall, IsRising};
 
     ghost Value = { Recall };
 
     ghost view = { λ r. record { owner = r.owner; tags = r.tags.items; more = r.more } };
 
-    ghost invariant = { λ r. IsRising r.tags.items };
+    ghost invariant = { λ r. record { rising : IsRising r.tags.items; full : r.more ≡ true → 15 ≤ length r.tags.items } };
 }
 
 impl OwnerLocks {
     /// An owner with one lock.
     pub fn new(owner: u64, object: u32, mode: Mode) -> OwnerLocks
         ensures owner { result.owner ≡ owner }
-        ensures recalls { IsTrue (recalls result object mode) }
+        ensures some { 0 < length result.tags }
+        ensures just { (o : ℕ) (m : Mode) → recalls result o m ≡ same_lock object mode o m }
     {
         let mut tags = ArrayVec::new();
         tags.push(LockTag { object, mode });
@@ -96,6 +102,14 @@ impl OwnerLocks {
         self.more
     }
 
+    /// Whether no lock is remembered.
+    fn is_empty(&self) -> bool
+        ensures some { result ≡ false → 0 < length self.now.tags }
+        ensures none { IsTrue result → (self.now.more ≡ false) × ((o : ℕ) (m : Mode) → recalls self.now o m ≡ false) }
+    {
+        self.tags.is_empty()
+    }
+
     /// The locks that are remembered, in the order of object and mode.
     pub fn tags(&self) -> &[LockTag]
         ensures tags { result.now ≡ self.now.tags }
@@ -114,8 +128,8 @@ impl OwnerLocks {
     /// Remembers a lock: PostgreSQL's `ResourceOwnerRememberLock`.
     pub fn note(&mut self, object: u32, mode: Mode)
         ensures owner { self.new.owner ≡ self.old.owner }
-        ensures noted { IsTrue (recalls self.new object mode) }
-        ensures kept { (o : ℕ) (m : Mode) → IsTrue (recalls self.old o m) → IsTrue (recalls self.new o m) }
+        ensures some { 0 < length self.old.tags → 0 < length self.new.tags }
+        ensures just { self.new.more ≡ false → (self.old.more ≡ false) × ((o : ℕ) (m : Mode) → recalls self.new o m ≡ (same_lock object mode o m || recalls self.old o m)) }
     {
         if self.recalls(object, mode) {
             return;
@@ -128,25 +142,28 @@ impl OwnerLocks {
         self.tags.insert(place, LockTag { object, mode });
     }
 
-    /// Forgets a lock: PostgreSQL's `ResourceOwnerForgetLock`.
+    /// Forgets a lock, where there aren't more than are remembered: PostgreSQL's `ResourceOwnerForgetLock`.
     pub fn forget(&mut self, object: u32, mode: Mode)
         ensures owner { self.new.owner ≡ self.old.owner }
-        ensures gone { IsTrue (recalls self.new object mode) → IsTrue self.new.more }
-        ensures kept { (o : ℕ) (m : Mode) → same_lock object mode o m ≡ false → recalls self.new o m ≡ recalls self.old o m }
+        ensures more { self.new.more ≡ self.old.more }
+        ensures just { self.new.more ≡ false → (o : ℕ) (m : Mode) → recalls self.new o m ≡ (not (same_lock object mode o m) && recalls self.old o m) }
     {
+        if self.more {
+            return;
+        }
         if let Some(place) = place_of_tag(self.tags.as_slice(), object, mode) {
             self.tags.remove(place);
         }
     }
 
     /// Remembers all that another one does.
-    pub fn take_over(&mut self, other: &OwnerLocks)
+    pub fn take_over(&mut self, other: OwnerLocks)
         ensures owner { self.new.owner ≡ self.old.owner }
-        ensures taken { (o : ℕ) (m : Mode) → IsTrue (recalls other.now o m) → IsTrue (recalls self.new o m) }
-        ensures kept { (o : ℕ) (m : Mode) → IsTrue (recalls self.old o m) → IsTrue (recalls self.new o m) }
+        ensures some { 0 < length self.old.tags → 0 < length self.new.tags }
+        ensures just { self.new.more ≡ false → (self.old.more ≡ false) × (other.more ≡ false) × ((o : ℕ) (m : Mode) → recalls self.new o m ≡ (recalls other o m || recalls self.old o m)) }
     {
         if other.more {
-            self.more = true;
+            *self = other.renamed(self.owner);
         } else {
             self.note_each(other.tags.as_slice());
         }
@@ -154,28 +171,18 @@ impl OwnerLocks {
 
     fn note_each(&mut self, tags: &[LockTag])
         ensures owner { self.new.owner ≡ self.old.owner }
-        ensures taken { (o : ℕ) (m : Mode) → IsTrue (list_any (is_tag o m) tags.now) → IsTrue (recalls self.new o m) }
-        ensures kept { (o : ℕ) (m : Mode) → IsTrue (recalls self.old o m) → IsTrue (recalls self.new o m) }
+        ensures some { 0 < length self.old.tags → 0 < length self.new.tags }
+        ensures just { self.new.more ≡ false → (self.old.more ≡ false) × ((o : ℕ) (m : Mode) → recalls self.new o m ≡ (list_any (is_tag o m) tags.now || recalls self.old o m)) }
     {
         for tag in tags {
             self.note(tag.object, tag.mode);
         }
     }
 
-    /// The same locks are remembered for another owner from now on.
-    #[inline]
-    fn set_owner(&mut self, owner: u64)
-        ensures owner { self.new.owner ≡ owner }
-        ensures recalls { (o : ℕ) (m : Mode) → recalls self.new o m ≡ recalls self.old o m }
-    {
-        self.owner = owner;
-    }
-
     /// The same locks are remembered for another owner.
     #[inline]
     fn renamed(self, owner: u64) -> OwnerLocks
-        ensures owner { result.owner ≡ owner }
-        ensures recalls { (o : ℕ) (m : Mode) → recalls result o m ≡ recalls self o m }
+        ensures { result ≡ record self { owner = owner } }
     {
         let OwnerLocks {
             owner: _,
@@ -209,109 +216,135 @@ fn place_of_tag(tags: &[LockTag], object: u32, mode: Mode) -> Option<usize>
     tags.iter().position(|tag| tag.is(object, mode))
 }
 
-/// Where the owner stands.
-#[inline]
-fn place_of(recalled: &[OwnerLocks], owner: u64) -> Option<usize>
-    ensures { result ≡ position (λ recall. recall.owner == owner) recalled.now }
+/// Where the owner stands, or else where it would stand.
+fn place_of(recalled: &VecDeque<OwnerLocks>, owner: u64) -> Result<usize, usize>
+    requires { IsByOwner recalled.now.items }
+    ensures { MatchResult result (λ i. HasOwnerAt owner recalled.now.items i) (λ i. WouldHaveOwnerAt owner recalled.now.items i) }
 {
-    recalled.iter().position(|recall| recall.owner() == owner)
+    let at = recalled.partition_point(|recall| recall.owner() < owner);
+    if at < recalled.len() && recalled[at].owner() == owner {
+        Ok(at)
+    } else {
+        Err(at)
+    }
 }
 
 /// What is remembered of an owner's locks.
-pub fn recall_of(recalled: &[OwnerLocks], owner: u64) -> Option<&OwnerLocks>
-    ensures { MatchOption result ((o : ℕ) (m : Mode) → may_hold recalled.now o m owner ≡ false) (λ recall. (o : ℕ) (m : Mode) → may_hold recalled.now o m owner ≡ recalls recall.now o m) }
+pub fn recall_of(recalled: &VecDeque<OwnerLocks>, owner: u64) -> Option<&OwnerLocks>
+    requires { IsByOwner recalled.now.items }
+    ensures { MatchOption result (recall_in recalled.now.items owner ≡ None) (λ recall. recall_in recalled.now.items owner ≡ Some recall.now) }
 {
     match place_of(recalled, owner) {
-        Some(at) => Some(&recalled[at]),
-        None => None,
+        Ok(at) => Some(&recalled[at]),
+        Err(_) => None,
     }
 }
 
-/// Remembers a lock of an owner, where there is room for another owner.
-pub fn note(recalled: &mut Vec<OwnerLocks>, owner: u64, object: u32, mode: Mode)
-    requires room { vec_len recalled.old < vec_capacity recalled.old }
-    ensures noted { IsTrue (may_hold recalled.new.items object mode owner) }
-    ensures kept { (o : ℕ) (m : Mode) (w : ℕ) → IsTrue (may_hold recalled.old.items o m w) → IsTrue (may_hold recalled.new.items o m w) }
+/// Puts what is remembered of an owner at its place, where there is room for another owner.
+fn put_in(recalled: &mut VecDeque<OwnerLocks>, at: usize, recall: OwnerLocks)
+    requires within { at ≤ deque_len recalled.old }
+    requires room { deque_len recalled.old < deque_capacity recalled.old }
+    ensures { recalled.new.items ≡ insert recalled.old.items at recall }
 {
-    match place_of(recalled.as_slice(), owner) {
-        Some(at) => {
+    let _ = recalled.insert(at, recall);
+}
+
+/// Remembers a lock that an owner holds once more, where there is room for another owner.
+pub fn note(recalled: &mut VecDeque<OwnerLocks>, owner: u64, object: u32, mode: Mode)
+    requires by_owner { IsByOwner recalled.old.items }
+    requires room { deque_len recalled.old < deque_capacity recalled.old }
+    ensures by_owner { IsByOwner recalled.new.items }
+    ensures remembers { (xs : List Lock) (ys : List Lock) → Remembers recalled.old.items xs → HoldsOneMore xs ys object mode owner → Remembers recalled.new.items ys }
+{
+    match place_of(recalled, owner) {
+        Ok(at) => {
             let recall = &mut recalled[at];
             recall.note(object, mode);
         }
-        None => recalled.push_reserved(OwnerLocks::new(owner, object, mode)),
+        Err(at) => put_in(recalled, at, OwnerLocks::new(owner, object, mode)),
     }
 }
 
-/// Forgets a lock of an owner that held it just once.
-pub fn forget_last(recalled: &mut Vec<OwnerLocks>, count: u64, owner: u64, object: u32, mode: Mode)
-    ensures gone { count ≡ 1 → IsTrue (may_hold recalled.new.items object mode owner) → IsTrue (holds_more recalled.new.items owner) }
-    ensures kept { (o : ℕ) (m : Mode) (w : ℕ) → (count ≡ 1 → (same_lock object mode o m && (owner == w)) ≡ false) → may_hold recalled.new.items o m w ≡ may_hold recalled.old.items o m w }
+/// Forgets a lock that an owner holds once less, where it held it just once.
+pub fn forget_last(
+    recalled: &mut VecDeque<OwnerLocks>,
+    count: u64,
+    owner: u64,
+    object: u32,
+    mode: Mode,
+)
+    requires by_owner { IsByOwner recalled.old.items }
+    ensures by_owner { IsByOwner recalled.new.items }
+    ensures remembers { (xs : List Lock) (ys : List Lock) → Remembers recalled.old.items xs → count ≡ count_of xs object mode owner → (count ≡ 0 → ys ≡ xs) → (0 < count → HoldsOneLess xs ys object mode owner) → Remembers recalled.new.items ys }
 {
     if count == 1 {
-        if let Some(at) = place_of(recalled.as_slice(), owner) {
-            let recall = &mut recalled[at];
-            recall.forget(object, mode);
-        }
+        forget(recalled, owner, object, mode);
+    }
+}
+
+/// Forgets a lock of an owner, and the owner with its last one.
+fn forget(recalled: &mut VecDeque<OwnerLocks>, owner: u64, object: u32, mode: Mode)
+    requires by_owner { IsByOwner recalled.old.items }
+    ensures by_owner { IsByOwner recalled.new.items }
+    ensures remembers { (xs : List Lock) (ys : List Lock) → Remembers recalled.old.items xs → HoldsOneLess xs ys object mode owner → count_of xs object mode owner ≡ 1 → Remembers recalled.new.items ys }
+{
+    let Ok(at) = place_of(recalled, owner) else {
+        return;
+    };
+    let recall = &mut recalled[at];
+    recall.forget(object, mode);
+    if recall.is_empty() {
+        recalled.remove(at);
     }
 }
 
 /// What is remembered of an owner's locks, which is forgotten.
-#[inline(always)]
-pub fn take_out(recalled: &mut Vec<OwnerLocks>, owner: u64) -> Option<OwnerLocks>
-    ensures gone { MatchOption result ((o : ℕ) (m : Mode) → may_hold recalled.old.items o m owner ≡ false) (λ recall. (o : ℕ) (m : Mode) → may_hold recalled.old.items o m owner ≡ recalls recall o m) }
-    ensures kept { (o : ℕ) (m : Mode) (w : ℕ) → (owner == w) ≡ false → may_hold recalled.new.items o m w ≡ may_hold recalled.old.items o m w }
-    ensures room { MatchOption result (vec_capacity recalled.new ≡ vec_capacity recalled.old) (λ _. vec_len recalled.new < vec_capacity recalled.new) }
+pub fn take_out(recalled: &mut VecDeque<OwnerLocks>, owner: u64) -> Option<OwnerLocks>
+    requires by_owner { IsByOwner recalled.old.items }
+    ensures by_owner { IsByOwner recalled.new.items }
+    ensures was { result ≡ recall_in recalled.old.items owner }
+    ensures left { (w : ℕ) → recall_in recalled.new.items w ≡ (if owner == w then None else recall_in recalled.old.items w) }
+    ensures room { MatchOption result (deque_capacity recalled.new ≡ deque_capacity recalled.old) (λ _. deque_len recalled.new < deque_capacity recalled.new) }
 {
-    match place_of(recalled.as_slice(), owner) {
-        Some(at) => Some(recalled.remove(at)),
-        None => None,
+    match place_of(recalled, owner) {
+        Ok(at) => recalled.remove(at),
+        Err(_) => None,
     }
+}
+
+/// Forgets all locks of an owner.
+pub fn forget_owner(recalled: &mut VecDeque<OwnerLocks>, owner: u64)
+    requires by_owner { IsByOwner recalled.old.items }
+    ensures by_owner { IsByOwner recalled.new.items }
+    ensures remembers { (xs : List Lock) (ys : List Lock) → Remembers recalled.old.items xs → HoldsNothing xs ys owner → Remembers recalled.new.items ys }
+{
+    let _ = take_out(recalled, owner);
 }
 
 /// What is remembered of one owner's locks is remembered for another one. It takes no memory.
-#[inline]
-pub fn hand_on(recalled: &mut Vec<OwnerLocks>, from: u64, to: u64)
-    ensures kept { (o : ℕ) (m : Mode) (w : ℕ) → IsTrue (may_hold recalled.old.items o m w) → IsTrue (may_hold recalled.new.items o m (if from == w then to else w)) }
-{
-    match place_of(recalled.as_slice(), to) {
-        Some(_) => join(recalled, from, to),
-        None => rename(recalled, from, to),
-    }
-}
-
-/// The same where something may be remembered for the other one.
-fn join(recalled: &mut Vec<OwnerLocks>, from: u64, to: u64)
-    ensures kept { (o : ℕ) (m : Mode) (w : ℕ) → IsTrue (may_hold recalled.old.items o m w) → IsTrue (may_hold recalled.new.items o m (if from == w then to else w)) }
+pub fn hand_on(recalled: &mut VecDeque<OwnerLocks>, from: u64, to: u64)
+    requires by_owner { IsByOwner recalled.old.items }
+    ensures by_owner { IsByOwner recalled.new.items }
+    ensures remembers { (xs : List Lock) (ys : List Lock) → Remembers recalled.old.items xs → HoldsBoth xs ys from to → Remembers recalled.new.items ys }
 {
     if let Some(recall) = take_out(recalled, from) {
         put_back(recalled, recall.renamed(to));
     }
 }
 
-/// The same where nothing is: it stays at its place.
-#[inline]
-fn rename(recalled: &mut Vec<OwnerLocks>, from: u64, to: u64)
-    requires none { position (λ recall. recall.owner == to) recalled.old.items ≡ None }
-    ensures kept { (o : ℕ) (m : Mode) (w : ℕ) → IsTrue (may_hold recalled.old.items o m w) → IsTrue (may_hold recalled.new.items o m (if from == w then to else w)) }
-{
-    if let Some(at) = place_of(recalled.as_slice(), from) {
-        let recall = &mut recalled[at];
-        recall.set_owner(to);
-    }
-}
-
 /// Remembers the locks of an owner besides what is remembered for it, where there is room for another owner.
-#[inline]
-fn put_back(recalled: &mut Vec<OwnerLocks>, recall: OwnerLocks)
-    requires room { vec_len recalled.old < vec_capacity recalled.old }
-    ensures taken { (o : ℕ) (m : Mode) → IsTrue (recalls recall o m) → IsTrue (may_hold recalled.new.items o m recall.owner) }
-    ensures kept { (o : ℕ) (m : Mode) (w : ℕ) → IsTrue (may_hold recalled.old.items o m w) → IsTrue (may_hold recalled.new.items o m w) }
+fn put_back(recalled: &mut VecDeque<OwnerLocks>, recall: OwnerLocks)
+    requires by_owner { IsByOwner recalled.old.items }
+    requires room { deque_len recalled.old < deque_capacity recalled.old }
+    ensures by_owner { IsByOwner recalled.new.items }
+    ensures both { Joins recall (recall_in recalled.old.items recall.owner) (recall_in recalled.new.items recall.owner) }
+    ensures others { (w : ℕ) → (recall.owner == w) ≡ false → recall_in recalled.new.items w ≡ recall_in recalled.old.items w }
 {
-    match place_of(recalled.as_slice(), recall.owner()) {
-        Some(at) => {
+    match place_of(recalled, recall.owner()) {
+        Ok(at) => {
             let other = &mut recalled[at];
-            other.take_over(&recall);
+            other.take_over(recall);
         }
-        None => recalled.push_reserved(recall),
+        Err(at) => put_in(recalled, at, recall),
     }
 }

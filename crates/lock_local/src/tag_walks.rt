@@ -1,30 +1,33 @@
 //! Walks over the locks that are remembered for an owner.
-ghost use Rattle.std.specs.Prelude.{◌≡◌, ◌≢◌, ◌<◌, ℕ, filter, vec_len, slice_index_or, slice_set};
+ghost use Rattle.std.specs.Prelude.{◌≡◌, ◌≢◌, ◌<◌, ℕ, filter, slice_index_or, slice_set};
+ghost use Rattle.std.specs.VecDeque.{deque_len};
 ghost use Rattle.pgs_step.specs.declared.lock_modes.Mode.{Mode};
 ghost use Rattle.lock_shared.specs.Holdings.{holds};
 ghost use Rattle.lock_local.specs.Locks.{Lock, has_owner, is_held, AreLocks, OthersStay, IsInOrder};
 ghost use Rattle.lock_local.specs.Changes.{without, passed_lock, release_of, pass_of, released, passed, releases, passes};
-ghost use Rattle.lock_local.specs.Recalled.{Covers, IsRising};
+ghost use Rattle.lock_local.specs.Recalled.{IsByOwner, IsRising, Remembers};
 ghost use Rattle.lock_local.specs.Tagged.{AreTagged, given_up, gives_up, handed_on, hands_on};
 
 use crate::local_lock::LocalLock;
 use crate::places::{find, keep_if_held};
 use crate::recalled::{LockTag, OwnerLocks, recall_of};
-use crate::walks::{give_up, give_up_each, keep_held, pass_each, pass_on};
+use crate::walks::{give_up, give_up_all, pass_all, pass_on};
 use lock_shared::SharedLocks;
 use pgs_step::{Emit, Mode};
+use std::collections::VecDeque;
 
 /// The owner gives up what it holds, by what is remembered of its locks.
 pub fn give_up_recalled<E: Emit>(
-    locks: &mut Vec<LocalLock>,
-    recalled: &[OwnerLocks],
+    locks: &mut VecDeque<LocalLock>,
+    recalled: &VecDeque<OwnerLocks>,
     session: u8,
     owner: u64,
     shared: &mut SharedLocks,
     out: &mut E,
 )
     requires locks { AreLocks locks.old.items }
-    requires covers { Covers recalled.now locks.old.items }
+    requires by_owner { IsByOwner recalled.now.items }
+    requires remembers { Remembers recalled.now.items locks.old.items }
     requires agrees { (o : ℕ) (m : Mode) → holds shared.old o m session ≡ is_held locks.old.items o m }
     ensures locks { locks.new.items ≡ released owner locks.old.items }
     ensures events { E.emits out.old (releases owner locks.old.items) out.new }
@@ -34,8 +37,7 @@ pub fn give_up_recalled<E: Emit>(
     match recall_of(recalled, owner) {
         Some(recall) => {
             if recall.has_more() {
-                give_up_each(locks, session, owner, shared, out);
-                keep_held(locks);
+                give_up_all(locks, session, owner, shared, out);
             } else {
                 give_up_tagged(locks, recall.tags(), session, owner, shared, out);
             }
@@ -47,25 +49,26 @@ pub fn give_up_recalled<E: Emit>(
 /// One owner's counts go to another, by what is remembered of the locks of the one. An owner whose locks go
 /// to itself is looked for in all of them.
 pub fn pass_recalled<E: Emit>(
-    locks: &mut Vec<LocalLock>,
-    recalled: &[OwnerLocks],
+    locks: &mut VecDeque<LocalLock>,
+    recalled: &VecDeque<OwnerLocks>,
     from: u64,
     to: u64,
     out: &mut E,
 )
     requires locks { AreLocks locks.old.items }
-    requires covers { Covers recalled.now locks.old.items }
+    requires by_owner { IsByOwner recalled.now.items }
+    requires remembers { Remembers recalled.now.items locks.old.items }
     ensures locks { locks.new.items ≡ passed from to locks.old.items }
     ensures events { E.emits out.old (passes from to locks.old.items) out.new }
 {
     if from == to {
-        pass_each(locks, from, to, out);
+        pass_all(locks, from, to, out);
         return;
     }
     match recall_of(recalled, from) {
         Some(recall) => {
             if recall.has_more() {
-                pass_each(locks, from, to, out);
+                pass_all(locks, from, to, out);
             } else {
                 pass_tagged(locks, recall.tags(), from, to, out);
             }
@@ -76,7 +79,7 @@ pub fn pass_recalled<E: Emit>(
 
 /// The owner gives up what it holds, by the tags of its locks.
 pub fn give_up_tagged<E: Emit>(
-    locks: &mut Vec<LocalLock>,
+    locks: &mut VecDeque<LocalLock>,
     tags: &[LockTag],
     session: u8,
     owner: u64,
@@ -99,7 +102,7 @@ pub fn give_up_tagged<E: Emit>(
 
 /// One owner's counts go to another, by the tags of the locks of the one.
 pub fn pass_tagged<E: Emit>(
-    locks: &mut Vec<LocalLock>,
+    locks: &mut VecDeque<LocalLock>,
     tags: &[LockTag],
     from: u64,
     to: u64,
@@ -119,7 +122,7 @@ pub fn pass_tagged<E: Emit>(
 
 /// The owner gives up the lock on the object in the mode, if it holds it.
 fn give_up_one<E: Emit>(
-    locks: &mut Vec<LocalLock>,
+    locks: &mut VecDeque<LocalLock>,
     object: u32,
     mode: Mode,
     session: u8,
@@ -134,21 +137,21 @@ fn give_up_one<E: Emit>(
     ensures agrees { (o : ℕ) (m : Mode) → holds shared.new o m session ≡ is_held locks.new.items o m }
     ensures others { OthersStay session shared.old shared.new }
 {
-    if let Ok(at) = find(locks.as_slice(), object, mode) {
+    if let Ok(at) = find(locks, object, mode) {
         give_up_at(locks, at, session, owner, shared, out);
     }
 }
 
 /// The owner gives up the lock at a place, if it holds it.
 fn give_up_at<E: Emit>(
-    locks: &mut Vec<LocalLock>,
+    locks: &mut VecDeque<LocalLock>,
     at: usize,
     session: u8,
     owner: u64,
     shared: &mut SharedLocks,
     out: &mut E,
 )
-    requires within { at < vec_len locks.old }
+    requires within { at < deque_len locks.old }
     requires locks { AreLocks locks.old.items }
     requires agrees { (o : ℕ) (m : Mode) → holds shared.old o m session ≡ is_held locks.old.items o m }
     ensures locks { (d : Lock) → locks.new.items ≡ filter has_owner (slice_set locks.old.items at (without owner (slice_index_or locks.old.items at d))) }
@@ -163,7 +166,7 @@ fn give_up_at<E: Emit>(
 
 /// One owner's counts of the lock on the object in the mode go to another.
 fn pass_one<E: Emit>(
-    locks: &mut Vec<LocalLock>,
+    locks: &mut VecDeque<LocalLock>,
     object: u32,
     mode: Mode,
     from: u64,
@@ -174,7 +177,7 @@ fn pass_one<E: Emit>(
     ensures locks { locks.new.items ≡ handed_on from to object mode locks.old.items }
     ensures events { E.emits out.old (hands_on from to object mode locks.old.items) out.new }
 {
-    if let Ok(at) = find(locks.as_slice(), object, mode) {
+    if let Ok(at) = find(locks, object, mode) {
         let lock = &mut locks[at];
         pass_on(lock, from, to, out);
     }

@@ -3,22 +3,23 @@ ghost use Rattle.std.specs.Prelude.{◌≡◌, ◌∷◌, [], ℕ, map, filter, 
 ghost use Rattle.pgs_step.specs.declared.lock_modes.Mode.{Mode};
 ghost use Rattle.lock_shared.specs.Holdings.{Sets, holds};
 ghost use Rattle.lock_local.specs.Locks.{has_owner, OthersStay, IsInOrder, is_held};
-ghost use Rattle.lock_local.specs.Changes.{without, passed_lock, release_of, pass_of, release_whole, releases, passes, releases_of_all};
+ghost use Rattle.lock_local.specs.Changes.{without, passed_lock, release_of, pass_of, release_whole, released, passed, releases, passes, releases_of_all};
 
 use crate::local_lock::LocalLock;
 use lock_shared::SharedLocks;
 use pgs_step::{Emit, Mode, What};
+use std::collections::VecDeque;
 
 /// Takes off the locks that no owner holds.
-pub fn keep_held(locks: &mut Vec<LocalLock>)
+fn keep_held(locks: &mut VecDeque<LocalLock>)
     ensures { locks.new.items ≡ filter has_owner locks.old.items }
 {
     locks.retain(|lock| lock.has_owner());
 }
 
 /// The owner gives up what it holds, lock by lock.
-pub fn give_up_each<E: Emit>(
-    locks: &mut Vec<LocalLock>,
+pub fn give_up_all<E: Emit>(
+    locks: &mut VecDeque<LocalLock>,
     session: u8,
     owner: u64,
     shared: &mut SharedLocks,
@@ -26,9 +27,36 @@ pub fn give_up_each<E: Emit>(
 )
     requires in_order { IsInOrder locks.old.items }
     requires agrees { (o : ℕ) (m : Mode) → holds shared.old o m session ≡ is_held locks.old.items o m }
-    ensures locks { locks.new.items ≡ map (without owner) locks.old.items }
+    ensures locks { locks.new.items ≡ released owner locks.old.items }
     ensures events { E.emits out.old (releases owner locks.old.items) out.new }
     ensures agrees { (o : ℕ) (m : Mode) → holds shared.new o m session ≡ is_held locks.new.items o m }
+    ensures others { OthersStay session shared.old shared.new }
+{
+    give_up_each(locks.make_contiguous(), session, owner, shared, out);
+    keep_held(locks);
+}
+
+/// One owner's counts go to another, lock by lock.
+pub fn pass_all<E: Emit>(locks: &mut VecDeque<LocalLock>, from: u64, to: u64, out: &mut E)
+    ensures locks { locks.new.items ≡ passed from to locks.old.items }
+    ensures events { E.emits out.old (passes from to locks.old.items) out.new }
+{
+    pass_each(locks.make_contiguous(), from, to, out);
+}
+
+/// The owner gives up what it holds of each lock.
+fn give_up_each<E: Emit>(
+    locks: &mut [LocalLock],
+    session: u8,
+    owner: u64,
+    shared: &mut SharedLocks,
+    out: &mut E,
+)
+    requires in_order { IsInOrder locks.old }
+    requires agrees { (o : ℕ) (m : Mode) → holds shared.old o m session ≡ is_held locks.old o m }
+    ensures locks { locks.new ≡ map (without owner) locks.old }
+    ensures events { E.emits out.old (releases owner locks.old) out.new }
+    ensures agrees { (o : ℕ) (m : Mode) → holds shared.new o m session ≡ is_held locks.new o m }
     ensures others { OthersStay session shared.old shared.new }
 {
     for lock in locks.iter_mut() {
@@ -36,10 +64,10 @@ pub fn give_up_each<E: Emit>(
     }
 }
 
-/// One owner's counts go to another, lock by lock.
-pub fn pass_each<E: Emit>(locks: &mut Vec<LocalLock>, from: u64, to: u64, out: &mut E)
-    ensures locks { locks.new.items ≡ map (passed_lock from to) locks.old.items }
-    ensures events { E.emits out.old (passes from to locks.old.items) out.new }
+/// One owner's counts of each lock go to another.
+fn pass_each<E: Emit>(locks: &mut [LocalLock], from: u64, to: u64, out: &mut E)
+    ensures locks { locks.new ≡ map (passed_lock from to) locks.old }
+    ensures events { E.emits out.old (passes from to locks.old) out.new }
 {
     for lock in locks.iter_mut() {
         pass_on(lock, from, to, out);

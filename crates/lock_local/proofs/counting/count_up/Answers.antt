@@ -2,7 +2,7 @@ use Rattle.std.proofs.Common.{◌≡◌, ap, ◌∙◌, arith}
 use Rattle.std.specs.Prelude.{insert}
 use Rattle.lock_local.specs.Places.{WouldStandAt}
 use Rattle.lock_local.specs.Changes.{counted_up, new_lock}
-use Rattle.lock_local.proofs.ChangeLemmas.{stands, would_stand, no_lock, acquired_over, acquired_new, counted_up_agrees, new_agrees}
+use Rattle.lock_local.proofs.ChangeLemmas.{no_lock, acquired_over, acquired_new, counted_up_agrees, new_agrees}
 use Rattle.lock_local.proofs.counting.count_up.Goals as goal
 
 -- what a new lock at its place makes
@@ -14,23 +14,23 @@ new c =
     cc (a, b, d)
 
 missing : (c : goal.After-put_in) → WouldStandAt c.args.object c.args.mode c.args.locks.now.items c.in-Err.at no_lock
-missing c = would_stand _ _ _ _ _ _ c.as_slice.ensures.value (c.in-Err.ensures no_lock)
+missing c = (c.in-Err.ensures no_lock)
 
 pub index_mut-lock-requires : goal.index_mut-lock-requires
-index_mut-lock-requires c = omega (arith, (c.in-Ok.ensures no_lock).within, c.as_slice.ensures.len)
+index_mut-lock-requires c = omega (arith, (c.in-Ok.ensures no_lock).within, c.args.locks.now.ok.0)
 
 pub returns-in_ok-count_up-in-Ok-clause-ok : goal.returns-in_ok-count_up-in-Ok-clause-ok
 returns-in_ok-count_up-in-Ok-clause-ok c =
     acquired_over c.args.owner c.args.object c.args.mode c.args.locks.now.items c.in-Ok.at c.index_mut-lock.result.now c.count_up.new.self
-    (stands _ _ _ _ _ _ c.as_slice.ensures.value (c.in-Ok.ensures c.index_mut-lock.result.now)) c.index_mut-lock.ensures.value c.in_ok-count_up-in-Ok.ensures.ok
+    (c.in-Ok.ensures c.index_mut-lock.result.now) c.index_mut-lock.ensures.value c.in_ok-count_up-in-Ok.ensures.ok
 
 pub returns-in_ok-count_up-in-Ok-clause-agrees : goal.returns-in_ok-count_up-in-Ok-clause-agrees
 returns-in_ok-count_up-in-Ok-clause-agrees c =
     counted_up_agrees c.args.owner c.args.object c.args.mode c.args.locks.now.items c.in-Ok.at c.index_mut-lock.result.now c.count_up.new.self c.args.session c.args.shared.now c.requires.locks
-    (stands _ _ _ _ _ _ c.as_slice.ensures.value (c.in-Ok.ensures c.index_mut-lock.result.now)) (c.in_ok-count_up-in-Ok.ensures.ok ∙ ap (counted_up c.args.owner) c.index_mut-lock.ensures.value) c.requires.agrees
+    (c.in-Ok.ensures c.index_mut-lock.result.now) (c.in_ok-count_up-in-Ok.ensures.ok ∙ ap (counted_up c.args.owner) c.index_mut-lock.ensures.value) c.requires.agrees
 
 pub put_in-requires-clause-within : goal.put_in-requires-clause-within
-put_in-requires-clause-within c = omega (arith, (c.in-Err.ensures no_lock).within, c.as_slice.ensures.len, c.in_ok-reserve-in-Err.ensures.len)
+put_in-requires-clause-within c = omega (arith, (c.in-Err.ensures no_lock).within, c.args.locks.now.ok.0, c.in_ok-reserve-in-Err.ensures.len)
 
 pub returns-in_ok-grant-in-Err-clause-ok : goal.returns-in_ok-grant-in-Err-clause-ok
 returns-in_ok-grant-in-Err-clause-ok c = new c ∙ acquired_new c.args.owner c.args.object c.args.mode c.args.locks.now.items c.in-Err.at no_lock (missing c)

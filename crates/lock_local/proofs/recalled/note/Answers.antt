@@ -1,28 +1,35 @@
-use Rattle.std.proofs.Common.{ap, ◌∙◌, List}
-use Rattle.lock_local.specs.Recalled.{Recall, may_hold}
-use Rattle.lock_local.proofs.RecallLemmas.{placed, owner_at, may_written, may_pushed, kept_written, kept_pushed}
+use Rattle.std.proofs.Common.{◌≡◌, ◌≤◌, ap, sym, subst, ◌∙◌, List, Some}
+use Rattle.lock_local.specs.Recalled.{Recall, recall_of, IsByOwner}
+use Rattle.lock_local.specs.OwnerPlaces.{WouldHaveOwnerAt}
+use Rattle.lock_local.proofs.RecallLemmas.{at_place, no_place, written, inserted, IsByOwner-set, IsByOwner-insert, remembers_noted, remembers_new}
 use Rattle.lock_local.proofs.recalled.note.Goals as goal
 
-pub returns-in-Some-clause-noted : goal.returns-in-Some-clause-noted
-returns-in-Some-clause-noted c =
-    let at = placed _ _ _ _ _ c.place_of.ensures c.as_slice.ensures.value c.in-Some.is in
-    may_written c.args.owner c.args.recalled.now.items c.in-Some.at c.note.new.self c.args.object c.args.mode at (c.note.ensures.owner ∙ owner_at c.args.owner c.args.recalled.now.items c.in-Some.at c.index_mut-recall.result.now at c.index_mut-recall.ensures.value)
-    ∙ c.note.ensures.noted
+pub returns-in-Ok-clause-by_owner : goal.returns-in-Ok-clause-by_owner
+returns-in-Ok-clause-by_owner c =
+    let x = c.index_mut-recall.result.now in
+    let owned : c.note.new.self.owner ≡ c.args.owner = c.note.ensures.owner ∙ ap (λ (r : Recall). r.owner) c.index_mut-recall.ensures.value ∙ c.in-Ok.ensures.here x in
+    IsByOwner-set c.args.owner c.args.recalled.now.items c.in-Ok.at c.note.new.self c.requires.by_owner c.in-Ok.ensures owned
 
-pub returns-in-Some-clause-kept : goal.returns-in-Some-clause-kept
-returns-in-Some-clause-kept c =
-    let at = placed _ _ _ _ _ c.place_of.ensures c.as_slice.ensures.value c.in-Some.is in
-    kept_written c.args.owner c.args.recalled.now.items c.in-Some.at c.index_mut-recall.result.now c.note.new.self at c.index_mut-recall.ensures.value (c.note.ensures.owner ∙ owner_at c.args.owner c.args.recalled.now.items c.in-Some.at c.index_mut-recall.result.now at c.index_mut-recall.ensures.value) c.note.ensures.kept
+pub returns-in-Ok-clause-remembers : goal.returns-in-Ok-clause-remembers
+returns-in-Ok-clause-remembers c = λ xs ys h more.
+    let x = c.index_mut-recall.result.now in
+    let rs = c.args.recalled.now.items in
+    let owned : c.note.new.self.owner ≡ c.args.owner = c.note.ensures.owner ∙ ap (λ (r : Recall). r.owner) c.index_mut-recall.ensures.value ∙ c.in-Ok.ensures.here x in
+    remembers_noted rs _ xs ys c.args.owner c.args.object c.args.mode x c.note.new.self h more
+    (at_place c.args.owner rs c.in-Ok.at x c.requires.by_owner c.in-Ok.ensures ∙ ap Some (sym c.index_mut-recall.ensures.value))
+    (written c.args.owner rs c.in-Ok.at c.note.new.self c.requires.by_owner c.in-Ok.ensures owned) c.note.ensures.some c.note.ensures.just
 
-pub returns-in-None-clause-noted : goal.returns-in-None-clause-noted
-returns-in-None-clause-noted c =
-    let at = placed _ _ _ _ _ c.place_of.ensures c.as_slice.ensures.value c.in-None.is in
-    ap (λ (rs : List Recall). may_hold rs c.args.object c.args.mode c.args.owner) c.push_reserved.ensures.items
-    ∙ may_pushed c.args.owner c.args.recalled.now.items c.new.result c.args.object c.args.mode at c.new.ensures.owner
-    ∙ c.new.ensures.recalls
+pub put_in-requires-clause-within : goal.put_in-requires-clause-within
+put_in-requires-clause-within c = subst (λ n. c.in-Err.at ≤ n) (sym c.args.recalled.now.ok.0) c.in-Err.ensures.within
 
-pub returns-in-None-clause-kept : goal.returns-in-None-clause-kept
-returns-in-None-clause-kept c = λ o m v old.
-    let at = placed _ _ _ _ _ c.place_of.ensures c.as_slice.ensures.value c.in-None.is in
-    ap (λ (rs : List Recall). may_hold rs o m v) c.push_reserved.ensures.items
-    ∙ kept_pushed c.args.owner c.args.recalled.now.items c.new.result at c.new.ensures.owner o m v old
+pub returns-in-Err-clause-by_owner : goal.returns-in-Err-clause-by_owner
+returns-in-Err-clause-by_owner c =
+    let rs = c.args.recalled.now.items in
+    subst IsByOwner (sym c.put_in.ensures) (IsByOwner-insert rs c.in-Err.at c.new.result c.requires.by_owner (subst (λ n. WouldHaveOwnerAt n rs c.in-Err.at) (sym c.new.ensures.owner) c.in-Err.ensures))
+
+pub returns-in-Err-clause-remembers : goal.returns-in-Err-clause-remembers
+returns-in-Err-clause-remembers c = λ xs ys h more.
+    let rs = c.args.recalled.now.items in
+    remembers_new rs c.put_in.new.recalled.items xs ys c.args.owner c.args.object c.args.mode c.new.result h more (no_place c.args.owner rs c.in-Err.at c.in-Err.ensures)
+    (λ v. ap (λ (zs : List Recall). recall_of zs v) c.put_in.ensures ∙ inserted c.args.owner rs c.in-Err.at c.new.result c.in-Err.ensures.before c.in-Err.ensures.within c.new.ensures.owner v)
+    c.new.ensures.some c.new.ensures.just

@@ -1,32 +1,40 @@
-use Rattle.std.proofs.Common.{◌≡◌, ℕ, sym, ap, ◌∙◌, List, Some, None}
-use Rattle.std.specs.List.{position}
-use Rattle.lock_local.specs.Recalled.{Recall, may_hold}
-use Rattle.lock_local.proofs.RecallLemmas.{is_of, placed, owner_at, may_written, may_pushed, kept_written, kept_pushed}
+use Rattle.std.proofs.Common.{◌≡◌, ◌≤◌, ap, sym, subst, ◌∙◌, ℕ, List, Some, cond}
+use Rattle.lock_local.specs.Recalled.{Recall, recall_of, Joins, IsByOwner}
+use Rattle.lock_local.specs.OwnerPlaces.{HasOwnerAt, WouldHaveOwnerAt}
+use Rattle.lock_local.proofs.RecallLemmas.{written, inserted, joined_at, joined_new, IsByOwner-set, IsByOwner-insert}
 use Rattle.lock_local.proofs.recalled.put_back.Goals as goal
 
-pub returns-in-Some-clause-taken : goal.returns-in-Some-clause-taken
-returns-in-Some-clause-taken c = λ o m held.
-    let at : position (is_of c.args.recall.owner) c.args.recalled.now.items ≡ Some c.in-Some.at = ap (λ (w : ℕ). position (is_of w) c.args.recalled.now.items) (sym c.owner.ensures) ∙ placed _ _ _ _ _ c.place_of.ensures c.as_slice.ensures.value c.in-Some.is in
-    let same : c.take_over.new.self.owner ≡ c.args.recall.owner = c.take_over.ensures.owner ∙ owner_at c.args.recall.owner c.args.recalled.now.items c.in-Some.at c.index_mut-other.result.now at c.index_mut-other.ensures.value in
-    may_written c.args.recall.owner c.args.recalled.now.items c.in-Some.at c.take_over.new.self o m at same
-    ∙ c.take_over.ensures.taken o m held
+here : (c : goal.After-recalled-1) → HasOwnerAt c.args.recall.owner c.args.recalled.now.items c.in-Ok.at
+here c = subst (λ (n : ℕ). HasOwnerAt n c.args.recalled.now.items c.in-Ok.at) c.owner.ensures c.in-Ok.ensures
 
-pub returns-in-Some-clause-kept : goal.returns-in-Some-clause-kept
-returns-in-Some-clause-kept c =
-    let at : position (is_of c.args.recall.owner) c.args.recalled.now.items ≡ Some c.in-Some.at = ap (λ (w : ℕ). position (is_of w) c.args.recalled.now.items) (sym c.owner.ensures) ∙ placed _ _ _ _ _ c.place_of.ensures c.as_slice.ensures.value c.in-Some.is in
-    let same : c.take_over.new.self.owner ≡ c.args.recall.owner = c.take_over.ensures.owner ∙ owner_at c.args.recall.owner c.args.recalled.now.items c.in-Some.at c.index_mut-other.result.now at c.index_mut-other.ensures.value in
-    kept_written c.args.recall.owner c.args.recalled.now.items c.in-Some.at c.index_mut-other.result.now c.take_over.new.self at c.index_mut-other.ensures.value same c.take_over.ensures.kept
+owned : (c : goal.After-recalled-1) → c.take_over.new.self.owner ≡ c.args.recall.owner
+owned c = c.take_over.ensures.owner ∙ ap (λ (r : Recall). r.owner) c.index_mut-other.ensures.value ∙ (here c).here c.index_mut-other.result.now
 
-none : (c : goal.After-push_reserved) → position (is_of c.args.recall.owner) c.args.recalled.now.items ≡ None
-none c = ap (λ (w : ℕ). position (is_of w) c.args.recalled.now.items) (sym c.owner.ensures) ∙ placed _ _ _ _ _ c.place_of.ensures c.as_slice.ensures.value c.in-None.is
+pub returns-in-Ok-clause-by_owner : goal.returns-in-Ok-clause-by_owner
+returns-in-Ok-clause-by_owner c = IsByOwner-set c.args.recall.owner c.args.recalled.now.items c.in-Ok.at c.take_over.new.self c.requires.by_owner (here c) (owned c)
 
-pub returns-in-None-clause-taken : goal.returns-in-None-clause-taken
-returns-in-None-clause-taken c = λ o m held.
-    ap (λ (rs : List Recall). may_hold rs o m c.args.recall.owner) c.push_reserved.ensures.items
-    ∙ may_pushed c.args.recall.owner c.args.recalled.now.items c.args.recall o m (none c) (λ i. c.args.recall.owner)
-    ∙ held
+pub returns-in-Ok-clause-both : goal.returns-in-Ok-clause-both
+returns-in-Ok-clause-both c = joined_at c.args.recall.owner c.args.recalled.now.items c.in-Ok.at c.index_mut-other.result.now c.take_over.new.self c.args.recall c.requires.by_owner (here c) c.index_mut-other.ensures.value (owned c) c.take_over.ensures.some c.take_over.ensures.just
 
-pub returns-in-None-clause-kept : goal.returns-in-None-clause-kept
-returns-in-None-clause-kept c = λ o m v old.
-    ap (λ (rs : List Recall). may_hold rs o m v) c.push_reserved.ensures.items
-    ∙ kept_pushed c.args.recall.owner c.args.recalled.now.items c.args.recall (none c) (λ i. c.args.recall.owner) o m v old
+pub returns-in-Ok-clause-others : goal.returns-in-Ok-clause-others
+returns-in-Ok-clause-others c = λ v apart. written c.args.recall.owner c.args.recalled.now.items c.in-Ok.at c.take_over.new.self c.requires.by_owner (here c) (owned c) v ∙ ap (λ b. cond b (Some c.take_over.new.self) (recall_of c.args.recalled.now.items v)) apart
+
+there : (c : goal.After-put_in) → WouldHaveOwnerAt c.args.recall.owner c.args.recalled.now.items c.in-Err.at
+there c = subst (λ (n : ℕ). WouldHaveOwnerAt n c.args.recalled.now.items c.in-Err.at) c.owner.ensures c.in-Err.ensures
+
+pub put_in-requires-clause-within : goal.put_in-requires-clause-within
+put_in-requires-clause-within c = subst (λ n. c.in-Err.at ≤ n) (sym c.args.recalled.now.ok.0) c.in-Err.ensures.within
+
+pub returns-in-Err-clause-by_owner : goal.returns-in-Err-clause-by_owner
+returns-in-Err-clause-by_owner c = subst IsByOwner (sym c.put_in.ensures) (IsByOwner-insert c.args.recalled.now.items c.in-Err.at c.args.recall c.requires.by_owner (there c))
+
+pub returns-in-Err-clause-both : goal.returns-in-Err-clause-both
+returns-in-Err-clause-both c =
+    subst (λ (zs : List Recall). Joins c.args.recall (recall_of c.args.recalled.now.items c.args.recall.owner) (recall_of zs c.args.recall.owner)) (sym c.put_in.ensures)
+    (joined_new c.args.recalled.now.items c.in-Err.at c.args.recall (there c))
+
+pub returns-in-Err-clause-others : goal.returns-in-Err-clause-others
+returns-in-Err-clause-others c = λ v apart.
+    ap (λ (zs : List Recall). recall_of zs v) c.put_in.ensures
+    ∙ inserted c.args.recall.owner c.args.recalled.now.items c.in-Err.at c.args.recall (there c).before (there c).within (λ i. c.args.recall.owner) v
+    ∙ ap (λ b. cond b (Some c.args.recall) (recall_of c.args.recalled.now.items v)) apart

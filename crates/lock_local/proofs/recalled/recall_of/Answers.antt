@@ -1,12 +1,9 @@
-use Rattle.std.proofs.Common.{refl, sym, ap, ◌∙◌}
-use Rattle.lock_local.specs.Recalled.{Recall, recalls}
-use Rattle.lock_local.proofs.RecallLemmas.{placed, may_first, may_none}
+use Rattle.std.proofs.Common.{ap, sym, ◌∙◌, Some}
+use Rattle.lock_local.proofs.RecallLemmas.{at_place, no_place}
 use Rattle.lock_local.proofs.recalled.recall_of.Goals as goal
 
-pub returns-in-Some : goal.returns-in-Some
-returns-in-Some c = λ o m.
-    may_first c.args.owner c.args.recalled.now c.in-Some.at c.index-recalled-at.result o m (placed c.args.owner c.args.recalled.now c.args.recalled.now _ _ c.place_of.ensures refl c.in-Some.is)
-    ∙ ap (λ (r : Recall). recalls r o m) (sym c.index-recalled-at.is)
+pub returns-in-Ok : goal.returns-in-Ok
+returns-in-Ok c = at_place c.args.owner c.args.recalled.now.items c.in-Ok.at c.index.result.now c.requires c.in-Ok.ensures ∙ ap Some (sym c.index.ensures)
 
-pub returns-in-None : goal.returns-in-None
-returns-in-None c = λ o m. may_none c.args.owner c.args.recalled.now o m (placed c.args.owner c.args.recalled.now c.args.recalled.now _ _ c.place_of.ensures refl c.in-None.is)
+pub returns-in-Err : goal.returns-in-Err
+returns-in-Err c = no_place c.args.owner c.args.recalled.now.items c.in-Err.field-0 c.in-Err.ensures

@@ -1,17 +1,29 @@
-use Rattle.std.proofs.Common.{sym, ap, ◌∙◌, List}
-use Rattle.lock_local.specs.Recalled.{Recall, recalls, may_hold}
-use Rattle.lock_local.proofs.RecallLemmas.{placed, may_first, may_none, may_left}
+use Rattle.std.proofs.Common.{◌≡◌, ap, sym, subst, ◌∙◌, List, remove, arith}
+use Rattle.lock_local.specs.Recalled.{Recall, recall_of, IsByOwner}
+use Rattle.lock_local.proofs.PlaceLemmas.{taken_some}
+use Rattle.lock_local.proofs.RecallLemmas.{at_place, no_place, no_recall, removed, absent, match_some, IsByOwner-remove}
 use Rattle.lock_local.proofs.recalled.take_out.Goals as goal
 
-pub returns-in-Some-clause-gone : goal.returns-in-Some-clause-gone
-returns-in-Some-clause-gone c = λ o m.
-    may_first c.args.owner c.args.recalled.now.items c.in-Some.at c.remove.result o m (placed _ _ _ _ _ c.place_of.ensures c.as_slice.ensures.value c.in-Some.is)
-    ∙ ap (λ (r : Recall). recalls r o m) (sym c.remove.ensures.value)
+left : (c : goal.After-remove) → c.remove.new.self.items ≡ remove c.args.recalled.now.items c.in-Ok.at
+left c = taken_some c.remove.result _ (c.remove.ensures.succeeds no_recall (omega (arith, c.in-Ok.ensures.within, c.args.recalled.now.ok.0))) c.remove.ensures.items
 
-pub returns-in-Some-clause-kept : goal.returns-in-Some-clause-kept
-returns-in-Some-clause-kept c = λ o m v other.
-    ap (λ (rs : List Recall). may_hold rs o m v) c.remove.ensures.items
-    ∙ may_left c.args.owner c.args.recalled.now.items c.in-Some.at o m v (placed _ _ _ _ _ c.place_of.ensures c.as_slice.ensures.value c.in-Some.is) other
+pub returns-in-Ok-clause-by_owner : goal.returns-in-Ok-clause-by_owner
+returns-in-Ok-clause-by_owner c = subst IsByOwner (sym (left c)) (IsByOwner-remove c.args.recalled.now.items c.in-Ok.at c.requires.by_owner)
 
-pub returns-in-None-clause-gone : goal.returns-in-None-clause-gone
-returns-in-None-clause-gone c = λ o m. may_none c.args.owner c.args.recalled.now.items o m (placed _ _ _ _ _ c.place_of.ensures c.as_slice.ensures.value c.in-None.is)
+pub returns-in-Ok-clause-was : goal.returns-in-Ok-clause-was
+returns-in-Ok-clause-was c = c.remove.ensures.succeeds no_recall (omega (arith, c.in-Ok.ensures.within, c.args.recalled.now.ok.0)) ∙ sym (at_place c.args.owner c.args.recalled.now.items c.in-Ok.at no_recall c.requires.by_owner c.in-Ok.ensures)
+
+pub returns-in-Ok-clause-left : goal.returns-in-Ok-clause-left
+returns-in-Ok-clause-left c = λ w. ap (λ (zs : List Recall). recall_of zs w) (left c) ∙ removed c.args.owner c.args.recalled.now.items c.in-Ok.at no_recall c.requires.by_owner c.in-Ok.ensures w
+
+pub returns-in-Ok-clause-room : goal.returns-in-Ok-clause-room
+returns-in-Ok-clause-room c =
+    let found = c.remove.ensures.succeeds no_recall (omega (arith, c.in-Ok.ensures.within, c.args.recalled.now.ok.0)) in
+    let less = taken_some c.remove.result _ found c.remove.ensures.len in
+    match_some _ _ c.remove.result _ found (omega (arith, less, c.remove.ensures.capacity, c.args.recalled.now.small.1))
+
+pub returns-in-Err-clause-was : goal.returns-in-Err-clause-was
+returns-in-Err-clause-was c = sym (no_place c.args.owner c.args.recalled.now.items c.in-Err.field-0 c.in-Err.ensures)
+
+pub returns-in-Err-clause-left : goal.returns-in-Err-clause-left
+returns-in-Err-clause-left c = absent c.args.owner c.args.recalled.now.items (no_place c.args.owner c.args.recalled.now.items c.in-Err.field-0 c.in-Err.ensures)

@@ -9,8 +9,8 @@ use Rattle.lock_local.proofs.walks.give_up_each.Goals as goal
 pub loop-lock-preserved : goal.loop-lock-preserved
 loop-lock-preserved g c =
     let x = c.lock-item.result in
-    let items = c.deref_mut-lock-items.result.now in
-    let now = c.loop-lock.lock-items in
+    let items = c.args.locks.now in
+    let now = c.loop-lock.locks in
     let i = c.loop-lock.lock-index in
     let within : i < length now = omega arith in
     let y = c.give_up.new.lock in

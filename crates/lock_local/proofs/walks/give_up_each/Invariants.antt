@@ -7,9 +7,9 @@ use Rattle.lock_local.proofs.walks.give_up_each.Given as goal
 
 abbrev pub invariant-loop-lock : goal.invariant-loop-lock
 invariant-loop-lock g l = record {
-  in_order : IsInOrder l.lock-items;
-  locks : l.lock-items ≡ map (without l.owner) (take l.lock-index l.initial.lock-items) ++ drop l.lock-index l.initial.lock-items;
-  events : g.E.Emit.emits l.initial.out (releases l.owner (take l.lock-index l.initial.lock-items)) l.out;
-  agrees : (o : ℕ) (m : Mode) → holds l.shared o m l.session ≡ is_held l.lock-items o m;
+  in_order : IsInOrder l.locks;
+  locks : l.locks ≡ map (without l.owner) (take l.lock-index l.initial.locks) ++ drop l.lock-index l.initial.locks;
+  events : g.E.Emit.emits l.initial.out (releases l.owner (take l.lock-index l.initial.locks)) l.out;
+  agrees : (o : ℕ) (m : Mode) → holds l.shared o m l.session ≡ is_held l.locks o m;
   others : OthersStay l.session l.initial.shared l.shared;
 }

@@ -1,11 +1,11 @@
 use Rattle.std.proofs.Common.{◌≡◌, ◌+◌, List, ap, sym, subst, ◌∙◌, arith}
 use Rattle.lock_local.specs.Locks.{Lock, total}
 use Rattle.lock_local.specs.Counts.{HoldsOneMore, WholeOneMore}
-use Rattle.lock_local.specs.Recalled.{Recall, Covers}
+use Rattle.lock_local.specs.Recalled.{Recall, Remembers}
 use Rattle.lock_local.proofs.ChangeLemmas.{agrees_by, fit_acquired, total-acquired}
 use Rattle.lock_local.proofs.CountLemmas.{counts_more}
 use Rattle.lock_local.proofs.TotalLemmas.{wholes_more}
-use Rattle.lock_local.proofs.CoverLemmas.{covers_noted, by_view}
+use Rattle.lock_local.proofs.TableLemmas.{by_view}
 use Rattle.lock_local.proofs.lock_table.LockTable.hold.Goals as goal
 
 pub count_up-requires-clause-agrees : goal.count_up-requires-clause-agrees
@@ -17,9 +17,10 @@ returns-in_err-reserve-clause-agrees c = agrees_by _ _ _ c.self.view_is c.requir
 pub invariant_of-self-2 : goal.invariant_of-self-2
 invariant_of-self-2 c = record {
   fits = fit_acquired c.args.owner c.args.object c.args.mode _ _ c.self.invariant.fits (omega arith) c.in_ok-count_up.ensures.ok;
-  covers = covers_noted c.reserve.new.self.items c.note.new.recalled.items c.self.inside.locks.items c.count_up.new.locks.items c.args.owner c.args.object c.args.mode
-      (subst (λ (rs : List Recall). Covers rs c.self.inside.locks.items) (sym c.in_ok-reserve.ensures.items) c.self.invariant.covers)
-      (counts_more c.args.owner c.args.object c.args.mode _ _ c.in_ok-count_up.ensures.ok) c.note.ensures.noted c.note.ensures.kept;
+  by_owner = c.note.ensures.by_owner;
+  remembers = c.note.ensures.remembers c.self.inside.locks.items c.count_up.new.locks.items
+      (subst (λ (rs : List Recall). Remembers rs c.self.inside.locks.items) (sym c.in_ok-reserve.ensures.items) c.self.invariant.remembers)
+      (counts_more c.args.owner c.args.object c.args.mode _ _ c.in_ok-count_up.ensures.ok);
   taken = omega (arith, c.self.invariant.taken, ap total c.in_ok-count_up.ensures.ok, total-acquired c.args.owner c.args.object c.args.mode c.self.inside.locks.items);
 }
 

@@ -4,7 +4,7 @@ use Rattle.std.specs.Set.{distinct_count}
 use Rattle.pgs_step.specs.declared.lock_modes.Mode.{Mode}
 use Rattle.lock_local.specs.Locks.{Lock, is_held, whole_of, same_name}
 use Rattle.lock_local.proofs.LawLemmas.{length_different, held_whole}
-use Rattle.lock_local.proofs.CoverLemmas.{by_view}
+use Rattle.lock_local.proofs.TableLemmas.{by_view}
 use Rattle.lock_local.proofs.lock_table.LockTable.laws.Goals as goal
 
 pub returns-clause-held : goal.returns-clause-held

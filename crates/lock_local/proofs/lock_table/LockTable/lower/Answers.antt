@@ -1,5 +1,5 @@
 use Rattle.lock_local.proofs.ChangeLemmas.{agrees_by}
-use Rattle.lock_local.proofs.CoverLemmas.{covers_lowered, fit_lowered, taken_lowered}
+use Rattle.lock_local.proofs.TableLemmas.{fit_lowered, taken_lowered}
 use Rattle.lock_local.proofs.lock_table.LockTable.lower.Goals as goal
 
 pub count_down-count-requires-clause-agrees : goal.count_down-count-requires-clause-agrees
@@ -8,7 +8,8 @@ count_down-count-requires-clause-agrees c = agrees_by _ _ _ c.self.view_is c.req
 pub invariant_of-self : goal.invariant_of-self
 invariant_of-self c = record {
   fits = fit_lowered c.args.owner c.args.object c.args.mode _ _ c.count_down-count.result c.self.invariant.fits c.count_down-count.ensures.none c.count_down-count.ensures.held;
-  covers = covers_lowered _ _ _ _ c.args.owner c.args.object c.args.mode c.count_down-count.result c.self.invariant.covers c.count_down-count.ensures.answer c.count_down-count.ensures.none c.count_down-count.ensures.counts c.forget_last.ensures.kept;
+  by_owner = c.forget_last.ensures.by_owner;
+  remembers = c.forget_last.ensures.remembers _ _ c.self.invariant.remembers c.count_down-count.ensures.answer c.count_down-count.ensures.none c.count_down-count.ensures.counts;
   taken = taken_lowered _ _ c.count_down-count.result _ c.self.invariant.taken c.count_down-count.ensures.none c.count_down-count.ensures.total;
 }
 

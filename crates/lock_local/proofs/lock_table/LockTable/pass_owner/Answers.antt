@@ -4,13 +4,14 @@ use Rattle.lock_local.specs.Counts.{HoldsBoth, WholeStays}
 use Rattle.lock_local.proofs.ChangeLemmas.{fit_passed, is_held-passed}
 use Rattle.lock_local.proofs.CountLemmas.{counts_both}
 use Rattle.lock_local.proofs.TotalLemmas.{wholes_passed, totals_passed}
-use Rattle.lock_local.proofs.CoverLemmas.{covers_passed, by_view}
+use Rattle.lock_local.proofs.TableLemmas.{by_view}
 use Rattle.lock_local.proofs.lock_table.LockTable.pass_owner.Goals as goal
 
 pub invariant_of-self : goal.invariant_of-self
 invariant_of-self g c = record {
   fits = fit_passed c.args.from.number c.args.to.number _ _ c.self.invariant.fits c.pass_recalled.ensures.locks;
-  covers = covers_passed c.self.inside.recalled.items c.hand_on.new.recalled.items c.self.inside.locks.items c.pass_recalled.new.locks.items c.args.from.number c.args.to.number c.self.invariant.covers (counts_both c.args.from.number c.args.to.number _ _ c.pass_recalled.ensures.locks) c.hand_on.ensures.kept;
+  by_owner = c.hand_on.ensures.by_owner;
+  remembers = c.hand_on.ensures.remembers c.self.inside.locks.items c.pass_recalled.new.locks.items c.self.invariant.remembers (counts_both c.args.from.number c.args.to.number _ _ c.pass_recalled.ensures.locks);
   taken = omega (arith, c.self.invariant.taken, totals_passed c.args.from.number c.args.to.number _ _ c.pass_recalled.ensures.locks);
 }
 

@@ -5,7 +5,7 @@ use Rattle.lock_local.specs.Changes.{without}
 use Rattle.lock_local.proofs.ChangeLemmas.{agrees_by, fit_released}
 use Rattle.lock_local.proofs.CountLemmas.{counts_released}
 use Rattle.lock_local.proofs.TotalLemmas.{wholes_released, totals_released}
-use Rattle.lock_local.proofs.CoverLemmas.{covers_released, by_view}
+use Rattle.lock_local.proofs.TableLemmas.{by_view}
 use Rattle.lock_local.proofs.lock_table.LockTable.release_owner.Goals as goal
 
 pub give_up_recalled-requires-clause-agrees : goal.give_up_recalled-requires-clause-agrees
@@ -14,7 +14,8 @@ give_up_recalled-requires-clause-agrees g c = agrees_by _ _ _ c.self.view_is c.r
 pub invariant_of-self : goal.invariant_of-self
 invariant_of-self g c = record {
   fits = fit_released c.args.owner.number c.self.inside.locks.items (map (without c.args.owner.number) c.self.inside.locks.items) _ c.self.invariant.fits refl c.give_up_recalled.ensures.locks;
-  covers = covers_released c.self.inside.recalled.items c.take_out.new.recalled.items c.self.inside.locks.items c.give_up_recalled.new.locks.items c.args.owner.number c.self.invariant.covers (counts_released c.args.owner.number c.self.inside.locks.items c.give_up_recalled.new.locks.items c.give_up_recalled.ensures.locks) c.take_out.ensures.kept;
+  by_owner = c.forget_owner.ensures.by_owner;
+  remembers = c.forget_owner.ensures.remembers c.self.inside.locks.items c.give_up_recalled.new.locks.items c.self.invariant.remembers (counts_released c.args.owner.number c.self.inside.locks.items c.give_up_recalled.new.locks.items c.give_up_recalled.ensures.locks);
   taken = omega (arith, c.self.invariant.taken, totals_released c.args.owner.number c.self.inside.locks.items c.give_up_recalled.new.locks.items c.give_up_recalled.ensures.locks);
 }
 

@@ -1,4 +1,4 @@
-use Rattle.std.proofs.Common.{◌≡◌, ℕ, true, take}
+use Rattle.std.proofs.Common.{◌≡◌, ℕ, ◌<◌, false, ◌||◌, length, take}
 use Rattle.std.specs.List.{list_any}
 use Rattle.pgs_step.specs.declared.lock_modes.Mode.{Mode}
 use Rattle.lock_local.specs.Recalled.{is_tag, recalls}
@@ -7,6 +7,6 @@ use Rattle.lock_local.proofs.recalled.OwnerLocks.note_each.Given as goal
 abbrev pub invariant-loop-tag : goal.invariant-loop-tag
 invariant-loop-tag l = record {
   owner : l.self.owner ≡ l.initial.self.owner;
-  taken : (o : ℕ) (m : Mode) → list_any (is_tag o m) (take l.tag-index l.tags) ≡ true → recalls l.self o m ≡ true;
-  kept : (o : ℕ) (m : Mode) → recalls l.initial.self o m ≡ true → recalls l.self o m ≡ true;
+  some : 0 < length l.initial.self.tags → 0 < length l.self.tags;
+  just : l.self.more ≡ false → (l.initial.self.more ≡ false) × ((o : ℕ) (m : Mode) → recalls l.self o m ≡ (list_any (is_tag o m) (take l.tag-index l.tags) || recalls l.initial.self o m));
 }

@@ -1,0 +1,32 @@
+use Rattle.std.proofs.Common.{◌≡◌, Bool, true, false, ◌||◌, refl, sym, ap, ◌∙◌, get_or, take}
+use Rattle.std.specs.List.{list_any}
+use Rattle.std.proofs.lemmas.List.Folds.{list_any_more}
+use Rattle.lock_shared.specs.Holdings.{same_lock}
+use Rattle.lock_local.specs.Recalled.{is_tag, recalls}
+use Rattle.lock_local.proofs.StepLemmas.{no_tag}
+use Rattle.lock_local.proofs.recalled.OwnerLocks.note_each.Goals as goal
+
+or_last : (a b c : Bool) → (a || (b || c)) ≡ ((b || a) || c)
+or_last true true c = refl
+or_last true false c = refl
+or_last false true c = refl
+or_last false false c = refl
+
+pub loop-tag-preserved : goal.loop-tag-preserved
+loop-tag-preserved c =
+    let i = c.loop-tag.tag-index in
+    let t = get_or c.args.tags.now i no_tag in
+    record {
+      owner = c.note.ensures.owner ∙ c.loop-tag.invariant.owner;
+      some = λ more. c.note.ensures.some (c.loop-tag.invariant.some more);
+      just = λ few.
+          let k = c.note.ensures.just few in
+          let p = c.loop-tag.invariant.just k.0 in (
+            p.0,
+            λ o m.
+                k.1 o m
+                ∙ ap (λ b. same_lock t.object t.mode o m || b) (p.1 o m)
+                ∙ or_last (same_lock t.object t.mode o m) (list_any (is_tag o m) (take i c.args.tags.now)) (recalls c.args.self.now o m)
+                ∙ ap (λ b. b || recalls c.args.self.now o m) (sym (list_any_more (is_tag o m) c.args.tags.now i no_tag c.loop-tag-test.true)),
+          );
+    }
