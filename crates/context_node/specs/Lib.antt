@@ -7,3 +7,4 @@ pub mod State
 pub mod Chunking
 pub mod Making
 pub mod Ending
+pub mod Ran

@@ -1,9 +1,6 @@
 //! What happens when a context is reset or goes.
-ghost use Rattle.std.specs.Prelude.{◌≡◌, ◌++◌, ◌≤◌, ℕ, List, [], length, true, false};
+ghost use Rattle.std.specs.Prelude.{◌≡◌, ℕ, List, true, false};
 ghost use Rattle.std.specs.HashMap.{get};
-ghost use Rattle.reset_callbacks.specs.Hook.{AreDistinct};
-ghost use Rattle.reset_callbacks.specs.ShelfState.{held};
-ghost use Rattle.context_rules.specs.Ends.{callbacks, handed_in};
 ghost use Rattle.forest.specs.Forest.{Empty, Once, has};
 ghost use Rattle.context_node.specs.Soundness.{AreFlat, same};
 ghost use Rattle.context_node.specs.Ending.{left_names, without_context};
@@ -11,32 +8,8 @@ ghost use Rattle.context_node.specs.Ending.{left_names, without_context};
 use crate::chunk_id::ChunkId;
 use crate::entry::Entry;
 use forest::LinkedForest;
-use pgs_step::{CtxId, Emit, Name, What};
-use reset_callbacks::{Pending, ResetHook, Shelf};
+use pgs_step::{CtxId, Name};
 use std::collections::HashMap;
-
-/// Runs all hooks that wait on a context, the newest first, and hands each in.
-pub fn run_all<H: ResetHook, E: Emit>(
-    waiting: &mut Pending<H>,
-    shelf: &mut Shelf<H>,
-    number: u64,
-    out: &mut E,
-)
-    requires count { length waiting.old ≤ shelf.old.out }
-    requires words { AreDistinct (waiting.old ++ held shelf.old) }
-    ensures none { waiting.new ≡ [] }
-    ensures shelf { shelf.new ≡ handed_in waiting.old shelf.old }
-    ensures emits { E.emits out.old (callbacks number waiting.old) out.new }
-{
-    while let Some(mut hook) = waiting.pop() {
-        hook.run();
-        out.emit(What::Callback {
-            word: hook.word(),
-            context: number,
-        });
-        shelf.finish(hook);
-    }
-}
 
 /// Takes all chunks of a context out, and their names out of the map.
 #[inline(always)]

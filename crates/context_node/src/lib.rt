@@ -9,6 +9,7 @@ mod ending;
 mod entry;
 mod making;
 mod node;
+mod running;
 mod zeros;
 
 pub use chunk_id::ChunkId;
@@ -16,3 +17,4 @@ pub use chunk_names::{enter_chunk, room_for_chunk};
 pub use entry::Entry;
 pub use making::{NewContext, enter_context, give_back, own_name, room_for_name};
 pub use node::{Node, told};
+pub use running::HooksRan;

@@ -20,9 +20,10 @@ ghost use Rattle.forest.specs.Forest.{at, has};
 
 use crate::chunk_id::ChunkId;
 use crate::chunks::Chunks;
-use crate::ending::{forget_context, run_all};
+use crate::ending::forget_context;
 use crate::entry::Entry;
 use crate::making::NewContext;
+use crate::running::{HooksRan, run_all};
 use crate::zeros::write_zeros;
 use addr_space::{Addr, Space};
 use any_ctx::{AnyCtx, CtxKind, SetBoxes};
@@ -330,7 +331,8 @@ impl<H: ResetHook> Node<H> {
         }
     }
 
-    /// Resets the context: its hooks run, the newest first, and its chunks go, with their names.
+    /// Resets the context: its hooks run, the newest first, and then its chunks go, with their names. While the hooks run,
+    /// the space has all that it had (`ran`).
     pub fn reset<E: Emit>(
         &mut self,
         space: &mut Space,
@@ -338,23 +340,26 @@ impl<H: ResetHook> Node<H> {
         names: &mut HashMap<Name, ChunkId>,
         number: u64,
         out: &mut E,
-    )
+    ) -> HooksRan
         requires agrees { Agrees (footprint self.old.memory) space.old }
         requires sound { IsSoundContext self.old }
         requires count { length self.old.hooks ≤ shelf.old.out }
         requires words { AreDistinct (self.old.hooks ++ on_shelf shelf.old) }
         ensures cleared { Cleared self.old self.new space.old space.new shelf.old shelf.new (get same names.old) (get same names.new) }
+        ensures ran { result.ran ≡ record { hooks = self.old.hooks; space = space.old } }
         ensures emits { E.emits out.old (callbacks number self.old.hooks ++ What.Reset number ∷ []) out.new }
     {
-        run_all(&mut self.callbacks, shelf, number, out);
+        let ran = run_all(&mut self.callbacks, shelf, number, space, out);
         self.chunks.forget(names);
         self.memory.reset(space);
         self.memory.counted();
         self.used = false;
         out.emit(What::Reset(number));
+        ran
     }
 
-    /// The context goes: its hooks run, the newest first, its chunks go, with their names, and its blocks are given back.
+    /// The context goes: its hooks run, the newest first, and then its chunks go, with their names, and its blocks are
+    /// given back. While the hooks run, the space has all that it had (`ran`).
     pub fn end<E: Emit>(
         self,
         space: &mut Space,
@@ -363,12 +368,13 @@ impl<H: ResetHook> Node<H> {
         names: &mut HashMap<Name, ChunkId>,
         number: u64,
         out: &mut E,
-    )
+    ) -> HooksRan
         requires agrees { Agrees (footprint self.memory) space.old }
         requires sound { IsSoundContext self }
         requires count { length self.hooks ≤ shelf.old.out }
         requires words { AreDistinct (self.hooks ++ on_shelf shelf.old) }
         ensures went { Gone self space.old space.new shelf.old shelf.new (get same names.old) (get same names.new) }
+        ensures ran { result.ran ≡ record { hooks = self.hooks; space = space.old } }
         ensures emits { E.emits out.old (callbacks number self.hooks) out.new }
     {
         let Node {
@@ -377,9 +383,10 @@ impl<H: ResetHook> Node<H> {
             mut callbacks,
             ..
         } = self;
-        run_all(&mut callbacks, shelf, number, out);
+        let ran = run_all(&mut callbacks, shelf, number, space, out);
         chunks.forget(names);
         memory.discard(space, boxes);
+        ran
     }
 }
 

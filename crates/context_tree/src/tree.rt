@@ -866,7 +866,8 @@ impl<H: ResetHook> ContextTree<H> {
 
     /// Whether the second context is the first one or below it.
     fn is_within(&self, at: CtxId, other: CtxId) -> bool
-        requires { IsLive self.now other }
+        requires context { IsLive self.now at }
+        requires other { IsLive self.now other }
         ensures { (s : Space) → result ≡ is_within at.number other.number (stands_for self.now s) }
     {
         other.number == at.number || self.nodes.is_above(node_at(at), node_at(other))

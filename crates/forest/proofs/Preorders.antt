@@ -1,10 +1,10 @@
 -- What the walks come to that come to each node before its children.
-use Rattle.std.proofs.Common.{◌≡◌, ℕ, ◌+◌, ◌<◌, true, false, Option, Some, None, List, [], ◌∷◌, ◌++◌, refl, sym, ap, ◌∙◌, inl, inr, arith, append_assoc}
+use Rattle.std.proofs.Common.{◌≡◌, ℕ, ◌+◌, ◌<◌, ◌≤◌, true, false, length, length-append, Option, Some, None, List, [], ◌∷◌, ◌++◌, refl, sym, ap, ◌∙◌, inl, inr, arith, append_assoc}
 use Rattle.std.specs.Prelude.{◌==◌}
-use Rattle.std.proofs.lemmas.Bool.{eq-eqb, ne_eqb, cases_Bool, both_ways}
-use Rattle.forest.specs.Forest.{Forest, Empty, Node, either, has, Once, size, at, first, children, next_of, is_root, parent_of}
-use Rattle.forest.specs.Preorder.{Visited, preorder, level, from_node, behind_node}
-use Rattle.forest.proofs.Trees.{Apart, apart_of, Here, Below, Beside, where_is, at_absent, has_at, has_first, has_children}
+use Rattle.std.proofs.lemmas.Bool.{eq-eqb, ne_eqb, cases_Bool, both_ways, false_from_ne_true}
+use Rattle.forest.specs.Forest.{Forest, Empty, Node, either, has, Once, size, at, first, children, next_of, is_root, parent_of, is_above}
+use Rattle.forest.specs.Preorder.{Visited, preorder, level, from_node, behind_node, left_from, left_behind}
+use Rattle.forest.proofs.Trees.{Apart, apart_of, Here, Below, Beside, where_is, at_absent, at_some, has_at, has_first, has_children}
 use Rattle.forest.proofs.Neighbours.{root_has, root_absent, parent_absent}
 use Rattle.forest.proofs.Walks.{next_has, parent_has}
 
@@ -166,3 +166,73 @@ module _ {A : Type 0} where
         | Below ne y u w ↦ rw (y, u) (omega (arith, level_small (depth + 1) n below apart.once_below u))
         | Beside ne y u w ↦ rw (y, u) (omega (arith, level_small depth n beside apart.once_beside w))
       ]
+
+  level_least : (depth n : ℕ) (t : Forest A) → depth ≤ level depth n t
+  level_least depth n Empty = omega arith
+  level_least depth n (Node k a below beside) =
+      elim (cases_Bool (k == n)) [
+        | inl y ↦ rw y (omega arith)
+        | inr y ↦ elim (cases_Bool (has n below)) [
+          | inl u ↦ rw (y, u) (omega (arith, level_least (depth + 1) n below))
+          | inr u ↦ rw (y, u) (level_least depth n beside)
+        ]
+      ]
+
+  -- what is below a node stands deeper, by no more levels than there are nodes below it
+  pub level_below : (depth m n : ℕ) (t : Forest A) → Once t → has m (children n t) ≡ true
+      → (level depth n t < level depth m t) × (level depth m t ≤ level depth n t + size (children n t))
+  level_below depth m n Empty o h = absurd (cc h)
+  level_below depth m n (Node k a below beside) o h =
+      let apart : Apart k below beside = apart_of k a below beside o in
+      elim (cases_Bool (k == n)) [
+        | inl y ↦
+            let u : has m below ≡ true = rw y at h in
+            rw (y, other k m below u apart.not_below, u)
+            (omega (arith, level_least (depth + 1) m below), omega (arith, level_small (depth + 1) m below apart.once_below u))
+        | inr y ↦ elim (cases_Bool (has n below)) [
+          | inl v ↦
+              let u : has m (children n below) ≡ true = rw (y, v) at h in
+              let w : has m below ≡ true = has_children m n below apart.once_below u in
+              rw (y, v, other k m below w apart.not_below, w) (level_below (depth + 1) m n below apart.once_below u)
+          | inr v ↦
+              let u : has m (children n beside) ≡ true = rw (y, v) at h in
+              let w : has m beside ≡ true = has_children m n beside apart.once_beside u in
+              rw (y, v, other k m beside w apart.not_beside, apart.apart_back m w) (level_below depth m n beside apart.once_beside u)
+        ]
+      ]
+
+  preorder_size : (depth : ℕ) (t : Forest A) → length (preorder depth t) ≡ size t
+  preorder_size depth Empty = refl
+  preorder_size depth (Node k a below beside) =
+      omega (arith, length-append (preorder (depth + 1) below) (preorder depth beside), preorder_size (depth + 1) below, preorder_size depth beside)
+
+  -- at a node it is left, with all below it and what is behind
+  pub left_there : (n : ℕ) (t : Forest A) → Once t → has n t ≡ true → left_from n t ≡ 1 + (size (children n t) + left_behind n t)
+  left_there n t o h =
+      let a = at_some n t h in
+      let l : ℕ = level 0 n t + 1 in
+      ap (λ (xs : List (Visited A)). length xs) (comes_to 0 n a.0 t o a.1)
+      ∙ omega (arith, length-append (preorder l (children n t)) (behind_node 0 n t), preorder_size l (children n t))
+
+  -- and behind it with what is left at its first child, or, where it has none, with what is behind
+  pub left_down : (n c : ℕ) (t : Forest A) → Once t → has n t ≡ true → first (children n t) ≡ Some c → left_from n t ≡ 1 + left_from c t
+  left_down n c t o h q =
+      let a = at_some n t h in
+      ap (λ (xs : List (Visited A)). length xs) (comes_to 0 n a.0 t o a.1)
+      ∙ omega (arith, ap (λ (xs : List (Visited A)). length xs) (goes_down 0 n c t o h q).0)
+
+  pub left_leaf : (n : ℕ) (t : Forest A) → Once t → has n t ≡ true → first (children n t) ≡ None → left_from n t ≡ 1 + left_behind n t
+  left_leaf n t o h q =
+      let a = at_some n t h in
+      let l : ℕ = level 0 n t + 1 in
+      ap (λ (xs : List (Visited A)). length xs) (comes_to 0 n a.0 t o a.1)
+      ∙ omega (arith, length-append (preorder l (children n t)) (behind_node 0 n t), ap (λ (xs : List (Visited A)). length xs) (head_none l (children n t) q))
+
+  -- A walk up from one node and one over all below another one: where the second ends first, the one isn't below the
+  -- other.
+  pub ends_first : (m n last seen : ℕ) (t : Forest A) → Once t → has n t ≡ true
+      → is_above n last t ≡ is_above n m t → left_from n t + level 0 last t ≡ left_from seen t + level 0 m t
+      → left_from seen t ≤ 1 + left_behind n t → is_above n m t ≡ false
+  ends_first m n last seen t o h same count left =
+      false_from_ne_true (is_above n m t) (λ y.
+      omega (arith, left_there n t o h, level_below 0 m n t o y, level_below 0 last n t o (same ∙ y)))

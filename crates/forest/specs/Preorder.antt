@@ -1,5 +1,5 @@
 -- Walks that come to each node before its children, and to these from the first one on.
-use Rattle.std.specs.Prelude.{◌≡◌, ℕ, ◌+◌, ◌==◌, if◌then◌else◌, List, [], ◌∷◌, ◌++◌, Option, refl}
+use Rattle.std.specs.Prelude.{◌≡◌, ℕ, ◌+◌, ◌==◌, if◌then◌else◌, List, [], ◌∷◌, ◌++◌, length, Option, refl}
 use Rattle.std.specs.Option.{option_map_or}
 use Rattle.std.specs.Coded.{Coded, code_by, coded×, coded_ℕ, coded_list}
 use Rattle.forest.specs.Forest.{Forest, Empty, Node, has}
@@ -44,6 +44,13 @@ module _ {A : Type 0} where
   behind_node depth n (Node k a below beside) =
       if k == n then preorder depth beside
       else (if has n below then behind_node (depth + 1) n below ++ preorder depth beside else behind_node depth n beside)
+
+  -- how many nodes are left of it, at that node and behind it
+  abbrev pub left_from : ℕ → Forest A → ℕ
+  left_from n t = length (from_node 0 n t)
+
+  abbrev pub left_behind : ℕ → Forest A → ℕ
+  left_behind n t = length (behind_node 0 n t)
 
   -- a spot in a walk is a node of the forest with its depth
   pub record IsSpot (f : Forested A) (spot : Spot) : Type 0 where

@@ -1,11 +1,11 @@
 //! A forest by links in one slab.
-ghost use Rattle.std.specs.Prelude.{◌≡◌, ◌≢◌, ℕ, ◌≤◌, ◌^◌, true, false, ◌∷◌, Some, None, IfOk, OnErr, IfErr, IfSome};
+ghost use Rattle.std.specs.Prelude.{◌≡◌, ◌≢◌, ℕ, ◌+◌, ◌≤◌, ◌^◌, true, false, ◌∷◌, Some, None, IfOk, OnErr, IfErr, IfSome};
 ghost use Rattle.std.specs.Option.{option_map, IfNone};
 ghost use Rattle.std.specs.Borrow.{sem};
 ghost use Rattle.slab.specs.Slab.{get, ContainsKey};
 ghost use Rattle.forest.specs.Forest.{Empty, Node, Once, has, size, at, first, children, next_of, parent_of, is_above, put, removed, moved};
 ghost use Rattle.forest.specs.Walk.{lead, follows};
-ghost use Rattle.forest.specs.Preorder.{preorder, level, from_node, behind_node, left_at, IsSpot};
+ghost use Rattle.forest.specs.Preorder.{preorder, level, from_node, behind_node, left_at, left_from, left_behind, IsSpot};
 ghost use Rattle.forest.specs.Forested.{IsPlaced, Named};
 
 use crate::edits::{
@@ -18,7 +18,7 @@ use slab::Slab;
 use std::alloc::{AllocFailed, Global};
 use std::marker::Model;
 
-/// A forest, kept by links. Each call takes the same time, however many nodes there are.
+/// A forest, kept by links. A call takes the same time, however many nodes there are, unless it is a walk.
 ///
 /// Contracts see the forest by numbers, each of which stands once, beside it where each number lies, and where the
 /// next one will.
@@ -208,20 +208,60 @@ impl<T> LinkedForest<T> {
         named(&self.nodes, self.nodes[id.slot as usize].parent)
     }
 
-    /// Whether the second node is below the first one, by a walk up from it.
+    /// Whether the second node is below the first one. A walk goes up from the second one, and another one over what is
+    /// below the first; the one that ends first decides.
     pub fn is_above(&self, id: NodeId, other: NodeId) -> bool
-        requires { IsPlaced self.now other }
+        requires node { IsPlaced self.now id }
+        requires other { IsPlaced self.now other }
         ensures { result ≡ is_above id.number other.number self.now.forest }
     {
         let _ = &self.nodes;
         let mut last = other;
+        let mut seen = id;
         while let Some(parent) = self.parent(last) {
             if parent.number == id.number {
                 return true;
             }
+            let Some(next) = self.next_below(seen, id) else {
+                return false;
+            };
             last = parent;
+            seen = next;
         }
         false
+    }
+
+    /// Where a walk of what is below `top` goes from a node: to its first child, or behind it.
+    fn next_below(&self, id: NodeId, top: NodeId) -> Option<NodeId>
+        requires { IsPlaced self.now id }
+        ensures placed { IfSome result (IsPlaced self.now) }
+        ensures next { IfSome result (λ next. left_from id.number self.now.forest ≡ 1 + left_from next.number self.now.forest) }
+        ensures end { IfNone result (left_from id.number self.now.forest ≤ 1 + left_behind top.number self.now.forest) }
+    {
+        let _ = &self.nodes;
+        match self.first_child(id) {
+            Some(child) => Some(child),
+            None => self.next_beside(id, top),
+        }
+    }
+
+    /// Where it goes behind a node and all below it: to the next sibling, or to that of the nearest node above that has
+    /// one and isn't `top`.
+    fn next_beside(&self, id: NodeId, top: NodeId) -> Option<NodeId>
+        requires { IsPlaced self.now id }
+        ensures placed { IfSome result (IsPlaced self.now) }
+        ensures next { IfSome result (λ next. left_behind id.number self.now.forest ≡ left_from next.number self.now.forest) }
+        ensures end { IfNone result (left_behind id.number self.now.forest ≤ left_behind top.number self.now.forest) }
+    {
+        let _ = &self.nodes;
+        let mut last = id;
+        while last.number != top.number {
+            if let Some(next) = self.next_sibling(last) {
+                return Some(next);
+            }
+            last = self.parent(last)?;
+        }
+        None
     }
 
     /// The first child of a node that has one.

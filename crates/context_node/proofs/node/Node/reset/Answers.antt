@@ -18,16 +18,16 @@ returns-clause-cleared g c =
       hooks = c.self.inside.callbacks;
     } in
     rw (← c.self.view_is) (record {
-      now = kept_cleared k c.reset.new.self _ _ _ c.forget.ensures.none c.forget.ensures.nowhere c.run_all.ensures.none;
+      now = kept_cleared k c.reset.new.self _ _ _ c.forget.ensures.none c.forget.ensures.nowhere c.run_all-ran.ensures.none;
       renewed = c.reset.ensures.ledger;
       moves = c.reset.ensures.moves;
       asked = c.reset.ensures.asked;
       total = c.counted.ensures;
-      shelf = c.run_all.ensures.shelf;
+      shelf = c.run_all-ran.ensures.shelf;
       names = c.forget.ensures.names;
     })
 
 pub returns-clause-emits : goal.returns-clause-emits
 returns-clause-emits g c =
-    g.met.E.Emit.emits_more _ _ _ _ _ _ c.run_all.ensures.emits c.emit.ensures.emitted
+    g.met.E.Emit.emits_more _ _ _ _ _ _ c.run_all-ran.ensures.emits c.emit.ensures.emitted
     (ap (λ (z : Kept). callbacks c.args.number z.hooks ++ Reset c.args.number ∷ []) c.self.view_is)

@@ -8,8 +8,8 @@ use Rattle.context_tree.proofs.Rearranged.{above_stands}
 use Rattle.context_tree.proofs.Alone.{none_first}
 use Rattle.context_tree.proofs.tree.ContextTree.is_current_below.Goals as goal
 
-pub is_above-requires : goal.is_above-requires
-is_above-requires g c =
+pub is_above-requires-clause-other : goal.is_above-requires-clause-other
+is_above-requires-clause-other g c =
     subst (λ (x : NodeId). at x.number c.self.inside.nodes.places ≡ Some x.slot) (sym c.node_at.ensures)
     (elim c.self.invariant.current [
       | inl empty ↦

@@ -1,13 +1,12 @@
-use Rattle.std.proofs.Common.{◌≡◌, ℕ, List, [], ◌∷◌, ◌++◌, refl, sym, ap, ◌∙◌, subst, append_assoc}
+use Rattle.std.proofs.Common.{◌≡◌, List, [], ◌∷◌, ◌++◌, refl, sym, ap, ◌∙◌, subst, append_assoc}
 use Rattle.std.proofs.lemmas.List.{append-nil, map-append}
-use Rattle.pgs_step.specs.declared.events.What.{What}
 use Rattle.pgs_step.specs.declared.events.What.TheVariants.{Callback}
-use Rattle.reset_callbacks.specs.Hook.{Hook, ran, Lacks}
-use Rattle.reset_callbacks.specs.ShelfState.{held, finished}
+use Rattle.reset_callbacks.specs.Hook.{Hook, ran}
+use Rattle.reset_callbacks.specs.ShelfState.{finished}
 use Rattle.context_rules.specs.Ends.{callbacks, handed_in}
 use Rattle.context_node.proofs.Handing.{handed_more, handed_none, lacks_newest, some_out, count_turn, words_turn}
-use Rattle.context_node.proofs.ending.run_all.Goals as goal
-use Rattle.context_node.proofs.ending.run_all.Given as given
+use Rattle.context_node.proofs.running.run_all.Goals as goal
+use Rattle.context_node.proofs.running.run_all.Given as given
 
 pub loop-hook-init : goal.loop-hook-init
 loop-hook-init g c = record {
@@ -16,29 +15,26 @@ loop-hook-init g c = record {
   words = c.requires.words;
 }
 
-pub finish-requires-clause-out : goal.finish-requires-clause-out
-finish-requires-clause-out g c =
+pub call-requires-clause-out : goal.call-requires-clause-out
+call-requires-clause-out g c =
     some_out (g.H.ResetHook.hook_meaning c.in-Some.hook) c.loop-hook.waiting c.pop.new.self c.loop-hook.shelf c.in-Some.ensures.newest c.loop-hook.invariant.count c.loop-hook.invariant.words
 
-pub finish-requires-clause-other_word : goal.finish-requires-clause-other_word
-finish-requires-clause-other_word g c =
-    subst (λ (h : Hook). Lacks (held c.loop-hook.shelf) h.word) (sym c.run.ensures)
-    (lacks_newest (g.H.ResetHook.hook_meaning c.in-Some.hook) c.loop-hook.waiting c.pop.new.self c.loop-hook.shelf c.in-Some.ensures.newest c.loop-hook.invariant.count c.loop-hook.invariant.words)
+pub call-requires-clause-other_word : goal.call-requires-clause-other_word
+call-requires-clause-other_word g c =
+    lacks_newest (g.H.ResetHook.hook_meaning c.in-Some.hook) c.loop-hook.waiting c.pop.new.self c.loop-hook.shelf c.in-Some.ensures.newest c.loop-hook.invariant.count c.loop-hook.invariant.words
 
 pub loop-hook-preserved : goal.loop-hook-preserved
 loop-hook-preserved g c =
     let h : Hook = g.H.ResetHook.hook_meaning c.in-Some.hook in
     let n = c.args.number in
     let so_far = c.loop-hook.invariant.ran in
-    let after : c.finish.new.self ≡ finished (ran h) c.loop-hook.shelf = c.finish.ensures.after ∙ ap (λ (z : Hook). finished z c.loop-hook.shelf) c.run.ensures in
-    let said : Callback c.word.result n ∷ [] ≡ callbacks n (h ∷ []) = ap (λ (z : ℕ). Callback z n ∷ []) (c.word.ensures ∙ ap (λ (z : Hook). z.word) c.run.ensures) in
+    let after : c.call.new.shelf ≡ finished (ran h) c.loop-hook.shelf = c.call.ensures.shelf in
     record {
       ran = (
         so_far.0 ++ h ∷ [],
         append_assoc so_far.0 (h ∷ []) c.pop.new.self ∙ ap (λ (z : List Hook). so_far.0 ++ z) (sym c.in-Some.ensures.newest) ∙ so_far.1,
         after ∙ ap (finished (ran h)) so_far.2 ∙ handed_more so_far.0 h c.args.shelf.now,
-        g.met.E.Emit.emits_more _ _ _ _ _ _ so_far.3 c.emit.ensures.emitted
-            (ap (λ (z : List What). callbacks n so_far.0 ++ z) said ∙ sym (map-append (λ (z : Hook). Callback z.word n) so_far.0 (h ∷ []))),
+        g.met.E.Emit.emits_more _ _ _ _ _ _ so_far.3 c.call.ensures.emits (sym (map-append (λ (z : Hook). Callback z.word n) so_far.0 (h ∷ []))),
       );
       count = rw after (count_turn h c.loop-hook.waiting c.pop.new.self c.loop-hook.shelf c.in-Some.ensures.newest c.loop-hook.invariant.count c.loop-hook.invariant.words);
       words = rw after (words_turn h c.loop-hook.waiting c.pop.new.self c.loop-hook.shelf c.in-Some.ensures.newest c.loop-hook.invariant.count c.loop-hook.invariant.words);

@@ -3,7 +3,7 @@ use Rattle.std.proofs.Common.{◌≡◌, ◌≤◌, List, ◌++◌, length}
 use Rattle.reset_callbacks.specs.Hook.{Hook, AreDistinct}
 use Rattle.reset_callbacks.specs.ShelfState.{held}
 use Rattle.context_rules.specs.Ends.{callbacks, handed_in}
-use Rattle.context_node.proofs.ending.run_all.Given as goal
+use Rattle.context_node.proofs.running.run_all.Given as goal
 
 abbrev pub invariant-loop-hook : goal.invariant-loop-hook
 invariant-loop-hook g l = record {
