@@ -19,8 +19,8 @@ pub const MAX_PORTALS: usize = 1024;
 
 /// The portals of one session, of which there are at most 1,024, no two with one name.
 ///
-/// Contracts see the list of the portals, newest first. Only `create` may take memory. A portal is found by its name in
-/// a time that doesn't grow with the others; where one ends, those on its shorter side move up.
+/// Contracts see the list of the portals, newest first. Only `create` may take memory. Of more than eight, a portal is
+/// found by its name in a time that doesn't grow with the others; where one ends, those on its shorter side move up.
 #[derive(Drop)]
 pub struct Portals {
     portals: VecDeque<Portal>,
@@ -36,10 +36,9 @@ impl Model for Portals {
 
     ghost view = { λ p. p.portals.items };
 
-    ghost use Rattle.std.specs.HashMap.{get};
-    ghost use Rattle.portal_store.specs.Kept.{IsKept, same};
+    ghost use Rattle.portal_store.specs.Kept.{IsKept, knows};
 
-    ghost invariant = { λ p. IsKept p.portals.items (get same p.places.serials) p.reach.levels.items };
+    ghost invariant = { λ p. IsKept p.portals.items (knows p.places) p.reach.levels.items };
 }
 
 impl Portals {
@@ -70,7 +69,7 @@ impl Portals {
         if self.portals.len() == MAX_PORTALS {
             return Err(PortalError::TooMany);
         }
-        if self.places.make_room().is_err() {
+        if self.places.make_room(&self.portals).is_err() {
             return Err(PortalError::Memory);
         }
         if self.reach.make_room().is_err() {
@@ -212,6 +211,9 @@ impl Portals {
     fn find(&self, name: &Name) -> Option<usize>
         ensures { result ≡ place_named name.now self.now }
     {
+        if !self.places.in_use {
+            return self.search(name);
+        }
         let guess = match self.places.guess(name) {
             Some(guess) => guess,
             None => return None,
@@ -307,7 +309,6 @@ impl Portals {
     }
 
     /// The place of the portal of that name, by a walk through all of them.
-    #[cold]
     fn search(&self, name: &Name) -> Option<usize>
         ensures { result ≡ place_named name.now self.now }
     {

@@ -1,7 +1,6 @@
-use Rattle.std.proofs.Common.{◌≡◌, ◌<◌, Some, length, sym, subst, ◌∙◌}
+use Rattle.std.proofs.Common.{◌≡◌, ◌<◌, Some, sym, subst, ◌∙◌}
 use Rattle.std.specs.Prelude.{IsSome}
-use Rattle.std.specs.HashMap.{get}
-use Rattle.portal_store.specs.Kept.{same}
+use Rattle.portal_store.specs.Kept.{knows}
 use Rattle.portal_store.specs.Portals.{place_named}
 use Rattle.portal_store.proofs.PortalLemmas.{named_nowhere, place_within, without_nowhere}
 use Rattle.portal_store.proofs.KeptLemmas.{IsKept_taken, taken_out}
@@ -20,8 +19,8 @@ returns-in_err-place-clause-others c = sym (without_nowhere c.args.name.now c.ar
 
 pub invariant_of-self : goal.invariant_of-self
 invariant_of-self c =
-    IsKept_taken c.args.name.now (get same c.self.inside.places.serials) (get same c.leave.new.self.serials) c.self.inside.portals.items c.args.self.now c.remove.new.self.items c.self.inside.reach.levels.items c.leave-2.new.self.levels.items c.in_ok-place.place c.remove.result c.self.view_is (sym c.place_of.ensures ∙ c.in_ok-place.was) c.remove.ensures.value c.remove.ensures.items (some c)
-    c.leave.ensures.others c.leave-2.ensures c.self.invariant
+    IsKept_taken c.args.name.now (knows c.self.inside.places) (knows c.leave.new.self) c.self.inside.portals.items c.args.self.now c.remove.new.self.items c.self.inside.reach.levels.items c.leave-2.new.self.levels.items c.in_ok-place.place c.remove.result c.self.view_is (sym c.place_of.ensures ∙ c.in_ok-place.was) c.remove.ensures.value c.remove.ensures.items (some c)
+    c.leave.ensures c.leave-2.ensures c.self.invariant
 
 pub returns-clause-taken : goal.returns-clause-taken
 returns-clause-taken c = (taken_out c.args.name.now c.self.inside.portals.items c.args.self.now c.remove.new.self.items c.in_ok-place.place c.remove.result c.self.view_is (sym c.place_of.ensures ∙ c.in_ok-place.was) c.remove.ensures.value c.remove.ensures.items (some c)).0
