@@ -1,5 +1,7 @@
 //! The portals of a session.
-ghost use Rattle.std.specs.Prelude.{◌≡◌, ◌↔◌, ◌<◌, ◌≤◌, ℕ, List, All, length, map, drop, slice_get, slice_set, [], ◌∷◌, Some, OnOk, OnErr, IfOk, IfSome, IsSome, IsNone, IsTrue, is_some, option_copied, option_and_then};
+ghost use Rattle.std.specs.Prelude.{◌≡◌, ◌↔◌, ◌<◌, ◌≤◌, ℕ, List, All, length, map, drop, slice_get, slice_index_or, slice_set, [], ◌∷◌, Some, OnOk, OnErr, OnSome, IfOk, IfSome, IsSome, IsNone, IsTrue, is_some, option_copied, option_and_then};
+ghost use Rattle.std.specs.List.{remove};
+ghost use Rattle.std.specs.VecDeque.{deque_len};
 ghost use Rattle.exec_core.specs.Turn.{IsScan, rest, taken};
 ghost use Rattle.portal_store.specs.Portal.{coming, to_parent, sub_aborted, moved_owner};
 ghost use Rattle.portal_store.specs.Kept.{IsReach};
@@ -287,7 +289,7 @@ impl Portals {
         let place = self.place_of(name)?;
         self.places.leave(place, name);
         self.reach.leave(place);
-        self.portals.remove(place)
+        remove_at(&mut self.portals, place)
     }
 
     /// Whether there is a portal of that name.
@@ -326,6 +328,18 @@ impl Portals {
             None => unreachable!(),
         }
     }
+}
+
+/// Takes the portal of this place out.
+fn remove_at(portals: &mut VecDeque<Portal>, place: usize) -> Option<Portal>
+    ensures portal { IfSome result (λ p. p ≡ slice_index_or portals.old.items place p) }
+    ensures others { OnSome result (portals.new.items ≡ remove portals.old.items place) }
+    ensures some { place < deque_len portals.old → IsSome result }
+{
+    if place == 0 {
+        return portals.pop_front();
+    }
+    portals.remove(place)
 }
 
 /// Lowers the levels of each portal.
