@@ -1,13 +1,13 @@
 -- Portals stay kept, and a place is that of a name.
 use Rattle.std.proofs.Common.{◌≡◌, ◌≢◌, ℕ, suc, ◌<◌, ◌≤◌, Bool, true, false, List, [], ◌∷◌, length, slice_index_or, slice_set, remove, Option, Some, None, All, refl, sym, ap, subst, ◌∙◌, arith}
-use Rattle.std.specs.Prelude.{◌++◌, take, map, not, if◌then◌else◌, nat_lt, is_some, IsSome, IfSome, OnSome}
+use Rattle.std.specs.Prelude.{map, not, if◌then◌else◌, nat_lt, is_some, IsSome, IfSome, OnSome}
 use Rattle.std.specs.List.{position_or_len}
 use Rattle.std.specs.Cmp.Lexicographic.{other_text}
 use Rattle.std.proofs.lemmas.Bool.Decides.{nat_tests}
 use Rattle.std.proofs.lemmas.List.{length-map, get_or-map}
 use Rattle.std.proofs.lemmas.List.Elements.{All-cons, All-head, All-nil, All-tail, All-weaker}
 use Rattle.std.proofs.lemmas.List.Sums.{prefix_len_is}
-use Rattle.std.proofs.Math.Seq.{map-set_same, take-append_seam}
+use Rattle.std.proofs.Math.Seq.{map-set_same}
 use Rattle.portal_store.specs.declared.portal.Portal.{Portal}
 use Rattle.portal_store.specs.Portal.{to_parent}
 use Rattle.portal_store.specs.Portals.{HasDistinctNames, has_name, names, place_named, portal_named, without}
@@ -83,18 +83,28 @@ IsKept_active found old new portals i to x here within raised kept =
 pub IsKept_to_parent : (found : List ℕ → Option ℕ) (levels : List ℕ) (level : ℕ) (portals new : List Portal) → IsKept portals found levels → new ≡ map (to_parent level) portals → IsKept new found levels
 IsKept_to_parent found levels level portals new kept written = IsKept_renamed found portals new levels levels (ap names written ∙ names_to_parent level portals) (IsReach_to_parent level portals new levels written kept.reach) kept
 
--- the same names are found
-pub IsKept_same : (found known : List ℕ → Option ℕ) (portals : List Portal) (levels same_levels : List ℕ) → ((w : List ℕ) → known w ≡ found w) → same_levels ≡ levels → IsKept portals found levels → IsKept portals known same_levels
-IsKept_same found known portals levels same_levels same still kept = record {
+-- the same portals are known
+pub IsKept_same : (found known : List ℕ → Option ℕ) (portals : List Portal) (levels same_levels : List ℕ) → (All (λ w. IsSome (found w)) (names portals) → All (λ w. IsSome (known w)) (names portals)) → same_levels ≡ levels → IsKept portals found levels → IsKept portals known same_levels
+IsKept_same found known portals levels same_levels stay still kept = record {
   are = kept.are;
-  known = All-weaker (λ w. IsSome (found w)) (λ w. IsSome (known w)) (λ w some. ap is_some (same w) ∙ some) (names portals) kept.known;
+  known = stay kept.known;
   reach = subst (IsReach portals) (sym still) kept.reach;
 }
+
+-- what each portal has, each name has
+pub all_names : (P : List ℕ → Type 0) (portals : List Portal) → ((i : ℕ) (d : Portal) → i < length portals → P (slice_index_or portals i d).name) → All P (names portals)
+all_names P [] each = All-nil P
+all_names P (p ∷ portals) each = All-cons P p.name (names portals) (each 0 p (omega arith)) (all_names P portals (λ i d within. each (suc i) d (omega (arith, within))))
 
 -- what `push_front` leaves where it isn't refused
 pub in_front : (portals new : List Portal) (p : Portal) (done : Bool) → new ≡ (if done then p ∷ portals else portals) → done ≡ true → new ≡ p ∷ portals
 in_front portals new p true is_new unrefused = is_new
 in_front portals new p false is_new unrefused = absurd (cc)
+
+-- the same where it is refused
+pub not_in_front : (portals new : List Portal) (p : Portal) (done : Bool) → new ≡ (if done then p ∷ portals else portals) → done ≡ false → new ≡ portals
+not_in_front portals new p true is_new refused = absurd (cc)
+not_in_front portals new p false is_new refused = is_new
 
 -- one portal more, in front
 pub IsKept_created : (found known : List ℕ → Option ℕ) (portals new : List Portal) (p : Portal) (levels more : List ℕ) (n : ℕ) → new ≡ p ∷ portals → is_some (portal_named p.name portals) ≡ false → length portals ≢ 1024 → IsSome (known p.name) → ((w : List ℕ) → IsSome (found w) → IsSome (known w))

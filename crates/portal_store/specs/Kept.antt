@@ -1,12 +1,22 @@
 -- How portals are kept.
-use Rattle.std.specs.Prelude.{◌≡◌, ℕ, ◌<◌, ◌≤◌, ◌==◌, Bool, List, All, Option, IsSome, length, slice_index_or}
+use Rattle.std.specs.Prelude.{◌≡◌, ℕ, ◌<◌, ◌≤◌, ◌==◌, Bool, if◌then◌else◌, List, All, Option, Some, IsSome, length, slice_index_or}
+use Rattle.std.specs.HashMap.{get}
 use lib.Pointwise.{pointwise}
+use Rattle.portal_store.specs.declared.places.Places.{Places}
 use Rattle.portal_store.specs.declared.portal.Portal.{Portal}
 use Rattle.portal_store.specs.Portals.{IsPortals, names}
 
 -- whether two names are one, as maps compare them
 abbrev pub same : List ℕ → List ℕ → Bool
 same = pointwise ◌==◌
+
+-- what is found of the portal of a name: its serial number, or any number where names aren't entered, since each may have one
+abbrev pub knows : Places → List ℕ → Option ℕ
+knows places name = if places.in_use then get same places.serials name else Some 0
+
+-- each of these portals may be found by its name
+abbrev pub KnowsAll : Places → List Portal → Type 0
+KnowsAll places portals = All (λ name. IsSome (knows places name)) (names portals)
 
 -- a portal that was made at no deeper level than this one, and is active in none
 pub record IsAtMost (level : ℕ) (portal : Portal) : Type 0 where

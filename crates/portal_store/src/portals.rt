@@ -1,5 +1,7 @@
 //! The portals of a session.
-ghost use Rattle.std.specs.Prelude.{◌≡◌, ◌↔◌, ◌<◌, ◌≤◌, ℕ, List, All, length, map, drop, slice_get, slice_set, [], ◌∷◌, Some, OnOk, OnErr, IfOk, IfSome, IsSome, IsNone, IsTrue, is_some, option_copied, option_and_then};
+ghost use Rattle.std.specs.Prelude.{◌≡◌, ◌↔◌, ◌<◌, ◌≤◌, ℕ, List, All, length, map, drop, slice_get, slice_index_or, slice_set, [], ◌∷◌, Some, OnOk, OnErr, OnSome, IfOk, IfSome, IsSome, IsNone, IsTrue, is_some, option_copied, option_and_then};
+ghost use Rattle.std.specs.List.{remove};
+ghost use Rattle.std.specs.VecDeque.{deque_len};
 ghost use Rattle.exec_core.specs.Turn.{IsScan, rest, taken};
 ghost use Rattle.portal_store.specs.Portal.{coming, to_parent, sub_aborted, moved_owner};
 ghost use Rattle.portal_store.specs.Kept.{IsReach};
@@ -19,8 +21,8 @@ pub const MAX_PORTALS: usize = 1024;
 
 /// The portals of one session, of which there are at most 1,024, no two with one name.
 ///
-/// Contracts see the list of the portals, newest first. Only `create` may take memory. A portal is found by its name in
-/// a time that doesn't grow with the others; where one ends, those on its shorter side move up.
+/// Contracts see the list of the portals, newest first. Only `create` may take memory. Of more than eight, a portal is
+/// found by its name in a time that doesn't grow with the others; where one ends, those on its shorter side move up.
 #[derive(Drop)]
 pub struct Portals {
     portals: VecDeque<Portal>,
@@ -36,10 +38,9 @@ impl Model for Portals {
 
     ghost view = { λ p. p.portals.items };
 
-    ghost use Rattle.std.specs.HashMap.{get};
-    ghost use Rattle.portal_store.specs.Kept.{IsKept, same};
+    ghost use Rattle.portal_store.specs.Kept.{IsKept, knows};
 
-    ghost invariant = { λ p. IsKept p.portals.items (get same p.places.serials) p.reach.levels.items };
+    ghost invariant = { λ p. IsKept p.portals.items (knows p.places) p.reach.levels.items };
 }
 
 impl Portals {
@@ -70,7 +71,7 @@ impl Portals {
         if self.portals.len() == MAX_PORTALS {
             return Err(PortalError::TooMany);
         }
-        if self.places.make_room().is_err() {
+        if self.places.make_room(&self.portals).is_err() {
             return Err(PortalError::Memory);
         }
         if self.reach.make_room().is_err() {
@@ -212,6 +213,9 @@ impl Portals {
     fn find(&self, name: &Name) -> Option<usize>
         ensures { result ≡ place_named name.now self.now }
     {
+        if !self.places.in_use {
+            return self.search(name);
+        }
         let guess = match self.places.guess(name) {
             Some(guess) => guess,
             None => return None,
@@ -285,7 +289,7 @@ impl Portals {
         let place = self.place_of(name)?;
         self.places.leave(place, name);
         self.reach.leave(place);
-        self.portals.remove(place)
+        remove_at(&mut self.portals, place)
     }
 
     /// Whether there is a portal of that name.
@@ -307,7 +311,6 @@ impl Portals {
     }
 
     /// The place of the portal of that name, by a walk through all of them.
-    #[cold]
     fn search(&self, name: &Name) -> Option<usize>
         ensures { result ≡ place_named name.now self.now }
     {
@@ -325,6 +328,18 @@ impl Portals {
             None => unreachable!(),
         }
     }
+}
+
+/// Takes the portal of this place out.
+fn remove_at(portals: &mut VecDeque<Portal>, place: usize) -> Option<Portal>
+    ensures portal { IfSome result (λ p. p ≡ slice_index_or portals.old.items place p) }
+    ensures others { OnSome result (portals.new.items ≡ remove portals.old.items place) }
+    ensures some { place < deque_len portals.old → IsSome result }
+{
+    if place == 0 {
+        return portals.pop_front();
+    }
+    portals.remove(place)
 }
 
 /// Lowers the levels of each portal.

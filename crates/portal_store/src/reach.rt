@@ -47,6 +47,10 @@ impl Reach {
         requires { place < length self.old.levels.items }
         ensures { self.new.levels.items ≡ remove self.old.levels.items place }
     {
+        if place == 0 {
+            let _ = self.levels.pop_front();
+            return;
+        }
         let _ = self.levels.remove(place);
     }
 

@@ -1,9 +1,8 @@
 use Rattle.std.proofs.Common.{sym, ap, ◌∙◌}
-use Rattle.std.specs.HashMap.{get}
-use Rattle.portal_store.specs.Kept.{same}
+use Rattle.portal_store.specs.Kept.{knows}
 use Rattle.portal_store.specs.Portals.{place_named}
 use Rattle.portal_store.proofs.KeptLemmas.{place_unknown}
 use Rattle.portal_store.proofs.portals.Portals.find.Goals as goal
 
 pub returns-in-None : goal.returns-in-None
-returns-in-None c = sym (ap (place_named c.args.name.now) (sym c.self.view_is) ∙ place_unknown c.args.name.now c.self.inside.portals.items (get same c.self.inside.places.serials) (c.guess.ensures c.in-None.is) c.self.invariant.known)
+returns-in-None c = sym (ap (place_named c.args.name.now) (sym c.self.view_is) ∙ place_unknown c.args.name.now c.self.inside.portals.items (knows c.self.inside.places) (c.guess.ensures c.in-None.is) c.self.invariant.known)

@@ -1,14 +1,13 @@
-use Rattle.std.proofs.Common.{ap, ◌∙◌}
-use Rattle.std.specs.HashMap.{get}
+use Rattle.std.proofs.Common.{ap}
 use Rattle.portal_store.specs.declared.portal.Portal.{Portal}
-use Rattle.portal_store.specs.Kept.{same}
+use Rattle.portal_store.specs.Kept.{knows}
 use Rattle.portal_store.proofs.PortalLemmas.{passed_at}
 use Rattle.portal_store.proofs.KeptLemmas.{IsKept_set}
 use Rattle.portal_store.proofs.portals.Portals.pass_at.Goals as goal
 
 pub invariant_of-self : goal.invariant_of-self
 invariant_of-self c =
-    IsKept_set (get same c.self.inside.places.serials) c.self.inside.reach.levels.items c.self.inside.portals.items c.args.i c.index_mut.result.now c.to_parent.new.self c.index_mut.ensures.value (ap (λ (p : Portal). p.name) c.to_parent.ensures.portal)
+    IsKept_set (knows c.self.inside.places) c.self.inside.reach.levels.items c.self.inside.portals.items c.args.i c.index_mut.result.now c.to_parent.new.self c.index_mut.ensures.value (ap (λ (p : Portal). p.name) c.to_parent.ensures.portal)
     c.to_parent.ensures.created c.to_parent.ensures.active c.self.invariant
 
 pub returns : goal.returns

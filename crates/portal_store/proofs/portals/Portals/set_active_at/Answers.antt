@@ -1,14 +1,13 @@
 use Rattle.std.proofs.Common.{List, ◌<◌, length, subst, sym}
 use Rattle.portal_store.specs.declared.portal.Portal.{Portal}
-use Rattle.std.specs.HashMap.{get}
-use Rattle.portal_store.specs.Kept.{same}
+use Rattle.portal_store.specs.Kept.{knows}
 use Rattle.portal_store.proofs.PortalLemmas.{changed_at}
 use Rattle.portal_store.proofs.KeptLemmas.{IsKept_active}
 use Rattle.portal_store.proofs.portals.Portals.set_active_at.Goals as goal
 
 pub invariant_of-self : goal.invariant_of-self
 invariant_of-self c =
-    IsKept_active (get same c.self.inside.places.serials) c.self.inside.reach.levels.items c.raise.new.self.levels.items c.self.inside.portals.items c.args.place c.args.active c.index_mut.result.now c.index_mut.ensures.value
+    IsKept_active (knows c.self.inside.places) c.self.inside.reach.levels.items c.raise.new.self.levels.items c.self.inside.portals.items c.args.place c.args.active c.index_mut.result.now c.index_mut.ensures.value
     (subst (λ (ps : List Portal). c.args.place < length ps) (sym c.self.view_is) c.requires) c.raise.ensures c.self.invariant
 
 pub returns-clause-portals : goal.returns-clause-portals

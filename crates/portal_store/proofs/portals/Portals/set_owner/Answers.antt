@@ -1,13 +1,12 @@
 use Rattle.std.proofs.Common.{Some, refl, arith}
 use Rattle.portal_store.specs.declared.portal.Portal.{Portal}
-use Rattle.std.specs.HashMap.{get}
-use Rattle.portal_store.specs.Kept.{same}
+use Rattle.portal_store.specs.Kept.{knows}
 use Rattle.portal_store.proofs.PortalLemmas.{changed_at}
 use Rattle.portal_store.proofs.KeptLemmas.{IsKept_set}
 use Rattle.portal_store.proofs.portals.Portals.set_owner.Goals as goal
 
 pub invariant_of-self : goal.invariant_of-self
-invariant_of-self c = IsKept_set (get same c.self.inside.places.serials) c.self.inside.reach.levels.items c.self.inside.portals.items c.place-place.result c.index_mut.result.now (record c.index_mut.result.now { owner = Some c.args.owner }) c.index_mut.ensures.value refl (omega arith) (omega arith) c.self.invariant
+invariant_of-self c = IsKept_set (knows c.self.inside.places) c.self.inside.reach.levels.items c.self.inside.portals.items c.place-place.result c.index_mut.result.now (record c.index_mut.result.now { owner = Some c.args.owner }) c.index_mut.ensures.value refl (omega arith) (omega arith) c.self.invariant
 
 pub returns-clause-portals : goal.returns-clause-portals
 returns-clause-portals c = changed_at c.args.name.now c.self.inside.portals.items c.args.self.now c.place-place.result c.index_mut.result.now c.self.view_is c.place-place.ensures c.index_mut.ensures.value (λ (p : Portal). record p { owner = Some c.args.owner })

@@ -2,8 +2,7 @@ use Rattle.std.proofs.Common.{◌≡◌, ◌∷◌, ap, ◌∙◌, slice_set, ar
 use Rattle.exec_core.specs.Turn.{IsScan, rest, taken}
 use Rattle.portal_store.specs.declared.portal.Portal.{Portal}
 use Rattle.portal_store.specs.Portal.{coming}
-use Rattle.std.specs.HashMap.{get}
-use Rattle.portal_store.specs.Kept.{same}
+use Rattle.portal_store.specs.Kept.{knows}
 use Rattle.portal_store.proofs.PortalLemmas.{asked_there, changed_at, told_there}
 use Rattle.portal_store.proofs.KeptLemmas.{IsKept_set}
 use Rattle.portal_store.proofs.portals.Portals.step_at.Goals as goal
@@ -13,7 +12,7 @@ step-requires c = asked_there c.self.inside.portals.items c.args.self.now c.args
 
 pub invariant_of-self : goal.invariant_of-self
 invariant_of-self c =
-    IsKept_set (get same c.self.inside.places.serials) c.self.inside.reach.levels.items c.self.inside.portals.items c.args.place c.index_mut.result.now c.step.new.self c.index_mut.ensures.value (ap (λ (p : Portal). p.name) c.step.ensures.portal)
+    IsKept_set (knows c.self.inside.places) c.self.inside.reach.levels.items c.self.inside.portals.items c.args.place c.index_mut.result.now c.step.new.self c.index_mut.ensures.value (ap (λ (p : Portal). p.name) c.step.ensures.portal)
     (omega (arith, ap (λ (p : Portal). p.created) c.step.ensures.portal)) (omega (arith, ap (λ (p : Portal). p.active) c.step.ensures.portal)) c.self.invariant
 
 pub returns-clause-step : goal.returns-clause-step

@@ -1,8 +1,7 @@
 use Rattle.std.proofs.Common.{◌≡◌, List, length, map, sym, subst, ap, ◌∙◌}
-use Rattle.std.specs.HashMap.{get}
 use Rattle.std.proofs.lemmas.List.{length-map}
 use Rattle.portal_store.specs.declared.portal.Portal.{Portal}
-use Rattle.portal_store.specs.Kept.{IsKept, same}
+use Rattle.portal_store.specs.Kept.{IsKept, knows}
 use Rattle.portal_store.specs.Portal.{to_parent}
 use Rattle.portal_store.proofs.KeptLemmas.{IsKept_to_parent}
 use Rattle.portal_store.proofs.portals.Portals.to_parent.Goals as goal
@@ -10,6 +9,6 @@ use Rattle.portal_store.proofs.portals.Portals.to_parent.Goals as goal
 pub invariant_of-self : goal.invariant_of-self
 invariant_of-self c =
     let written : c.to_parent.new.portals ≡ map (to_parent c.args.level) c.self.inside.portals.items = c.to_parent.ensures ∙ ap (map (to_parent c.args.level)) c.make_contiguous.ensures.value in
-    subst (λ (ps : List Portal). IsKept ps (get same c.self.inside.places.serials) c.self.inside.reach.levels.items)
+    subst (λ (ps : List Portal). IsKept ps (knows c.self.inside.places) c.self.inside.reach.levels.items)
     (sym (c.make_contiguous.ensures.writes_back c.to_parent.new.portals (ap length written ∙ length-map c.self.inside.portals.items (to_parent c.args.level) ∙ sym c.self.inside.portals.ok.0)))
-    (IsKept_to_parent (get same c.self.inside.places.serials) c.self.inside.reach.levels.items c.args.level c.self.inside.portals.items c.to_parent.new.portals c.self.invariant written)
+    (IsKept_to_parent (knows c.self.inside.places) c.self.inside.reach.levels.items c.args.level c.self.inside.portals.items c.to_parent.new.portals c.self.invariant written)
