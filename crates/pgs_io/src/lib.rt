@@ -1,6 +1,7 @@
 //! Where a program's bytes come from and go to, and the lines and words among them.
 #![tactic(auto)]
 
+mod feeding;
 mod finding;
 mod lines;
 mod reading;
@@ -9,6 +10,7 @@ mod sources;
 mod splitting;
 mod words;
 
+pub use feeding::{Fed, Feed};
 pub use lines::LineBuf;
 pub use reading::{Buffered, LineReader, Next};
 pub use sinks::{MemSink, Sink, StdSink, put_all};
