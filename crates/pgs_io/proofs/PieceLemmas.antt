@@ -1,4 +1,4 @@
--- Pieces of eight bytes, and of four.
+-- Pieces of eight bytes.
 use Rattle.std.proofs.Common.{◌≡◌, ◌≢◌, ℕ, ◌<◌, ◌+◌, Bool, true, false, ◌||◌, not, nat_eq, List, length, take, drop, get_or, refl, sym, subst, arith, zero, suc}
 use Rattle.std.specs.Prelude.{All, IsTrue}
 use Rattle.std.proofs.Math.Seq.{take-add}
@@ -16,13 +16,6 @@ below_eight P a b c d e f g h (suc (suc (suc (suc (suc zero))))) less = f
 below_eight P a b c d e f g h (suc (suc (suc (suc (suc (suc zero)))))) less = g
 below_eight P a b c d e f g h (suc (suc (suc (suc (suc (suc (suc zero))))))) less = h
 below_eight P a b c d e f g h (suc (suc (suc (suc (suc (suc (suc (suc n)))))))) less = absurd (omega arith)
-
-below_four : (P : ℕ → Type 0) → P 0 → P 1 → P 2 → P 3 → (k : ℕ) → k < 4 → P k
-below_four P a b c d zero less = a
-below_four P a b c d (suc zero) less = b
-below_four P a b c d (suc (suc zero)) less = c
-below_four P a b c d (suc (suc (suc zero))) less = d
-below_four P a b c d (suc (suc (suc (suc n)))) less = absurd (omega arith)
 
 not_left : (a b : Bool) → IsTrue (not (a || b)) → IsTrue (not a)
 not_left false b h = refl
@@ -85,26 +78,6 @@ none_met-All piece byte eight all =
     let last : IsTrue (not (((m 4 || m 5) || m 6) || m 7)) =
     not_either ((m 4 || m 5) || m 6) (m 7) (not_either (m 4 || m 5) (m 6) (not_either (m 4) (m 5) (other 4 (omega arith)) (other 5 (omega arith))) (other 6 (omega arith))) (other 7 (omega arith)) in
     not_either (((m 0 || m 1) || m 2) || m 3) (((m 4 || m 5) || m 6) || m 7) first last
-
--- no test of four is met
-abbrev pub none_of_half : List ℕ → ℕ → Bool
-none_of_half piece byte = not (((is_met piece byte 0 || is_met piece byte 1) || is_met piece byte 2) || is_met piece byte 3)
-
-pub All-none_of_half : (piece : List ℕ) (byte : ℕ) → length piece ≡ 4 → IsTrue (none_of_half piece byte) → All (λ b. b ≢ byte) piece
-All-none_of_half piece byte four h =
-    let m = is_met piece byte in
-    let three : IsTrue (not ((m 0 || m 1) || m 2)) = not_left ((m 0 || m 1) || m 2) (m 3) h in
-    let two : IsTrue (not (m 0 || m 1)) = not_left (m 0 || m 1) (m 2) three in
-    let other = λ (k : ℕ). is_other (get_or piece k 0) byte in
-    let last = other 3 (not_right ((m 0 || m 1) || m 2) (m 3) h) in
-    All-from_get_or (λ b. b ≢ byte) piece 0
-    (λ k less. below_four (λ i. get_or piece i 0 ≢ byte) (other 0 (not_left (m 0) (m 1) two)) (other 1 (not_right (m 0) (m 1) two)) (other 2 (not_right (m 0 || m 1) (m 2) three)) last k (omega arith))
-
-pub none_of_half-All : (piece : List ℕ) (byte : ℕ) → length piece ≡ 4 → All (λ b. b ≢ byte) piece → IsTrue (none_of_half piece byte)
-none_of_half-All piece byte four all =
-    let m = is_met piece byte in
-    let other = λ (k : ℕ) (less : k < 4). tests_other (get_or piece k 0) byte (All-get_or (λ b. b ≢ byte) piece k 0 (omega arith) all) in
-    not_either ((m 0 || m 1) || m 2) (m 3) (not_either (m 0 || m 1) (m 2) (not_either (m 0) (m 1) (other 0 (omega arith)) (other 1 (omega arith))) (other 2 (omega arith))) (other 3 (omega arith))
 
 -- bytes that are others, and behind them a piece of such
 pub All-piece : (xs : List ℕ) (at n size byte : ℕ) → n ≡ size → All (λ b. b ≢ byte) (take at xs) → All (λ b. b ≢ byte) (take n (drop at xs)) → All (λ b. b ≢ byte) (take (at + size) xs)

@@ -4,3 +4,7 @@ pub mod Lines
 pub mod Reading
 pub mod Answers
 pub mod Filling
+pub mod Feeding
+pub mod FedAnswers
+pub mod FeedParts
+pub mod LineLaws

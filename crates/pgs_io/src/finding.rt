@@ -4,11 +4,22 @@ ghost use Rattle.std.specs.Prelude.{◌≡◌, ◌≢◌, ◌<◌, ◌≤◌, �
 /// How many bytes are looked at together.
 const PIECE: usize = 8;
 
-/// Half as many.
-const HALF: usize = 4;
-
-/// The index of the first such byte. Others are passed over by pieces.
+/// The index of the first such byte. Others are passed over by pieces, which serves where they are many.
 pub(crate) fn first_of(bytes: &[u8], byte: u8) -> Option<usize>
+    ensures position { result ≡ position (λ b. b == byte) bytes.now }
+    ensures bound { IfSome result (λ at. at < length bytes.now) }
+    ensures split { IfSome result (λ at. bytes.now ≡ take at bytes.now ++ byte ∷ drop (at + 1) bytes.now) }
+    ensures first { IfSome result (λ at. All (λ b. b ≢ byte) (take at bytes.now)) }
+    ensures absent { IfNone result (All (λ b. b ≢ byte) bytes.now) }
+{
+    first_from(bytes, free_pieces(bytes, byte), byte)
+}
+
+/// The index of the first such byte, where the bytes before `start` are others.
+#[inline(always)]
+pub(crate) fn first_from(bytes: &[u8], start: usize, byte: u8) -> Option<usize>
+    requires within { start ≤ length bytes.now }
+    requires others { All (λ b. b ≢ byte) (take start bytes.now) }
     ensures position { result ≡ position (λ b. b == byte) bytes.now }
     ensures bound { IfSome result (λ at. at < length bytes.now) }
     ensures split { IfSome result (λ at. bytes.now ≡ take at bytes.now ++ byte ∷ drop (at + 1) bytes.now) }
@@ -16,7 +27,7 @@ pub(crate) fn first_of(bytes: &[u8], byte: u8) -> Option<usize>
     ensures there { IfSome result (λ at. slice_index bytes.now at ≡ byte) }
     ensures absent { IfNone result (All (λ b. b ≢ byte) bytes.now) }
 {
-    let mut at = free_front(bytes, byte);
+    let mut at = start;
     while at < bytes.len() {
         if bytes[at] == byte {
             return Some(at);
@@ -24,19 +35,6 @@ pub(crate) fn first_of(bytes: &[u8], byte: u8) -> Option<usize>
         at += 1;
     }
     None
-}
-
-/// How many bytes at the beginning are certainly others, by whole pieces and half a one.
-#[inline(always)]
-fn free_front(bytes: &[u8], byte: u8) -> usize
-    ensures within { result ≤ length bytes.now }
-    ensures others { All (λ b. b ≢ byte) (take result bytes.now) }
-{
-    let at = free_pieces(bytes, byte);
-    if bytes.len() - at >= HALF && is_free_half(&bytes[at..at + HALF], byte) {
-        return at + HALF;
-    }
-    at
 }
 
 /// How many bytes at the beginning are certainly others, by whole pieces.
@@ -61,14 +59,4 @@ fn is_free(piece: &[u8], byte: u8) -> bool
     let a = (piece[0] == byte) | (piece[1] == byte) | (piece[2] == byte) | (piece[3] == byte);
     let b = (piece[4] == byte) | (piece[5] == byte) | (piece[6] == byte) | (piece[7] == byte);
     !(a | b)
-}
-
-/// Whether none of four bytes is that one.
-#[inline(always)]
-fn is_free_half(piece: &[u8], byte: u8) -> bool
-    requires { length piece.now ≡ 4 }
-    ensures { IsTrue result ↔ All (λ b. b ≢ byte) piece.now }
-{
-    let a = (piece[0] == byte) | (piece[1] == byte) | (piece[2] == byte) | (piece[3] == byte);
-    !a
 }

@@ -1,5 +1,5 @@
 //! Where bytes go to.
-ghost use Rattle.std.specs.Prelude.{◌≡◌, ◌<◌, ◌≤◌, ◌+◌, ◌-◌, ◌++◌, ◌↔◌, ◌⊎◌, ℕ, List, [], Option, None, Some, length, take, min, IfOk, IsErr, OnOk, OnErr};
+ghost use Rattle.std.specs.Prelude.{◌≡◌, ◌<◌, ◌≤◌, ◌+◌, ◌-◌, ◌++◌, ◌↔◌, ◌⊎◌, ℕ, List, [], Option, None, Some, length, take, min, IfOk, IfSome, IfNone, IsErr, OnOk, OnErr};
 ghost use Rattle.std.specs.Io.KnownBytes.{append_known, Appends, Keeps};
 ghost use Rattle.pgs_io.specs.Faults.{HasRisen, counted};
 ghost use Rattle.pgs_io.specs.Memory.{MustFail};
@@ -7,7 +7,7 @@ ghost use Rattle.pgs_io.specs.Memory.{MustFail};
 use crate::Failed;
 use crate::sources::call_fails;
 use std::alloc::{AllocError, Global};
-use std::io::Write;
+use std::io::{ErrorKind, Write};
 use std::marker::Model;
 
 /// A stream that takes bytes in pieces.
@@ -149,6 +149,8 @@ impl Sink for MemSink {
 }
 
 /// A sink over a writer of std, as the runtime's standard output. It tells nothing of its content.
+///
+/// A write that a signal interrupts is tried again, and is no failure.
 #[derive(Drop)]
 pub struct StdSink<W> {
     writer: W,
@@ -189,12 +191,28 @@ impl<W: Write + Drop> Sink for StdSink<W> {
         ensures taken { IfOk result (λ count. Appends (W.contents self.old.0) (W.contents self.new.0) (take count buf.now)) }
         ensures kept { OnErr result (Keeps (W.contents self.old.0) (W.contents self.new.0)) }
     {
-        match self.writer.write(buf) {
-            Ok(count) if count > 0 => Ok(count),
+        match write_again(&mut self.writer, buf) {
+            Some(count) if count > 0 => Ok(count),
             _ => {
                 self.faults = self.faults.saturating_add(1);
                 Err(Failed)
             }
         }
     }
+}
+
+/// One write, tried again where a signal interrupts it, up to 2^64 - 1 times. `None` is a failure.
+fn write_again<W: Write>(writer: &mut W, buf: &[u8]) -> Option<usize>
+    ensures bound { IfSome result (λ count. count ≤ length buf.now) }
+    ensures taken { IfSome result (λ count. Appends (W.contents writer.old) (W.contents writer.new) (take count buf.now)) }
+    ensures kept { IfNone result (Keeps (W.contents writer.old) (W.contents writer.new)) }
+{
+    for _ in 0..u64::MAX {
+        match writer.write(buf) {
+            Ok(count) => return Some(count),
+            Err(error) if error.kind() == ErrorKind::Interrupted => {}
+            Err(_) => return None,
+        }
+    }
+    None
 }

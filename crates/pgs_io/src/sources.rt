@@ -1,11 +1,11 @@
 //! Where bytes come from.
-ghost use Rattle.std.specs.Prelude.{◌≡◌, ◌<◌, ◌≤◌, ◌+◌, ◌++◌, ◌↔◌, ℕ, List, [], Option, None, Some, length, take, drop, min, IfOk, IfSome, IsErr, IsTrue, OnOk, OnErr};
+ghost use Rattle.std.specs.Prelude.{◌≡◌, ◌<◌, ◌≤◌, ◌+◌, ◌++◌, ◌↔◌, ℕ, List, [], Option, None, Some, length, take, drop, min, IfOk, IfSome, IfNone, IsErr, IsTrue, OnOk, OnErr};
 ghost use Rattle.std.specs.Io.KnownBytes.{prepend_known, Consumes, Keeps, IsAtEnd};
 ghost use Rattle.pgs_io.specs.Faults.{HasRisen, counted};
 ghost use Rattle.pgs_io.specs.Memory.{MustFail};
 
 use crate::Failed;
-use std::io::Read;
+use std::io::{ErrorKind, Read};
 use std::marker::Model;
 
 /// A stream of bytes that is read in pieces.
@@ -147,6 +147,8 @@ pub(crate) fn call_fails(calls: &mut u64, fail_at: &[u64]) -> bool
 }
 
 /// A source over a reader of std, as the runtime's standard input. It tells nothing of its content.
+///
+/// A read that a signal interrupts is tried again, and is no failure.
 #[derive(Drop)]
 pub struct StdSource<R> {
     reader: R,
@@ -186,12 +188,28 @@ impl<R: Read + Drop> Source for StdSource<R> {
         ensures end { IfOk result (λ count. count ≡ 0 → IsAtEnd (R.remaining self.new.0)) }
         ensures kept { OnErr result (Keeps (R.remaining self.old.0) (R.remaining self.new.0)) }
     {
-        match self.reader.read(buf) {
-            Ok(count) => Ok(count),
-            Err(_) => {
-                self.faults = self.faults.saturating_add(1);
-                Err(Failed)
-            }
+        if let Some(count) = read_again(&mut self.reader, buf) {
+            return Ok(count);
+        }
+        self.faults = self.faults.saturating_add(1);
+        Err(Failed)
+    }
+}
+
+/// One read, tried again where a signal interrupts it, up to 2^64 - 1 times. `None` is a failure.
+fn read_again<R: Read>(reader: &mut R, buf: &mut [u8]) -> Option<usize>
+    requires { 0 < length buf.old }
+    ensures bound { IfSome result (λ count. count ≤ length buf.new) }
+    ensures given { IfSome result (λ count. Consumes (R.remaining reader.old) (R.remaining reader.new) (take count buf.new)) }
+    ensures end { IfSome result (λ count. count ≡ 0 → IsAtEnd (R.remaining reader.new)) }
+    ensures kept { IfNone result (Keeps (R.remaining reader.old) (R.remaining reader.new)) }
+{
+    for _ in 0..u64::MAX {
+        match reader.read(buf) {
+            Ok(count) => return Some(count),
+            Err(error) if error.kind() == ErrorKind::Interrupted => {}
+            Err(_) => return None,
         }
     }
+    None
 }

@@ -5,7 +5,7 @@ ghost use Rattle.std.specs.Char.{digit_value};
 ghost use Rattle.std.specs.List.{before_first, after_first};
 ghost use Rattle.std.specs.Fmt.{decimal};
 
-use crate::finding::first_of;
+use crate::finding::first_from;
 
 /// Splits at the first space: the bytes before it, and those behind it.
 ///
@@ -17,7 +17,7 @@ pub fn next_token(rest: &[u8]) -> (&[u8], &[u8])
     ensures split { Contains rest.now 32 → result.0.now ++ 32 ∷ result.1.now ≡ rest.now }
     ensures whole { All (λ b. b ≢ 32) rest.now → (result.0.now ≡ rest.now) × (result.1.now ≡ []) }
 {
-    match first_of(rest, b' ') {
+    match first_from(rest, 0, b' ') {
         Some(at) => (&rest[..at], &rest[at + 1..]),
         None => (rest, &[]),
     }

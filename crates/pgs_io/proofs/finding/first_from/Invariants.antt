@@ -1,6 +1,6 @@
 use Rattle.std.proofs.Common.{length, ◌-◌, ◌≤◌, ◌≢◌, take}
 use Rattle.std.specs.Prelude.{All}
-use Rattle.pgs_io.proofs.finding.first_of.Given as goal
+use Rattle.pgs_io.proofs.finding.first_from.Given as goal
 
 -- the bytes so far are others
 abbrev pub invariant-loop-at : goal.invariant-loop-at

@@ -2,7 +2,7 @@ use Rattle.std.proofs.Common.{◌≡◌, ◌≢◌, take, subst, arith}
 use Rattle.std.specs.Prelude.{All}
 use Rattle.std.proofs.lemmas.List.{take_all}
 use Rattle.pgs_io.proofs.FindingLemmas.{position_is, position_none}
-use Rattle.pgs_io.proofs.finding.first_of.Goals as goal
+use Rattle.pgs_io.proofs.finding.first_from.Goals as goal
 
 pub returns-then-bytes-at-clause-position : goal.returns-then-bytes-at-clause-position
 returns-then-bytes-at-clause-position c = position_is c.args.bytes.now c.loop-at.at c.args.byte c.loop-at-test.true c.loop-at.invariant.others c.if-bytes-at.true
