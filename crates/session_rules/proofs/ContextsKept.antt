@@ -1,20 +1,9 @@
 -- What the calls on contexts keep of them.
-use Rattle.std.proofs.Common.{◌≡◌, ◌≢◌, ℕ, ◌+◌, ◌≤◌, ◌<◌, Bool, true, false, Option, Some, None, List, refl, sym, ap, ◌∙◌, inl, inr, arith}
-use Rattle.std.specs.Prelude.{◌==◌}
-use Rattle.std.specs.Option.{option_map_or}
-use Rattle.std.proofs.lemmas.Bool.{cases_eq, eq-eqb, both_ways, false_from_ne_true, or_parts}
-use Rattle.forest.specs.Forest.{Empty, has, times, Once, at, children, parent_of, is_above, removed, changed, moved, with_children}
-use Rattle.forest.proofs.Trees.{times_some, has_some, at_some, has_of_removed, Moves, once_put, once_changed, times_moved, has_changed}
-use Rattle.forest.proofs.Moved.{above_by_parent, above_none, at_moved}
-use Rattle.forest.proofs.Mapped.{parent_changed, at_changed, at_changed_other}
-use Rattle.any_ctx.specs.declared.any.CtxKind.{CtxKind}
-use Rattle.context_rules.specs.Contexts.{Context, Contexts, new_context, is_protected, is_empty, is_child, created, placed_under, reparented}
+use Rattle.session_rules.proofs.Base.{◌≡◌, ◌≢◌, ℕ, ◌+◌, ◌≤◌, ◌<◌, Bool, true, false, Option, Some, None, List, refl, sym, ap, ◌∙◌, inl, inr, arith, ◌==◌, option_map_or, cases_eq, eq-eqb, both_ways, false_from_ne_true, or_parts}
+use Rattle.session_rules.proofs.Below.{Empty, has, times, Once, at, children, parent_of, is_above, removed, changed, moved, with_children, times_some, has_some, at_some, has_of_removed, Moves, once_put, once_changed, times_moved, has_changed, above_by_parent, above_none, at_moved, parent_changed, at_changed, at_changed_other, CtxKind, Context, Contexts, new_context, is_protected, is_empty, is_child, created, placed_under, reparented, emptied, is_within}
+use Rattle.session_rules.proofs.Rules.{abort_context, top_context, IsFresh, IsOfSession, AreContexts}
 use Rattle.context_rules.specs.Ends as ends
-use Rattle.context_rules.specs.Ends.{emptied}
-use Rattle.context_rules.specs.Refusals.{is_within}
-use Rattle.session_rules.specs.State.{abort_context, top_context}
 use Rattle.session_rules.specs.Guarded.{AreGuarded}
-use Rattle.session_rules.specs.Standing.{IsFresh, IsOfSession, AreContexts}
 use Rattle.session_rules.proofs.Forests.{parent_left, at_left, once_left, times_emptied, once_emptied, at_emptied, parent_emptied, has_put_other, at_put_other, parent_put_other, at_put, children_put, parent_put}
 use Rattle.session_rules.proofs.Guarded.{all_removed, all_emptied, all_put, all_changed, all_moved, guarded_removed, guarded_emptied, guarded_put, guarded_put_own, guarded_changed, guarded_moved, own_apart, own_has, rooted_removed, rooted_emptied, rooted_put, rooted_changed, rooted_moved, top_own, top_parent, all_gone}
 

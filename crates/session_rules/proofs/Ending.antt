@@ -1,35 +1,9 @@
 -- A session of which the deepest level ends, on its way through the portals.
-use Rattle.std.proofs.Common.{◌≡◌, ◌≢◌, ℕ, ◌+◌, find, true, false, Option, Some, None, List, [], ◌∷◌, ◌++◌, refl, sym, ap, ◌∙◌, subst, inl, inr, arith}
-use Rattle.std.specs.Prelude.{if◌then◌else◌}
-use Rattle.std.specs.Option.{option_map_or}
-use Rattle.std.proofs.lemmas.Bool.{cases_eq, cases_Bool, ne_eqb}
-use Rattle.std.proofs.lemmas.List.Elements.{All-head, All-tail, All-weaker}
-use Rattle.forest.specs.Forest.{Empty, Once, has, at, children, parent_of, changed, removed}
-use Rattle.forest.proofs.Trees.{at_some, at_absent, has_changed}
-use Rattle.forest.proofs.Mapped.{at_changed, at_changed_other, parent_changed}
-use Rattle.forest.proofs.Walks.{children_changed}
+use Rattle.session_rules.proofs.Base.{◌≡◌, ◌≢◌, ℕ, ◌+◌, find, true, false, Option, Some, None, List, [], ◌∷◌, ◌++◌, refl, sym, ap, ◌∙◌, subst, inl, inr, arith, if◌then◌else◌, option_map_or, cases_eq, cases_Bool, ne_eqb, All-head, All-tail, All-weaker}
+use Rattle.session_rules.proofs.Below.{Empty, Once, has, at, children, parent_of, changed, removed, at_some, at_absent, has_changed, at_changed, at_changed_other, parent_changed, children_changed, Item, KindId, ShelfState, Contexts, is_protected, gone, handed_in, Kind, KindTable, IsSoundTable, table_of, is_of, without_newest, Owner, OwnerTree, forgotten, has_begun, IsSound, once_of, sound_forgotten, Lock}
+use Rattle.session_rules.proofs.Rules.{LevelState, OpenPortal, StandingPlan, cache_context, plan_reference, portals_context, Scene, newest, portals_but, Ended, changes, context_gone, for_each, in_order, portal_gone, say, where_there, given_back, item_released, AreContexts, AreLevels, ArePlans, HasItems, IsItem, IsPlace, IsPortal, IsRow, referred, AreEnding, Ending, IsDone, IsLoose}
 use Rattle.pgs_step.specs.declared.events.What.TheVariants as what
-use Rattle.pgs_step.specs.declared.ids.Item.{Item}
-use Rattle.pgs_step.specs.declared.ids.KindId.{KindId}
-use Rattle.reset_callbacks.specs.ShelfState.{ShelfState}
-use Rattle.context_rules.specs.Contexts.{Contexts, is_protected}
-use Rattle.context_rules.specs.Ends.{gone, handed_in}
-use Rattle.owner_kinds.specs.Kind.{Kind}
-use Rattle.owner_kinds.specs.KindTable.{KindTable, IsSound as IsSoundTable}
-use Rattle.owner_kinds.specs.KindShelf.{table_of}
-use Rattle.owner_items.specs.ItemList.{is_of, without_newest}
 use Rattle.owner_items.proofs.Order.{All-without}
-use Rattle.owner_core.specs.Owners.{Owner, OwnerTree, forgotten, has_begun}
-use Rattle.owner_core.specs.Sound.{IsSound}
-use Rattle.owner_core.proofs.Sounds.{once_of, sound_forgotten}
-use Rattle.lock_local.specs.Locks.{Lock}
-use Rattle.session_rules.specs.State.{LevelState, OpenPortal, StandingPlan, cache_context, plan_reference, portals_context}
-use Rattle.session_rules.specs.World.{Scene}
-use Rattle.session_rules.specs.Lookup.{newest, portals_but}
-use Rattle.session_rules.specs.Acts.{Ended, changes, context_gone, for_each, in_order, portal_gone, say, where_there}
-use Rattle.session_rules.specs.Releases.{given_back, item_released}
-use Rattle.session_rules.specs.Standing.{AreContexts, AreLevels, ArePlans, HasItems, IsItem, IsPlace, IsPortal, IsRow, referred}
-use Rattle.session_rules.specs.Ending.{AreEnding, Ending, IsDone, IsLoose}
 use Rattle.session_rules.proofs.Guarded.{all_changed}
 use Rattle.session_rules.proofs.ContextsKept.{IsSame, contexts_level_gone, off_outside, same_removed}
 use Rattle.session_rules.proofs.HooksKept.{conserves_gone, hooks_ended}

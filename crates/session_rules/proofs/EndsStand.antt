@@ -1,30 +1,9 @@
 -- The ends of levels and of sessions lead from a session that stands to one that stands.
-use Rattle.std.proofs.Common.{◌≡◌, ◌≢◌, ℕ, ◌<◌, ◌≤◌, ◌-◌, Bool, true, false, Option, Some, None, List, [], ◌∷◌, refl, sym, ap, ◌∙◌, subst, inl, inr, arith}
-use Rattle.std.specs.Prelude.{◌==◌, ◌+◌, ◌⊎◌, not, unwrap_or, length, map, All}
-use Rattle.std.proofs.lemmas.List.Elements.{All-nil, All-append, All-head, All-weaker}
-use Rattle.std.proofs.lemmas.Bool.{cases_Bool, eq-eqb, eqb-false, both_ways}
-use Rattle.forest.specs.Forest.{Forest, Empty, Node, has, Once, children, removed, AllNodes}
-use Rattle.forest.proofs.Moved.{above_by_parent}
-use Rattle.pgs_step.specs.declared.errors.Error.{Error}
-use Rattle.reset_callbacks.specs.ShelfState.{ShelfState}
-use Rattle.context_rules.specs.Contexts.{Contexts, is_empty, is_protected}
-use Rattle.context_rules.specs.Ends.{gone, handed_in}
-use Rattle.owner_kinds.specs.KindTable.{KindTable, IsSound as IsSoundTable}
-use Rattle.owner_kinds.specs.KindShelf.{table_of}
-use Rattle.owner_core.specs.Owners.{OwnerTree, AllAt, HoldsNothing}
-use Rattle.owner_core.specs.Sound.{IsSound}
-use Rattle.owner_core.proofs.Sounds.{once_of}
-use Rattle.portal_store.specs.Portal.{lowered as level_lowered}
-use Rattle.snap_table.specs.declared.active.Active.{Active}
-use Rattle.snap_table.specs.Snapshots.{kept_below, lowered}
-use Rattle.session_rules.specs.State.{LevelState, OpenPortal, abort_context, context_of, first_of, deepest_changed, is_aborted, owner_of, plan_reference, portals_context, top_context}
-use Rattle.session_rules.specs.World.{Scene}
-use Rattle.session_rules.specs.Acts.{Ended, changes, context_gone, for_each, in_order, portal_becomes, portal_gone, switched, where_so, where_there}
-use Rattle.session_rules.specs.Portals.{portal_aborted, portal_closed, portal_passed}
-use Rattle.session_rules.specs.Releases.{owner_moved, owner_released}
+use Rattle.session_rules.proofs.Base.{◌≡◌, ◌≢◌, ℕ, ◌<◌, ◌≤◌, ◌-◌, Bool, true, false, Option, Some, None, List, [], ◌∷◌, refl, sym, ap, ◌∙◌, subst, inl, inr, arith, ◌==◌, ◌+◌, ◌⊎◌, not, unwrap_or, length, map, All, All-nil, All-append, All-head, All-weaker, cases_Bool, eq-eqb, eqb-false, both_ways}
+use Rattle.session_rules.proofs.Below.{Forest, Empty, Node, has, Once, children, removed, AllNodes, above_by_parent, Error, ShelfState, Contexts, is_empty, is_protected, gone, handed_in, KindTable, IsSoundTable, table_of, OwnerTree, AllAt, HoldsNothing, IsSound, once_of, level_lowered, Active, kept_below, lowered}
+use Rattle.session_rules.proofs.Rules.{LevelState, OpenPortal, abort_context, context_of, first_of, deepest_changed, is_aborted, owner_of, plan_reference, portals_context, top_context, Scene, Ended, changes, context_gone, for_each, in_order, portal_becomes, portal_gone, switched, where_so, where_there, portal_aborted, portal_closed, portal_passed, owner_moved, owner_released, AreEnding, Ending, IsAway, IsDone, gone_levels}
 use Rattle.session_rules.specs.Ends.{aborted, cleaned_up, committed, empty_context_gone, exited, given_up, level_context_gone, level_owner_gone, level_popped, level_released, level_rolled_back, recovered, stack_lowered, stack_popped, subcommitted, switched_up}
 use Rattle.session_rules.specs.Standing.{AreContexts, AreHooks, AreLevels, AreOpen, AreDifferent, AreOwners, AreOuter, ArePlans, ArePortals, AreStacked, FitLevels, HasExited, HasItems, IsAtRest, IsAttached, IsDead, IsLevel, IsLive, IsOfPortal, IsOwner, IsPlace, IsPortal, IsMade, IsOpen, Stands, StandsBetweenLines, active_depth, owner_at, referred}
-use Rattle.session_rules.specs.Ending.{AreEnding, Ending, IsAway, IsDone, gone_levels}
 use Rattle.session_rules.proofs.Forests.{has_left, parent_left}
 use Rattle.session_rules.proofs.ContextsKept.{IsSame, contexts_level_gone, nothing_left, off_outside, protected_has, same_removed, stay_same, top_protected}
 use Rattle.session_rules.proofs.HooksKept.{conserves_gone, hooks_ended}

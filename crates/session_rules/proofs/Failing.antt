@@ -1,29 +1,10 @@
 -- Portals of a level that aborts fail, and those from further out that are active there belong to the level above.
-use Rattle.std.proofs.Common.{◌≡◌, ◌≢◌, ℕ, ◌-◌, ◌≤◌, Bool, true, false, Option, Some, None, List, [], ◌∷◌, ◌++◌, length, refl, sym, ap, ◌∙◌, subst, inl, inr, arith}
-use Rattle.std.specs.Prelude.{◌==◌, if◌then◌else◌}
-use Rattle.std.specs.Option.{option_map_or}
-use Rattle.std.proofs.lemmas.Bool.{cases_eq, cases_Bool, eqb-true, eqb-false}
-use Rattle.forest.specs.Forest.{Empty, Once, has, at, children, moved, with_children}
-use Rattle.forest.proofs.Trees.{Moves, first_child_other}
-use Rattle.forest.proofs.Moved.{below_parent}
+use Rattle.session_rules.proofs.Base.{◌≡◌, ◌≢◌, ℕ, ◌-◌, ◌≤◌, Bool, true, false, Option, Some, None, List, [], ◌∷◌, ◌++◌, length, refl, sym, ap, ◌∙◌, subst, inl, inr, arith, ◌==◌, if◌then◌else◌, option_map_or, cases_eq, cases_Bool, eqb-true, eqb-false}
+use Rattle.session_rules.proofs.Below.{Empty, Once, has, at, children, moved, with_children, Moves, first_child_other, below_parent, ShelfState, Contexts, handed_in, table_of, Owner, OwnerTree, once_of, sound_moved}
+use Rattle.session_rules.proofs.Rules.{LevelState, OpenPortal, Scene, portal_changed, Ended, children_gone, for_each, in_order, portal_becomes, where_so, where_there, owner_moved, has_failed, is_ready, portal_aborted, portal_failed, portal_withdrawn, HasItems, IsAtRest, IsAttached, IsDead, IsLive, IsOwner, IsPlace, IsPortal, active_depth, referred, AreEnding, Ending, IsLoose, gone_levels}
 use Rattle.portal_store.specs.declared.portal.PortalState.{PortalState}
 use Rattle.portal_store.specs.declared.portal.PortalState.TheVariants as portal
-use Rattle.reset_callbacks.specs.ShelfState.{ShelfState}
-use Rattle.context_rules.specs.Contexts.{Contexts}
 use Rattle.context_rules.specs.Ends as ends
-use Rattle.context_rules.specs.Ends.{handed_in}
-use Rattle.owner_kinds.specs.KindShelf.{table_of}
-use Rattle.owner_core.specs.Owners.{Owner, OwnerTree}
-use Rattle.owner_core.proofs.Sounds.{once_of, sound_moved}
-use Rattle.session_rules.specs.State.{LevelState, OpenPortal}
-use Rattle.session_rules.specs.World.{Scene}
-use Rattle.session_rules.specs.Lookup.{portal_changed}
-use Rattle.session_rules.specs.Acts.{Ended, children_gone, for_each, in_order, portal_becomes, where_so, where_there}
-use Rattle.session_rules.specs.Releases.{owner_moved}
-use Rattle.session_rules.specs.Checks.{has_failed}
-use Rattle.session_rules.specs.Portals.{is_ready, portal_aborted, portal_failed, portal_withdrawn}
-use Rattle.session_rules.specs.Standing.{HasItems, IsAtRest, IsAttached, IsDead, IsLive, IsOwner, IsPlace, IsPortal, active_depth, referred}
-use Rattle.session_rules.specs.Ending.{AreEnding, Ending, IsLoose, gone_levels}
 use Rattle.session_rules.proofs.Guarded.{all_moved}
 use Rattle.session_rules.proofs.ContextsKept.{contexts_emptied, protected_has, same_emptied}
 use Rattle.session_rules.proofs.HooksKept.{conserves_children, hooks_ended}

@@ -1,8 +1,6 @@
 -- Where a node stands in a forest in which others go or come: what is apart from them keeps its data and its parent.
-use Rattle.std.proofs.Common.{◌≡◌, ◌≢◌, ℕ, ◌+◌, true, false, Some, refl, sym, ap, ◌∙◌, inl, inr, arith}
-use Rattle.std.specs.Prelude.{◌==◌, ◌||◌}
-use Rattle.std.proofs.lemmas.Bool.{cases_Bool, eq-eqb, ne_eqb, eqb-true, both_ways, or_parts}
-use Rattle.forest.specs.Forest.{Forest, Empty, Node, has, times, Once, at, children, is_root, parent_of, put, removed, with_children}
+use Rattle.session_rules.proofs.Base.{◌≡◌, ◌≢◌, ℕ, ◌+◌, true, false, Some, refl, sym, ap, ◌∙◌, inl, inr, arith, ◌==◌, ◌||◌, cases_Bool, eq-eqb, ne_eqb, eqb-true, both_ways, or_parts}
+use Rattle.session_rules.proofs.Below.{Forest, Empty, Node, has, times, Once, at, children, is_root, parent_of, put, removed, with_children}
 use Rattle.forest.proofs.Trees.{Apart, apart_of, Here, Below, Beside, where_is, times_none, times_some, has_none, has_some, at_absent, at_some, has_at, put_absent, removed_absent, has_children, times_removed}
 use Rattle.forest.proofs.Neighbours.{root_absent}
 

@@ -1,23 +1,12 @@
 -- How often owners hold a kind and key, behind each change of them, and what a phase of a release gives back of it.
-use Rattle.std.proofs.Common.{◌≡◌, ℕ, ◌+◌, find, Bool, true, false, Option, Some, None, List, [], ◌∷◌, ◌++◌, refl, ap, ◌∙◌, arith, inl, inr}
-use Rattle.std.specs.Prelude.{◌==◌, ◌||◌, if◌then◌else◌}
+use Rattle.session_rules.proofs.Base.{◌≡◌, ℕ, ◌+◌, find, Bool, true, false, Option, Some, None, List, [], ◌∷◌, ◌++◌, refl, ap, ◌∙◌, arith, inl, inr, ◌==◌, ◌||◌, if◌then◌else◌, cases_Bool, eqb-true, or_parts}
+use Rattle.session_rules.proofs.Below.{Item, KindId, Phase, BeforeLocks, Locks, AfterLocks, Empty, Node, Once, either, has, at, children, moved, parent_of, put, removed, AllNodes, all_changed, swept, Apart, Moves, apart_of, at_some, at_absent, removed_absent, KindTable, release_order, Step, GivesBack, lock_step, own_steps, release_steps, releases_of, steps_below, top_locks}
 use Rattle.std.proofs.lemmas.Grind.{common_steps}
-use Rattle.std.proofs.lemmas.Bool.{cases_Bool, eqb-true, or_parts}
-use Rattle.pgs_step.specs.declared.ids.Item.{Item}
-use Rattle.pgs_step.specs.declared.ids.KindId.{KindId}
-use Rattle.pgs_step.specs.declared.ids.Phase.{Phase}
-use Rattle.pgs_step.specs.declared.ids.Phase.TheVariants.{BeforeLocks, Locks, AfterLocks}
-use Rattle.forest.specs.Forest.{Empty, Node, Once, either, has, at, children, moved, parent_of, put, removed, AllNodes}
-use Rattle.forest.specs.Walk.{all_changed, swept}
-use Rattle.forest.proofs.Trees.{Apart, Moves, apart_of, at_some, at_absent, removed_absent}
-use Rattle.owner_kinds.specs.KindTable.{KindTable}
 use Rattle.owner_items.specs.ItemList.{is_of, uses, without_newest}
-use Rattle.owner_items.specs.Next.{release_order}
 use Rattle.owner_items.proofs.Uses.{count-without}
 use Rattle.owner_core.specs.Owners.{Owner, OwnerTree, AllAt, HoldsNothing, created, forgotten, held, remembered}
 use Rattle.owner_core.specs.Released.{left_of, own_released, released}
 use Rattle.owner_core.specs.Sound.{total}
-use Rattle.owner_core.specs.Steps.{Step, GivesBack, lock_step, own_steps, release_steps, releases_of, steps_below, top_locks}
 use Rattle.owner_core.proofs.ItemLemmas.{uses_phase}
 use Rattle.owner_core.proofs.Releasing.{held_changed}
 use Rattle.owner_core.proofs.Sounds.{total_moved, total_removed}

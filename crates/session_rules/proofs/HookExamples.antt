@@ -1,14 +1,10 @@
 -- The words on hooks, computed in two short scripts.
-use Rattle.std.proofs.Common.{◌≡◌, [], ◌∷◌, codes, Some, None, refl}
+use Rattle.session_rules.proofs.Base.{◌≡◌, [], ◌∷◌, codes, Some, None, refl}
+use Rattle.session_rules.proofs.Rules.{opening, Moment, exited, recovered, elements_of, does, does_all}
 use Rattle.pgs_command.specs.declared.commands.Command.TheVariants as command
 use Rattle.pgs_command.specs.declared.commands.Work.TheVariants as work
 use Rattle.pgs_command.specs.declared.commands.ContextCommand.TheVariants as context
 use Rattle.any_ctx.specs.SetLedger.{created, stats}
-use Rattle.session_rules.specs.State.{opening}
-use Rattle.session_rules.specs.World.{Moment}
-use Rattle.session_rules.specs.Ends.{exited, recovered}
-use Rattle.session_rules.specs.Commands.{elements_of}
-use Rattle.session_rules.specs.Does.{does, does_all}
 use Rattle.session_rules.specs.Transcript.{Turn, turn}
 use Rattle.session_rules.specs.HookCounts.{all_hooks, callbacks_of, hooks_of, registered_of, runs_of, used_hooks}
 

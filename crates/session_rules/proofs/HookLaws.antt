@@ -1,24 +1,10 @@
 -- Each line counts hooks: each has run as often more as callbacks of its word are said, and as many leave the fresh ones as are said to be registered.
-use Rattle.std.proofs.Common.{◌≡◌, ℕ, Bool, true, false, not, Option, Some, None, List, [], ◌∷◌, refl}
-use Rattle.pgs_step.specs.declared.errors.Error.{Error}
-use Rattle.pgs_step.specs.declared.events.What.{What}
+use Rattle.session_rules.proofs.Base.{◌≡◌, ℕ, Bool, true, false, not, Option, Some, None, List, [], ◌∷◌, refl}
+use Rattle.session_rules.proofs.Below.{Error, What, CtxKind, changed, Context, new_context}
+use Rattle.session_rules.proofs.Rules.{is_aborted, Moment, Scene, Element, Text, in_order, where_so, context_made, Done, does_all, exited, given_up, recovered, line_elements, turn, turn_of, Stands, StandsBetweenLines, CountsHooks}
+use Rattle.session_rules.proofs.Scripts.{Command}
 use Rattle.pgs_step.specs.declared.events.What.TheVariants as what
-use Rattle.pgs_command.specs.declared.commands.Command.{Command}
-use Rattle.any_ctx.specs.declared.any.CtxKind.{CtxKind}
-use Rattle.forest.specs.Forest.{changed}
-use Rattle.context_rules.specs.Contexts.{Context, new_context}
-use Rattle.session_rules.specs.State.{is_aborted}
-use Rattle.session_rules.specs.World.{Moment, Scene}
 use Rattle.session_rules.specs.Elements as e
-use Rattle.session_rules.specs.Elements.{Element, Text}
-use Rattle.session_rules.specs.Acts.{in_order, where_so}
-use Rattle.session_rules.specs.Making.{context_made}
-use Rattle.session_rules.specs.Calls.{Done}
-use Rattle.session_rules.specs.Does.{does_all}
-use Rattle.session_rules.specs.Ends.{exited, given_up, recovered}
-use Rattle.session_rules.specs.Transcript.{line_elements, turn, turn_of}
-use Rattle.session_rules.specs.Standing.{Stands, StandsBetweenLines}
-use Rattle.session_rules.specs.HookCounts.{CountsHooks}
 use Rattle.session_rules.proofs.HookSums.{Runs, is_of_hooks, more_runs, none_run}
 use Rattle.session_rules.proofs.HookSteps.{Counted, IsNumbered, counted_alone, counted_both, counted_children, counted_cleared, counted_gone, counted_hook, counted_kept, counted_moved, counted_on, counted_put, counted_same, numbered_changed, numbered_put, waiting_changed}
 use Rattle.session_rules.proofs.Chunked.{LeavesHooks}

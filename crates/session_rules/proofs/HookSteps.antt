@@ -1,26 +1,10 @@
 -- What became of a scene's hooks is counted: where contexts end, come and move, where a hook is registered, and where nothing becomes of them.
-use Rattle.std.proofs.Common.{◌≡◌, ℕ, ◌+◌, ◌<◌, Bool, true, false, cond, if◌then◌else◌, Option, Some, None, List, [], ◌∷◌, ◌++◌, length, map, drop, refl, sym, ap, ◌∙◌, inl, inr, arith}
-use Rattle.std.specs.Prelude.{◌≤◌, ◌==◌}
-use Rattle.std.specs.Option.{option_map_or}
-use Rattle.std.specs.List.{sum_by}
-use Rattle.std.proofs.lemmas.Bool.{cases_Bool, cases_eq, eq-eqb, both_ways, false_from_ne_true, or_parts}
-use Rattle.std.proofs.lemmas.List.Sums.{sum_by-append, sum_by-cons}
-use Rattle.pgs_step.specs.declared.events.What.{What}
+use Rattle.session_rules.proofs.Base.{◌≡◌, ℕ, ◌+◌, ◌<◌, Bool, true, false, cond, if◌then◌else◌, Option, Some, None, List, [], ◌∷◌, ◌++◌, length, map, drop, refl, sym, ap, ◌∙◌, inl, inr, arith, ◌≤◌, ◌==◌, option_map_or, sum_by, cases_Bool, cases_eq, eq-eqb, both_ways, false_from_ne_true, or_parts, sum_by-append, sum_by-cons}
+use Rattle.session_rules.proofs.Below.{What, Empty, has, times, Once, at, changed, is_above, moved, put, with_children, Moves, at_some, has_changed, has_of_removed, has_some, once_changed, once_put, put_absent, times_moved, times_some, sum_moved, Hook, ran, ShelfState, held, taken, Context, Contexts, is_child, placed_under, move_events, cleared, cleared_alone, emptied, gone, handed_in, waiting, is_within}
+use Rattle.session_rules.proofs.Rules.{first_of, Scene, context_moved, hook_waits}
 use Rattle.pgs_step.specs.declared.events.What.TheVariants as what
-use Rattle.forest.specs.Forest.{Empty, has, times, Once, at, changed, is_above, moved, put, with_children}
-use Rattle.forest.proofs.Trees.{Moves, at_some, has_changed, has_of_removed, has_some, once_changed, once_put, put_absent, times_moved, times_some}
-use Rattle.forest.proofs.Moved.{sum_moved}
-use Rattle.reset_callbacks.specs.Hook.{Hook, ran}
-use Rattle.reset_callbacks.specs.ShelfState.{ShelfState, held, taken}
-use Rattle.context_rules.specs.Contexts.{Context, Contexts, is_child, placed_under, move_events}
 use Rattle.context_rules.specs.Ends as ends
-use Rattle.context_rules.specs.Ends.{cleared, cleared_alone, emptied, gone, handed_in, waiting}
-use Rattle.context_rules.specs.Refusals.{is_within}
-use Rattle.session_rules.specs.State.{first_of}
-use Rattle.session_rules.specs.World.{Scene}
 use Rattle.session_rules.specs.Acts.{Ended, behind, children_gone, context_cleared, context_cleared_alone, context_gone}
-use Rattle.session_rules.specs.Parts.{context_moved}
-use Rattle.session_rules.specs.Taking.{hook_waits}
 use Rattle.session_rules.specs.HookCounts.{HookCount, HooksCounted, CountsHooks, runs_of}
 use Rattle.session_rules.proofs.Forests.{has_put_other, once_emptied, once_left, times_emptied}
 use Rattle.session_rules.proofs.Sums.{sum_changed, sum_put, sum_same}

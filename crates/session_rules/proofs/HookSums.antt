@@ -1,18 +1,8 @@
 -- Sums over hooks that wait, where contexts go, come, change and move, and the callbacks that are said then.
-use Rattle.std.proofs.Common.{◌≡◌, ℕ, ◌+◌, ◌-◌, ◌^◌, min, Bool, true, false, cond, if◌then◌else◌, Option, Some, None, List, [], ◌∷◌, ◌++◌, map, refl, ap, inl, inr, arith}
-use Rattle.std.specs.Prelude.{◌==◌}
-use Rattle.std.specs.Option.{option_map_or}
-use Rattle.std.specs.List.{sum_by}
-use Rattle.std.proofs.lemmas.Bool.{cases_Bool}
-use Rattle.std.proofs.lemmas.List.Sums.{sum_by-append, sum_by-cons}
-use Rattle.pgs_step.specs.declared.events.What.{What}
+use Rattle.session_rules.proofs.Base.{◌≡◌, ℕ, ◌+◌, ◌-◌, ◌^◌, min, Bool, true, false, cond, if◌then◌else◌, Option, Some, None, List, [], ◌∷◌, ◌++◌, map, refl, ap, inl, inr, arith, ◌==◌, option_map_or, sum_by, cases_Bool, sum_by-append, sum_by-cons}
+use Rattle.session_rules.proofs.Below.{What, Empty, Node, Once, at, changed, children, subtree, with_children, sum_of, Hook, ran, Context, Contexts, Ended, callbacks, cleared, cleared_alone, emptied, gone, gone_events, waiting}
 use Rattle.pgs_step.specs.declared.events.What.TheVariants as what
-use Rattle.forest.specs.Forest.{Empty, Node, Once, at, changed, children, subtree, with_children}
-use Rattle.forest.proofs.Moved.{sum_of}
-use Rattle.reset_callbacks.specs.Hook.{Hook, ran}
-use Rattle.context_rules.specs.Contexts.{Context, Contexts}
 use Rattle.context_rules.specs.Ends as ends
-use Rattle.context_rules.specs.Ends.{Ended, callbacks, cleared, cleared_alone, emptied, gone, gone_events, waiting}
 use Rattle.session_rules.specs.HookCounts.{callbacks_of, hooks_of, is_callback, is_registered, registered_of, runs_of}
 use Rattle.session_rules.proofs.Forests.{once_emptied}
 use Rattle.session_rules.proofs.Sums.{sum_changed, sum_emptied, sum_left}

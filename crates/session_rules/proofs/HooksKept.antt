@@ -1,21 +1,11 @@
 -- Hooks that wait are counted, and so are those of the shelf.
-use Rattle.std.proofs.Common.{◌≡◌, ◌≢◌, ℕ, ◌+◌, ◌≤◌, Bool, true, false, Option, Some, None, List, [], ◌∷◌, ◌++◌, length, map, drop, refl, sym, ap, ◌∙◌, inl, inr, arith}
-use Rattle.std.specs.Prelude.{◌==◌, if◌then◌else◌}
-use Rattle.std.specs.Option.{option_map_or}
-use Rattle.std.proofs.lemmas.Bool.{cases_eq, eq-eqb, ne_eqb, both_ways, or_parts}
+use Rattle.session_rules.proofs.Base.{◌≡◌, ◌≢◌, ℕ, ◌+◌, ◌≤◌, Bool, true, false, Option, Some, None, List, [], ◌∷◌, ◌++◌, length, map, drop, refl, sym, ap, ◌∙◌, inl, inr, arith, ◌==◌, if◌then◌else◌, option_map_or, cases_eq, eq-eqb, ne_eqb, both_ways, or_parts, All-nil, All-cons, All-head, All-tail}
+use Rattle.session_rules.proofs.Below.{Empty, Node, has, Once, at, children, is_above, put, changed, moved, with_children, subtree, Moves, sum_of, sum_moved, ShelfState, held, taken, Context, Contexts, is_child, placed_under, reparented, is_within}
+use Rattle.session_rules.proofs.Rules.{first_of, AreHooks}
 use Rattle.std.proofs.lemmas.List.{length-append}
-use Rattle.std.proofs.lemmas.List.Elements.{All-nil, All-cons, All-head, All-tail}
-use Rattle.forest.specs.Forest.{Empty, Node, has, Once, at, children, is_above, put, changed, moved, with_children, subtree}
-use Rattle.forest.proofs.Trees.{Moves}
-use Rattle.forest.proofs.Moved.{sum_of, sum_moved}
 use Rattle.reset_callbacks.specs.Hook.{Hook, Lacks, AreDistinct, ran}
-use Rattle.reset_callbacks.specs.ShelfState.{ShelfState, held, taken}
-use Rattle.context_rules.specs.Contexts.{Context, Contexts, is_child, placed_under, reparented}
-use Rattle.context_rules.specs.Refusals.{is_within}
 use Rattle.context_rules.specs.Ends as ends
 use Rattle.context_rules.specs.Ends.{Ended, waiting, gone, children_gone, cleared_alone, cleared, emptied, handed_in}
-use Rattle.session_rules.specs.State.{first_of}
-use Rattle.session_rules.specs.Standing.{AreHooks}
 use Rattle.session_rules.proofs.Forests.{once_emptied}
 use Rattle.session_rules.proofs.Sums.{sum_left, sum_emptied, sum_put, sum_changed, sum_same}
 

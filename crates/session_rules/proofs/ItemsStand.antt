@@ -1,45 +1,22 @@
 -- The steps by which the deepest level's owner takes an item and gives one back lead from a session that stands to one that stands.
-use Rattle.std.proofs.Common.{◌≡◌, ◌≢◌, ℕ, ◌+◌, ◌-◌, ◌<◌, ◌≤◌, ◌++◌, find, length, Bool, true, Option, Some, None, List, [], ◌∷◌, refl, sym, ap, ◌∙◌, subst, inl, inr, arith}
-use Rattle.std.specs.Prelude.{◌==◌, if◌then◌else◌}
-use Rattle.std.specs.Option.{option_map_or, option_and_then}
-use Rattle.std.proofs.lemmas.Bool.{cases_Bool, eq-eqb, ne_eqb}
-use Rattle.std.proofs.lemmas.Bool.Decides.{nat_tests}
+use Rattle.session_rules.proofs.Base.{◌≡◌, ◌≢◌, ℕ, ◌+◌, ◌-◌, ◌<◌, ◌≤◌, ◌++◌, find, length, Bool, true, Option, Some, None, List, [], ◌∷◌, refl, sym, ap, ◌∙◌, subst, inl, inr, arith, ◌==◌, if◌then◌else◌, option_map_or, option_and_then, cases_Bool, eq-eqb, ne_eqb, nat_tests, All-cons, All-weaker}
+use Rattle.session_rules.proofs.Below.{Once, has, changed, at_some, has_changed, parent_changed, Item, KindId, Mode, Contexts, table_of, is_of, without_newest, Owner, OwnerTree, forgotten, remembered, IsSound}
+use Rattle.session_rules.proofs.Rules.{LevelState, StandingPlan, buffer_pin, file_kind, first_of, level_owner, plan_reference, snapshot_reference, Scene, Moment, OfLevel, Text, changes, in_order, say, where_there, Keeper, NoOne, TheKind, given_back, item_released, keeper_of, descriptor_given, item_taken, lock_taken, remembers, taken_by, at_kind, at_owner, lock_given_back, does, AreLevels, AreOwners, ArePlans, HasItems, IsItem, IsPlan, IsWorking, Stands, references_of, referred}
+use Rattle.session_rules.proofs.Scripts.{is_text}
 use Rattle.std.proofs.lemmas.List.{length-map}
-use Rattle.std.proofs.lemmas.List.Elements.{All-cons, All-weaker}
-use Rattle.forest.specs.Forest.{Once, has, changed}
-use Rattle.forest.proofs.Trees.{at_some, has_changed}
-use Rattle.forest.proofs.Mapped.{parent_changed}
-use Rattle.pgs_step.specs.declared.ids.Item.{Item}
-use Rattle.pgs_step.specs.declared.ids.KindId.{KindId}
-use Rattle.pgs_step.specs.declared.lock_modes.Mode.{Mode}
 use Rattle.pgs_step.specs.declared.events.What.TheVariants as what
 use Rattle.pgs_command.specs.declared.kinds.ReferenceClass.{ReferenceClass}
 use Rattle.pgs_command.specs.declared.kinds.ReferenceClass.TheVariants.{Relcache}
 use Rattle.pgs_command.specs.Kinds.{class_kind}
-use Rattle.pgs_command.specs.Words.{is_text}
-use Rattle.context_rules.specs.Contexts.{Contexts}
 use Rattle.owner_kinds.specs.Kind.{Kind, changed_at, opened}
 use Rattle.owner_kinds.specs.KindTable.{KindTable, IsExtension, row, IsSound as IsSoundTable}
-use Rattle.owner_kinds.specs.KindShelf.{table_of}
 use Rattle.owner_kinds.proofs.Places.{table-opened}
-use Rattle.owner_items.specs.ItemList.{is_of, without_newest}
 use Rattle.owner_items.proofs.Order.{All-without}
-use Rattle.owner_core.specs.Owners.{Owner, OwnerTree, forgotten, remembered}
-use Rattle.owner_core.specs.Sound.{IsSound}
 use Rattle.owner_core.proofs.Sounds.{once_of, sound_forgotten, sound_remembered}
 use Rattle.lock_local.specs.Changes as locks
 use Rattle.lock_local.specs.Changes.{acquired}
-use Rattle.session_rules.specs.State.{LevelState, StandingPlan, buffer_pin, file_kind, first_of, level_owner, plan_reference, snapshot_reference}
-use Rattle.session_rules.specs.World.{Scene, Moment}
 use Rattle.session_rules.specs.Elements as element
-use Rattle.session_rules.specs.Elements.{OfLevel, Text}
 use Rattle.session_rules.specs.Lookup.{kind_from, kind_named, newest, plan_at, plan_changed}
-use Rattle.session_rules.specs.Acts.{changes, in_order, say, where_there}
-use Rattle.session_rules.specs.Releases.{Keeper, NoOne, TheKind, given_back, item_released, keeper_of}
-use Rattle.session_rules.specs.Taking.{descriptor_given, item_taken, lock_taken, remembers, taken_by}
-use Rattle.session_rules.specs.Parts.{at_kind, at_owner, lock_given_back}
-use Rattle.session_rules.specs.Does.{does}
-use Rattle.session_rules.specs.Standing.{AreLevels, AreOwners, ArePlans, HasItems, IsItem, IsPlan, IsWorking, Stands, references_of, referred}
 use Rattle.session_rules.proofs.Guarded.{all_changed}
 use Rattle.session_rules.proofs.LevelsKept.{levels_stay, no_value}
 use Rattle.session_rules.proofs.HeldItems.{held_forgotten, held_remembered}

@@ -1,28 +1,14 @@
 -- Scripts whose transcripts keep the laws of lifetimes by these rules. Each of them breaks a law where the rule is another, as the edits in
 -- must-fail/ have it.
-use Rattle.std.proofs.Common.{◌≡◌, true, refl}
-use Rattle.std.specs.Prelude.{ℕ, Bool, List, [], ◌∷◌, codes, None}
-use Rattle.std.specs.Fmt.{digits}
+use Rattle.session_rules.proofs.Base.{◌≡◌, true, refl, ℕ, Bool, List, [], ◌∷◌, codes, None, digits}
+use Rattle.session_rules.proofs.Below.{row_of, table_of, conflicts, up8, granted, grown, doubled, is_reserved}
+use Rattle.session_rules.proofs.Rules.{opening, elements_of, does, does_all, recovered, exited, turn, course_by, transcript_by, transcript}
+use Rattle.session_rules.proofs.Scripts.{kind_name, error_text, read_line, command_of, transaction_rows, context_rows, chunk_rows, item_rows, lock_rows, snapshot_rows, plan_rows, portal_rows, tell_rows, words_of, number_between, name_of, kind_of, class_of, mode_of, bytes_of}
 use Rattle.hex.specs.Hex.{decode_pairs, encode_with}
-use Rattle.pgs_step.specs.Text.{kind_name, error_text}
-use Rattle.pgs_command.specs.Lines.{read_line}
-use Rattle.pgs_command.specs.Table.{command_of, transaction_rows, context_rows, chunk_rows, item_rows, lock_rows, snapshot_rows, plan_rows, portal_rows, tell_rows}
-use Rattle.pgs_command.specs.Words.{words_of}
-use Rattle.pgs_command.specs.Values.{number_between, name_of, kind_of, class_of, mode_of, bytes_of}
-use Rattle.owner_kinds.specs.KindTable.{row_of}
-use Rattle.owner_kinds.specs.KindShelf.{table_of}
-use Rattle.lock_shared.specs.ModeTable.{conflicts}
-use Rattle.chunk_header.specs.Growth.{up8, granted, grown, doubled}
 use Rattle.any_ctx.specs.SetLedger as set
 use Rattle.any_ctx.specs.SlabLedger as slab
 use Rattle.any_ctx.specs.GenerationLedger as generation
 use Rattle.any_ctx.specs.BumpLedger as bump
-use Rattle.context_rules.specs.Names.{is_reserved}
-use Rattle.session_rules.specs.State.{opening}
-use Rattle.session_rules.specs.Commands.{elements_of}
-use Rattle.session_rules.specs.Does.{does, does_all}
-use Rattle.session_rules.specs.Ends.{recovered, exited}
-use Rattle.session_rules.specs.Transcript.{turn, course_by, transcript_by, transcript}
 use Rattle.lifetime_laws.specs.Laws.{is_lawful}
 use Rattle.session_rules.proofs.Setting.{kinds, hooks, options}
 

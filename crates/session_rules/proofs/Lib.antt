@@ -1,3 +1,7 @@
+pub mod Base
+pub mod Below
+pub mod Rules
+pub mod Scripts
 pub mod LaterLemmas
 pub mod Setting
 pub mod RowsOfLevels

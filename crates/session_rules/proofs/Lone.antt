@@ -1,11 +1,6 @@
 -- What is below a node behind a change elsewhere.
-use Rattle.std.proofs.Common.{◌≡◌, ◌≢◌, ℕ, false, refl, sym, ap, ◌∙◌, inl, inr}
-use Rattle.std.specs.Prelude.{◌==◌}
-use Rattle.std.proofs.lemmas.Bool.{cases_Bool, both_ways, eqb-true, false_from_ne_true, ne_eqb}
-use Rattle.forest.specs.Forest.{Forest, Empty, Node, has, Once, children, put, removed, changed, moved, with_children}
-use Rattle.forest.specs.Walk.{all_changed, swept}
-use Rattle.forest.proofs.Trees.{Apart, Moves, apart_of, at_some, children_absent, first_child_other, has_children, put_absent}
-use Rattle.forest.proofs.Walks.{children_changed}
+use Rattle.session_rules.proofs.Base.{◌≡◌, ◌≢◌, ℕ, false, refl, sym, ap, ◌∙◌, inl, inr, ◌==◌, cases_Bool, both_ways, eqb-true, false_from_ne_true, ne_eqb}
+use Rattle.session_rules.proofs.Below.{Forest, Empty, Node, has, Once, children, put, removed, changed, moved, with_children, all_changed, swept, Apart, Moves, apart_of, at_some, children_absent, first_child_other, has_children, put_absent, children_changed}
 use Rattle.session_rules.proofs.Forests.{emptied_absent, has_emptied, has_left, has_put_other}
 use Rattle.session_rules.proofs.Swept.{has_all, has_swept}
 

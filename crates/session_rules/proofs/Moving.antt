@@ -1,14 +1,9 @@
 -- Portals pass to the level above, or fail, where the deepest level is merged or aborts: an owner moves.
-use Rattle.std.proofs.Common.{◌≡◌, ◌≢◌, ℕ, true, false, Some, refl, sym, ap, ◌∙◌, subst, inl, inr, arith}
-use Rattle.std.specs.Prelude.{◌==◌}
-use Rattle.std.proofs.lemmas.Bool.{cases_Bool, ne_eqb}
-use Rattle.forest.specs.Forest.{Forest, Empty, Node, Once, has, times, at, children, parent_of, put, removed, moved}
+use Rattle.session_rules.proofs.Base.{◌≡◌, ◌≢◌, ℕ, true, false, Some, refl, sym, ap, ◌∙◌, subst, inl, inr, arith, ◌==◌, cases_Bool, ne_eqb}
+use Rattle.session_rules.proofs.Below.{Forest, Empty, Node, Once, has, times, at, children, parent_of, put, removed, moved, at_moved, OwnerTree}
+use Rattle.session_rules.proofs.Rules.{LevelState, IsLoose}
 use Rattle.forest.proofs.Trees.{Moves, at_some, children_absent, has_none, has_some, parent_stays, removed_has, times_moved, times_none, times_some}
-use Rattle.forest.proofs.Moved.{at_moved}
 use Rattle.forest.proofs.Walks.{children_in, once_children}
-use Rattle.owner_core.specs.Owners.{OwnerTree}
-use Rattle.session_rules.specs.State.{LevelState}
-use Rattle.session_rules.specs.Ending.{IsLoose}
 use Rattle.session_rules.proofs.Forests.{children_put, has_left, has_put_other, once_left, parent_left, parent_put, parent_put_other}
 use Rattle.session_rules.proofs.Lone.{children_left, lone_moved}
 

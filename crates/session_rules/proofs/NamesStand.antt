@@ -1,37 +1,20 @@
 -- The steps on contexts of a name lead from a session that stands to one that stands.
-use Rattle.std.proofs.Common.{◌≡◌, ◌≢◌, ◌⊎◌, ℕ, ◌+◌, Bool, true, false, Option, Some, None, List, [], ◌∷◌, ◌++◌, refl, sym, ap, ◌∙◌, subst, inl, inr, arith}
-use Rattle.std.specs.Prelude.{◌==◌, ◌&&◌, ◌||◌, not, reverse, if◌then◌else◌, codes}
-use Rattle.std.specs.Option.{option_map, option_map_or, option_and_then}
-use Rattle.std.proofs.lemmas.Bool.{eq-eqb, ne_eqb, both_ways, or_parts}
+use Rattle.session_rules.proofs.Base.{◌≡◌, ◌≢◌, ◌⊎◌, ℕ, ◌+◌, Bool, true, false, Option, Some, None, List, [], ◌∷◌, ◌++◌, refl, sym, ap, ◌∙◌, subst, inl, inr, arith, ◌==◌, ◌&&◌, ◌||◌, not, reverse, if◌then◌else◌, codes, option_map, option_map_or, option_and_then, eq-eqb, ne_eqb, both_ways, or_parts}
+use Rattle.session_rules.proofs.Below.{Empty, Node, Once, at, children, either, has, is_above, moved, removed, with_children, Moves, apart_of, at_absent, at_some, has_changed, Hook, taken, CtxKind, Context, Contexts, created, is_protected, new_context, reparented, OwnerTree}
+use Rattle.session_rules.proofs.Rules.{LevelState, SessionState, cache_context, context_of, first_of, last_of, level_context, top_context, Scene, Moment, Text, context_named, context_made, new_context_made, at_context, context_moved, hook_registered, hook_waits, does, AreContexts, AreHooks, AreLevels, IsPlace, IsRow, IsWorking, Stands, referred}
+use Rattle.session_rules.proofs.Scripts.{is_text}
 use Rattle.std.proofs.lemmas.List.{reverse-append}
-use Rattle.forest.specs.Forest.{Empty, Node, Once, at, children, either, has, is_above, moved, removed, with_children}
-use Rattle.forest.proofs.Trees.{Moves, apart_of, at_absent, at_some, has_changed}
-use Rattle.pgs_command.specs.Words.{is_text}
-use Rattle.reset_callbacks.specs.Hook.{Hook}
-use Rattle.reset_callbacks.specs.ShelfState.{taken}
-use Rattle.any_ctx.specs.declared.any.CtxKind.{CtxKind}
 use Rattle.context_rules.specs.Names.{same_name}
 use Rattle.context_rules.specs.Contexts as rules
-use Rattle.context_rules.specs.Contexts.{Context, Contexts, created, is_protected, new_context, reparented}
 use Rattle.context_rules.specs.Chunks.{registered}
 use Rattle.context_rules.specs.Ends as ends
 use Rattle.context_rules.specs.Refusals.{delete_refusal, is_within, reset_refusal, set_parent_refusal}
 use Rattle.context_rules.specs.Refusals as refusals
 use Rattle.context_rules.specs.declared.errors.TreeError.{TreeError}
 use Rattle.context_rules.specs.declared.errors.TreeError.TheVariants.{Protected, InUse, Cycle}
-use Rattle.owner_core.specs.Owners.{OwnerTree}
-use Rattle.session_rules.specs.State.{LevelState, SessionState, cache_context, context_of, first_of, last_of, level_context, top_context}
-use Rattle.session_rules.specs.World.{Scene, Moment}
 use Rattle.session_rules.specs.Elements as element
-use Rattle.session_rules.specs.Elements.{Text}
-use Rattle.session_rules.specs.Lookup.{context_named}
 use Rattle.session_rules.specs.Acts.{Ended, of_contexts, children_gone, context_cleared, context_cleared_alone, context_gone, switched, where_there}
 use Rattle.session_rules.specs.Checks.{failure, refusal_at, tree_error}
-use Rattle.session_rules.specs.Making.{context_made, new_context_made}
-use Rattle.session_rules.specs.Parts.{at_context, context_moved}
-use Rattle.session_rules.specs.Taking.{hook_registered, hook_waits}
-use Rattle.session_rules.specs.Does.{does}
-use Rattle.session_rules.specs.Standing.{AreContexts, AreHooks, AreLevels, IsPlace, IsRow, IsWorking, Stands, referred}
 use Rattle.session_rules.proofs.Forests.{has_emptied, has_left, once_left}
 use Rattle.session_rules.proofs.ContextsKept.{Stay, apart, contexts_alone, contexts_changed, contexts_children_gone, contexts_created, contexts_gone, contexts_reparented, has_alone, has_created, has_reparented, moves_by, protected_has, same_removed, stay_alone, stay_changed, stay_children_gone, stay_created, stay_gone, stay_on, stay_reparented, stay_same, top_protected}
 use Rattle.session_rules.proofs.HooksKept.{conserves_alone, conserves_children, conserves_cleared, conserves_gone, hooks_ended, hooks_put, hooks_taken, hooks_reparented}

@@ -1,23 +1,8 @@
 -- Portals pass to the level above where the deepest one is merged into it.
-use Rattle.std.proofs.Common.{◌≡◌, ◌≢◌, ◌⊎◌, ℕ, ◌+◌, ◌-◌, ◌≤◌, Bool, true, false, Option, Some, None, List, [], ◌∷◌, ◌++◌, length, refl, sym, ap, ◌∙◌, subst, inl, inr, arith}
-use Rattle.std.specs.Prelude.{◌==◌}
-use Rattle.std.specs.Option.{option_map_or}
-use Rattle.std.proofs.lemmas.Bool.{cases_eq, cases_Bool, eq-eqb, eqb-true, eqb-false, ne_eqb}
-use Rattle.forest.specs.Forest.{Once, has, moved}
-use Rattle.forest.proofs.Trees.{Moves}
-use Rattle.context_rules.specs.Contexts.{Contexts}
-use Rattle.owner_kinds.specs.KindShelf.{table_of}
-use Rattle.owner_core.specs.Owners.{Owner, OwnerTree}
-use Rattle.owner_core.proofs.Sounds.{once_of, sound_moved}
+use Rattle.session_rules.proofs.Base.{◌≡◌, ◌≢◌, ◌⊎◌, ℕ, ◌+◌, ◌-◌, ◌≤◌, Bool, true, false, Option, Some, None, List, [], ◌∷◌, ◌++◌, length, refl, sym, ap, ◌∙◌, subst, inl, inr, arith, ◌==◌, option_map_or, cases_eq, cases_Bool, eq-eqb, eqb-true, eqb-false, ne_eqb}
+use Rattle.session_rules.proofs.Below.{Once, has, moved, Moves, Contexts, table_of, Owner, OwnerTree, once_of, sound_moved}
+use Rattle.session_rules.proofs.Rules.{LevelState, OpenPortal, first_of, owner_of, plan_reference, Scene, portal_changed, for_each, in_order, portal_becomes, where_so, where_there, owner_moved, portal_passed, AreLevels, AreOuter, ArePlans, HasItems, IsAtRest, IsAtWork, IsAttached, IsDead, IsLive, IsOwner, IsPortal, owner_at, referred, AreEnding, Ending}
 use Rattle.portal_store.specs.Portal.{lowered}
-use Rattle.session_rules.specs.State.{LevelState, OpenPortal, first_of, owner_of, plan_reference}
-use Rattle.session_rules.specs.World.{Scene}
-use Rattle.session_rules.specs.Lookup.{portal_changed}
-use Rattle.session_rules.specs.Acts.{for_each, in_order, portal_becomes, where_so, where_there}
-use Rattle.session_rules.specs.Releases.{owner_moved}
-use Rattle.session_rules.specs.Portals.{portal_passed}
-use Rattle.session_rules.specs.Standing.{AreLevels, AreOuter, ArePlans, HasItems, IsAtRest, IsAtWork, IsAttached, IsDead, IsLive, IsOwner, IsPortal, owner_at, referred}
-use Rattle.session_rules.specs.Ending.{AreEnding, Ending}
 use Rattle.session_rules.proofs.Guarded.{all_moved}
 use Rattle.session_rules.proofs.ContextsKept.{stay_same}
 use Rattle.session_rules.proofs.HeldItems.{held_moved}

@@ -1,15 +1,7 @@
 -- The contexts of plans among those of levels, and what plans keep where other contexts change.
-use Rattle.std.proofs.Common.{◌≡◌, ◌≢◌, ℕ, ◌≤◌, ◌<◌, true, false, Option, Some, None, List, [], ◌∷◌, refl, sym, ap, ◌∙◌, inl, inr, arith}
-use Rattle.std.specs.Prelude.{unwrap_or, All}
-use Rattle.std.specs.Option.{option_map_or}
-use Rattle.std.proofs.lemmas.List.Elements.{All-weaker}
-use Rattle.forest.specs.Forest.{Empty, has, children, parent_of, removed}
-use Rattle.forest.proofs.Moved.{above_by_parent}
-use Rattle.context_rules.specs.Contexts.{Contexts, is_protected}
-use Rattle.owner_core.specs.Owners.{OwnerTree}
-use Rattle.session_rules.specs.State.{LevelState, StandingPlan, abort_context, cache_context, context_of, first_of, top_context}
-use Rattle.session_rules.specs.Making.{level_parent}
-use Rattle.session_rules.specs.Standing.{AreContexts, AreLevels, AreOuter, ArePlans, IsPlan}
+use Rattle.session_rules.proofs.Base.{◌≡◌, ◌≢◌, ℕ, ◌≤◌, ◌<◌, true, false, Option, Some, None, List, [], ◌∷◌, refl, sym, ap, ◌∙◌, inl, inr, arith, unwrap_or, All, option_map_or, All-weaker}
+use Rattle.session_rules.proofs.Below.{Empty, has, children, parent_of, removed, above_by_parent, Contexts, is_protected, OwnerTree}
+use Rattle.session_rules.proofs.Rules.{LevelState, StandingPlan, abort_context, cache_context, context_of, first_of, top_context, level_parent, AreContexts, AreLevels, AreOuter, ArePlans, IsPlan}
 use Rattle.session_rules.proofs.ContextsKept.{IsSame, own_outside, same_removed}
 use Rattle.session_rules.proofs.LevelsKept.{IsContext, is_there}
 use Rattle.session_rules.proofs.Lone.{lone_left}

@@ -1,13 +1,7 @@
 -- What plans keep where one of them changes or goes.
-use Rattle.std.proofs.Common.{◌≡◌, ◌≢◌, ℕ, ◌≤◌, ◌<◌, true, false, Some, List, [], ◌∷◌, ◌++◌, refl, sym, ap, ◌∙◌, subst, inl, inr}
-use Rattle.std.specs.Prelude.{◌==◌, All}
-use Rattle.std.proofs.lemmas.Bool.{cases_eq, cases_Bool, eqb-true, eq-eqb, ne_eqb, both_ways}
-use Rattle.std.proofs.lemmas.List.Elements.{All-nil, All-cons, All-head, All-tail, All-weaker}
-use Rattle.forest.specs.Forest.{Empty, has, children, parent_of, removed}
-use Rattle.context_rules.specs.Contexts.{Contexts, is_protected}
-use Rattle.session_rules.specs.State.{StandingPlan, abort_context, cache_context}
-use Rattle.session_rules.specs.Lookup.{plan_at, plan_changed, plans_but}
-use Rattle.session_rules.specs.Standing.{AreApart, AreContexts, ArePlans, Differ, IsPlan, references_of}
+use Rattle.session_rules.proofs.Base.{◌≡◌, ◌≢◌, ℕ, ◌≤◌, ◌<◌, true, false, Some, List, [], ◌∷◌, ◌++◌, refl, sym, ap, ◌∙◌, subst, inl, inr, ◌==◌, All, cases_eq, cases_Bool, eqb-true, eq-eqb, ne_eqb, both_ways, All-nil, All-cons, All-head, All-tail, All-weaker}
+use Rattle.session_rules.proofs.Below.{Empty, has, children, parent_of, removed, Contexts, is_protected}
+use Rattle.session_rules.proofs.Rules.{StandingPlan, abort_context, cache_context, plan_at, plan_changed, plans_but, AreApart, AreContexts, ArePlans, Differ, IsPlan, references_of}
 use Rattle.session_rules.proofs.ContextsKept.{IsSame, same_removed}
 use Rattle.session_rules.proofs.Lone.{lone_left}
 

@@ -1,24 +1,10 @@
 -- The steps that make a plan and discard one lead from a session that stands to one that stands.
-use Rattle.std.proofs.Common.{◌≡◌, ◌≢◌, ℕ, ◌+◌, Bool, true, false, Option, Some, None, List, [], ◌∷◌, ◌++◌, cond, refl, sym, ap, ◌∙◌, subst, inl, inr, arith}
-use Rattle.std.specs.Prelude.{◌==◌, All, codes, is_none, not}
-use Rattle.std.specs.Option.{option_map_or}
-use Rattle.std.proofs.lemmas.Bool.{cases_Bool, eq-eqb, both_ways}
+use Rattle.session_rules.proofs.Base.{◌≡◌, ◌≢◌, ℕ, ◌+◌, Bool, true, false, Option, Some, None, List, [], ◌∷◌, ◌++◌, cond, refl, sym, ap, ◌∙◌, subst, inl, inr, arith, ◌==◌, All, codes, is_none, not, option_map_or, cases_Bool, eq-eqb, both_ways}
+use Rattle.session_rules.proofs.Below.{Empty, has, Error, Contexts, created, is_protected, new_context}
+use Rattle.session_rules.proofs.Rules.{StandingPlan, cache_context, Scene, Moment, Text, plan_at, where_there, unless, plan_becomes, plan_made, does, AreApart, ArePlans, Differ, IsPlace, IsPlan, IsWorking, Stands, references_of, referred}
 use Rattle.std.proofs.lemmas.List.Elements.{All-nil, All-cons, All-head, All-tail, All-push}
-use Rattle.forest.specs.Forest.{Empty, has}
-use Rattle.pgs_step.specs.declared.errors.Error.{Error}
 use Rattle.any_ctx.specs.declared.any.CtxKind.TheVariants as kind
-use Rattle.context_rules.specs.Contexts.{Contexts, created, is_protected, new_context}
-use Rattle.session_rules.specs.State.{StandingPlan, cache_context}
-use Rattle.session_rules.specs.World.{Scene, Moment}
 use Rattle.session_rules.specs.Elements as element
-use Rattle.session_rules.specs.Elements.{Text}
-use Rattle.session_rules.specs.Lookup.{plan_at}
-use Rattle.session_rules.specs.Acts.{where_there}
-use Rattle.session_rules.specs.Checks.{unless}
-use Rattle.session_rules.specs.Releases.{plan_becomes}
-use Rattle.session_rules.specs.Making.{plan_made}
-use Rattle.session_rules.specs.Does.{does}
-use Rattle.session_rules.specs.Standing.{AreApart, ArePlans, Differ, IsPlace, IsPlan, IsWorking, Stands, references_of, referred}
 use Rattle.session_rules.proofs.Forests.{children_put}
 use Rattle.session_rules.proofs.ContextsKept.{Stay, contexts_created, has_created, is_unused, new_parent, new_protected, protected_has, stay_created}
 use Rattle.session_rules.proofs.HooksKept.{hooks_put}

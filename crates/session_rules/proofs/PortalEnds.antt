@@ -1,25 +1,8 @@
 -- A portal ends within its level: a session that stands leads to one that stands, where portals are at rest.
-use Rattle.std.proofs.Common.{◌≡◌, ◌≢◌, ℕ, Bool, true, false, Option, Some, None, List, [], ◌∷◌, ◌++◌, refl, sym, ap, ◌∙◌, subst, inl, inr}
-use Rattle.std.specs.Prelude.{All}
-use Rattle.std.specs.Option.{option_map_or}
-use Rattle.std.proofs.lemmas.List.Elements.{All-append, All-cons, All-head, All-tail, All-weaker}
-use Rattle.forest.specs.Forest.{Once, has, children, removed}
-use Rattle.forest.proofs.Trees.{has_of_removed, left_apart}
-use Rattle.pgs_step.specs.declared.ids.KindId.{KindId}
-use Rattle.context_rules.specs.Contexts.{Contexts}
-use Rattle.context_rules.specs.Ends.{gone}
-use Rattle.owner_kinds.specs.KindTable.{KindTable, IsSound as IsSoundTable}
-use Rattle.owner_kinds.specs.KindShelf.{table_of}
-use Rattle.owner_core.specs.Owners.{Owner, OwnerTree, has_begun}
-use Rattle.owner_core.proofs.Sounds.{once_of, sound_removed}
-use Rattle.session_rules.specs.State.{LevelState, OpenPortal, buffer_pin, relcache_reference, snapshot_reference}
-use Rattle.session_rules.specs.World.{Scene, Moment}
+use Rattle.session_rules.proofs.Base.{◌≡◌, ◌≢◌, ℕ, Bool, true, false, Option, Some, None, List, [], ◌∷◌, ◌++◌, refl, sym, ap, ◌∙◌, subst, inl, inr, All, option_map_or, All-append, All-cons, All-head, All-tail, All-weaker}
+use Rattle.session_rules.proofs.Below.{Once, has, children, removed, has_of_removed, left_apart, KindId, Contexts, gone, KindTable, IsSoundTable, table_of, Owner, OwnerTree, has_begun, once_of, sound_removed}
+use Rattle.session_rules.proofs.Rules.{LevelState, OpenPortal, buffer_pin, relcache_reference, snapshot_reference, Scene, Moment, does, portal_changed, portal_named, portals_but, Text, context_gone, in_order, portal_gone, where_so, where_there, item_released, owner_gone, owner_released}
 use Rattle.session_rules.specs.Elements as element
-use Rattle.session_rules.specs.Does.{does}
-use Rattle.session_rules.specs.Lookup.{portal_changed, portal_named, portals_but}
-use Rattle.session_rules.specs.Elements.{Text}
-use Rattle.session_rules.specs.Acts.{context_gone, in_order, portal_gone, where_so, where_there}
-use Rattle.session_rules.specs.Releases.{item_released, owner_gone, owner_released}
 use Rattle.session_rules.specs.Portals.{executor_ended, is_ready, portal_ended, portal_owner_ended}
 use Rattle.session_rules.specs.Standing.{AreContexts, AreLevels, AreOwners, ArePortals, HasItems, IsAtRest, IsAttached, IsLive, IsOfPortal, IsOwner, IsPlace, IsPlan, IsPortal, IsWorking, Stands, referred}
 use Rattle.session_rules.proofs.Forests.{at_left, has_left, parent_left}

@@ -1,13 +1,7 @@
 -- What lists of portals keep where one of them changes or goes.
-use Rattle.std.proofs.Common.{◌≡◌, ◌≢◌, ◌⊎◌, ℕ, false, Some, List, [], ◌∷◌, ◌++◌, refl, sym, ap, ◌∙◌, inl, inr}
-use Rattle.std.specs.Prelude.{All}
-use Rattle.std.proofs.lemmas.Bool.{false_from_ne_true}
-use Rattle.std.proofs.lemmas.List.Elements.{All-nil, All-cons, All-head, All-tail, All-weaker}
-use Rattle.pgs_command.specs.Words.{is_text}
-use Rattle.pgs_command.proofs.ValueLemmas.{is_text-means, is_text-same}
-use Rattle.session_rules.specs.State.{OpenPortal}
-use Rattle.session_rules.specs.Lookup.{portal_changed, portals_but}
-use Rattle.session_rules.specs.Standing.{AreDifferent, AreOther, IsOfPortal}
+use Rattle.session_rules.proofs.Base.{◌≡◌, ◌≢◌, ◌⊎◌, ℕ, false, Some, List, [], ◌∷◌, ◌++◌, refl, sym, ap, ◌∙◌, inl, inr, All, false_from_ne_true, All-nil, All-cons, All-head, All-tail, All-weaker}
+use Rattle.session_rules.proofs.Rules.{OpenPortal, portal_changed, portals_but, AreDifferent, AreOther, IsOfPortal}
+use Rattle.session_rules.proofs.Scripts.{is_text, is_text-means, is_text-same}
 
 -- what holds of each portal of such a list
 module _ (P : OpenPortal → Type 0) where

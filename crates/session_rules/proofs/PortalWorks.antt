@@ -1,37 +1,14 @@
 -- The elements of portals lead from a session that stands to one that stands, with its levels as they were.
-use Rattle.std.proofs.Common.{◌≡◌, ◌≢◌, ℕ, ◌-◌, Bool, true, false, Option, Some, None, List, [], ◌∷◌, length, refl, sym, ap, ◌∙◌, subst, inl, inr}
-use Rattle.std.specs.Prelude.{◌==◌, ◌&&◌}
-use Rattle.std.specs.Option.{option_and_then}
-use Rattle.std.proofs.lemmas.Bool.{cases_Bool}
-use Rattle.forest.specs.Forest.{has}
-use Rattle.pgs_step.specs.declared.errors.Error.{Error}
+use Rattle.session_rules.proofs.Base.{◌≡◌, ◌≢◌, ℕ, ◌-◌, Bool, true, false, Option, Some, None, List, [], ◌∷◌, length, refl, sym, ap, ◌∙◌, subst, inl, inr, ◌==◌, ◌&&◌, option_and_then, cases_Bool}
+use Rattle.session_rules.proofs.Below.{has, Error, Item, KindId, Mode, ScanStep, table_of, is_among, without, forgotten}
+use Rattle.session_rules.proofs.Rules.{OpenPortal, StandingPlan, buffer_pin, Scene, Moment, Check, Element, InPortal, InRow, OfPortal, Text, newest, plan_at, portal_changed, portal_named, Ended, changes, context_cleared_alone, in_order, nothing, portal_becomes, say, where_so, where_there, failure, Done, unless_refused, Keeper, NoOne, TheDescriptors, TheKind, ThePlans, given_back, item_released, keeper_of, left_to, plan_becomes, plan_settled, plan_stays, left, item_taken, lock_taken, memory_taken, remembers, taken_by, at_owner, scan_part, scanned, does, failing_turn, IsAtRest, IsFetched, IsItem, IsWorking, Stands}
+use Rattle.session_rules.proofs.Scripts.{is_text}
 use Rattle.pgs_step.specs.declared.events.What.TheVariants as what
-use Rattle.pgs_step.specs.declared.ids.Item.{Item}
-use Rattle.pgs_step.specs.declared.ids.KindId.{KindId}
-use Rattle.pgs_step.specs.declared.lock_modes.Mode.{Mode}
-use Rattle.pgs_command.specs.Words.{is_text}
 use Rattle.portal_store.specs.declared.portal.PortalState.TheVariants as portal
-use Rattle.exec_core.specs.declared.steps.ScanStep.{ScanStep}
 use Rattle.exec_core.specs.declared.steps.ScanStep.TheVariants as step
 use Rattle.exec_core.specs.Turn.{taken}
-use Rattle.owner_kinds.specs.KindShelf.{table_of}
 use Rattle.lock_local.specs.Changes.{acquired}
-use Rattle.file_table.specs.Descriptors.{is_among, without}
-use Rattle.owner_core.specs.Owners.{forgotten}
-use Rattle.session_rules.specs.State.{OpenPortal, StandingPlan, buffer_pin}
-use Rattle.session_rules.specs.World.{Scene, Moment}
 use Rattle.session_rules.specs.Elements as element
-use Rattle.session_rules.specs.Elements.{Check, Element, InPortal, InRow, OfPortal, Text}
-use Rattle.session_rules.specs.Lookup.{newest, plan_at, portal_changed, portal_named}
-use Rattle.session_rules.specs.Acts.{Ended, changes, context_cleared_alone, in_order, nothing, portal_becomes, say, where_so, where_there}
-use Rattle.session_rules.specs.Checks.{failure}
-use Rattle.session_rules.specs.Calls.{Done, unless_refused}
-use Rattle.session_rules.specs.Releases.{Keeper, NoOne, TheDescriptors, TheKind, ThePlans, given_back, item_released, keeper_of, left_to, plan_becomes, plan_settled, plan_stays}
-use Rattle.session_rules.specs.Making.{left}
-use Rattle.session_rules.specs.Taking.{item_taken, lock_taken, memory_taken, remembers, taken_by}
-use Rattle.session_rules.specs.Parts.{at_owner, scan_part, scanned}
-use Rattle.session_rules.specs.Does.{does, failing_turn}
-use Rattle.session_rules.specs.Standing.{IsAtRest, IsFetched, IsItem, IsWorking, Stands}
 use Rattle.session_rules.proofs.EndsStand.{stands_tabled}
 use Rattle.session_rules.proofs.ItemsStand.{give_step, other_step}
 use Rattle.session_rules.proofs.NamesStand.{alone_step, at_name}

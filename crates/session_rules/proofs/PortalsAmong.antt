@@ -1,17 +1,9 @@
 -- The contexts and owners of portals among those of levels, and what portals keep where others change.
-use Rattle.std.proofs.Common.{◌≡◌, ◌≢◌, ◌⊎◌, ℕ, ◌≤◌, ◌<◌, Bool, true, false, Option, Some, None, List, [], ◌∷◌, refl, sym, ap, ◌∙◌, subst, inl, inr, arith}
-use Rattle.std.specs.Prelude.{◌==◌, if◌then◌else◌, All}
-use Rattle.std.specs.Option.{option_map_or}
-use Rattle.std.proofs.lemmas.Bool.{cases_eq, both_ways, eq-eqb, ne_eqb}
-use Rattle.std.proofs.lemmas.List.Elements.{All-weaker}
-use Rattle.forest.specs.Forest.{Empty, Node, Once, has, at, children, parent_of, put, removed, changed, with_children}
+use Rattle.session_rules.proofs.Base.{◌≡◌, ◌≢◌, ◌⊎◌, ℕ, ◌≤◌, ◌<◌, Bool, true, false, Option, Some, None, List, [], ◌∷◌, refl, sym, ap, ◌∙◌, subst, inl, inr, arith, ◌==◌, if◌then◌else◌, All, option_map_or, cases_eq, both_ways, eq-eqb, ne_eqb, All-weaker}
+use Rattle.session_rules.proofs.Below.{Empty, Node, Once, has, at, children, parent_of, put, removed, changed, with_children, Context, Contexts, is_protected, OwnerTree}
+use Rattle.session_rules.proofs.Rules.{LevelState, OpenPortal, StandingPlan, abort_context, cache_context, first_of, portals_context, top_context, level_parent, AreContexts, AreLevels, AreOuter, ArePortals, IsAttached, IsOfSession, IsOwner, IsPlace, IsPlan, IsPortal, IsRow, owner_at}
 use Rattle.forest.proofs.Moved.{at_children}
 use Rattle.forest.proofs.Walks.{children_changed, children_in, parent_in}
-use Rattle.context_rules.specs.Contexts.{Context, Contexts, is_protected}
-use Rattle.owner_core.specs.Owners.{OwnerTree}
-use Rattle.session_rules.specs.State.{LevelState, OpenPortal, StandingPlan, abort_context, cache_context, first_of, portals_context, top_context}
-use Rattle.session_rules.specs.Making.{level_parent}
-use Rattle.session_rules.specs.Standing.{AreContexts, AreLevels, AreOuter, ArePortals, IsAttached, IsOfSession, IsOwner, IsPlace, IsPlan, IsPortal, IsRow, owner_at}
 use Rattle.session_rules.proofs.Guarded.{top_parent}
 use Rattle.session_rules.proofs.ContextsKept.{IsSame, own}
 use Rattle.session_rules.proofs.LevelsKept.{IsContext, no_value}

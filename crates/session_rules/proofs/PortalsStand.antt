@@ -1,30 +1,13 @@
 -- The steps of a portal lead from a session that stands to one that stands.
-use Rattle.std.proofs.Common.{◌≡◌, ◌≢◌, ◌⊎◌, ℕ, ◌+◌, ◌≤◌, ◌<◌, true, false, Option, Some, None, List, [], ◌∷◌, ◌++◌, length, refl, sym, ap, ◌∙◌, subst, inl, inr, arith}
-use Rattle.std.specs.Prelude.{◌==◌, ◌||◌, All, codes}
-use Rattle.std.specs.Option.{option_map_or, option_and_then}
-use Rattle.std.proofs.lemmas.Bool.{cases_eq, cases_Bool, both_ways, eq-eqb, or_parts}
-use Rattle.std.proofs.lemmas.List.Elements.{All-nil, All-cons, All-head, All-tail, All-append, All-weaker}
-use Rattle.forest.specs.Forest.{Forest, Empty, Node, Once, at, has, children, parent_of, put, size}
-use Rattle.forest.proofs.Trees.{Apart, apart_of}
-use Rattle.pgs_command.specs.Words.{is_text}
-use Rattle.pgs_command.proofs.ValueLemmas.{is_text-means, is_text-same}
+use Rattle.session_rules.proofs.Base.{◌≡◌, ◌≢◌, ◌⊎◌, ℕ, ◌+◌, ◌≤◌, ◌<◌, true, false, Option, Some, None, List, [], ◌∷◌, ◌++◌, length, refl, sym, ap, ◌∙◌, subst, inl, inr, arith, ◌==◌, ◌||◌, All, codes, option_map_or, option_and_then, cases_eq, cases_Bool, both_ways, eq-eqb, or_parts, All-nil, All-cons, All-head, All-tail, All-append, All-weaker}
+use Rattle.session_rules.proofs.Below.{Forest, Empty, Node, Once, at, has, children, parent_of, put, size, Apart, apart_of, Contexts, created, is_protected, new_context, table_of, Owner, OwnerTree, has_begun, once_of, fresh, sound_created, new_scan, Scan}
+use Rattle.session_rules.proofs.Rules.{LevelState, OpenPortal, cache_context, first_of, level_owner, plan_reference, portals_context, Scene, OfPortal, PortalContext, Text, portal_changed, portal_named, in_order, portal_becomes, context_made, new_context_made, new_owner_made, owner_made, portal_made}
+use Rattle.session_rules.proofs.Scripts.{is_text, is_text-means, is_text-same}
 use Rattle.portal_store.specs.declared.portal.PortalState.TheVariants as portal
 use Rattle.any_ctx.specs.declared.any.CtxKind.TheVariants as kind
-use Rattle.context_rules.specs.Contexts.{Contexts, created, is_protected, new_context}
-use Rattle.owner_kinds.specs.KindShelf.{table_of}
-use Rattle.owner_core.specs.Owners.{Owner, OwnerTree, has_begun}
 use Rattle.owner_core.specs.Owners as owners
-use Rattle.owner_core.proofs.Sounds.{once_of, fresh, sound_created}
-use Rattle.exec_core.specs.Turn.{new_scan}
-use Rattle.session_rules.specs.State.{LevelState, OpenPortal, cache_context, first_of, level_owner, plan_reference, portals_context}
-use Rattle.session_rules.specs.World.{Scene}
-use Rattle.session_rules.specs.Elements.{OfPortal, PortalContext, Text}
-use Rattle.session_rules.specs.Lookup.{portal_changed, portal_named}
-use Rattle.session_rules.specs.Acts.{in_order, portal_becomes}
-use Rattle.session_rules.specs.Making.{context_made, new_context_made, new_owner_made, owner_made, portal_made}
 use Rattle.session_rules.proofs.ItemsStand.{owner_there}
 use Rattle.portal_store.specs.declared.portal.PortalState.{PortalState}
-use Rattle.exec_core.specs.declared.scan.Scan.{Scan}
 use Rattle.session_rules.specs.Standing.{AreContexts, AreDifferent, AreHooks, AreLevels, AreOther, AreOwners, ArePlans, ArePortals, IsAtRest, IsAtWork, IsAttached, IsDead, IsLive, IsOfPortal, IsOwner, IsPlace, IsPortal, IsWorking, Stands, active_depth, owner_at, referred}
 use Rattle.session_rules.proofs.Forests.{children_put, has_put_other}
 use Rattle.session_rules.proofs.ContextsKept.{Stay, contexts_created, has_created, is_unused, new_parent, new_protected, protected_has, stay_created, stay_same}

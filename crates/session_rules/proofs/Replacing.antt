@@ -1,22 +1,7 @@
 -- A portal becomes another one, or goes, where the deepest level ends.
-use Rattle.std.proofs.Common.{◌≡◌, ℕ, ◌+◌, ◌≤◌, Bool, true, false, Option, Some, None, List, [], ◌∷◌, ◌++◌, append_assoc, length, refl, sym, ◌∙◌, subst, inl, inr, arith}
-use Rattle.std.specs.Prelude.{◌==◌, All}
-use Rattle.std.proofs.lemmas.Bool.{eq-eqb, eqb-true, eqb-false, ne_eqb}
-use Rattle.std.proofs.lemmas.List.Elements.{All-nil, All-cons, All-head, All-tail, All-append}
-use Rattle.forest.specs.Forest.{Once, has}
-use Rattle.forest.proofs.Moved.{below_parent}
-use Rattle.reset_callbacks.specs.ShelfState.{ShelfState}
-use Rattle.context_rules.specs.Contexts.{Contexts}
-use Rattle.owner_kinds.specs.KindShelf.{table_of}
-use Rattle.owner_core.specs.Owners.{OwnerTree}
-use Rattle.owner_core.proofs.Sounds.{once_of}
-use Rattle.session_rules.specs.State.{LevelState, OpenPortal, buffer_pin, relcache_reference, snapshot_reference}
-use Rattle.session_rules.specs.World.{Scene}
-use Rattle.session_rules.specs.Acts.{Ended, context_gone, for_each, in_order, portal_gone, where_so, where_there}
-use Rattle.session_rules.specs.Releases.{item_released}
-use Rattle.session_rules.specs.Portals.{executor_ended, is_ready, portal_closed}
-use Rattle.session_rules.specs.Standing.{AreContexts, AreDifferent, AreHooks, AreLevels, AreOther, ArePlans, IsAttached, IsLive, IsPortal, active_depth, referred}
-use Rattle.session_rules.specs.Ending.{AreEnding, Ending, IsAway, IsDone, IsLoose}
+use Rattle.session_rules.proofs.Base.{◌≡◌, ℕ, ◌+◌, ◌≤◌, Bool, true, false, Option, Some, None, List, [], ◌∷◌, ◌++◌, append_assoc, length, refl, sym, ◌∙◌, subst, inl, inr, arith, ◌==◌, All, eq-eqb, eqb-true, eqb-false, ne_eqb, All-nil, All-cons, All-head, All-tail, All-append}
+use Rattle.session_rules.proofs.Below.{Once, has, below_parent, ShelfState, Contexts, table_of, OwnerTree, once_of}
+use Rattle.session_rules.proofs.Rules.{LevelState, OpenPortal, buffer_pin, relcache_reference, snapshot_reference, Scene, Ended, context_gone, for_each, in_order, portal_gone, where_so, where_there, item_released, executor_ended, is_ready, portal_closed, AreContexts, AreDifferent, AreHooks, AreLevels, AreOther, ArePlans, IsAttached, IsLive, IsPortal, active_depth, referred, AreEnding, Ending, IsAway, IsDone, IsLoose}
 use Rattle.session_rules.proofs.LevelsKept.{no_value}
 use Rattle.session_rules.proofs.Stacked.{depth_outer, depth_small, depth_still}
 use Rattle.session_rules.proofs.PortalLists.{Changes, different_changed, others_back, others_front}

@@ -1,15 +1,8 @@
 -- Portals at rest, and what keeps them so.
-use Rattle.std.proofs.Common.{◌≡◌, ◌⊎◌, ℕ, Bool, true, false, List, [], ◌∷◌, refl, sym, ap, ◌∙◌, inl, inr, arith}
-use Rattle.std.specs.Prelude.{All, if◌then◌else◌}
-use Rattle.std.proofs.lemmas.Bool.{both_ways, cases_Bool}
-use Rattle.std.proofs.lemmas.List.Elements.{All-nil, All-cons, All-head, All-tail, All-weaker}
-use Rattle.pgs_command.specs.Words.{is_text}
-use Rattle.context_rules.specs.Contexts.{Contexts}
-use Rattle.owner_core.specs.Owners.{OwnerTree}
-use Rattle.session_rules.specs.State.{LevelState, OpenPortal}
-use Rattle.session_rules.specs.Elements.{Text}
-use Rattle.session_rules.specs.Lookup.{portal_changed, portals_but}
-use Rattle.session_rules.specs.Standing.{IsAtRest, IsDead, IsLive, IsPortal}
+use Rattle.session_rules.proofs.Base.{◌≡◌, ◌⊎◌, ℕ, Bool, true, false, List, [], ◌∷◌, refl, sym, ap, ◌∙◌, inl, inr, arith, All, if◌then◌else◌, both_ways, cases_Bool, All-nil, All-cons, All-head, All-tail, All-weaker}
+use Rattle.session_rules.proofs.Below.{Contexts, OwnerTree}
+use Rattle.session_rules.proofs.Rules.{LevelState, OpenPortal, Text, portal_changed, portals_but, IsAtRest, IsDead, IsLive, IsPortal}
+use Rattle.session_rules.proofs.Scripts.{is_text}
 use Rattle.session_rules.proofs.Stacked.{depth_still}
 
 -- no line is at work on a portal where the deepest level is aborted

@@ -1,21 +1,9 @@
 -- What scripts ask of the space, computed from the definitions.
-use Rattle.std.proofs.Common.{◌≡◌, ℕ, ◌+◌, List, [], ◌∷◌, Option, Some, None, refl}
-use Rattle.std.specs.Prelude.{codes}
-use Rattle.std.specs.Fmt.{digits}
-use Rattle.pgs_command.specs.Lines.{read_line}
-use Rattle.pgs_command.specs.Table.{chunk_rows, command_of, context_rows, item_rows, lock_rows, plan_rows, portal_rows, snapshot_rows, tell_rows, transaction_rows}
-use Rattle.pgs_command.specs.Words.{words_of}
-use Rattle.pgs_command.specs.Values.{number_between, name_of, kind_of}
-use Rattle.chunk_header.specs.Growth.{up8, grown, doubled}
+use Rattle.session_rules.proofs.Base.{◌≡◌, ℕ, ◌+◌, List, [], ◌∷◌, Option, Some, None, refl, codes, digits}
+use Rattle.session_rules.proofs.Below.{up8, grown, doubled, is_reserved}
+use Rattle.session_rules.proofs.Rules.{opening, Options, held, elements_of, does, does_all, recovered, turn}
+use Rattle.session_rules.proofs.Scripts.{read_line, chunk_rows, command_of, context_rows, item_rows, lock_rows, plan_rows, portal_rows, snapshot_rows, tell_rows, transaction_rows, words_of, number_between, name_of, kind_of}
 use Rattle.any_ctx.specs.SetLedger as set
-use Rattle.context_rules.specs.Names.{is_reserved}
-use Rattle.session_rules.specs.State.{opening}
-use Rattle.session_rules.specs.World.{Options}
-use Rattle.session_rules.specs.Making.{held}
-use Rattle.session_rules.specs.Commands.{elements_of}
-use Rattle.session_rules.specs.Does.{does, does_all}
-use Rattle.session_rules.specs.Ends.{recovered}
-use Rattle.session_rules.specs.Transcript.{turn}
 use Rattle.session_rules.specs.Asked.{asked, asked_all, asked_by, asked_by_turn}
 use Rattle.session_rules.specs.Limits.{asked_at_opening}
 use Rattle.session_rules.proofs.Setting.{options, kinds, hooks}

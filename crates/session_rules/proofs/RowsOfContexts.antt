@@ -1,24 +1,13 @@
 -- Contexts and chunks, computed from the definitions.
-use Rattle.std.proofs.Common.{◌≡◌, [], ◌∷◌, refl}
-use Rattle.std.specs.Prelude.{codes, ◌++◌}
-use Rattle.std.specs.Fmt.{digits}
+use Rattle.session_rules.proofs.Base.{◌≡◌, [], ◌∷◌, refl, codes, ◌++◌, digits}
+use Rattle.session_rules.proofs.Below.{up8, granted, grown, doubled, is_reserved}
+use Rattle.session_rules.proofs.Rules.{opening, elements_of, does, does_all, recovered, exited, turn, course_by, transcript_by}
+use Rattle.session_rules.proofs.Scripts.{text_of, what_text, kind_name, error_text, read_line, chunk_rows, command_of, context_rows, item_rows, lock_rows, plan_rows, portal_rows, snapshot_rows, tell_rows, transaction_rows, words_of, number_between, name_of, kind_of, bytes_of}
 use Rattle.hex.specs.Hex.{decode_pairs, encode_with}
-use Rattle.pgs_step.specs.Text.{text_of, what_text, kind_name, error_text}
-use Rattle.pgs_command.specs.Lines.{read_line}
-use Rattle.pgs_command.specs.Table.{chunk_rows, command_of, context_rows, item_rows, lock_rows, plan_rows, portal_rows, snapshot_rows, tell_rows, transaction_rows}
-use Rattle.pgs_command.specs.Words.{words_of}
-use Rattle.pgs_command.specs.Values.{number_between, name_of, kind_of, bytes_of}
-use Rattle.chunk_header.specs.Growth.{up8, granted, grown, doubled}
 use Rattle.any_ctx.specs.SetLedger as set
 use Rattle.any_ctx.specs.SlabLedger as slab
 use Rattle.any_ctx.specs.GenerationLedger as generation
 use Rattle.any_ctx.specs.BumpLedger as bump
-use Rattle.context_rules.specs.Names.{is_reserved}
-use Rattle.session_rules.specs.State.{opening}
-use Rattle.session_rules.specs.Commands.{elements_of}
-use Rattle.session_rules.specs.Does.{does, does_all}
-use Rattle.session_rules.specs.Ends.{recovered, exited}
-use Rattle.session_rules.specs.Transcript.{turn, course_by, transcript_by}
 use Rattle.session_rules.proofs.Setting.{options, told, gone}
 
 pub a_chunk_of_a_class : told options (codes "begin" ∷ codes "context w TopMemoryContext default" ∷ codes "switch w" ∷ codes "alloc a 100" ∷ codes "report" ∷ codes "free a" ∷ codes "report" ∷ codes "rollback" ∷ [])

@@ -1,21 +1,9 @@
 -- Portals, computed from the definitions.
-use Rattle.std.proofs.Common.{◌≡◌, [], ◌∷◌, refl}
-use Rattle.std.specs.Prelude.{codes, ◌++◌}
-use Rattle.std.specs.Fmt.{digits}
-use Rattle.pgs_step.specs.Text.{text_of, what_text, kind_name, error_text}
-use Rattle.pgs_command.specs.Lines.{read_line}
-use Rattle.pgs_command.specs.Table.{chunk_rows, command_of, context_rows, item_rows, lock_rows, plan_rows, portal_rows, snapshot_rows, tell_rows, transaction_rows}
-use Rattle.pgs_command.specs.Words.{words_of}
-use Rattle.pgs_command.specs.Values.{number_between, name_of, mode_of}
-use Rattle.owner_kinds.specs.KindTable.{row_of}
-use Rattle.lock_shared.specs.ModeTable.{conflicts}
-use Rattle.chunk_header.specs.Growth.{up8, grown, doubled}
+use Rattle.session_rules.proofs.Base.{◌≡◌, [], ◌∷◌, refl, codes, ◌++◌, digits}
+use Rattle.session_rules.proofs.Below.{row_of, conflicts, up8, grown, doubled}
+use Rattle.session_rules.proofs.Rules.{opening, elements_of, does, does_all, recovered, exited, turn, course_by, transcript_by}
+use Rattle.session_rules.proofs.Scripts.{text_of, what_text, kind_name, error_text, read_line, chunk_rows, command_of, context_rows, item_rows, lock_rows, plan_rows, portal_rows, snapshot_rows, tell_rows, transaction_rows, words_of, number_between, name_of, mode_of}
 use Rattle.any_ctx.specs.SetLedger as set
-use Rattle.session_rules.specs.State.{opening}
-use Rattle.session_rules.specs.Commands.{elements_of}
-use Rattle.session_rules.specs.Does.{does, does_all}
-use Rattle.session_rules.specs.Ends.{recovered, exited}
-use Rattle.session_rules.specs.Transcript.{turn, course_by, transcript_by}
 use Rattle.session_rules.proofs.Setting.{options, told, gone}
 
 pub a_bad_row : told options (codes "begin" ∷ codes "lock 9 AccessShareLock" ∷ codes "portal p 40 30 3" ∷ codes "savepoint s" ∷ codes "fetch p 5" ∷ codes "rollback to s" ∷ codes "rollback" ∷ [])

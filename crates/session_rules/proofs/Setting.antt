@@ -1,9 +1,7 @@
 -- How the scripts of these files are run.
-use Rattle.std.specs.Prelude.{ℕ, List, [], ◌∷◌, map, codes, Option, None}
-use Rattle.pgs_step.specs.declared.ids.Phase.TheVariants.{BeforeLocks, AfterLocks}
-use Rattle.owner_kinds.specs.Kind.{Kind}
-use Rattle.reset_callbacks.specs.ShelfState.{ShelfState}
-use Rattle.session_rules.specs.World.{Options}
+use Rattle.session_rules.proofs.Base.{ℕ, List, [], ◌∷◌, map, codes, Option, None}
+use Rattle.session_rules.proofs.Below.{BeforeLocks, AfterLocks, Kind, ShelfState}
+use Rattle.session_rules.proofs.Rules.{Options}
 use Rattle.session_rules.specs.Transcript.{transcript, text_of_transcript}
 
 -- one session, with as much space and as many descriptors as a run has by default

@@ -1,11 +1,7 @@
 -- What the stack of active snapshots keeps: its levels never fall, and each of them is a level.
-use Rattle.std.proofs.Common.{◌≡◌, ℕ, ◌+◌, ◌≤◌, ◌<◌, Bool, true, false, List, [], ◌∷◌, ◌++◌, refl, ◌∙◌, inl, inr, arith}
-use Rattle.std.specs.Prelude.{zero, suc, ◌-◌, ◌==◌, ◌||◌, nat_lt, if◌then◌else◌, length, map, take}
-use Rattle.std.proofs.lemmas.Bool.{cases_Bool, ltb-true, eqb-true, eqb-false}
-use Rattle.snap_table.specs.declared.active.Active.{Active}
-use Rattle.snap_table.specs.Snapshots.{kept_below, lowered}
-use Rattle.session_rules.specs.State.{LevelState}
-use Rattle.session_rules.specs.Standing.{AreOuter, AreStacked, IsActive, active_depth}
+use Rattle.session_rules.proofs.Base.{◌≡◌, ℕ, ◌+◌, ◌≤◌, ◌<◌, Bool, true, false, List, [], ◌∷◌, ◌++◌, refl, ◌∙◌, inl, inr, arith, zero, suc, ◌-◌, ◌==◌, ◌||◌, nat_lt, if◌then◌else◌, length, map, take, cases_Bool, ltb-true, eqb-true, eqb-false}
+use Rattle.session_rules.proofs.Below.{Active, kept_below, lowered}
+use Rattle.session_rules.proofs.Rules.{LevelState, AreOuter, AreStacked, IsActive, active_depth}
 
 -- the levels are also from a lower one, and to a higher one
 pub stacked_within : (low high least most : ℕ) (entries : List Active) → low ≤ least → most ≤ high → AreStacked least most entries → AreStacked low high entries

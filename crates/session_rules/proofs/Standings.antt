@@ -1,15 +1,8 @@
 -- What callers take from a session that stands.
-use Rattle.std.proofs.Common.{◌≡◌, ℕ, ◌≤◌, true, false, List, [], ◌∷◌, All, sym, ap, ◌∙◌, subst, inl, inr, arith}
-use Rattle.std.proofs.lemmas.Bool.{cases_eq, both_ways, false_from_ne_true}
-use Rattle.std.proofs.lemmas.List.Elements.{All-nil, All-cons, All-head, All-tail}
-use Rattle.forest.specs.Forest.{Empty, Node, has, AllNodes}
-use Rattle.pgs_step.specs.declared.ids.Item.{Item}
+use Rattle.session_rules.proofs.Base.{◌≡◌, ℕ, ◌≤◌, true, false, List, [], ◌∷◌, All, sym, ap, ◌∙◌, subst, inl, inr, arith, cases_eq, both_ways, false_from_ne_true, All-nil, All-cons, All-head, All-tail}
+use Rattle.session_rules.proofs.Below.{Empty, Node, has, AllNodes, Item, table_of, OwnerTree, has_begun}
+use Rattle.session_rules.proofs.Rules.{LevelState, SessionState, abort_context, top_context, Around, Scene, AreHooks, AreOwners, HasItems, IsItem, Stands, StandsBetweenLines}
 use Rattle.owner_kinds.specs.KindTable.{IsKind, IsSound, KindTable}
-use Rattle.owner_kinds.specs.KindShelf.{table_of}
-use Rattle.owner_core.specs.Owners.{OwnerTree, has_begun}
-use Rattle.session_rules.specs.State.{LevelState, SessionState, abort_context, top_context}
-use Rattle.session_rules.specs.World.{Around, Scene}
-use Rattle.session_rules.specs.Standing.{AreHooks, AreOwners, HasItems, IsItem, Stands, StandsBetweenLines}
 use Rattle.session_rules.proofs.ContextsKept.{protected_has, top_protected}
 use Rattle.session_rules.proofs.EndsStand.{settled}
 

@@ -1,41 +1,22 @@
 -- The steps of commands lead from a session that stands to one that stands.
-use Rattle.std.proofs.Common.{◌≡◌, ◌≢◌, ℕ, ◌+◌, ◌-◌, ◌<◌, ◌≤◌, ◌⊎◌, ◌++◌, length, Bool, true, false, Option, Some, None, List, [], ◌∷◌, refl, sym, ap, ◌∙◌, subst, inl, inr, arith}
-use Rattle.std.specs.Prelude.{◌==◌, All, take, nat_le, if◌then◌else◌, Result, Ok, Err}
-use Rattle.std.specs.Option.{option_map_or}
+use Rattle.session_rules.proofs.Base.{◌≡◌, ◌≢◌, ℕ, ◌+◌, ◌-◌, ◌<◌, ◌≤◌, ◌⊎◌, ◌++◌, length, Bool, true, false, Option, Some, None, List, [], ◌∷◌, refl, sym, ap, ◌∙◌, subst, inl, inr, arith, ◌==◌, All, take, nat_le, if◌then◌else◌, Result, Ok, Err, option_map_or, All-nil, All-weaker}
+use Rattle.session_rules.proofs.Below.{Empty, has, Once, at, children, parent_of, put, changed, size, AllNodes, has_at, times_some, has_changed, Error, Active, ShelfState, taken, KindTable, IsSoundTable, table_of, once_of, fresh, sound_created}
+use Rattle.session_rules.proofs.Rules.{LevelState, OpenPortal, StandingPlan, deepest_changed, first_of, last_of, owner_of, plan_reference, top_context, Scene, Moment, Check, InCurrent, LevelContext, OfLevel, Text, memory_in, aborted, cleaned_up, committed, subcommitted, does, Ended, changes, in_order, nothing, say, switched, where_there, chunk_resized, memory_taken, snapshot_pushed, level_stands, fallible, is_call, refused_call, unless_refused}
 use Rattle.std.proofs.lemmas.Bool.{cases_eq, cases_Bool, cases_lt, eq-eqb, ne_eqb, both_ways, le-ltb, leb-false}
-use Rattle.std.proofs.lemmas.List.Elements.{All-nil, All-weaker}
-use Rattle.forest.specs.Forest.{Empty, has, Once, at, children, parent_of, put, changed, size, AllNodes}
-use Rattle.forest.proofs.Trees.{has_at, times_some, has_changed}
 use Rattle.forest.proofs.Neighbours.{parent_absent}
-use Rattle.pgs_step.specs.declared.errors.Error.{Error}
 use Rattle.pgs_step.specs.declared.events.What.TheVariants as what
-use Rattle.snap_table.specs.declared.active.Active.{Active}
 use Rattle.chunk_header.specs.declared.CtxError.{CtxError}
 use Rattle.chunk_header.specs.Answers.{Taken, Resized}
-use Rattle.reset_callbacks.specs.ShelfState.{ShelfState, taken}
 use Rattle.any_ctx.specs.Ledgers.{Ledger, Place, give}
 use Rattle.any_ctx.specs.declared.any.CtxKind.TheVariants as kind
 use Rattle.context_rules.specs.Contexts as rules
 use Rattle.context_rules.specs.Contexts.{Chunk, Context, Contexts, Found, created, found, is_protected, new_context}
 use Rattle.context_rules.specs.Chunks.{allocated, freed, freed_in, from_ok, refitted, resized, resized_in, served, with_changed, with_chunk, with_size, without, written, written_over, zeros}
-use Rattle.owner_kinds.specs.KindTable.{KindTable, IsSound as IsSoundTable}
-use Rattle.owner_kinds.specs.KindShelf.{table_of}
 use Rattle.owner_core.specs.Owners.{Owner, OwnerTree, has_begun, items_of}
 use Rattle.owner_core.specs.Owners as owners
 use Rattle.owner_core.specs.Sound.{IsSound, one_below}
-use Rattle.owner_core.proofs.Sounds.{once_of, fresh, sound_created}
-use Rattle.session_rules.specs.State.{LevelState, OpenPortal, StandingPlan, deepest_changed, first_of, last_of, owner_of, plan_reference, top_context}
-use Rattle.session_rules.specs.World.{Scene, Moment}
 use Rattle.session_rules.specs.Elements as element
-use Rattle.session_rules.specs.Elements.{Check, InCurrent, LevelContext, OfLevel, Text}
-use Rattle.session_rules.specs.Lookup.{memory_in}
-use Rattle.session_rules.specs.Ends.{aborted, cleaned_up, committed, subcommitted}
-use Rattle.session_rules.specs.Does.{does}
-use Rattle.session_rules.specs.Acts.{Ended, changes, in_order, nothing, say, switched, where_there}
 use Rattle.session_rules.specs.Making.{held, left, level_context_name, level_made, level_parent, limit, new_context_made, new_owner_made}
-use Rattle.session_rules.specs.Taking.{chunk_resized, memory_taken, snapshot_pushed}
-use Rattle.session_rules.specs.Parts.{level_stands}
-use Rattle.session_rules.specs.Calls.{fallible, is_call, refused_call, unless_refused}
 use Rattle.session_rules.specs.Standing.{AreContexts, AreHooks, AreLevels, AreOuter, AreOwners, ArePlans, ArePortals, AreStacked, FitLevels, HasItems, IsActive, IsAtRest, IsContextOf, IsDead, IsDeepest, IsFresh, IsItem, IsLive, IsMade, IsOpen, IsOwner, IsOwnerOf, IsPlace, IsPlan, IsPortal, IsReleased, IsRow, IsWorking, Stands, WasReleased, active_depth, owner_at, referred}
 use Rattle.session_rules.proofs.Forests.{at_put, at_put_other, children_put, has_put_other, parent_put, parent_put_other}
 use Rattle.session_rules.proofs.Guarded.{all_put}

@@ -1,11 +1,7 @@
 -- Sums over all nodes of a forest, where nodes go, come and change.
-use Rattle.std.proofs.Common.{◌≡◌, ℕ, ◌+◌, true, false, Option, Some, None, refl, sym, ◌∙◌, inl, inr, arith}
-use Rattle.std.specs.Prelude.{◌==◌}
-use Rattle.std.specs.Option.{option_map_or}
-use Rattle.std.proofs.lemmas.Bool.{cases_Bool, eqb-true}
-use Rattle.forest.specs.Forest.{Forest, Empty, Node, either, has, Once, at, children, subtree, put, removed, changed, with_children}
+use Rattle.session_rules.proofs.Base.{◌≡◌, ℕ, ◌+◌, true, false, Option, Some, None, refl, sym, ◌∙◌, inl, inr, arith, ◌==◌, option_map_or, cases_Bool, eqb-true}
+use Rattle.session_rules.proofs.Below.{Forest, Empty, Node, either, has, Once, at, children, subtree, put, removed, changed, with_children, sum_of}
 use Rattle.forest.proofs.Trees.{Apart, apart_of, Here, Below, Beside, where_is, at_absent, at_some, has_at, put_absent, removed_absent, changed_absent}
-use Rattle.forest.proofs.Moved.{sum_of}
 use Rattle.session_rules.proofs.Forests.{emptied_absent}
 
 module _ {A : Type 0} (g : A → ℕ) where

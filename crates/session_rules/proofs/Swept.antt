@@ -1,11 +1,6 @@
 -- A node of a forest, and all below it, with other data.
-use Rattle.std.proofs.Common.{◌≡◌, ◌≢◌, ℕ, Bool, true, false, Option, Some, None, refl, sym, ◌∙◌, inl, inr}
-use Rattle.std.specs.Prelude.{◌==◌, ◌||◌}
-use Rattle.std.specs.Option.{option_map, option_map_or}
-use Rattle.std.proofs.lemmas.Bool.{cases_Bool, ne_eqb, eqb-true}
-use Rattle.forest.specs.Forest.{Forest, Empty, Node, either, has, Once, at, children, is_root, parent_of, removed, subtree, AllNodes}
-use Rattle.forest.specs.Walk.{all_changed, swept}
-use Rattle.forest.proofs.Trees.{Apart, apart_of, at_absent}
+use Rattle.session_rules.proofs.Base.{◌≡◌, ◌≢◌, ℕ, Bool, true, false, Option, Some, None, refl, sym, ◌∙◌, inl, inr, ◌==◌, ◌||◌, option_map, option_map_or, cases_Bool, ne_eqb, eqb-true}
+use Rattle.session_rules.proofs.Below.{Forest, Empty, Node, either, has, Once, at, children, is_root, parent_of, removed, subtree, AllNodes, all_changed, swept, Apart, apart_of, at_absent}
 use Rattle.session_rules.proofs.Guarded.{all_children, all_at}
 
 module _ {A : Type 0} (f : A → A) where

@@ -1,14 +1,10 @@
 -- Commands lead from a session between two lines to one between two lines.
-use Rattle.std.proofs.Common.{◌≡◌, ℕ, ◌+◌, ◌≤◌, ◌<◌, Bool, true, false, Option, Some, None, List, [], ◌∷◌, ◌++◌, refl, sym, ap, ◌∙◌, subst, inl, arith}
-use Rattle.std.specs.Prelude.{All, zero, suc, ◌-◌, ◌&&◌, ◌==◌, not, length, map, codes, is_none, is_some, replicate, nat_lt, if◌then◌else◌}
-use Rattle.std.specs.Option.{option_and_then, option_map_or}
-use Rattle.std.proofs.lemmas.Bool.{le-ltb, ltb-true}
-use Rattle.std.proofs.lemmas.List.Elements.{All-cons}
-use Rattle.pgs_step.specs.declared.errors.Error.{Error}
+use Rattle.session_rules.proofs.Base.{◌≡◌, ℕ, ◌+◌, ◌≤◌, ◌<◌, Bool, true, false, Option, Some, None, List, [], ◌∷◌, ◌++◌, refl, sym, ap, ◌∙◌, subst, inl, arith, All, zero, suc, ◌-◌, ◌&&◌, ◌==◌, not, length, map, codes, is_none, is_some, replicate, nat_lt, if◌then◌else◌, option_and_then, option_map_or, le-ltb, ltb-true, All-cons, flat_map}
+use Rattle.session_rules.proofs.Below.{Error, What, size, Scan, ScanStep, table_of}
+use Rattle.session_rules.proofs.Rules.{LevelState, OpenPortal, SessionState, buffer_pin, file_kind, first_of, is_aborted, level_owner, owner_of, plan_reference, relcache_reference, snapshot_reference, Scene, Moment, Check, Element, InCurrent, InPortal, InRow, LevelContext, OfLevel, OfPortal, PortalContext, RowContext, Text, Ended, in_order, nothing, portal_becomes, where_there, level_stands, failure, unless, Done, fallible, refused_call, unless_refused, context_made, level_made, new_context_made, new_owner_made, portal_made, does, does_all, then_done, line_elements, turn, turn_of, AreOpen, AreOuter, FitLevels, IsActive, IsAtRest, IsFetched, IsOpen, IsWorking, Stands, StandsBetweenLines}
+use Rattle.session_rules.proofs.Scripts.{Command, is_text-same}
 use Rattle.pgs_step.specs.declared.errors.Error.TheVariants as error
-use Rattle.pgs_step.specs.declared.events.What.{What}
 use Rattle.pgs_step.specs.declared.events.What.TheVariants as what
-use Rattle.pgs_command.specs.declared.commands.Command.{Command}
 use Rattle.pgs_command.specs.declared.commands.Command.TheVariants as command
 use Rattle.pgs_command.specs.declared.commands.TransactionCommand.{TransactionCommand}
 use Rattle.pgs_command.specs.declared.commands.TransactionCommand.TheVariants as transaction
@@ -31,42 +27,25 @@ use Rattle.pgs_command.specs.declared.commands.PortalCommand.TheVariants as port
 use Rattle.pgs_command.specs.declared.commands.TellCommand.{TellCommand}
 use Rattle.pgs_command.specs.declared.commands.TellCommand.TheVariants as tell
 use Rattle.pgs_command.specs.Kinds.{class_kind}
-use Rattle.session_rules.specs.State.{LevelState, OpenPortal, SessionState, buffer_pin, file_kind, first_of, is_aborted, level_owner, owner_of, plan_reference, relcache_reference, snapshot_reference}
-use Rattle.session_rules.specs.World.{Scene, Moment}
 use Rattle.session_rules.specs.Elements as element
-use Rattle.session_rules.specs.Elements.{Check, Element, InCurrent, InPortal, InRow, LevelContext, OfLevel, OfPortal, PortalContext, RowContext, Text}
-use Rattle.session_rules.specs.Acts.{Ended, in_order, nothing, portal_becomes, where_there}
-use Rattle.forest.specs.Forest.{size}
 use Rattle.session_rules.specs.Lookup.{is_named, plan_at, portal_named}
-use Rattle.session_rules.specs.Parts.{level_stands}
-use Rattle.session_rules.specs.Checks.{failure, unless}
-use Rattle.session_rules.specs.Calls.{Done, fallible, refused_call, unless_refused}
-use Rattle.session_rules.specs.Making.{context_made, level_made, new_context_made, new_owner_made, portal_made}
-use Rattle.session_rules.specs.Does.{does, does_all, then_done}
 use Rattle.session_rules.specs.Commands.{at_savepoint, begin, commit, committed_to, elements_of, ends_aborted, in_transaction, is_end, refused, rollback, rolled_back_to, save, savepoint, start, then_ok, transaction_of, unaborted}
 use Rattle.session_rules.specs.Works.{Row, after_turn, portal_steps, chunk_row, context_row, fallible_part, fetch_steps, item_row, lock_row, plan_row, portal_row, row_of, snapshot_row, tell_row, turn_steps, work_of}
-use Rattle.exec_core.specs.declared.scan.Scan.{Scan}
-use Rattle.exec_core.specs.declared.steps.ScanStep.{ScanStep}
 use Rattle.exec_core.specs.declared.steps.ScanStep.TheVariants as step
 use Rattle.exec_core.specs.Turn.{is_bad, is_tenth, new_scan, page_of, page_steps, row_step, row_steps, unpinned}
 use Rattle.exec_core.specs.Turn.{turn as scan_turn}
 use Rattle.portal_store.specs.declared.portal.PortalState.TheVariants as state
 use Rattle.pgs_step.specs.declared.lock_modes.Mode.TheVariants.{AccessShareLock}
 use Rattle.pgs_command.specs.declared.kinds.ReferenceClass.TheVariants.{Relcache}
-use Rattle.pgs_command.proofs.ValueLemmas.{is_text-same}
 use Rattle.any_ctx.specs.declared.any.CtxKind.TheVariants as kind
-use Rattle.std.specs.List.{flat_map}
 use Rattle.session_rules.proofs.LevelsKept.{is_there}
 use Rattle.session_rules.proofs.PortalsStand.{context_portal, made_portal, named_changed, named_in, owner_portal, row_portal}
 use Rattle.session_rules.proofs.PortalWorks.{Beside, Turned, Turns, begins_fetched, begins_works, beside_turns, check_beside, portal_allocates, portal_enlarges, portal_locks, portal_takes, ready_works, row_allocates, scan_turns, turned}
 use Rattle.session_rules.proofs.PortalEnds.{end_portal_works}
 use Rattle.session_rules.proofs.Resting.{RestsBeside, beside_becomes, beside_rests, rests_beside}
 use Rattle.session_rules.proofs.Leaves.{IsRun}
-use Rattle.session_rules.specs.Transcript.{line_elements, turn, turn_of}
-use Rattle.session_rules.specs.Standing.{AreOpen, AreOuter, FitLevels, IsActive, IsAtRest, IsFetched, IsOpen, IsWorking, Stands, StandsBetweenLines}
 use Rattle.session_rules.proofs.EndsStand.{Leaves, outer_open, recovered_stands}
 use Rattle.session_rules.proofs.StepsStand.{Works, abort_stands, alloc_works, below_limit, cleanup_stands, commit_stands, enlarge_works, free_works, level_context_stands, level_made_stands, level_owner_stands, level_stands_stands, merge_stands, nothing_works, own_refusal, pop_works, push_works, put_works, realloc_works, settled_as}
-use Rattle.owner_kinds.specs.KindShelf.{table_of}
 use Rattle.session_rules.proofs.ItemsStand.{class_item, class_other, class_unkept, file_works, give_back_named_works, give_back_works, lock_works, pin_works, snapshot_item, take_named_works, take_plan_works, take_works, touch_works, unlock_works}
 use Rattle.session_rules.proofs.PlansStand.{drop_plan_works, is_new, is_standing, make_plan_works}
 use Rattle.session_rules.proofs.NamesStand.{delete_children_works, delete_works, make_script_context_works, register_works, reparent_works, reset_only_works, reset_works, switch_works}
