@@ -1,8 +1,7 @@
 -- Each line counts hooks: each has run as often more as callbacks of its word are said, and as many leave the fresh ones as are said to be registered.
 use Rattle.session_rules.proofs.Base.{◌≡◌, ℕ, Bool, true, false, not, Option, Some, None, List, [], ◌∷◌, refl}
-use Rattle.session_rules.proofs.Below.{Error, What, CtxKind, changed, Context, new_context}
+use Rattle.session_rules.proofs.Below.{Error, What, CtxKind, changed, Context, new_context, Command}
 use Rattle.session_rules.proofs.Rules.{is_aborted, Moment, Scene, Element, Text, in_order, where_so, context_made, Done, does_all, exited, given_up, recovered, line_elements, turn, turn_of, Stands, StandsBetweenLines, CountsHooks}
-use Rattle.session_rules.proofs.Scripts.{Command}
 use Rattle.pgs_step.specs.declared.events.What.TheVariants as what
 use Rattle.session_rules.specs.Elements as e
 use Rattle.session_rules.proofs.HookSums.{Runs, is_of_hooks, more_runs, none_run}

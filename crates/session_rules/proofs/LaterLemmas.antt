@@ -1,8 +1,7 @@
 -- A call that is refused for want of memory changes nothing of what was done before it.
 use Rattle.session_rules.proofs.Base.{◌≡◌, ℕ, ◌+◌, ◌≤◌, false, List, [], ◌∷◌, ◌++◌, Option, Some, None, refl, ◌∙◌, ap, subst, arith, nat_tests}
-use Rattle.session_rules.proofs.Below.{Error}
+use Rattle.session_rules.proofs.Below.{Error, Command}
 use Rattle.session_rules.proofs.Rules.{Scene, Moment, Element, Text, Ended, failure, does, does_all, failing_turn, then_done, turn, turn_of, line_elements}
-use Rattle.session_rules.proofs.Scripts.{Command}
 use Rattle.session_rules.specs.Elements as e
 use Rattle.session_rules.specs.Calls.{Done, IsLater, is_call, fallible, unless_refused, refused_call}
 

@@ -1,7 +1,6 @@
 pub mod Base
 pub mod Below
 pub mod Rules
-pub mod Scripts
 pub mod LaterLemmas
 pub mod Setting
 pub mod RowsOfLevels

@@ -1,7 +1,7 @@
 -- What lists of portals keep where one of them changes or goes.
 use Rattle.session_rules.proofs.Base.{◌≡◌, ◌≢◌, ◌⊎◌, ℕ, false, Some, List, [], ◌∷◌, ◌++◌, refl, sym, ap, ◌∙◌, inl, inr, All, false_from_ne_true, All-nil, All-cons, All-head, All-tail, All-weaker}
 use Rattle.session_rules.proofs.Rules.{OpenPortal, portal_changed, portals_but, AreDifferent, AreOther, IsOfPortal}
-use Rattle.session_rules.proofs.Scripts.{is_text, is_text-means, is_text-same}
+use Rattle.session_rules.proofs.Below.{is_text, is_text-means, is_text-same}
 
 -- what holds of each portal of such a list
 module _ (P : OpenPortal → Type 0) where

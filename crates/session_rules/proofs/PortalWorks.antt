@@ -1,8 +1,7 @@
 -- The elements of portals lead from a session that stands to one that stands, with its levels as they were.
 use Rattle.session_rules.proofs.Base.{◌≡◌, ◌≢◌, ℕ, ◌-◌, Bool, true, false, Option, Some, None, List, [], ◌∷◌, length, refl, sym, ap, ◌∙◌, subst, inl, inr, ◌==◌, ◌&&◌, option_and_then, cases_Bool}
-use Rattle.session_rules.proofs.Below.{has, Error, Item, KindId, Mode, ScanStep, table_of, is_among, without, forgotten}
+use Rattle.session_rules.proofs.Below.{has, Error, Item, KindId, Mode, ScanStep, table_of, is_among, without, forgotten, is_text}
 use Rattle.session_rules.proofs.Rules.{OpenPortal, StandingPlan, buffer_pin, Scene, Moment, Check, Element, InPortal, InRow, OfPortal, Text, newest, plan_at, portal_changed, portal_named, Ended, changes, context_cleared_alone, in_order, nothing, portal_becomes, say, where_so, where_there, failure, Done, unless_refused, Keeper, NoOne, TheDescriptors, TheKind, ThePlans, given_back, item_released, keeper_of, left_to, plan_becomes, plan_settled, plan_stays, left, item_taken, lock_taken, memory_taken, remembers, taken_by, at_owner, scan_part, scanned, does, failing_turn, IsAtRest, IsFetched, IsItem, IsWorking, Stands}
-use Rattle.session_rules.proofs.Scripts.{is_text}
 use Rattle.pgs_step.specs.declared.events.What.TheVariants as what
 use Rattle.portal_store.specs.declared.portal.PortalState.TheVariants as portal
 use Rattle.exec_core.specs.declared.steps.ScanStep.TheVariants as step

@@ -1,8 +1,7 @@
 -- The steps of a portal lead from a session that stands to one that stands.
 use Rattle.session_rules.proofs.Base.{◌≡◌, ◌≢◌, ◌⊎◌, ℕ, ◌+◌, ◌≤◌, ◌<◌, true, false, Option, Some, None, List, [], ◌∷◌, ◌++◌, length, refl, sym, ap, ◌∙◌, subst, inl, inr, arith, ◌==◌, ◌||◌, All, codes, option_map_or, option_and_then, cases_eq, cases_Bool, both_ways, eq-eqb, or_parts, All-nil, All-cons, All-head, All-tail, All-append, All-weaker}
-use Rattle.session_rules.proofs.Below.{Forest, Empty, Node, Once, at, has, children, parent_of, put, size, Apart, apart_of, Contexts, created, is_protected, new_context, table_of, Owner, OwnerTree, has_begun, once_of, fresh, sound_created, new_scan, Scan}
+use Rattle.session_rules.proofs.Below.{Forest, Empty, Node, Once, at, has, children, parent_of, put, size, Apart, apart_of, Contexts, created, is_protected, new_context, table_of, Owner, OwnerTree, has_begun, once_of, fresh, sound_created, new_scan, Scan, is_text, is_text-means, is_text-same}
 use Rattle.session_rules.proofs.Rules.{LevelState, OpenPortal, cache_context, first_of, level_owner, plan_reference, portals_context, Scene, OfPortal, PortalContext, Text, portal_changed, portal_named, in_order, portal_becomes, context_made, new_context_made, new_owner_made, owner_made, portal_made}
-use Rattle.session_rules.proofs.Scripts.{is_text, is_text-means, is_text-same}
 use Rattle.portal_store.specs.declared.portal.PortalState.TheVariants as portal
 use Rattle.any_ctx.specs.declared.any.CtxKind.TheVariants as kind
 use Rattle.owner_core.specs.Owners as owners

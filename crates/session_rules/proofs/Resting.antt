@@ -1,8 +1,7 @@
 -- Portals at rest, and what keeps them so.
 use Rattle.session_rules.proofs.Base.{◌≡◌, ◌⊎◌, ℕ, Bool, true, false, List, [], ◌∷◌, refl, sym, ap, ◌∙◌, inl, inr, arith, All, if◌then◌else◌, both_ways, cases_Bool, All-nil, All-cons, All-head, All-tail, All-weaker}
-use Rattle.session_rules.proofs.Below.{Contexts, OwnerTree}
+use Rattle.session_rules.proofs.Below.{Contexts, OwnerTree, is_text}
 use Rattle.session_rules.proofs.Rules.{LevelState, OpenPortal, Text, portal_changed, portals_but, IsAtRest, IsDead, IsLive, IsPortal}
-use Rattle.session_rules.proofs.Scripts.{is_text}
 use Rattle.session_rules.proofs.Stacked.{depth_still}
 
 -- no line is at work on a portal where the deepest level is aborted

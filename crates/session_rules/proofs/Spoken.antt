@@ -1,8 +1,7 @@
 -- The elements of commands say no more than words by themselves, and those of usual commands register no hook and move no context.
 use Rattle.session_rules.proofs.Base.{◌≡◌, ℕ, zero, suc, ◌+◌, ◌-◌, Bool, true, false, not, if◌then◌else◌, List, [], ◌∷◌, ◌++◌, map, length, replicate, flat_map, Option, Some, None, refl, false_from_ne_true, nat_lt, ◌&&◌, ◌==◌, option_map_or}
-use Rattle.session_rules.proofs.Below.{Scan, ScanStep}
+use Rattle.session_rules.proofs.Below.{Scan, ScanStep, Command}
 use Rattle.session_rules.proofs.Rules.{LevelState, OpenPortal, SessionState, is_aborted, Check, Element, Text, portal_named, line_elements}
-use Rattle.session_rules.proofs.Scripts.{Command}
 use Rattle.pgs_step.specs.declared.errors.Error.TheVariants as error
 use Rattle.pgs_step.specs.declared.events.What.TheVariants as what
 use Rattle.pgs_command.specs.declared.commands.Command.TheVariants as command
