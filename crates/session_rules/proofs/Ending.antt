@@ -134,12 +134,10 @@ module _ (level : LevelState) (levels done : List LevelState) where
           let fits : Fits s.session.next_context s.session.current (referred x) (besides_of t) = record { contexts = h.contexts; hooks = h.hooks; plans = h.plans } in
           let g : Settles (referred y) t (given_back item t).scene = item_settles item t (referred x) (referred y) one fits in
           let u : Contexts = g.besides.contexts in
-          let still : (ls : List LevelState) (p : OpenPortal) → IsPortal p ls s.session.contexts x s.session.current → IsPortal p ls u y s.session.current = λ ls p i. record {
-            place = λ m q. place_spared (besides_of s) g.besides s.session.current g.spares h.plans.each m p.expr s.session.current (i.place m q);
-            made = i.made;
-            owner = λ m q. attached_by m p.created ls ls x y (λ w. has_changed m o f x ∙ w) (parent_changed m o f x) (lone_changed m o f x) refl (λ j. j) (i.owner m q);
-            stage = i.stage;
-          } in
+          let still : (ls : List LevelState) (p : OpenPortal) → IsPortal p ls s.session.contexts x s.session.current → IsPortal p ls u y s.session.current = λ ls p i. search (
+            λ (m : ℕ) (q : _). place_spared (besides_of s) g.besides s.session.current g.spares h.plans.each m p.expr s.session.current (i.place m q),
+            λ (m : ℕ) (q : _). attached_by m p.created ls ls x y (λ w. has_changed m o f x ∙ w) (parent_changed m o f x) (lone_changed m o f x) refl (λ j. j) (i.owner m q),
+          ) in
           let kinds : KindTable = table_of s.around.kinds in
           let owners : AreEnding kinds y s.session.next_owner s.session.next_serial level levels (front ++ back) =
           ending_changed kinds level levels (front ++ back) x s.session.next_owner s.session.next_serial o f (λ z. refl) (λ z k. All-without (IsItem kinds) (is_of kind key) z.items k)
@@ -148,21 +146,15 @@ module _ (level : LevelState) (levels done : List LevelState) where
             parts = record { locks = g.besides.locks; recent = g.besides.recent; kinds = g.besides.kinds; plans = g.besides.plans; contexts = u; shelf = g.besides.shelf; owners = y; portals = s.session.portals };
             same = g.same;
             is = g.is;
-            ending = record {
-              contexts = g.fits.contexts;
-              hooks = g.fits.hooks;
-              all = levels_stay (level ∷ levels) s.session.contexts u x y
+            ending = search (
+              levels_stay (level ∷ levels) s.session.contexts u x y
                   (λ m i prot. g.spares.same m (levels_apart (level ∷ levels) s.session.contexts x s.session.plans s.session.current h.all h.plans.each m i) prot)
-                  (λ m i w. record { there = has_changed m o f x ∙ w; parent = parent_changed m o f x }) h.all;
-              outer = h.outer;
-              kinds = subst (λ (k : KindTable). IsSoundTable k) (sym g.same) h.kinds;
-              owners = subst (λ (k : KindTable). AreEnding k y s.session.next_owner s.session.next_serial level levels (front ++ back)) (sym g.same) owners;
-              plans = g.fits.plans;
-              ended = All-weaker (IsDone level done s.session.contexts x s.session.current) (IsDone level done u y s.session.current) (λ p d. record { portal = still done p d.portal; away = d.away }) front h.ended;
-              rest = All-weaker (λ p. IsPortal p (level ∷ levels) s.session.contexts x s.session.current) (λ p. IsPortal p (level ∷ levels) u y s.session.current) (still (level ∷ levels)) back h.rest;
-              different = h.different;
-              are = h.are;
-            };
+                  (λ m i w. record { there = has_changed m o f x ∙ w; parent = parent_changed m o f x }) h.all,
+              subst (λ (k : KindTable). IsSoundTable k) (sym g.same) h.kinds,
+              subst (λ (k : KindTable). AreEnding k y s.session.next_owner s.session.next_serial level levels (front ++ back)) (sym g.same) owners,
+              All-weaker (IsDone level done s.session.contexts x s.session.current) (IsDone level done u y s.session.current) (λ p d. record { portal = still done p d.portal; away = d.away }) front h.ended,
+              All-weaker (λ p. IsPortal p (level ∷ levels) s.session.contexts x s.session.current) (λ p. IsPortal p (level ∷ levels) u y s.session.current) (still (level ∷ levels)) back h.rest,
+            );
           }
 
 -- what stays where a context of a portal goes, or all below it
@@ -256,19 +248,7 @@ module _ (level : LevelState) (levels done : List LevelState) where
         parts = record (parts_of s) { portals = portals_but p.name s.session.portals };
         same = refl;
         is = refl;
-        ending = record {
-          contexts = h.contexts;
-          hooks = h.hooks;
-          all = h.all;
-          outer = h.outer;
-          kinds = h.kinds;
-          owners = owners;
-          plans = h.plans;
-          ended = h.ended;
-          rest = All-tail (λ q. IsPortal q (level ∷ levels) s.session.contexts s.session.owners s.session.current) p back h.rest;
-          different = different_without p front back h.different;
-          are = left;
-        };
+        ending = search (owners, left, All-tail (λ q. IsPortal q (level ∷ levels) s.session.contexts s.session.owners s.session.current) p back h.rest, different_without p front back h.different);
       }
       go (Some c) e =
           let t : Contexts = s.session.contexts in
@@ -278,30 +258,24 @@ module _ (level : LevelState) (levels done : List LevelState) where
           let place : IsPlace c p.expr t cur = first.place c e in
           let u : Contexts = removed c t in
           let b : Beside c t u cur = beside_removed t next h.contexts c p.expr cur place in
-          let still : (ls : List LevelState) (q : OpenPortal) → ((n : ℕ) → q.context ≡ Some n → n ≢ c) → IsPortal q ls t x cur → IsPortal q ls u x cur = λ ls q ne i. record {
-            place = λ n f. places_beside t next h.contexts c p.expr cur place u b n q.expr (ne n f) (i.place n f);
-            made = i.made;
-            owner = i.owner;
-            stage = i.stage;
-          } in
+          let still : (ls : List LevelState) (q : OpenPortal) → ((n : ℕ) → q.context ≡ Some n → n ≢ c) → IsPortal q ls t x cur → IsPortal q ls u x cur = λ ls q ne i.
+          search (λ (n : ℕ) (f : _). places_beside t next h.contexts c p.expr cur place u b n q.expr (ne n f) (i.place n f)) in
           let fronts = others_front p front back h.different in
           let backs = others_back p front back h.different in
           let tail = All-tail (λ q. IsPortal q (level ∷ levels) t x cur) p back h.rest in
+          let ended : All (IsDone level done u x cur) front = λ k q below. let o = fronts k q below in let d = h.ended k q below in record { portal = still done _ (λ n f z. o.context n (e ∙ ap Some (sym z)) f) d.portal; away = d.away } in
+          let rest : All (λ q. IsPortal q (level ∷ levels) u x cur) back = λ k q below. let o = backs k q below in still (level ∷ levels) _ (λ n f z. o.context n f (e ∙ ap Some (sym z))) (tail k q below) in
           record {
             parts = record (parts_of s) { contexts = u; shelf = handed_in (gone c t).hooks s.around.shelf; portals = portals_but p.name s.session.portals };
             same = refl;
             is = refl;
-            ending = record {
-              contexts = contexts_level_gone t next h.contexts c place.own;
-              hooks = hooks_ended t (gone c t) s.around.shelf (conserves_gone c t h.contexts.once) h.hooks;
-              all = levels_beside t next h.contexts c p.expr cur place level levels u x b h.all;
-              outer = h.outer;
-              kinds = h.kinds;
-              owners = owners;
-              plans = plans_beside t next h.contexts c p.expr cur place s.session.plans u (referred x) b h.plans;
-              ended = λ k q below. let o = fronts k q below in let d = h.ended k q below in record { portal = still done _ (λ n f z. o.context n (e ∙ ap Some (sym z)) f) d.portal; away = d.away };
-              rest = λ k q below. let o = backs k q below in still (level ∷ levels) _ (λ n f z. o.context n f (e ∙ ap Some (sym z))) (tail k q below);
-              different = different_without p front back h.different;
-              are = left;
-            };
+            ending = search (
+              contexts_level_gone t next h.contexts c place.own,
+              hooks_ended t (gone c t) s.around.shelf (conserves_gone c t h.contexts.once) h.hooks,
+              levels_beside t next h.contexts c p.expr cur place level levels u x b h.all,
+              owners,
+              plans_beside t next h.contexts c p.expr cur place s.session.plans u (referred x) b h.plans,
+              different_without p front back h.different,
+              left,
+            );
           }

@@ -3,7 +3,7 @@ use Rattle.session_rules.proofs.Base.{◌≡◌, ◌≢◌, ℕ, ◌<◌, ◌≤
 use Rattle.session_rules.proofs.Below.{Forest, Empty, Node, has, Once, children, removed, AllNodes, above_by_parent, Error, ShelfState, Contexts, is_empty, is_protected, gone, handed_in, KindTable, IsSoundTable, table_of, OwnerTree, AllAt, HoldsNothing, IsSound, once_of, level_lowered, Active, kept_below, lowered}
 use Rattle.session_rules.proofs.Rules.{LevelState, OpenPortal, abort_context, context_of, first_of, deepest_changed, is_aborted, owner_of, plan_reference, portals_context, top_context, Scene, Ended, changes, context_gone, for_each, in_order, portal_becomes, portal_gone, switched, where_so, where_there, portal_aborted, portal_closed, portal_passed, owner_moved, owner_released, AreEnding, Ending, IsAway, IsDone, gone_levels}
 use Rattle.session_rules.specs.Ends.{aborted, cleaned_up, committed, empty_context_gone, exited, given_up, level_context_gone, level_owner_gone, level_popped, level_released, level_rolled_back, recovered, stack_lowered, stack_popped, subcommitted, switched_up}
-use Rattle.session_rules.specs.Standing.{AreContexts, AreHooks, AreLevels, AreOpen, AreDifferent, AreOwners, AreOuter, ArePlans, ArePortals, AreStacked, FitLevels, HasExited, HasItems, IsAtRest, IsAttached, IsDead, IsLevel, IsLive, IsOfPortal, IsOwner, IsPlace, IsPortal, IsMade, IsOpen, Stands, StandsBetweenLines, active_depth, owner_at, referred}
+use Rattle.session_rules.specs.Standing.{IsActive, IsDeepest, AreContexts, AreHooks, AreLevels, AreOpen, AreDifferent, AreOwners, AreOuter, ArePlans, ArePortals, AreStacked, FitLevels, HasExited, HasItems, IsAtRest, IsAttached, IsDead, IsLevel, IsLive, IsOfPortal, IsOwner, IsPlace, IsPortal, IsMade, IsOpen, Stands, StandsBetweenLines, active_depth, owner_at, referred}
 use Rattle.session_rules.proofs.Forests.{has_left, parent_left}
 use Rattle.session_rules.proofs.ContextsKept.{IsSame, contexts_level_gone, nothing_left, off_outside, protected_has, same_removed, stay_same, top_protected}
 use Rattle.session_rules.proofs.HooksKept.{conserves_gone, hooks_ended}
@@ -46,18 +46,11 @@ is_left levels scene h = is_settled scene h.between.stands ∙ ap (λ (ls : List
 
 -- tables don't matter, as far as what never changes of kinds is the same
 pub stands_tabled : (x : Tables) (s : Scene) → table_of x.kinds ≡ table_of s.around.kinds → Stands s → Stands (tabled x s)
-stands_tabled x s same h = record {
-  contexts = h.contexts;
-  current = h.current;
-  hooks = h.hooks;
-  levels = h.levels;
-  fit = h.fit;
-  owners = subst (λ (kinds : KindTable). AreOwners kinds s.session.owners s.session.next_owner s.session.next_serial s.session.levels s.session.portals) (sym same) h.owners;
-  kinds = subst (λ (kinds : KindTable). IsSoundTable kinds) (sym same) h.kinds;
-  portals = h.portals;
-  plans = h.plans;
-  snapshots = h.snapshots;
-}
+stands_tabled x s same h =
+    search (
+      subst (λ (kinds : KindTable). AreOwners kinds s.session.owners s.session.next_owner s.session.next_serial s.session.levels s.session.portals) (sym same) h.owners,
+      subst (λ (kinds : KindTable). IsSoundTable kinds) (sym same) h.kinds,
+    )
 
 -- without the context of a level, and the shelf then
 abbrev pub without_context : Option ℕ → Contexts → Contexts
@@ -101,21 +94,22 @@ still_without (Some p) x once m out there =
     let w = out p refl in
     record { there = has_left m p x once w.0 w.1 ∙ there; parent = parent_left m p x once w.0 w.1 }
 
+-- a level in which steps can be taken is deepest
+pub deepest_active : (level : LevelState) (t : Contexts) (x : OwnerTree) (current : ℕ) → IsActive level → IsDeepest level t x current
+deepest_active level t x current h = record {
+  made = λ _. h.made;
+  empty = λ n s e. absurd (both_ways level.starting h.started s);
+  alone = λ n s e. absurd (both_ways level.starting h.started s);
+  idle = λ n s e. absurd (both_ways level.starting h.started s);
+  released = λ n a e. absurd (both_ways level.aborted h.unaborted a);
+  at_abort = λ a. absurd (both_ways level.aborted h.unaborted a);
+  open_level = λ a. absurd (both_ways level.aborted h.unaborted a);
+}
+
 -- the levels that are left
 pub fits_outer : (levels : List LevelState) (t : Contexts) (x : OwnerTree) → AreOuter levels → FitLevels levels t x (unwrap_or (context_of (first_of levels)) top_context)
 fits_outer [] t x h = refl
-fits_outer (level ∷ levels) t x h = (
-  record {
-    made = λ _. h.0.made;
-    empty = λ n s e. absurd (both_ways level.starting h.0.started s);
-    alone = λ n s e. absurd (both_ways level.starting h.0.started s);
-    idle = λ n s e. absurd (both_ways level.starting h.0.started s);
-    released = λ n a e. absurd (both_ways level.aborted h.0.unaborted a);
-    at_abort = λ a. absurd (both_ways level.aborted h.0.unaborted a);
-    open_level = λ a. absurd (both_ways level.aborted h.0.unaborted a);
-  },
-  h.2,
-)
+fits_outer (level ∷ levels) t x h = (deepest_active level t x (unwrap_or level.context top_context) h.0, h.2)
 
 -- the context of the level above, or the topmost one, is there
 pub current_above : (levels : List LevelState) (t : Contexts) (x : OwnerTree) (next : ℕ) → AreContexts t next → AreLevels levels t x → AreOuter levels
@@ -147,78 +141,32 @@ same_count (Some n) x once idle m = sym (held_removed plan_reference m n x once 
 
 -- the way through the portals begins, and has ended
 pub begins : (level : LevelState) (levels done : List LevelState) (s : Scene) → Stands (settled (level ∷ levels) s) → Ending level levels done [] s.session.portals s
-begins level levels done s h = record {
-  contexts = h.contexts;
-  hooks = h.hooks;
-  all = h.levels;
-  outer = h.fit.1;
-  kinds = h.kinds;
-  owners = owners_end (table_of s.around.kinds) s.session.owners s.session.next_owner s.session.next_serial level levels s.session.portals h.owners;
-  plans = h.plans;
-  ended = All-nil (IsDone level done s.session.contexts s.session.owners s.session.current);
-  rest = h.portals.each;
-  different = h.portals.different;
-  are = refl;
-}
+begins level levels done s h =
+    search (
+      owners_end (table_of s.around.kinds) s.session.owners s.session.next_owner s.session.next_serial level levels s.session.portals h.owners,
+      All-nil (IsDone level done s.session.contexts s.session.owners s.session.current),
+    )
 
 -- the levels of the scene don't matter
 pub resettled : (level : LevelState) (levels done : List LevelState) (front back : List OpenPortal) (s : Scene) → Ending level levels done front back s → Ending level levels done front back (settled (level ∷ levels) s)
-resettled level levels done front back s h = record {
-  contexts = h.contexts;
-  hooks = h.hooks;
-  all = h.all;
-  outer = h.outer;
-  kinds = h.kinds;
-  owners = h.owners;
-  plans = h.plans;
-  ended = h.ended;
-  rest = h.rest;
-  different = h.different;
-  are = h.are;
-}
+resettled level levels done front back s h = search
 
 pub unsettled : (level : LevelState) (levels done : List LevelState) (front back : List OpenPortal) (ls : List LevelState) (s : Scene) → Ending level levels done front back (settled ls s) → Ending level levels done front back s
-unsettled level levels done front back ls s h = record {
-  contexts = h.contexts;
-  hooks = h.hooks;
-  all = h.all;
-  outer = h.outer;
-  kinds = h.kinds;
-  owners = h.owners;
-  plans = h.plans;
-  ended = h.ended;
-  rest = h.rest;
-  different = h.different;
-  are = h.are;
-}
+unsettled level levels done front back ls s h = search
 
 pub may_end : (level : LevelState) (levels done : List LevelState) (ps : List OpenPortal) (s : Scene) → Ending level levels done ps [] s → MayEnd (referred s.session.owners) level levels done s
-may_end level levels done ps s h = record {
-  contexts = h.contexts;
-  hooks = h.hooks;
-  all = h.all;
-  outer = h.outer;
-  kinds = h.kinds;
-  owners = subst (λ (qs : List OpenPortal). AreEnding (table_of s.around.kinds) s.session.owners s.session.next_owner s.session.next_serial level levels qs) (sym h.are) h.owners;
-  plans = h.plans;
-  portals = subst (λ (qs : List OpenPortal). All (IsDone level done s.session.contexts s.session.owners s.session.current) qs) (sym h.are)
-      (All-append (IsDone level done s.session.contexts s.session.owners s.session.current) ps [] h.ended (All-nil (IsDone level done s.session.contexts s.session.owners s.session.current)));
-  different = subst AreDifferent (sym h.are) h.different;
-}
+may_end level levels done ps s h =
+    let IsNow : OpenPortal → Type 0 = IsDone level done s.session.contexts s.session.owners s.session.current in
+    search (
+      subst (λ (qs : List OpenPortal). AreEnding (table_of s.around.kinds) s.session.owners s.session.next_owner s.session.next_serial level levels qs) (sym h.are) h.owners,
+      subst (All IsNow) (sym h.are) (All-append IsNow ps [] h.ended (All-nil IsNow)),
+      subst AreDifferent (sym h.are) h.different,
+    )
 
 pub idle_ends : (level : LevelState) (levels done : List LevelState) (s : Scene) → ((n : ℕ) → level.owner ≡ Some n → AllAt HoldsNothing n s.session.owners) → MayEnd (referred s.session.owners) level levels done s → MayEnd (left_to_refer level s) level levels done s
-idle_ends level levels done s idle h = record {
-  contexts = h.contexts;
-  hooks = h.hooks;
-  all = h.all;
-  outer = h.outer;
-  kinds = h.kinds;
-  owners = h.owners;
-  plans = plans_counted s.session.plans s.session.contexts s.session.current (referred s.session.owners) (left_to_refer level s)
-      (same_count level.owner s.session.owners (once_of s.session.owners s.session.next_owner s.session.next_serial h.owners.sound) idle) h.plans;
-  portals = h.portals;
-  different = h.different;
-}
+idle_ends level levels done s idle h =
+    search (plans_counted s.session.plans s.session.contexts s.session.current (referred s.session.owners) (left_to_refer level s)
+    (same_count level.owner s.session.owners (once_of s.session.owners s.session.next_owner s.session.next_serial h.owners.sound) idle) h.plans)
 
 pub plans_popped : (level : LevelState) (levels done : List LevelState) (s : Scene) (times : ℕ → ℕ) (c : Option ℕ) → ((n : ℕ) → c ≡ Some n → level.context ≡ Some n) → MayEnd times level levels done s
     → ArePlans s.session.plans (without_context c s.session.contexts) s.session.current times
@@ -306,30 +254,20 @@ popped_stands level levels s c stack is stacked h =
     (λ z. omega (arith, z, out.0), out.1))
     there)
     h.all.1 in
-    record {
-      contexts = both.0;
-      current = current_above levels u y next both.0 left h.outer;
-      hooks = both.1;
-      levels = left;
-      fit = fits_outer levels u y h.outer;
-      owners = owners_without (table_of s.around.kinds) level levels s.session.portals x s.session.next_owner s.session.next_serial level.owner refl (λ p e. (own.owner p e).there) h.owners;
-      kinds = h.kinds;
-      portals = record {
-        each = All-weaker (IsDone level levels t x cur) (λ p. IsPortal p levels u y (unwrap_or (context_of (first_of levels)) top_context))
-            (λ p d. record {
-              place = λ n e. place_above levels u y next both.0 left h.outer n p.expr cur (place_popped level levels t x next cur c is h.contexts h.all n p.expr (d.portal.place n e));
-              made = d.portal.made;
-              owner = λ n e. attached_popped level levels t x once h.all h.outer p (outer_live p levels h.outer d.portal.stage) d.away level.owner refl n e (d.portal.owner n e);
-              stage = d.portal.stage;
-            }) s.session.portals h.portals;
-        different = h.different;
-      };
-      plans =
-          plans_current s.session.plans u cur (unwrap_or (context_of (first_of levels)) top_context) (left_to_refer level s)
+    search (
+      both,
+      current_above levels u y next both.0 left h.outer,
+      fits_outer levels u y h.outer,
+      owners_without (table_of s.around.kinds) level levels s.session.portals x s.session.next_owner s.session.next_serial level.owner refl (λ p e. (own.owner p e).there) h.owners,
+      All-weaker (IsDone level levels t x cur) (λ p. IsPortal p levels u y (unwrap_or (context_of (first_of levels)) top_context))
+          (λ p d. search (
+            λ (n : ℕ) (e : _). place_above levels u y next both.0 left h.outer n p.expr cur (place_popped level levels t x next cur c is h.contexts h.all n p.expr (d.portal.place n e)),
+            λ (n : ℕ) (e : _). attached_popped level levels t x once h.all h.outer p (outer_live p levels h.outer d.portal.stage) d.away level.owner refl n e (d.portal.owner n e),
+          )) s.session.portals h.portals,
+      plans_current s.session.plans u cur (unwrap_or (context_of (first_of levels)) top_context) (left_to_refer level s)
           (above_apart levels u y left h.outer)
-          (plans_popped level levels levels s (left_to_refer level s) c is h);
-      snapshots = stacked;
-    }
+          (plans_popped level levels levels s (left_to_refer level s) c is h),
+    )
 
 -- the levels above another one are open
 pub outer_open : (levels : List LevelState) → AreOuter levels → AreOpen levels
@@ -445,30 +383,17 @@ released_ends level levels done s x now h same left fits spares =
     let t : Contexts = s.session.contexts in
     let owners : OwnerTree = s.session.owners in
     let cur : ℕ = s.session.current in
-    record {
-      contexts = fits.contexts;
-      hooks = fits.hooks;
-      all = levels_stay (level ∷ levels) t x.contexts owners owners
+    search (
+      levels_stay (level ∷ levels) t x.contexts owners owners
           (λ m i prot. spares.same m (levels_apart (level ∷ levels) t owners s.session.plans cur h.all h.plans.each m i) prot)
-          (λ m i there. record { there = there; parent = refl }) h.all;
-      outer = h.outer;
-      kinds = subst (λ (kinds : KindTable). IsSoundTable kinds) (sym same) h.kinds;
-      owners = subst (λ (kinds : KindTable). AreEnding kinds owners s.session.next_owner s.session.next_serial level levels s.session.portals) (sym same) h.owners;
-      plans =
-          plans_counted x.plans x.contexts cur (referred now) (left_to_refer level s)
-          (left_count (table_of s.around.kinds) level.owner owners now s.session.next_owner s.session.next_serial h.kinds left h.owners.items h.owners.sound) fits.plans;
-      portals = All-weaker (IsDone level done t owners cur) (IsDone level done x.contexts owners cur)
-          (λ p d. record {
-            portal = record {
-              place = λ n e. place_spared (besides_of s) x cur spares h.plans.each n p.expr cur (d.portal.place n e);
-              made = d.portal.made;
-              owner = d.portal.owner;
-              stage = d.portal.stage;
-            };
-            away = d.away;
-          }) s.session.portals h.portals;
-      different = h.different;
-    }
+          (λ m i there. record { there = there; parent = refl }) h.all,
+      subst (λ (kinds : KindTable). IsSoundTable kinds) (sym same) h.kinds,
+      subst (λ (kinds : KindTable). AreEnding kinds owners s.session.next_owner s.session.next_serial level levels s.session.portals) (sym same) h.owners,
+      plans_counted x.plans x.contexts cur (referred now) (left_to_refer level s)
+          (left_count (table_of s.around.kinds) level.owner owners now s.session.next_owner s.session.next_serial h.kinds left h.owners.items h.owners.sound) fits.plans,
+      All-weaker (IsDone level done t owners cur) (IsDone level done x.contexts owners cur)
+          (λ p d. search (λ (n : ℕ) (e : _). place_spared (besides_of s) x cur spares h.plans.each n p.expr cur (d.portal.place n e))) s.session.portals h.portals,
+    )
 
 pub gives_now : (commit top : Bool) (level : LevelState) (levels done : List LevelState) (s : Scene) → MayEnd (referred s.session.owners) level levels done s → HasGiven level.owner (settled (level ∷ levels) s) (where_there level.owner (owner_released commit top) (settled (level ∷ levels) s)).scene
 gives_now commit top level levels done s h = gives commit top level.owner (settled (level ∷ levels) s) h.owners.sound (record { contexts = h.contexts; hooks = h.hooks; plans = h.plans })
@@ -659,25 +584,13 @@ pub off_begins : (level : LevelState) (levels done : List LevelState) (s : Scene
 off_begins level levels done s h =
     let e : Ending level levels done [] s.session.portals s = begins level levels done s h in
     let t : Contexts = s.session.contexts in
-    record {
-      contexts = e.contexts;
-      hooks = e.hooks;
-      all = e.all;
-      outer = e.outer;
-      kinds = e.kinds;
-      owners = e.owners;
-      plans = plans_current s.session.plans t s.session.current abort_context (referred s.session.owners) (own_other abort_context (omega arith) t) e.plans;
-      ended = All-nil (IsDone level done t s.session.owners abort_context);
-      rest = All-weaker (λ p. IsPortal p (level ∷ levels) t s.session.owners s.session.current) (λ p. IsPortal p (level ∷ levels) t s.session.owners abort_context)
-          (λ p i. record {
-            place = λ n f. place_own t s.session.next_context e.contexts abort_context (omega arith) (omega arith) n p.expr s.session.current (i.place n f);
-            made = i.made;
-            owner = i.owner;
-            stage = i.stage;
-          }) s.session.portals e.rest;
-      different = e.different;
-      are = refl;
-    }
+    search (
+      plans_current s.session.plans t s.session.current abort_context (referred s.session.owners) (own_other abort_context (omega arith) t) e.plans,
+      All-nil (IsDone level done t s.session.owners abort_context),
+      All-weaker (λ p. IsPortal p (level ∷ levels) t s.session.owners s.session.current) (λ p. IsPortal p (level ∷ levels) t s.session.owners abort_context)
+          (λ p i. search (λ (n : ℕ) (f : _). place_own t s.session.next_context e.contexts abort_context (omega arith) (omega arith) n p.expr s.session.current (i.place n f)))
+          s.session.portals e.rest,
+    )
 
 pub left_lone : (kinds : KindTable) (o : Option ℕ) (owners now : OwnerTree) → HasLeft kinds o owners now → (n : ℕ) → children n owners ≡ Empty → children n now ≡ Empty
 left_lone kinds None owners now left n e = ap (children n) left ∙ e
@@ -708,32 +621,23 @@ shut_from level levels s x now h same left fits spares =
     let u : Contexts = x.contexts in
     let old : OwnerTree = s.session.owners in
     let kinds : KindTable = table_of s.around.kinds in
-    record {
-      contexts = fits.contexts;
-      hooks = fits.hooks;
-      all = levels_stay (level ∷ levels) t u old now
+    search (
+      levels_stay (level ∷ levels) t u old now
           (λ m i prot. spares.same m (levels_apart (level ∷ levels) t old s.session.plans abort_context h.all h.plans.each m i) prot)
-          (λ m i there. left_still kinds level.owner old now left m there) h.all;
-      outer = h.outer;
-      kinds = subst (λ (k : KindTable). IsSoundTable k) (sym same) h.kinds;
-      owners = subst (λ (k : KindTable). AreOwners k now s.session.next_owner s.session.next_serial (gone_levels level levels) s.session.portals) (sym same)
-          (owners_aborted kinds level levels s.session.portals old now s.session.next_owner s.session.next_serial level.owner h.kinds refl left h.owners);
-      plans = fits.plans;
-      portals = record {
-        each = All-weaker (IsDone level (gone_levels level levels) t old abort_context) (λ p. IsPortal p (gone_levels level levels) u now abort_context)
-            (λ p d. record {
-              place = λ n e. place_spared (besides_of s) x abort_context spares h.plans.each n p.expr abort_context (d.portal.place n e);
-              made = d.portal.made;
-              owner = λ n e.
-                  let a = d.portal.owner n e in
-                  let st = left_still kinds level.owner old now left n a.there in
-                  attached_by n p.created (gone_levels level levels) (gone_levels level levels) old now (λ _. st.there) st.parent (left_lone kinds level.owner old now left n) refl (λ j. j) a;
-              stage = d.portal.stage;
-            }) s.session.portals h.portals;
-        different = h.different;
-      };
-      idle = left_idle kinds level.owner old now h.kinds left h.owners.items;
-    }
+          (λ m i there. left_still kinds level.owner old now left m there) h.all,
+      subst (λ (k : KindTable). IsSoundTable k) (sym same) h.kinds,
+      subst (λ (k : KindTable). AreOwners k now s.session.next_owner s.session.next_serial (gone_levels level levels) s.session.portals) (sym same)
+          (owners_aborted kinds level levels s.session.portals old now s.session.next_owner s.session.next_serial level.owner h.kinds refl left h.owners),
+      All-weaker (IsDone level (gone_levels level levels) t old abort_context) (λ p. IsPortal p (gone_levels level levels) u now abort_context)
+          (λ p d. search (
+            λ (n : ℕ) (e : _). place_spared (besides_of s) x abort_context spares h.plans.each n p.expr abort_context (d.portal.place n e),
+            λ (n : ℕ) (e : _).
+            let a = d.portal.owner n e in
+            let st = left_still kinds level.owner old now left n a.there in
+            attached_by n p.created (gone_levels level levels) (gone_levels level levels) old now (λ _. st.there) st.parent (left_lone kinds level.owner old now left n) refl (λ j. j) a,
+          )) s.session.portals h.portals,
+      left_idle kinds level.owner old now h.kinds left h.owners.items,
+    )
 
 pub aborted_is : (level : LevelState) (levels : List LevelState) (s : Scene) → Stands (settled (level ∷ levels) s) → HasShut level levels s (aborted (settled (level ∷ levels) s)).scene
 aborted_is level levels s h =

@@ -23,16 +23,12 @@ module _ (levels : List LevelState) (o q : ℕ) (t : Contexts) (x : OwnerTree) (
       (λ k i there. record { there = m.has_same k ∙ there; parent = m.parent_other k (λ z. other (subst (λ (j : ℕ). IsOwner j levels) z i)) }) l
 
   pub portal_moved : (p r : OpenPortal) → p.owner ≡ Some o → IsBeside p r → IsOwner q levels → IsPortal r levels t x current → IsPortal r levels t (moved o q x) current
-  portal_moved p r e b i k = record {
-    place = k.place;
-    made = k.made;
-    owner = λ n f.
-        let a : IsAttached n r.created levels x = k.owner n f in
-        let ne : n ≢ o = λ z. b.owner n f (e ∙ ap Some (sym z)) in
-        attached_by n r.created levels levels x (moved o q x) (λ w. m.has_same n ∙ w) (m.parent_other n ne)
-        (m.lone_other n (λ z. a.other (subst (λ (j : ℕ). IsOwner j levels) (sym z) i)) ne) refl (λ j. j) a;
-    stage = k.stage;
-  }
+  portal_moved p r e b i k =
+      search (λ (n : ℕ) (f : _).
+      let a : IsAttached n r.created levels x = k.owner n f in
+      let ne : n ≢ o = λ z. b.owner n f (e ∙ ap Some (sym z)) in
+      attached_by n r.created levels levels x (moved o q x) (λ w. m.has_same n ∙ w) (m.parent_other n ne)
+      (m.lone_other n (λ z. a.other (subst (λ (j : ℕ). IsOwner j levels) (sym z) i)) ne) refl (λ j. j) a)
 
 pub plans_owner_moved : (s : Scene) (o q : ℕ) → Once s.session.owners → Moves o q s.session.owners → ArePlans s.session.plans s.session.contexts s.session.current (referred s.session.owners)
     → ArePlans s.session.plans s.session.contexts s.session.current (referred (moved o q s.session.owners))

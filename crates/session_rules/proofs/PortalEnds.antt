@@ -183,12 +183,10 @@ owner_ends s name p o h working e owns =
     let portals : List OpenPortal = portal_changed name unowned s.session.portals in
     let is : portals ≡ n.front ++ (unowned p ∷ n.back) = changes_in s h working name p n unowned in
     let spared : (m : ℕ) (expr : Option ℕ) → IsPlace m expr t cur → IsPlace m expr u cur = λ m expr k. place_spared (besides_of s) g.besides cur g.spares h.plans.each m expr cur k in
-    let still : (r : OpenPortal) → ((k : ℕ) → r.owner ≡ Some k → k ≢ o) → IsPortal r ls t x cur → IsPortal r ls u y cur = λ r ne k. record {
-      place = λ m f. spared m r.expr (k.place m f);
-      made = k.made;
-      owner = λ m f. attached_by m r.created ls ls x y (λ w. has_left m o x once (ne m f) (out m) ∙ w) (parent_left m o x once (ne m f) (out m)) (lone_left m o x once (ne m f) (out m)) refl (λ j. j) (k.owner m f);
-      stage = k.stage;
-    } in
+    let still : (r : OpenPortal) → ((k : ℕ) → r.owner ≡ Some k → k ≢ o) → IsPortal r ls t x cur → IsPortal r ls u y cur = λ r ne k. search (
+      λ (m : ℕ) (f : _). spared m r.expr (k.place m f),
+      λ (m : ℕ) (f : _). attached_by m r.created ls ls x y (λ w. has_left m o x once (ne m f) (out m) ∙ w) (parent_left m o x once (ne m f) (out m)) (lone_left m o x once (ne m f) (out m)) refl (λ j. j) (k.owner m f),
+    ) in
     let own : IsPortal (unowned p) ls u y cur =
     let i = this_portal s h working name p n in
     let l : IsLive p ls = this_live s h working name p n in

@@ -7,7 +7,7 @@ use Rattle.any_ctx.specs.declared.any.CtxKind.TheVariants as kind
 use Rattle.owner_core.specs.Owners as owners
 use Rattle.session_rules.proofs.ItemsStand.{owner_there}
 use Rattle.portal_store.specs.declared.portal.PortalState.{PortalState}
-use Rattle.session_rules.specs.Standing.{AreContexts, AreDifferent, AreHooks, AreLevels, AreOther, AreOwners, ArePlans, ArePortals, IsAtRest, IsAtWork, IsAttached, IsDead, IsLive, IsOfPortal, IsOwner, IsPlace, IsPortal, IsWorking, Stands, active_depth, owner_at, referred}
+use Rattle.session_rules.specs.Standing.{WasReleased, AreContexts, AreDifferent, AreHooks, AreLevels, AreOther, AreOwners, ArePlans, ArePortals, IsAtRest, IsAtWork, IsAttached, IsDead, IsLive, IsOfPortal, IsOwner, IsPlace, IsPortal, IsWorking, Stands, active_depth, owner_at, referred}
 use Rattle.session_rules.proofs.Forests.{children_put, has_put_other}
 use Rattle.session_rules.proofs.ContextsKept.{Stay, contexts_created, has_created, is_unused, new_parent, new_protected, protected_has, stay_created, stay_same}
 use Rattle.session_rules.proofs.HeldItems.{held_created}
@@ -80,18 +80,11 @@ portal_step s p q front back u next y count h working are contexts stay there ho
     let each : All (λ r. IsPortal r ls u y cur) (front ++ (q ∷ back)) =
     All-append (λ r. IsPortal r ls u y cur) front (q ∷ back) (λ k r below. others _ (before k r below) (inl (fronts k r below)))
     (All-cons (λ r. IsPortal r ls u y cur) q back own (λ k r below. others _ (tail k r below) (inr (backs k r below)))) in
-    record {
-      contexts = contexts;
-      current = there;
-      hooks = hooks;
-      levels = levels;
-      fit = fit_working ls t u x y cur cur working h.fit;
-      kinds = h.kinds;
-      owners = subst (λ (ps : List OpenPortal). AreOwners (table_of s.around.kinds) y count s.session.next_serial ls ps) (sym is) owned;
-      portals = subst (λ (ps : List OpenPortal). ArePortals ps ls u y cur) (sym is) (record { each = each; different = different });
-      plans = plans;
-      snapshots = h.snapshots;
-    }
+    search (
+      fit_working ls t u x y cur cur working h.fit,
+      subst (λ (ps : List OpenPortal). AreOwners (table_of s.around.kinds) y count s.session.next_serial ls ps) (sym is) owned,
+      subst (λ (ps : List OpenPortal). ArePortals ps ls u y cur) (sym is) (record { each = each; different = different }),
+    )
 
 -- the portal of a name in a session that stands
 module _ (s : Scene) (h : Stands s) (working : IsWorking s.session.levels) (name : Text) (p : OpenPortal) (n : Named name p s.session.portals) where
@@ -233,15 +226,10 @@ module _ (s : Scene) (h : Stands s) (working : IsWorking s.session.levels) (name
       let i = this_portal s h working name p n in
       let l : IsLive p ls = this_live s h working name p n in
       let up = owner_deep ls lo is_lo in
-      let others : (r : OpenPortal) → IsPortal r ls t x cur → IsPortal r ls t y cur = λ r k. record {
-        place = k.place;
-        made = k.made;
-        owner = λ m e.
-            let a = k.owner m e in
-            attached_by m r.created ls ls x y (λ w. new.had m (other m a.there) ∙ w) (new.parents m (other m a.there))
-            (new.lone m (other m a.there) (λ j g z. a.other (subst (λ (v : ℕ). IsOwner v ls) (one_value (Some lo) lo j refl g ∙ sym z) up.1))) refl (λ j. j) a;
-        stage = k.stage;
-      } in
+      let others : (r : OpenPortal) → IsPortal r ls t x cur → IsPortal r ls t y cur = λ r k. search (λ (m : ℕ) (e : _).
+      let a = k.owner m e in
+      attached_by m r.created ls ls x y (λ w. new.had m (other m a.there) ∙ w) (new.parents m (other m a.there))
+      (new.lone m (other m a.there) (λ j g z. a.other (subst (λ (v : ℕ). IsOwner v ls) (one_value (Some lo) lo j refl g ∙ sym z) up.1))) refl (λ j. j) a) in
       let own : IsPortal q ls t y cur = record {
         place = i.place;
         made = i.made;
@@ -391,23 +379,6 @@ made_portal s name object rows bad h working free =
       owner = λ n e. absurd (cc e);
       stage = inl (record { some = d.1; within = omega arith; active = omega (arith, d.0); line = inl (λ _. refl) });
     } in
-    record {
-      contexts = h.contexts;
-      current = h.current;
-      hooks = h.hooks;
-      levels = h.levels;
-      fit = h.fit;
-      kinds = h.kinds;
-      owners = record {
-        sound = h.owners.sound;
-        each = λ n u. elim (h.owners.each n u) [ inl i ↦ inl i | inr k ↦ inr (elim k [ inl j ↦ inl (inr j) | inr r ↦ inr r ]) ];
-        begun = h.owners.begun;
-        items = h.owners.items;
-      };
-      portals = record {
-        each = All-cons (λ r. IsPortal r s.session.levels s.session.contexts s.session.owners s.session.current) p s.session.portals own h.portals.each;
-        different = (new_names name s.session.portals free p refl refl refl, h.portals.different);
-      };
-      plans = h.plans;
-      snapshots = h.snapshots;
-    }
+    let each : (n : ℕ) → has n s.session.owners ≡ true → IsOwner n s.session.levels ⊎ (IsOfPortal n (p ∷ s.session.portals) ⊎ WasReleased n s.session.levels s.session.owners) =
+    λ n u. elim (h.owners.each n u) [ inl i ↦ inl i | inr k ↦ inr (elim k [ inl j ↦ inl (inr j) | inr r ↦ inr r ]) ] in
+    search (All-cons (λ r. IsPortal r s.session.levels s.session.contexts s.session.owners s.session.current) p s.session.portals own h.portals.each, new_names name s.session.portals free p refl refl refl)

@@ -17,7 +17,7 @@ use Rattle.owner_core.specs.Owners as owners
 use Rattle.owner_core.specs.Sound.{IsSound, one_below}
 use Rattle.session_rules.specs.Elements as element
 use Rattle.session_rules.specs.Making.{held, left, level_context_name, level_made, level_parent, limit, new_context_made, new_owner_made}
-use Rattle.session_rules.specs.Standing.{AreContexts, AreHooks, AreLevels, AreOuter, AreOwners, ArePlans, ArePortals, AreStacked, FitLevels, HasItems, IsActive, IsAtRest, IsContextOf, IsDead, IsDeepest, IsFresh, IsItem, IsLive, IsMade, IsOpen, IsOwner, IsOwnerOf, IsPlace, IsPlan, IsPortal, IsReleased, IsRow, IsWorking, Stands, WasReleased, active_depth, owner_at, referred}
+use Rattle.session_rules.specs.Standing.{IsLevel, IsOfPortal, AreContexts, AreHooks, AreLevels, AreOuter, AreOwners, ArePlans, ArePortals, AreStacked, FitLevels, HasItems, IsActive, IsAtRest, IsContextOf, IsDead, IsDeepest, IsFresh, IsItem, IsLive, IsMade, IsOpen, IsOwner, IsOwnerOf, IsPlace, IsPlan, IsPortal, IsReleased, IsRow, IsWorking, Stands, WasReleased, active_depth, owner_at, referred}
 use Rattle.session_rules.proofs.Forests.{at_put, at_put_other, children_put, has_put_other, parent_put, parent_put_other}
 use Rattle.session_rules.proofs.Guarded.{all_put}
 use Rattle.session_rules.proofs.ContextsKept.{Stay, contexts_changed, contexts_created, has_created, new_empty, new_parent, new_protected, protected_has, stay_changed, stay_created, stay_same, top_protected}
@@ -29,7 +29,7 @@ use Rattle.session_rules.proofs.Settling.{Besides, Fits, Spares, besides_of, wit
 use Rattle.session_rules.proofs.PlansAmong.{IsCached, levels_apart, levels_other, parent_apart, plans_counted, plans_current, plans_moved}
 use Rattle.session_rules.proofs.PortalsAmong.{IsRowOf, attached_by, off_parent, place_level, place_same, place_spared, portals_by, portals_moved, row_changed, row_of, row_parent_off, row_put}
 use Rattle.session_rules.proofs.LevelsKept.{is_there, levels_stay, no_value, one_value}
-use Rattle.session_rules.proofs.EndsStand.{Leaves, aborted_stands, cleaned_up_stands, committed_stands, is_settled, settled, subcommitted_leaves}
+use Rattle.session_rules.proofs.EndsStand.{Leaves, deepest_active, aborted_stands, cleaned_up_stands, committed_stands, is_settled, settled, subcommitted_leaves}
 
 -- a refused call changes nothing but the count
 pub not_refused : (a b : Bool) (x y : Error) (own : Option Error) → (if a then Some x else (if b then Some y else own)) ≡ None → own ≡ None
@@ -47,17 +47,6 @@ fallible_keeps P w moment own act before behind = go (refused_call w moment.fail
     go None h = behind (h refl)
     go (Some e) h = before
 
--- a level in which steps can be taken is deepest
-pub deepest_active : (level : LevelState) (t : Contexts) (x : OwnerTree) (current : ℕ) → IsActive level → IsDeepest level t x current
-deepest_active level t x current h = record {
-  made = λ _. h.made;
-  empty = λ n s e. absurd (both_ways level.starting h.started s);
-  alone = λ n s e. absurd (both_ways level.starting h.started s);
-  idle = λ n s e. absurd (both_ways level.starting h.started s);
-  released = λ n a e. absurd (both_ways level.aborted h.unaborted a);
-  at_abort = λ a. absurd (both_ways level.aborted h.unaborted a);
-  open_level = λ a. absurd (both_ways level.aborted h.unaborted a);
-}
 
 -- what work in a level leads to: the session stands, its levels are as they were, and where portals were at rest they still are
 pub record Works (s z : Scene) : Type 0 where
@@ -84,19 +73,11 @@ not_released (level ∷ levels) n x h r = both_ways level.aborted h.unaborted r.
 pub contexts_step : (s : Scene) → Stands s → IsWorking s.session.levels → (u : Contexts) (next current : ℕ) (x : ShelfState) (plans : List StandingPlan) → AreContexts u next → Stay s.session.contexts u → has current u ≡ true → AreHooks u x
     → ArePlans plans u current (referred s.session.owners) → ArePortals s.session.portals s.session.levels u s.session.owners current
     → Stands (record s { session = record s.session { contexts = u; next_context = next; current = current; plans = plans }; around = record s.around { shelf = x } })
-contexts_step s h working u next current x plans c stay there hooks planned open_portals = record {
-  contexts = c;
-  current = there;
-  hooks = hooks;
-  levels =
-      levels_stay s.session.levels s.session.contexts u s.session.owners s.session.owners (λ m i prot. stay m prot) (λ m i there. record { there = there; parent = refl }) h.levels;
-  fit = fit_working s.session.levels s.session.contexts u s.session.owners s.session.owners s.session.current current working h.fit;
-  owners = h.owners;
-  kinds = h.kinds;
-  portals = open_portals;
-  plans = planned;
-  snapshots = h.snapshots;
-}
+contexts_step s h working u next current x plans c stay there hooks planned open_portals =
+    search (
+      levels_stay s.session.levels s.session.contexts u s.session.owners s.session.owners (λ m i prot. stay m prot) (λ m i there. record { there = there; parent = refl }) h.levels,
+      fit_working s.session.levels s.session.contexts u s.session.owners s.session.owners s.session.current current working h.fit,
+    )
 
 -- the plans where no plan's context gets a child
 pub still_planned : (s : Scene) (u : Contexts) → Stands s → Stay s.session.contexts u → ((m : ℕ) → IsCached m s.session.contexts → children m u ≡ Empty) → ArePlans s.session.plans u s.session.current (referred s.session.owners)
@@ -113,40 +94,22 @@ still_portals s u h stay rows =
 -- Plans, their contexts and tables change.
 pub besides_step : (s : Scene) (x : Besides) → Stands s → IsWorking s.session.levels → table_of x.kinds ≡ table_of s.around.kinds → Fits s.session.next_context s.session.current (referred s.session.owners) x → Spares (besides_of s) x
     → Stands (with_besides x s)
-besides_step s x h working same fits spares = record {
-  contexts = fits.contexts;
-  current = spares.there s.session.current (All-weaker (λ plan. IsPlan plan s.session.contexts s.session.current) (λ plan. s.session.current ≢ plan.context) (λ plan i. i.other) s.session.plans h.plans.each) h.current;
-  hooks = fits.hooks;
-  levels = levels_stay s.session.levels s.session.contexts x.contexts s.session.owners s.session.owners
-      (λ m i prot. spares.same m (levels_apart s.session.levels s.session.contexts s.session.owners s.session.plans s.session.current h.levels h.plans.each m i) prot)
-      (λ m i there. record { there = there; parent = refl }) h.levels;
-  fit = fit_working s.session.levels s.session.contexts x.contexts s.session.owners s.session.owners s.session.current s.session.current working h.fit;
-  owners = subst (λ (kinds : KindTable). AreOwners kinds s.session.owners s.session.next_owner s.session.next_serial s.session.levels s.session.portals) (sym same) h.owners;
-  kinds = subst (λ (kinds : KindTable). IsSoundTable kinds) (sym same) h.kinds;
-  portals = portals_moved s.session.portals s.session.levels s.session.contexts x.contexts s.session.owners s.session.current s.session.current
-      (λ n expr i. place_spared (besides_of s) x s.session.current spares h.plans.each n expr s.session.current i) h.portals;
-  plans = fits.plans;
-  snapshots = h.snapshots;
-}
+besides_step s x h working same fits spares =
+    search (
+      spares.there s.session.current (All-weaker (λ plan. IsPlan plan s.session.contexts s.session.current) (λ plan. s.session.current ≢ plan.context) (λ plan i. i.other) s.session.plans h.plans.each) h.current,
+      levels_stay s.session.levels s.session.contexts x.contexts s.session.owners s.session.owners
+          (λ m i prot. spares.same m (levels_apart s.session.levels s.session.contexts s.session.owners s.session.plans s.session.current h.levels h.plans.each m i) prot)
+          (λ m i there. record { there = there; parent = refl }) h.levels,
+      fit_working s.session.levels s.session.contexts x.contexts s.session.owners s.session.owners s.session.current s.session.current working h.fit,
+      subst (λ (kinds : KindTable). AreOwners kinds s.session.owners s.session.next_owner s.session.next_serial s.session.levels s.session.portals) (sym same) h.owners,
+      subst (λ (kinds : KindTable). IsSoundTable kinds) (sym same) h.kinds,
+      portals_moved s.session.portals s.session.levels s.session.contexts x.contexts s.session.owners s.session.current s.session.current
+          (λ n expr i. place_spared (besides_of s) x s.session.current spares h.plans.each n expr s.session.current i) h.portals,
+    )
 
 -- The stack of active snapshots changes.
 pub stack_works : (s : Scene) (stack : List Active) → Stands s → AreStacked 1 (active_depth s.session.levels) stack → Works s (record s { session = record s.session { snapshots = stack } })
-stack_works s stack h stacked = record {
-  stands = record {
-    contexts = h.contexts;
-    current = h.current;
-    hooks = h.hooks;
-    levels = h.levels;
-    fit = h.fit;
-    owners = h.owners;
-    kinds = h.kinds;
-    portals = h.portals;
-    plans = h.plans;
-    snapshots = stacked;
-  };
-  levels = refl;
-  at_rest = λ r. r;
-}
+stack_works s stack h stacked = record { stands = search; levels = refl; at_rest = λ r. r }
 
 -- a snapshot is pushed in a level
 pub push_stacked : (levels : List LevelState) (snapshot : ℕ) (stack : List Active) → IsWorking levels → AreStacked 1 (active_depth levels) stack
@@ -280,47 +243,26 @@ same_portal old new levels t u x a b p same live aborted stay i = record {
 
 -- A level is pushed.
 pub level_made_stands : (name : Option Text) (implicit : Bool) (s : Scene) → Stands s → All IsAtRest s.session.portals → AreOuter s.session.levels → (implicit ≡ true → s.session.levels ≡ []) → Stands (level_made name implicit s).scene
-level_made_stands name implicit s h at_rest outer alone = let new : LevelState = record { name = name; context = None; owner = None; implicit = implicit; aborted = false; starting = true } in record {
-  contexts = h.contexts;
-  current = h.current;
-  hooks = h.hooks;
-  levels = (
-    record {
-      context = λ n e. absurd (no_value None n refl e);
-      owner = λ n e. absurd (no_value None n refl e);
-      implicit = alone;
-    },
-    h.levels,
-  );
-  fit = (
-    record {
+level_made_stands name implicit s h at_rest outer alone =
+    let new : LevelState = record { name = name; context = None; owner = None; implicit = implicit; aborted = false; starting = true } in
+    let level : IsLevel new s.session.levels s.session.contexts s.session.owners = record { context = λ n e. absurd (cc e); owner = λ n e. absurd (cc e); implicit = alone } in
+    let deepest : IsDeepest new s.session.contexts s.session.owners s.session.current = record {
       made = λ e. absurd (cc e);
-      empty = λ n _ e. absurd (no_value None n refl e);
-      alone = λ n _ e. absurd (no_value None n refl e);
-      idle = λ n _ e. absurd (no_value None n refl e);
-      released = λ n _ e. absurd (no_value None n refl e);
+      empty = λ n _ e. absurd (cc e);
+      alone = λ n _ e. absurd (cc e);
+      idle = λ n _ e. absurd (cc e);
+      released = λ n _ e. absurd (cc e);
       at_abort = λ e. absurd (cc e);
       open_level = λ e. absurd (cc e);
-    },
-    outer,
-  );
-  owners = record {
-    sound = h.owners.sound;
-    each = λ n u. elim (h.owners.each n u) [
+    } in
+    let each : (n : ℕ) → has n s.session.owners ≡ true → IsOwner n (new ∷ s.session.levels) ⊎ (IsOfPortal n s.session.portals ⊎ IsReleased new n s.session.owners) = λ n u. elim (h.owners.each n u) [
       | inl i ↦ inl (inr i)
       | inr k ↦ elim k [ inl p ↦ inr (inl p) | inr r ↦ absurd (not_released_outer s.session.levels n s.session.owners outer r) ]
-    ];
-    begun = λ n u. absurd (not_released_outer s.session.levels n s.session.owners outer (h.owners.begun n u));
-    items = h.owners.items;
-  };
-  kinds = h.kinds;
-  portals = record {
-    each = λ k r below. pushed_portal new s.session.levels s.session.contexts s.session.owners s.session.current _ refl refl outer (at_rest k r below) (h.portals.each k r below);
-    different = h.portals.different;
-  };
-  plans = h.plans;
-  snapshots = stacked_above_it s.session.levels s.session.snapshots h.snapshots;
-}
+    ] in
+    let begun : (n : ℕ) → has_begun n s.session.owners ≡ true → IsReleased new n s.session.owners = λ n u. absurd (not_released_outer s.session.levels n s.session.owners outer (h.owners.begun n u)) in
+    let portals : All (λ p. IsPortal p (new ∷ s.session.levels) s.session.contexts s.session.owners s.session.current) s.session.portals =
+    λ k r below. pushed_portal new s.session.levels s.session.contexts s.session.owners s.session.current _ refl refl outer (at_rest k r below) (h.portals.each k r below) in
+    search (stacked_above_it s.session.levels s.session.snapshots h.snapshots)
 
 -- the parent of a new context of a level is there, and protected
 pub parent_protected : (levels : List LevelState) (t : Contexts) (x : OwnerTree) (next : ℕ) → AreContexts t next → AreLevels levels t x → AreOuter levels → is_protected (level_parent (first_of levels)) t ≡ true
