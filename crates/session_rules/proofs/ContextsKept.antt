@@ -43,6 +43,26 @@ same_own m t u e prot = ap (λ (o : Option Context). option_map_or own o false) 
 pub protected_has : (m : ℕ) (t : Contexts) → is_protected m t ≡ true → has m t ≡ true
 protected_has m t prot = own_has own m t prot
 
+-- what holds of contexts, and of them with one emptied, holds where that is reset alone
+pub by_alone : (P : Contexts → Type 0) (n : ℕ) (t : Contexts) → P t → P (changed n emptied t) → P (ends.cleared_alone n t).contexts
+by_alone P n t same reset = go (at n t)
+  where
+    by_use : (c : Context) (b : Bool) → c.used ≡ b → P (ends.reset_of n t c).contexts
+    by_use c true e = rw e reset
+    by_use c false e = rw e same
+
+    go : (o : Option Context) → P (option_map_or (ends.reset_of n t) o (ends.unchanged t)).contexts
+    go None = same
+    go (Some c) = by_use c c.used refl
+
+-- so with one moved
+pub by_reparented : (P : Contexts → Type 0) (n p : ℕ) (t : Contexts) → P t → P (moved n p t) → P (reparented n p t)
+by_reparented P n p t same moves = go (is_child n p t)
+  where
+    go : (b : Bool) → P (placed_under b n p t)
+    go true = same
+    go false = moves
+
 module _ (t : Contexts) (next : ℕ) (h : AreContexts t next) where
   pub top_protected : is_protected top_context t ≡ true
   top_protected = top_own own top_context t h.rooted
@@ -107,8 +127,8 @@ module _ (t : Contexts) (next : ℕ) (h : AreContexts t next) where
     parent = parent_emptied m n t h.once out;
   }
 
-  pub contexts_emptied : (n : ℕ) → abort_context < n → AreContexts (with_children n Empty t) next
-  contexts_emptied n g = record {
+  contexts_below_gone : (n : ℕ) → ((m : ℕ) → 1 < m → m ≤ abort_context → has m (children n t) ≡ false) → AreContexts (with_children n Empty t) next
+  contexts_below_gone n out = record {
     rooted = rooted_emptied own top_context n t h.rooted;
     guarded = guarded_emptied own n t h.guarded;
     once = once_emptied n t h.once;
@@ -116,29 +136,20 @@ module _ (t : Contexts) (next : ℕ) (h : AreContexts t next) where
     room = h.room;
     own = λ m l b.
         let x : IsOfSession m t = h.own m l b in
-        let y : IsSame m t (with_children n Empty t) = same_emptied m n (own_outside m n l b g).1 x.protected in
+        let y : IsSame m t (with_children n Empty t) = same_emptied m n (out m l b) x.protected in
         record { protected = y.protected; parent = y.parent ∙ x.parent };
     fresh = all_emptied IsFresh n t h.fresh;
   }
 
+  pub contexts_emptied : (n : ℕ) → abort_context < n → AreContexts (with_children n Empty t) next
+  contexts_emptied n g = contexts_below_gone n (λ m l b. (own_outside m n l b g).1)
+
   -- all below an unprotected context goes
   pub stay_children_gone : (n : ℕ) → is_protected n t ≡ false → Stay t (with_children n Empty t)
-  stay_children_gone n free m prot =
-      let w = apart m n free prot in record {
-        protected = same_own m t (with_children n Empty t) (at_emptied m n t h.once w.1) prot;
-        parent = parent_emptied m n t h.once w.1;
-      }
+  stay_children_gone n free m prot = same_emptied m n (apart m n free prot).1 prot
 
   pub contexts_children_gone : (n : ℕ) → is_protected n t ≡ false → AreContexts (with_children n Empty t) next
-  contexts_children_gone n free = record {
-    rooted = rooted_emptied own top_context n t h.rooted;
-    guarded = guarded_emptied own n t h.guarded;
-    once = once_emptied n t h.once;
-    below = λ m u. h.below m (has_some m t (omega (arith, times_emptied m n t h.once, times_some m (with_children n Empty t) u)));
-    room = h.room;
-    own = own_stay t (with_children n Empty t) h.own (stay_children_gone n free);
-    fresh = all_emptied IsFresh n t h.fresh;
-  }
+  contexts_children_gone n free = contexts_below_gone n (λ m l b. (apart m n free (h.own m l b).protected).1)
 
   -- the data of a context changes
   pub stay_changed : (n : ℕ) (f : Context → Context) → ((c : Context) → (f c).protected ≡ c.protected) → Stay t (changed n f t)
@@ -167,37 +178,13 @@ module _ (t : Contexts) (next : ℕ) (h : AreContexts t next) where
 
   -- a context is reset alone
   pub stay_alone : (n : ℕ) → Stay t (ends.cleared_alone n t).contexts
-  stay_alone n = go (at n t)
-    where
-      by_use : (c : Context) (b : Bool) → c.used ≡ b → Stay t (ends.reset_of n t c).contexts
-      by_use c true e = rw e (stay_changed n emptied (λ c. refl))
-      by_use c false e = rw e (stay_same t)
-
-      go : (o : Option Context) → Stay t (option_map_or (ends.reset_of n t) o (ends.unchanged t)).contexts
-      go None = stay_same t
-      go (Some c) = by_use c c.used refl
+  stay_alone n = by_alone (Stay t) n t (stay_same t) (stay_changed n emptied (λ c. refl))
 
   pub contexts_alone : (n : ℕ) → AreContexts (ends.cleared_alone n t).contexts next
-  contexts_alone n = go (at n t)
-    where
-      by_use : (c : Context) (b : Bool) → c.used ≡ b → AreContexts (ends.reset_of n t c).contexts next
-      by_use c true e = rw e (contexts_changed n emptied (λ c. refl) (λ c _ _. (refl, refl)))
-      by_use c false e = rw e h
-
-      go : (o : Option Context) → AreContexts (option_map_or (ends.reset_of n t) o (ends.unchanged t)).contexts next
-      go None = h
-      go (Some c) = by_use c c.used refl
+  contexts_alone n = by_alone (λ u. AreContexts u next) n t h (contexts_changed n emptied (λ c. refl) (λ c _ _. (refl, refl)))
 
   pub has_alone : (m n : ℕ) → has m (ends.cleared_alone n t).contexts ≡ has m t
-  has_alone m n = go (at n t)
-    where
-      by_use : (c : Context) (b : Bool) → c.used ≡ b → has m (ends.reset_of n t c).contexts ≡ has m t
-      by_use c true e = rw e (has_changed m n emptied t)
-      by_use c false e = rw e refl
-
-      go : (o : Option Context) → has m (option_map_or (ends.reset_of n t) o (ends.unchanged t)).contexts ≡ has m t
-      go None = refl
-      go (Some c) = by_use c c.used refl
+  has_alone m n = by_alone (λ u. has m u ≡ has m t) n t refl (has_changed m n emptied t)
 
   -- a context is made
   pub stay_created : (p : ℕ) (name : List ℕ) (kind : CtxKind) (b : Bool) → Stay t (created p next name kind b t)
@@ -279,25 +266,14 @@ module _ (t : Contexts) (next : ℕ) (h : AreContexts t next) where
   }
 
   pub stay_reparented : (n p : ℕ) → has n t ≡ true → has p t ≡ true → is_protected n t ≡ false → is_within n p t ≡ false → Stay t (reparented n p t)
-  stay_reparented n p node there free out = go (is_child n p t)
-    where
-      go : (b : Bool) → Stay t (placed_under b n p t)
-      go true = stay_same t
-      go false = stay_swapped n p (moves_by n p node there out) free
+  stay_reparented n p node there free out = by_reparented (Stay t) n p t (stay_same t) (stay_swapped n p (moves_by n p node there out) free)
 
   pub contexts_reparented : (n p : ℕ) → has n t ≡ true → has p t ≡ true → is_protected n t ≡ false → is_within n p t ≡ false → AreContexts (reparented n p t) next
-  contexts_reparented n p node there free out = go (is_child n p t)
-    where
-      go : (b : Bool) → AreContexts (placed_under b n p t) next
-      go true = h
-      go false = contexts_swapped n p (moves_by n p node there out) free
+  contexts_reparented n p node there free out = by_reparented (λ u. AreContexts u next) n p t h (contexts_swapped n p (moves_by n p node there out) free)
 
   pub has_reparented : (m n p : ℕ) → has n t ≡ true → has p t ≡ true → is_within n p t ≡ false → has m t ≡ true → has m (reparented n p t) ≡ true
-  has_reparented m n p node there out prot = go (is_child n p t)
-    where
-      go : (b : Bool) → has m (placed_under b n p t) ≡ true
-      go true = prot
-      go false = has_some m (moved n p t) (omega (arith, has_swapped m n p (moves_by n p node there out), times_some m t prot))
+  has_reparented m n p node there out prot =
+      by_reparented (λ u. has m u ≡ true) n p t prot (has_some m (moved n p t) (omega (arith, has_swapped m n p (moves_by n p node there out), times_some m t prot)))
 
   -- nothing is left without the topmost context
   pub nothing_left : removed top_context t ≡ Empty

@@ -1,12 +1,13 @@
 -- A session of which the deepest level ends, on its way through the portals.
-use Rattle.session_rules.proofs.Base.{◌≡◌, ◌≢◌, ℕ, ◌+◌, find, true, false, Option, Some, None, List, [], ◌∷◌, ◌++◌, refl, sym, ap, ◌∙◌, subst, inl, inr, arith, if◌then◌else◌, option_map_or, cases_eq, cases_Bool, ne_eqb, All-head, All-tail, All-weaker}
+use Rattle.session_rules.proofs.Base.{◌≡◌, All, ◌≢◌, ℕ, ◌+◌, find, true, false, Option, Some, None, List, [], ◌∷◌, ◌++◌, refl, sym, ap, ◌∙◌, subst, inl, inr, arith, if◌then◌else◌, option_map_or, cases_eq, cases_Bool, ne_eqb, All-head, All-tail, All-weaker}
 use Rattle.session_rules.proofs.Below.{Empty, Once, has, at, children, parent_of, changed, removed, at_some, at_absent, has_changed, at_changed, at_changed_other, parent_changed, children_changed, Item, KindId, ShelfState, Contexts, is_protected, gone, handed_in, Kind, KindTable, IsSoundTable, table_of, is_of, without_newest, Owner, OwnerTree, forgotten, has_begun, IsSound, once_of, sound_forgotten, Lock}
 use Rattle.session_rules.proofs.Rules.{LevelState, OpenPortal, StandingPlan, cache_context, plan_reference, portals_context, Scene, newest, portals_but, Ended, changes, context_gone, for_each, in_order, portal_gone, say, where_there, given_back, item_released, AreContexts, AreLevels, ArePlans, HasItems, IsItem, IsPlace, IsPortal, IsRow, referred, AreEnding, Ending, IsDone, IsLoose}
 use Rattle.pgs_step.specs.declared.events.What.TheVariants as what
 use Rattle.owner_items.proofs.Order.{All-without}
 use Rattle.session_rules.proofs.Guarded.{all_changed}
 use Rattle.session_rules.proofs.ContextsKept.{IsSame, contexts_level_gone, off_outside, same_removed}
-use Rattle.session_rules.proofs.HooksKept.{conserves_gone, hooks_ended}
+use Rattle.session_rules.proofs.HooksKept.{hooks_ended}
+use Rattle.session_rules.proofs.HookSums.{parts_gone}
 use Rattle.session_rules.proofs.HeldItems.{held_forgotten}
 use Rattle.session_rules.proofs.LevelsKept.{levels_stay}
 use Rattle.session_rules.proofs.Lone.{lone_changed, lone_left}
@@ -271,7 +272,7 @@ module _ (level : LevelState) (levels done : List LevelState) where
             is = refl;
             ending = search (
               contexts_level_gone t next h.contexts c place.own,
-              hooks_ended t (gone c t) s.around.shelf (conserves_gone c t h.contexts.once) h.hooks,
+              hooks_ended t (gone c t) s.around.shelf (parts_gone c t h.contexts.once) h.hooks,
               levels_beside t next h.contexts c p.expr cur place level levels u x b h.all,
               owners,
               plans_beside t next h.contexts c p.expr cur place s.session.plans u (referred x) b h.plans,

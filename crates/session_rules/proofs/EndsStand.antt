@@ -6,7 +6,8 @@ use Rattle.session_rules.specs.Ends.{aborted, cleaned_up, committed, empty_conte
 use Rattle.session_rules.specs.Standing.{IsActive, IsDeepest, AreContexts, AreHooks, AreLevels, AreOpen, AreDifferent, AreOwners, AreOuter, ArePlans, ArePortals, AreStacked, FitLevels, HasExited, HasItems, IsAtRest, IsAttached, IsDead, IsLevel, IsLive, IsOfPortal, IsOwner, IsPlace, IsPortal, IsMade, IsOpen, Stands, StandsBetweenLines, active_depth, owner_at, referred}
 use Rattle.session_rules.proofs.Forests.{has_left, parent_left}
 use Rattle.session_rules.proofs.ContextsKept.{IsSame, contexts_level_gone, nothing_left, off_outside, protected_has, same_removed, stay_same, top_protected}
-use Rattle.session_rules.proofs.HooksKept.{conserves_gone, hooks_ended}
+use Rattle.session_rules.proofs.HooksKept.{hooks_ended}
+use Rattle.session_rules.proofs.HookSums.{parts_gone}
 use Rattle.session_rules.proofs.Swept.{removed_swept}
 use Rattle.session_rules.proofs.HeldItems.{held_removed}
 use Rattle.session_rules.proofs.Releasing.{Tables, still_sound, swept_by, tabled, with_owners}
@@ -81,7 +82,7 @@ level_of name c o implicit aborted starting =
 pub contexts_without : (c : Option ℕ) (t : Contexts) (next : ℕ) (x : ShelfState) → AreContexts t next → AreHooks t x → ((n : ℕ) → c ≡ Some n → abort_context < n)
     → AreContexts (without_context c t) next × AreHooks (without_context c t) (handed_back c t x)
 contexts_without None t next x h k own = (h, k)
-contexts_without (Some n) t next x h k own = (contexts_level_gone t next h n (own n refl), hooks_ended t (gone n t) x (conserves_gone n t h.once) k)
+contexts_without (Some n) t next x h k own = (contexts_level_gone t next h n (own n refl), hooks_ended t (gone n t) x (parts_gone n t h.once) k)
 
 pub same_without : (c : Option ℕ) (t : Contexts) (next : ℕ) → AreContexts t next → (m : ℕ) → ((n : ℕ) → c ≡ Some n → (m ≢ n) × (has m (children n t) ≡ false)) → is_protected m t ≡ true
     → IsSame m t (without_context c t)
@@ -632,9 +633,9 @@ shut_from level levels s x now h same left fits spares =
           (λ p d. search (
             λ (n : ℕ) (e : _). place_spared (besides_of s) x abort_context spares h.plans.each n p.expr abort_context (d.portal.place n e),
             λ (n : ℕ) (e : _).
-            let a = d.portal.owner n e in
-            let st = left_still kinds level.owner old now left n a.there in
-            attached_by n p.created (gone_levels level levels) (gone_levels level levels) old now (λ _. st.there) st.parent (left_lone kinds level.owner old now left n) refl (λ j. j) a,
+                let a = d.portal.owner n e in
+                let st = left_still kinds level.owner old now left n a.there in
+                attached_by n p.created (gone_levels level levels) (gone_levels level levels) old now (λ _. st.there) st.parent (left_lone kinds level.owner old now left n) refl (λ j. j) a,
           )) s.session.portals h.portals,
       left_idle kinds level.owner old now h.kinds left h.owners.items,
     )
@@ -660,29 +661,21 @@ pub shut_stands : (level : LevelState) (levels : List LevelState) (s z : Scene) 
     → Stands (shut level levels a.parts.owners (with_parts a.parts s))
 shut_stands level levels s z open_level a h =
     let c : Shut level levels (with_parts a.parts s) = a.shut_is in
-    record {
-      contexts = c.contexts;
-      current = protected_has abort_context a.parts.contexts (c.contexts.own abort_context (omega arith) (omega arith)).protected;
-      hooks = c.hooks;
-      levels = (record { context = c.all.0.context; owner = c.all.0.owner; implicit = c.all.0.implicit }, c.all.1);
-      fit = (
-        record {
-          made = λ e. let m : IsMade level = h.fit.0.made e in record { context = m.context; owner = m.owner };
-          empty = λ n e. absurd (both_ways level.starting open_level.started e);
-          alone = λ n e. absurd (both_ways level.starting open_level.started e);
-          idle = λ n e. absurd (both_ways level.starting open_level.started e);
-          released = λ n _ e. c.idle n e;
-          at_abort = λ _. refl;
-          open_level = λ _. record { started = open_level.started; block = open_level.block };
-        },
-        c.outer,
-      );
-      owners = c.owners;
-      kinds = c.kinds;
-      portals = c.portals;
-      plans = c.plans;
-      snapshots = shut_stacked level levels (active_depth (level ∷ levels)) s.session.snapshots h.snapshots;
-    }
+    let mine : IsLevel (record level { aborted = true }) levels a.parts.contexts a.parts.owners = search (c.all.0) in
+    let deepest : IsDeepest (record level { aborted = true }) a.parts.contexts a.parts.owners abort_context = record {
+      made = λ e. let m : IsMade level = h.fit.0.made e in record { context = m.context; owner = m.owner };
+      empty = λ n e. absurd (both_ways level.starting open_level.started e);
+      alone = λ n e. absurd (both_ways level.starting open_level.started e);
+      idle = λ n e. absurd (both_ways level.starting open_level.started e);
+      released = λ n _ e. c.idle n e;
+      at_abort = λ _. refl;
+      open_level = λ _. record { started = open_level.started; block = open_level.block };
+    } in
+    search (
+      protected_has abort_context a.parts.contexts (c.contexts.own abort_context (omega arith) (omega arith)).protected,
+      c.all.1,
+      shut_stacked level levels (active_depth (level ∷ levels)) s.session.snapshots h.snapshots,
+    )
 
 -- The deepest level aborts.
 pub aborted_stands : (level : LevelState) (levels : List LevelState) (s : Scene) → level.aborted ≡ false → IsOpen level → Stands (settled (level ∷ levels) s)
@@ -713,19 +706,12 @@ away_stands level levels s h =
     let c : Shut level levels (with_parts a.parts s) = a.shut_is in
     let old : LevelState = record level { aborted = true } in
     let z : Scene = record (with_parts a.parts s) { session = record (with_parts a.parts s).session { current = abort_context; snapshots = kept_below (length (level ∷ levels)) s.session.snapshots } } in
-    let e : Ending old levels levels [] a.parts.portals z = record {
-      contexts = c.contexts;
-      hooks = c.hooks;
-      all = (record { context = c.all.0.context; owner = c.all.0.owner; implicit = c.all.0.implicit }, c.all.1);
-      outer = c.outer;
-      kinds = c.kinds;
-      owners = owners_end (table_of a.parts.kinds) a.parts.owners s.session.next_owner s.session.next_serial old levels a.parts.portals c.owners;
-      plans = c.plans;
-      ended = All-nil (IsDone old levels a.parts.contexts a.parts.owners abort_context);
-      rest = c.portals.each;
-      different = c.portals.different;
-      are = refl;
-    } in
+    let mine : IsLevel old levels a.parts.contexts a.parts.owners = search (c.all.0) in
+    let e : Ending old levels levels [] a.parts.portals z = search (
+      c.all.1,
+      owners_end (table_of a.parts.kinds) a.parts.owners s.session.next_owner s.session.next_serial old levels a.parts.portals c.owners,
+      All-nil (IsDone old levels a.parts.contexts a.parts.owners abort_context),
+    ) in
     subst (Leaves levels) (sym (ap (λ (y : Scene). (cleaned_up y).scene) a.is))
     (clean_from old levels z refl e c.idle (away_stacked level levels (active_depth (level ∷ levels)) s.session.snapshots h.fit.1 h.snapshots))
 
@@ -815,7 +801,7 @@ exited_left left h = record {
   snapshots = none_stacked left.session.snapshots h.snapshots;
   hooks = subst (λ (z : Contexts). AreHooks z (handed_in (gone top_context left.session.contexts).hooks left.around.shelf))
       (nothing_left left.session.contexts left.session.next_context h.contexts)
-      (hooks_ended left.session.contexts (gone top_context left.session.contexts) left.around.shelf (conserves_gone top_context left.session.contexts h.contexts.once) h.hooks);
+      (hooks_ended left.session.contexts (gone top_context left.session.contexts) left.around.shelf (parts_gone top_context left.session.contexts h.contexts.once) h.hooks);
 }
 
 pub exited_settled : (levels : List LevelState) (s : Scene) → Stands (settled levels s) → HasExited (exited (settled levels s)).scene

@@ -7,14 +7,15 @@ use Rattle.portal_store.specs.declared.portal.PortalState.TheVariants as portal
 use Rattle.context_rules.specs.Ends as ends
 use Rattle.session_rules.proofs.Guarded.{all_moved}
 use Rattle.session_rules.proofs.ContextsKept.{contexts_emptied, protected_has, same_emptied}
-use Rattle.session_rules.proofs.HooksKept.{conserves_children, hooks_ended}
+use Rattle.session_rules.proofs.HooksKept.{hooks_ended}
+use Rattle.session_rules.proofs.HookSums.{parts_children}
 use Rattle.session_rules.proofs.LevelsKept.{no_value, one_value}
 use Rattle.session_rules.proofs.Lone.{lone_emptied, own_emptied}
 use Rattle.session_rules.proofs.Stacked.{depth_small, depth_still}
 use Rattle.session_rules.proofs.PortalLists.{Changes, changed_one, owner_beside, owner_here, owner_split}
 use Rattle.session_rules.proofs.PortalsAmong.{attached_by, row_emptied}
 use Rattle.session_rules.proofs.Ending.{Beside, Leads, each_goes, goes_nothing, levels_beside, parts_of, places_beside, plans_beside, with_parts}
-use Rattle.session_rules.proofs.Replacing.{IsBeside, first_of_rest, kept, own_loose, replaced}
+use Rattle.session_rules.proofs.Replacing.{IsBeside, first_of_rest, kept, own_loose, replaced, replaced_leads, kept_owners}
 use Rattle.session_rules.proofs.Moving.{HasMoved, has_moved, loose_moved}
 use Rattle.session_rules.proofs.Passing.{IsBounded, bounded, levels_moved, plans_owner_moved, portal_moved}
 
@@ -93,15 +94,7 @@ module _ (level : LevelState) (levels : List LevelState) where
             let r : Ending level levels (gone_levels level levels) (front ++ (failed p ∷ [])) back (with_parts (record (parts_of s) { portals = front ++ (failed p ∷ back) }) s) =
             replaced level levels (gone_levels level levels) p (failed p) front back s s.session.contexts s.session.owners s.around.shelf h (changes_failed p) h.contexts h.hooks h.all (failed_owners p front back s h e) h.plans (λ r b d. d.portal) (λ r b k. k) own
             (λ n f z. absurd (cc f)) in
-            record {
-              front = front ++ (failed p ∷ []);
-              goes = record {
-                parts = record (parts_of s) { portals = portal_changed p.name failed s.session.portals };
-                same = refl;
-                is = refl;
-                ending = subst (λ (ps : List OpenPortal). Ending level levels (gone_levels level levels) (front ++ (failed p ∷ [])) back (with_parts (record (parts_of s) { portals = ps }) s)) (sym is) r;
-              };
-            }
+            replaced_leads level levels (gone_levels level levels) front back (failed p) s (record (parts_of s) { portals = portal_changed p.name failed s.session.portals }) is refl r
         go (Some c) q =
             let i = first_of_rest level levels (gone_levels level levels) p front back s h in
             let t : Contexts = s.session.contexts in
@@ -131,28 +124,16 @@ module _ (level : LevelState) (levels : List LevelState) where
               owner = λ n f. absurd (cc f);
               stage = inr (failed_stage p e (bounded p (level ∷ levels) i.stage));
             } in
-            let still : (ls : List LevelState) (r : OpenPortal) → IsBeside p r → IsPortal r ls t x cur → IsPortal r ls u x cur = λ ls r d k. record {
-              place = λ n f. places_beside t next h.contexts c p.expr cur place u b n r.expr (λ z. d.context n f (q ∙ ap Some (sym z))) (k.place n f);
-              made = k.made;
-              owner = k.owner;
-              stage = k.stage;
-            } in
+            let still : (ls : List LevelState) (r : OpenPortal) → IsBeside p r → IsPortal r ls t x cur → IsPortal r ls u x cur = λ ls r d k.
+            search (λ (n : ℕ) (f : _). places_beside t next h.contexts c p.expr cur place u b n r.expr (λ z. d.context n f (q ∙ ap Some (sym z))) (k.place n f)) in
             let r : Ending level levels (gone_levels level levels) (front ++ (failed p ∷ [])) back (with_parts (record (parts_of s) { contexts = u; shelf = shelf; portals = front ++ (failed p ∷ back) }) s) =
             replaced level levels (gone_levels level levels) p (failed p) front back s u x shelf h (changes_failed p) (contexts_emptied t next h.contexts c place.own)
-            (hooks_ended t (ends.children_gone c t) s.around.shelf (conserves_children c t h.contexts.once) h.hooks)
+            (hooks_ended t (ends.children_gone c t) s.around.shelf (parts_children c t h.contexts.once) h.hooks)
             (levels_beside t next h.contexts c p.expr cur place level levels u x b h.all)
             (failed_owners p front back s h e)
             (plans_beside t next h.contexts c p.expr cur place s.session.plans u (referred x) b h.plans)
             (λ r d k. still (gone_levels level levels) r d k.portal) (λ r d k. still (level ∷ levels) r d k) own (λ n f z. absurd (cc f)) in
-            record {
-              front = front ++ (failed p ∷ []);
-              goes = record {
-                parts = record (parts_of s) { contexts = u; shelf = shelf; portals = portal_changed p.name failed s.session.portals };
-                same = refl;
-                is = refl;
-                ending = subst (λ (ps : List OpenPortal). Ending level levels (gone_levels level levels) (front ++ (failed p ∷ [])) back (with_parts (record (parts_of s) { contexts = u; shelf = shelf; portals = ps }) s)) (sym is) r;
-              };
-            }
+            replaced_leads level levels (gone_levels level levels) front back (failed p) s (record (parts_of s) { contexts = u; shelf = shelf; portals = portal_changed p.name failed s.session.portals }) is refl r
 
     -- A portal from further out is withdrawn from the level.
     abbrev pub drawn : Bool → OpenPortal → OpenPortal
@@ -205,31 +186,11 @@ module _ (level : LevelState) (levels : List LevelState) where
           stage = inl (drawn_live b p e l ne);
         } in
         let keeps : (n : ℕ) → p.owner ≡ Some n → (if b then None else p.owner) ≡ Some n = keep b none in
-        let owners : AreEnding (table_of s.around.kinds) s.session.owners s.session.next_owner s.session.next_serial level levels (front ++ (q ∷ back)) = record {
-          sound = h.owners.sound;
-          each = λ n u. elim (h.owners.each n u) [
-            | inl j ↦ inl j
-            | inr k ↦ inr (elim k [
-              | inl j ↦ inl (elim (owner_split n p front back j) [ inl f ↦ owner_here n q front back (keeps n f) | inr r ↦ owner_beside n q front back r ])
-              | inr l ↦ inr l
-            ])
-          ];
-          begun = h.owners.begun;
-          fresh = h.owners.fresh;
-          items = h.owners.items;
-        } in
+        let owners : AreEnding (table_of s.around.kinds) s.session.owners s.session.next_owner s.session.next_serial level levels (front ++ (q ∷ back)) = kept_owners level levels _ p q front back s h keeps in
         let r : Ending level levels (gone_levels level levels) (front ++ (q ∷ [])) back (with_parts (record (parts_of s) { portals = front ++ (q ∷ back) }) s) =
         replaced level levels (gone_levels level levels) p q front back s s.session.contexts s.session.owners s.around.shelf h (changes_drawn b p) h.contexts h.hooks h.all owners h.plans (λ r d k. k.portal) (λ r d k. k) own
         (λ n f z. (i.owner n (drawn_owner b p n f)).other (inl z)) in
-        record {
-          front = front ++ (q ∷ []);
-          goes = record {
-            parts = record (parts_of s) { portals = portal_changed p.name withdraws s.session.portals };
-            same = refl;
-            is = refl;
-            ending = subst (λ (ps : List OpenPortal). Ending level levels (gone_levels level levels) (front ++ (q ∷ [])) back (with_parts (record (parts_of s) { portals = ps }) s)) (sym (drawn_in p b e front back s h)) r;
-          };
-        }
+        replaced_leads level levels (gone_levels level levels) front back q s (record (parts_of s) { portals = portal_changed p.name withdraws s.session.portals }) (drawn_in p b e front back s h) refl r
       where
         keep : (b : Bool) → (b ≡ true → p.owner ≡ None) → (n : ℕ) → p.owner ≡ Some n → (if b then None else p.owner) ≡ Some n
         keep true none n f = absurd (no_value p.owner n (none refl) f)
@@ -286,15 +247,7 @@ module _ (level : LevelState) (levels : List LevelState) where
         replaced level levels (gone_levels level levels) p q front back s t y s.around.shelf h (changes_drawn true p) h.contexts h.hooks (levels_moved (level ∷ levels) o lo t x s.session.current m a.other h.all) owners (plans_owner_moved s o lo once w h.plans)
         (λ r b d. portal_moved (gone_levels level levels) o lo t x s.session.current m p r owned b (inl is_lo) d.portal) (λ r b k. portal_moved (level ∷ levels) o lo t x s.session.current m p r owned b (inl is_lo) k) own
         (λ n f z. absurd (cc f)) in
-        record {
-          front = front ++ (q ∷ []);
-          goes = record {
-            parts = record (parts_of s) { owners = y; portals = portal_changed p.name withdraws s.session.portals };
-            same = refl;
-            is = refl;
-            ending = subst (λ (ps : List OpenPortal). Ending level levels (gone_levels level levels) (front ++ (q ∷ [])) back (with_parts (record (parts_of s) { owners = y; portals = ps }) s)) (sym (drawn_in p true e front back s h)) r;
-          };
-        }
+        replaced_leads level levels (gone_levels level levels) front back q s (record (parts_of s) { owners = y; portals = portal_changed p.name withdraws s.session.portals }) (drawn_in p true e front back s h) refl r
 
     pub aborted_leads : (p : OpenPortal) (front back : List OpenPortal) (s : Scene) → Ending level levels (gone_levels level levels) front (p ∷ back) s → Leads level levels (gone_levels level levels) back s (portal_aborted deep level.owner p s).scene
     aborted_leads p front back s h = by_created (p.created == deep) refl

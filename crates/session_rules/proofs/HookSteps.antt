@@ -9,6 +9,7 @@ use Rattle.session_rules.specs.HookCounts.{HookCount, HooksCounted, CountsHooks,
 use Rattle.session_rules.proofs.Forests.{has_put_other, once_emptied, once_left, times_emptied}
 use Rattle.session_rules.proofs.Sums.{sum_changed, sum_put, sum_same}
 use Rattle.session_rules.proofs.HookSums.{Parts, Runs, callbacks_both, hooks_ran, more_runs, none_run, of_context, parts_alone, parts_children, parts_cleared, parts_gone, registered_both, runs_ran, sum_waiting}
+use Rattle.session_rules.proofs.ContextsKept.{by_alone}
 
 -- each number of a context stands once, and is below the next one
 pub record AreNumbered (contexts : Contexts) (next : ℕ) : Type 0 where
@@ -62,40 +63,13 @@ ended_count t x e h =
     record {
       runs = λ n.
           let g : Hook → ℕ = λ hook. if hook.word == n then hook.runs else 0 in
-          omega (
-            arith,
-            h.said.callbacks n,
-            h.sums g,
-            runs_ran n (runs_of n (waiting e.contexts) + (runs_of n x.fresh + runs_of n x.spent)) e.hooks,
-            sum_by-append g (waiting t) (held x),
-            sum_by-append g x.fresh x.spent,
-            sum_by-append g (waiting e.contexts) (held (handed_in e.hooks x)),
-            sum_by-append g x.fresh (x.spent ++ ran_hooks),
-            sum_by-append g x.spent ran_hooks,
-          );
+          omega (arith, h.said.callbacks n, h.sums g, runs_ran n (runs_of n (waiting e.contexts) + (runs_of n x.fresh + runs_of n x.spent)) e.hooks, sum_by-append g);
       taken = λ n.
           let g : Hook → ℕ = λ hook. cond (hook.word == n) 1 0 in
-          omega (
-            arith,
-            h.said.others n,
-            h.sums g,
-            hooks_ran n e.hooks,
-            sum_by-append g (waiting t) x.spent,
-            sum_by-append g (waiting e.contexts) (x.spent ++ ran_hooks),
-            sum_by-append g x.spent ran_hooks,
-          );
+          omega (arith, h.said.others n, h.sums g, hooks_ran n e.hooks, sum_by-append g);
       whole = λ n.
           let g : Hook → ℕ = λ hook. cond (hook.word == n) 1 0 in
-          omega (
-            arith,
-            h.sums g,
-            hooks_ran n e.hooks,
-            sum_by-append g (waiting t) (held x),
-            sum_by-append g x.fresh x.spent,
-            sum_by-append g (waiting e.contexts) (held (handed_in e.hooks x)),
-            sum_by-append g x.fresh (x.spent ++ ran_hooks),
-            sum_by-append g x.spent ran_hooks,
-          );
+          omega (arith, h.sums g, hooks_ran n e.hooks, sum_by-append g);
     }
 
 -- a sum of ones
@@ -103,7 +77,7 @@ ones : (hooks : List Hook) → sum_by (λ _. 1) hooks ≡ length hooks
 ones [] = refl
 ones (hook ∷ hooks) = omega (arith, sum_by-cons (λ (_ : Hook). 1) hook hooks, ones hooks)
 
-counted_ended : (t : Contexts) (x : ShelfState) (e : ends.Ended) → Parts t e → HooksCounted t x e.contexts (handed_in e.hooks x) e.events
+pub counted_ended : (t : Contexts) (x : ShelfState) (e : ends.Ended) → Parts t e → HooksCounted t x e.contexts (handed_in e.hooks x) e.events
 counted_ended t x e h = record {
   counts = ended_count t x e h;
   out = λ fit. omega (arith, fit, h.sums (λ _. 1), ones (waiting t), ones (waiting e.contexts), ones e.hooks);
@@ -123,15 +97,7 @@ pub numbered_changed : (n : ℕ) (f : Context → Context) (t : Contexts) (next 
 numbered_changed n f t next k = record { once = once_changed n f t k.once; below = λ m u. k.below m (sym (has_changed m n f t) ∙ u) }
 
 numbered_alone : (n : ℕ) (t : Contexts) (next : ℕ) → AreNumbered t next → AreNumbered (cleared_alone n t).contexts next
-numbered_alone n t next k = go (at n t)
-  where
-    by_use : (c : Context) (b : Bool) → c.used ≡ b → AreNumbered (ends.reset_of n t c).contexts next
-    by_use c true u = rw u (numbered_changed n emptied t next k)
-    by_use c false u = rw u k
-
-    go : (x : Option Context) → AreNumbered (option_map_or (ends.reset_of n t) x (ends.unchanged t)).contexts next
-    go None = k
-    go (Some c) = by_use c c.used refl
+numbered_alone n t next k = by_alone (λ u. AreNumbered u next) n t k (numbered_changed n emptied t next k)
 
 -- contexts that go or are reset
 pub counted_gone : (n : ℕ) (s : Scene) → IsNumbered s → Counted s (context_gone n s)
@@ -164,13 +130,13 @@ kept_count : (t u : Contexts) (x : ShelfState) {events : List What} → Runs [] 
 kept_count t u x h same = record {
   runs = λ n.
       let g : Hook → ℕ = λ hook. if hook.word == n then hook.runs else 0 in
-      omega (arith, h.callbacks n, same g, sum_by-append g (waiting t) (held x), sum_by-append g (waiting u) (held x));
+      omega (arith, h.callbacks n, same g, sum_by-append g);
   taken = λ n.
       let g : Hook → ℕ = λ hook. cond (hook.word == n) 1 0 in
-      omega (arith, h.others n, same g, sum_by-append g (waiting t) x.spent, sum_by-append g (waiting u) x.spent);
+      omega (arith, h.others n, same g, sum_by-append g);
   whole = λ n.
       let g : Hook → ℕ = λ hook. cond (hook.word == n) 1 0 in
-      omega (arith, same g, sum_by-append g (waiting t) (held x), sum_by-append g (waiting u) (held x));
+      omega (arith, same g, sum_by-append g);
 }
 
 pub counted_kept : (t u : Contexts) (x : ShelfState) {events : List What} → Runs [] events → ((g : Hook → ℕ) → sum_by g (waiting u) ≡ sum_by g (waiting t)) → HooksCounted t x u x events
@@ -181,15 +147,9 @@ waiting_changed g n f t same =
     omega (arith, sum_waiting g t, sum_waiting g (changed n f t), sum_same (of_context g) n f t (λ c. ap (sum_by g) (same c)))
 
 -- a context is made
-waiting_put : (g : Hook → ℕ) (p n : ℕ) (c : Context) (t : Contexts) → Once t → c.hooks ≡ [] → sum_by g (waiting (put p n c Empty t)) ≡ sum_by g (waiting t)
+pub waiting_put : (g : Hook → ℕ) (p n : ℕ) (c : Context) (t : Contexts) → Once t → c.hooks ≡ [] → sum_by g (waiting (put p n c Empty t)) ≡ sum_by g (waiting t)
 waiting_put g p n c t o none = elim (cases_Bool (has p t)) [
-  | inl y ↦ omega (
-    arith,
-    sum_waiting g t,
-    sum_waiting g (put p n c Empty t),
-    sum_put (of_context g) p n c Empty t o y,
-    ap (sum_by g) none,
-  )
+  | inl y ↦ omega (arith, sum_waiting g, sum_put (of_context g) p n c Empty t o y, ap (sum_by g) none)
   | inr y ↦ rw (put_absent p n c Empty t y) refl
 ]
 
@@ -241,14 +201,7 @@ counted_moved n p s k node there out = go (is_child n p s.session.contexts)
 -- a hook of the shelf is registered with a context that is there
 one_waits : (g : Hook → ℕ) (n : ℕ) (f : Context → Context) (hook : Hook) (c : Context) (t : Contexts) → Once t → at n t ≡ Some c → (f c).hooks ≡ hook ∷ c.hooks → sum_by g (waiting (changed n f t)) ≡ sum_by g (waiting t) + g hook
 one_waits g n f hook c t o there more =
-    omega (
-      arith,
-      sum_waiting g t,
-      sum_waiting g (changed n f t),
-      sum_changed (of_context g) n f c t o there,
-      ap (sum_by g) more,
-      sum_by-cons g hook c.hooks,
-    )
+    omega (arith, sum_waiting g, sum_changed (of_context g) n f c t o there, ap (sum_by g) more, sum_by-cons g hook c.hooks)
 
 waits_count : (n : ℕ) (f : Context → Context) (hook : Hook) (c : Context) (t : Contexts) (x : ShelfState) (fresh : List Hook) → Once t → at n t ≡ Some c → (f c).hooks ≡ hook ∷ c.hooks → x.fresh ≡ hook ∷ fresh
     → HookCount (waiting t ++ held x) (waiting t ++ x.spent) (waiting (changed n f t) ++ (drop 1 x.fresh ++ x.spent)) (waiting (changed n f t) ++ x.spent) (what.Hook hook.word n ∷ [])
@@ -260,51 +213,33 @@ waits_count n f hook c t x fresh o there more is =
     record {
       runs = λ n.
           let g : Hook → ℕ = λ hook. if hook.word == n then hook.runs else 0 in
-          omega (
-            arith,
-            sums g,
-            had g,
-            left g,
-            sum_by-append g (waiting t) (held x),
-            sum_by-append g x.fresh x.spent,
-            sum_by-append g (waiting u) (drop 1 x.fresh ++ x.spent),
-            sum_by-append g (drop 1 x.fresh) x.spent,
-          );
+          omega (arith, sums g, had g, left g, sum_by-append g);
       taken = λ n.
           let g : Hook → ℕ = λ hook. cond (hook.word == n) 1 0 in
-          omega (arith, sums g, sum_by-append g (waiting t) x.spent, sum_by-append g (waiting u) x.spent);
+          omega (arith, sums g, sum_by-append g);
       whole = λ n.
           let g : Hook → ℕ = λ hook. cond (hook.word == n) 1 0 in
-          omega (
-            arith,
-            sums g,
-            had g,
-            left g,
-            sum_by-append g (waiting t) (held x),
-            sum_by-append g x.fresh x.spent,
-            sum_by-append g (waiting u) (drop 1 x.fresh ++ x.spent),
-            sum_by-append g (drop 1 x.fresh) x.spent,
-          );
+          omega (arith, sums g, had g, left g, sum_by-append g);
     }
 
-counted_waits : (n : ℕ) (f : Context → Context) (hook : Hook) (c : Context) (t : Contexts) (x : ShelfState) (fresh : List Hook) → Once t → at n t ≡ Some c → (f c).hooks ≡ hook ∷ c.hooks → x.fresh ≡ hook ∷ fresh
+pub counted_waits : (n : ℕ) (f : Context → Context) (hook : Hook) (c : Context) (t : Contexts) (x : ShelfState) (fresh : List Hook) → Once t → at n t ≡ Some c → (f c).hooks ≡ hook ∷ c.hooks → x.fresh ≡ hook ∷ fresh
     → HooksCounted t x (changed n f t) (taken x) (what.Hook hook.word n ∷ [])
 counted_waits n f hook c t x fresh o there more is = record {
   counts = waits_count n f hook c t x fresh o there more is;
   out = λ _. omega (arith, one_waits (λ _. 1) n f hook c t o there more, ones (waiting t), ones (waiting (changed n f t)));
 }
 
+-- the first of the fresh ones
+pub first_fresh : (xs : List Hook) (hook : Hook) → first_of xs ≡ Some hook → (ys : List Hook) × (xs ≡ hook ∷ ys)
+first_fresh [] hook e = absurd (cc e)
+first_fresh (y ∷ ys) hook e = let same : y ≡ hook = cc e in (ys, ap (λ (h : Hook). h ∷ ys) same)
+
 pub counted_hook : (n : ℕ) (hook : Hook) (s : Scene) → IsNumbered s → has n s.session.contexts ≡ true → first_of s.around.shelf.fresh ≡ Some hook → Counted s (hook_waits n hook s)
-counted_hook n hook s k there first = go s.around.shelf.fresh refl
-  where
-    go : (fresh : List Hook) → s.around.shelf.fresh ≡ fresh → Counted s (hook_waits n hook s)
-    go [] e = let z : None ≡ Some hook = ap first_of (sym e) ∙ first in absurd (cc z)
-    go (y ∷ ys) e =
-        let z : Some y ≡ Some hook = ap first_of (sym e) ∙ first in
-        let same : y ≡ hook = cc z in
-        let f : Context → Context = λ c. record c { used = true; hooks = hook ∷ c.hooks } in
-        let a = at_some n s.session.contexts there in
-        record {
-          numbered = numbered_changed n f s.session.contexts s.session.next_context k;
-          hooks = counted_waits n f hook a.0 s.session.contexts s.around.shelf ys k.once a.1 refl (e ∙ ap (λ (h : Hook). h ∷ ys) same);
-        }
+counted_hook n hook s k there first =
+    let fresh = first_fresh s.around.shelf.fresh hook first in
+    let f : Context → Context = λ c. record c { used = true; hooks = hook ∷ c.hooks } in
+    let a = at_some n s.session.contexts there in
+    record {
+      numbered = numbered_changed n f s.session.contexts s.session.next_context k;
+      hooks = counted_waits n f hook a.0 s.session.contexts s.around.shelf fresh.0 k.once a.1 refl fresh.1;
+    }

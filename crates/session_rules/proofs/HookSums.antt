@@ -91,12 +91,7 @@ callbacks_run : (m : ℕ) (hooks : List Hook) → Runs hooks (callbacks m hooks)
 callbacks_run m [] = none_run
 callbacks_run m (h ∷ hs) =
     let k : Runs hs (callbacks m hs) = callbacks_run m hs in record {
-      callbacks = λ n. omega (
-        arith,
-        callbacks_cons n (what.Callback h.word m) (callbacks m hs),
-        sum_by-cons (λ (hook : Hook). cond (hook.word == n) 1 0) h hs,
-        k.callbacks n,
-      );
+      callbacks = λ n. omega (arith, callbacks_cons n (what.Callback h.word m) (callbacks m hs), sum_by-cons (λ (hook : Hook). cond (hook.word == n) 1 0) h hs, k.callbacks n);
       others = λ n. omega (arith, registered_cons n (what.Callback h.word m) (callbacks m hs), k.others n);
     }
 
@@ -113,13 +108,7 @@ module _ (g : Hook → ℕ) where
   pub sum_waiting : (t : Contexts) → sum_by g (waiting t) ≡ sum_of of_context t
   sum_waiting Empty = refl
   sum_waiting (Node n c below beside) =
-      omega (
-        arith,
-        sum_by-append g (waiting below) (c.hooks ++ waiting beside),
-        sum_by-append g c.hooks (waiting beside),
-        sum_waiting below,
-        sum_waiting beside,
-      )
+      omega (arith, sum_by-append g, sum_waiting below, sum_waiting beside)
 
 pub record Parts (t : Contexts) (e : Ended) : Type 0 where
   pub said : Runs e.hooks e.events

@@ -15,8 +15,9 @@ use Rattle.session_rules.specs.Elements as element
 use Rattle.session_rules.specs.Acts.{Ended, of_contexts, children_gone, context_cleared, context_cleared_alone, context_gone, switched, where_there}
 use Rattle.session_rules.specs.Checks.{failure, refusal_at, tree_error}
 use Rattle.session_rules.proofs.Forests.{has_emptied, has_left, once_left}
-use Rattle.session_rules.proofs.ContextsKept.{Stay, apart, contexts_alone, contexts_changed, contexts_children_gone, contexts_created, contexts_gone, contexts_reparented, has_alone, has_created, has_reparented, moves_by, protected_has, same_removed, stay_alone, stay_changed, stay_children_gone, stay_created, stay_gone, stay_on, stay_reparented, stay_same, top_protected}
-use Rattle.session_rules.proofs.HooksKept.{conserves_alone, conserves_children, conserves_cleared, conserves_gone, hooks_ended, hooks_put, hooks_taken, hooks_reparented}
+use Rattle.session_rules.proofs.ContextsKept.{Stay, apart, contexts_alone, contexts_changed, contexts_children_gone, contexts_created, contexts_gone, contexts_reparented, has_alone, has_created, has_reparented, moves_by, protected_has, same_removed, stay_alone, stay_changed, stay_children_gone, stay_created, stay_gone, stay_on, stay_reparented, stay_same, top_protected, by_alone, by_reparented}
+use Rattle.session_rules.proofs.HooksKept.{hooks_ended, hooks_put, hooks_taken, hooks_reparented}
+use Rattle.session_rules.proofs.HookSums.{parts_alone, parts_children, parts_cleared, parts_gone}
 use Rattle.session_rules.proofs.LevelsKept.{IsContext, no_value, one_value}
 use Rattle.session_rules.proofs.Lone.{lone_changed, lone_emptied, lone_left, lone_moved, lone_put}
 use Rattle.session_rules.proofs.PlansAmong.{IsCached, levels_other, own_other, plans_current}
@@ -72,25 +73,28 @@ script_there name (Node k c below beside) n e =
         some_second false true z h = refl
         some_second false false z h = absurd (cc h)
 
--- A context that a name leads to is there.
-pub named_there : (name : Text) (s : Scene) (n : ℕ) → Stands s → context_named name s.session ≡ Some n → has n s.session.contexts ≡ true
-named_there name s n h e =
+-- A name leads to the topmost context, to the one for caches, to that of a level or to one of the script.
+leads_to : (P : Type 0) (name : Text) (s : SessionState) (n : ℕ) → context_named name s ≡ Some n
+    → (top_context ≡ n → P) → (cache_context ≡ n → P) → (IsContext n s.levels → P) → (rules.context_named name s.contexts ≡ Some n → P) → P
+leads_to P name s n e top cache level script =
     go (is_text name (codes "TopMemoryContext")) (is_text name (codes "CacheMemoryContext")) (is_text name (codes "TopTransactionContext")) (is_text name (codes "CurTransactionContext")) e
   where
     go : (a b c d : Bool)
-        → (if a then Some top_context else (if b then Some cache_context else (if c then context_of (last_of s.session.levels) else (if d then level_context s.session else rules.context_named name s.session.contexts)))) ≡ Some n
-        → has n s.session.contexts ≡ true
-    go true b c d e =
-        ap (λ (m : ℕ). has m s.session.contexts) (sym (one_value (Some top_context) top_context n refl e))
-        ∙ protected_has top_context s.session.contexts (top_protected s.session.contexts s.session.next_context h.contexts)
-    go false true c d e =
-        ap (λ (m : ℕ). has m s.session.contexts) (sym (one_value (Some cache_context) cache_context n refl e))
-        ∙ protected_has cache_context s.session.contexts (h.contexts.own cache_context (omega arith) (omega arith)).protected
-    go false false true d e =
-        level_there s.session.levels s.session.contexts s.session.owners n h.levels
-        (in_reverse s.session.levels n (first_context (reverse s.session.levels) n e))
-    go false false false true e = level_there s.session.levels s.session.contexts s.session.owners n h.levels (first_context s.session.levels n e)
-    go false false false false e = script_there name s.session.contexts n e
+        → (if a then Some top_context else (if b then Some cache_context else (if c then context_of (last_of s.levels) else (if d then level_context s else rules.context_named name s.contexts)))) ≡ Some n → P
+    go true b c d e = top (one_value (Some top_context) top_context n refl e)
+    go false true c d e = cache (one_value (Some cache_context) cache_context n refl e)
+    go false false true d e = level (in_reverse s.levels n (first_context (reverse s.levels) n e))
+    go false false false true e = level (first_context s.levels n e)
+    go false false false false e = script e
+
+-- It is there.
+pub named_there : (name : Text) (s : Scene) (n : ℕ) → Stands s → context_named name s.session ≡ Some n → has n s.session.contexts ≡ true
+named_there name s n h e =
+    leads_to (has n s.session.contexts ≡ true) name s.session n e
+    (λ z. ap (λ (m : ℕ). has m s.session.contexts) (sym z) ∙ protected_has top_context s.session.contexts (top_protected s.session.contexts s.session.next_context h.contexts))
+    (λ z. ap (λ (m : ℕ). has m s.session.contexts) (sym z) ∙ protected_has cache_context s.session.contexts (h.contexts.own cache_context (omega arith) (omega arith)).protected)
+    (λ i. level_there s.session.levels s.session.contexts s.session.owners n h.levels i)
+    (λ q. script_there name s.session.contexts n q)
 
 -- a context of the script is none of the session's own
 script_free : (name : Text) (t : Contexts) (n : ℕ) → Once t → rules.context_named name t ≡ Some n → is_protected n t ≡ false
@@ -122,88 +126,44 @@ script_free name (Node k c below beside) n o e =
 -- A context that a name leads to isn't that of a plan.
 pub named_other : (name : Text) (s : Scene) (n : ℕ) → Stands s → context_named name s.session ≡ Some n → (m : ℕ) → IsCached m s.session.contexts → n ≢ m
 named_other name s n h e m k =
-    go (is_text name (codes "TopMemoryContext")) (is_text name (codes "CacheMemoryContext")) (is_text name (codes "TopTransactionContext")) (is_text name (codes "CurTransactionContext")) e
-  where
-    go : (a b c d : Bool)
-        → (if a then Some top_context else (if b then Some cache_context else (if c then context_of (last_of s.session.levels) else (if d then level_context s.session else rules.context_named name s.session.contexts)))) ≡ Some n
-        → n ≢ m
-    go true b c d e = let z = one_value (Some top_context) top_context n refl e in own_other n (omega (arith, z)) s.session.contexts m k
-    go false true c d e = let z = one_value (Some cache_context) cache_context n refl e in own_other n (omega (arith, z)) s.session.contexts m k
-    go false false true d e =
-        levels_other s.session.levels s.session.contexts s.session.owners h.levels n
-        (in_reverse s.session.levels n (first_context (reverse s.session.levels) n e)) m k
-    go false false false true e = levels_other s.session.levels s.session.contexts s.session.owners h.levels n (first_context s.session.levels n e) m k
-    go false false false false e = λ z.
-        both_ways (is_protected n s.session.contexts) (script_free name s.session.contexts n h.contexts.once e) (ap (λ (j : ℕ). is_protected j s.session.contexts) z ∙ k.protected)
+    leads_to (n ≢ m) name s.session n e
+    (λ z. own_other n (omega (arith, z)) s.session.contexts m k) (λ z. own_other n (omega (arith, z)) s.session.contexts m k)
+    (λ i. levels_other s.session.levels s.session.contexts s.session.owners h.levels n i m k)
+    (λ q z. both_ways (is_protected n s.session.contexts) (script_free name s.session.contexts n h.contexts.once q) (ap (λ (j : ℕ). is_protected j s.session.contexts) z ∙ k.protected))
 
 -- nor is it that of a portal or of one row
 pub named_place : (name : Text) (s : Scene) (n : ℕ) → Stands s → context_named name s.session ≡ Some n → (m : ℕ) (expr : Option ℕ) → IsPlace m expr s.session.contexts s.session.current → IsPlace m expr s.session.contexts n
 named_place name s n h e m expr k =
-    go (is_text name (codes "TopMemoryContext")) (is_text name (codes "CacheMemoryContext")) (is_text name (codes "TopTransactionContext")) (is_text name (codes "CurTransactionContext")) e
-  where
-    go : (a b c d : Bool)
-        → (if a then Some top_context else (if b then Some cache_context else (if c then context_of (last_of s.session.levels) else (if d then level_context s.session else rules.context_named name s.session.contexts)))) ≡ Some n
-        → IsPlace m expr s.session.contexts n
-    go true b c d e = let z = one_value (Some top_context) top_context n refl e in place_own s.session.contexts s.session.next_context h.contexts n (omega (arith, z)) (omega (arith, z)) m expr s.session.current k
-    go false true c d e = let z = one_value (Some cache_context) cache_context n refl e in place_own s.session.contexts s.session.next_context h.contexts n (omega (arith, z)) (omega (arith, z)) m expr s.session.current k
-    go false false true d e =
-        place_level s.session.levels s.session.contexts s.session.owners h.contexts.once h.levels n
-        (in_reverse s.session.levels n (first_context (reverse s.session.levels) n e)) m expr s.session.current k
-    go false false false true e = place_level s.session.levels s.session.contexts s.session.owners h.contexts.once h.levels n (first_context s.session.levels n e) m expr s.session.current k
-    go false false false false e =
-        let free : is_protected n s.session.contexts ≡ false = script_free name s.session.contexts n h.contexts.once e in
-        place_current m expr s.session.contexts s.session.current n
-        (λ z. both_ways (is_protected n s.session.contexts) free (ap (λ (j : ℕ). is_protected j s.session.contexts) z ∙ k.protected))
-        (λ e q z. row_free s.session.contexts h.contexts.once n free m expr s.session.current k e q (sym z)) k
+    leads_to (IsPlace m expr s.session.contexts n) name s.session n e
+    (λ z. place_own s.session.contexts s.session.next_context h.contexts n (omega (arith, z)) (omega (arith, z)) m expr s.session.current k)
+    (λ z. place_own s.session.contexts s.session.next_context h.contexts n (omega (arith, z)) (omega (arith, z)) m expr s.session.current k)
+    (λ i. place_level s.session.levels s.session.contexts s.session.owners h.contexts.once h.levels n i m expr s.session.current k)
+    (λ q.
+    let free : is_protected n s.session.contexts ≡ false = script_free name s.session.contexts n h.contexts.once q in
+    place_current m expr s.session.contexts s.session.current n
+    (λ z. both_ways (is_protected n s.session.contexts) free (ap (λ (j : ℕ). is_protected j s.session.contexts) z ∙ k.protected))
+    (λ e q z. row_free s.session.contexts h.contexts.once n free m expr s.session.current k e q (sym z)) k)
 
 -- rows behind a reset, and where another context moves
 row_alone : (t : Contexts) → Once t → (k m : ℕ) (expr : Option ℕ) (current : ℕ) → IsPlace m expr t current → IsRow expr (children m (ends.cleared_alone k t).contexts)
-row_alone t once k m expr current h = go (at k t)
-  where
-    by_use : (c : Context) (b : Bool) → c.used ≡ b → IsRow expr (children m (ends.reset_of k t c).contexts)
-    by_use c true u = rw u (row_changed t once m expr current h k ends.emptied (λ c. refl))
-    by_use c false u = rw u h.row
-
-    go : (o : Option Context) → IsRow expr (children m (option_map_or (ends.reset_of k t) o (ends.unchanged t)).contexts)
-    go None = h.row
-    go (Some c) = by_use c c.used refl
+row_alone t once k m expr current h = by_alone (λ u. IsRow expr (children m u)) k t h.row (row_changed t once m expr current h k ends.emptied (λ c. refl))
 
 row_reparented : (m : ℕ) (expr : Option ℕ) (n p : ℕ) (t : Contexts) (next current : ℕ) → AreContexts t next → Moves n p t → m ≢ n → has m (children n t) ≡ false → is_protected n t ≡ false → IsPlace m expr t p → IsPlace m expr t current
     → IsRow expr (children m (reparented n p t))
-row_reparented m expr n p t next current contexts moves ne out free named k = go (rules.is_child n p t)
-  where
-    a : (c : Context) × (at n t ≡ Some c)
-    a = at_some n t moves.node
-
-    left : IsPlace m expr (removed n t) current
-    left = place_same m expr t (removed n t) current (same_removed t next contexts m n (ne, out) k.protected) (row_left t contexts.once m expr current k n ne out (row_free t contexts.once n free m expr current k)) k
-
-    swapped : (c : Context) → at n t ≡ Some c → IsPlace m expr (removed n t) current → IsRow expr (children m (moved n p t))
-    swapped c e l =
-        rw e (row_put (removed n t) (once_left n t contexts.once) m expr current l p n c (children n t) (λ z. named.other (sym z)) ne out (λ e q z. named.apart (q ∙ ap Some z)))
-
-    go : (b : Bool) → IsRow expr (children m (rules.placed_under b n p t))
-    go true = k.row
-    go false = swapped a.0 a.1 left
+row_reparented m expr n p t next current contexts moves ne out free named k =
+    let a = at_some n t moves.node in
+    let left : IsPlace m expr (removed n t) current =
+    place_same m expr t (removed n t) current (same_removed t next contexts m n (ne, out) k.protected) (row_left t contexts.once m expr current k n ne out (row_free t contexts.once n free m expr current k)) k in
+    let swapped : IsRow expr (children m (moved n p t)) =
+    rw a.1 (row_put (removed n t) (once_left n t contexts.once) m expr current left p n a.0 (children n t) (λ z. named.other (sym z)) ne out (λ e q z. named.apart (q ∙ ap Some z))) in
+    by_reparented (λ u. IsRow expr (children m u)) n p t k.row swapped
 
 -- a node without children has none behind a reset, nor where another one moves
 lone_alone : (m n : ℕ) (t : Contexts) → children m t ≡ Empty → children m (ends.cleared_alone n t).contexts ≡ Empty
-lone_alone m n t e = go (at n t)
-  where
-    by_use : (c : Context) (b : Bool) → c.used ≡ b → children m (ends.reset_of n t c).contexts ≡ Empty
-    by_use c true u = rw u (lone_changed m n ends.emptied t e)
-    by_use c false u = rw u e
-
-    go : (o : Option Context) → children m (option_map_or (ends.reset_of n t) o (ends.unchanged t)).contexts ≡ Empty
-    go None = e
-    go (Some c) = by_use c c.used refl
+lone_alone m n t e = by_alone (λ u. children m u ≡ Empty) n t e (lone_changed m n ends.emptied t e)
 
 lone_reparented : (m n p : ℕ) (t : Contexts) → Once t → Moves n p t → m ≢ p → m ≢ n → has m (children n t) ≡ false → children m t ≡ Empty → children m (reparented n p t) ≡ Empty
-lone_reparented m n p t once moves other ne out e = go (rules.is_child n p t)
-  where
-    go : (b : Bool) → children m (rules.placed_under b n p t) ≡ Empty
-    go true = e
-    go false = lone_moved m n p t once moves other ne out e
+lone_reparented m n p t once moves other ne out e = by_reparented (λ u. children m u ≡ Empty) n p t e (lone_moved m n p t once moves other ne out e)
 
 -- what the checks say
 no_error : (o : Option TreeError) → option_map tree_error o ≡ None → o ≡ None
@@ -238,7 +198,7 @@ gone_step s n h working free out =
     let w = or_parts (s.session.current == n) (is_above n s.session.current t) out in
     ended_step s h working (ends.gone n t) (contexts_gone t next h.contexts n free) (stay_gone t next h.contexts n free)
     (has_left s.session.current n t h.contexts.once (λ e. both_ways (s.session.current == n) w.0 (eq-eqb s.session.current n e)) w.1 ∙ h.current)
-    (hooks_ended t (ends.gone n t) s.around.shelf (conserves_gone n t h.contexts.once) h.hooks)
+    (hooks_ended t (ends.gone n t) s.around.shelf (parts_gone n t h.contexts.once) h.hooks)
     (λ m k. let out = apart t next h.contexts m n free k.protected in lone_left m n t h.contexts.once out.0 out.1 k.lone)
     (λ m expr k.
     let w = apart t next h.contexts m n free k.protected in row_left t h.contexts.once m expr s.session.current k n w.0 w.1 (row_free t h.contexts.once n free m expr s.session.current k))
@@ -249,7 +209,7 @@ children_step s n h working free out =
     let next : ℕ = s.session.next_context in
     ended_step s h working (ends.children_gone n t) (contexts_children_gone t next h.contexts n free) (stay_children_gone t next h.contexts n free)
     (has_emptied s.session.current n t h.contexts.once out ∙ h.current)
-    (hooks_ended t (ends.children_gone n t) s.around.shelf (conserves_children n t h.contexts.once) h.hooks)
+    (hooks_ended t (ends.children_gone n t) s.around.shelf (parts_children n t h.contexts.once) h.hooks)
     (λ m k. lone_emptied m n t h.contexts.once (apart t next h.contexts m n free k.protected).1 k.lone)
     (λ m expr k. let w = apart t next h.contexts m n free k.protected in row_emptied t h.contexts.once m expr s.session.current k n w.0 w.1)
 
@@ -259,7 +219,7 @@ alone_step s n h working =
     let next : ℕ = s.session.next_context in
     ended_step s h working (ends.cleared_alone n t) (contexts_alone t next h.contexts n) (stay_alone t next h.contexts n)
     (has_alone t next h.contexts s.session.current n ∙ h.current)
-    (hooks_ended t (ends.cleared_alone n t) s.around.shelf (conserves_alone n t h.contexts.once) h.hooks)
+    (hooks_ended t (ends.cleared_alone n t) s.around.shelf (parts_alone n t h.contexts.once) h.hooks)
     (λ m k. lone_alone m n t k.lone)
     (λ m expr k. row_alone t h.contexts.once n m expr s.session.current k)
 
@@ -272,7 +232,7 @@ cleared_step s n h working free out =
     ended_step s h working (ends.cleared n t) (contexts_alone u next c n)
     (stay_on t u (ends.cleared_alone n u).contexts (stay_children_gone t next h.contexts n free) (stay_alone u next c n))
     (has_alone u next c s.session.current n ∙ has_emptied s.session.current n t h.contexts.once out ∙ h.current)
-    (hooks_ended t (ends.cleared n t) s.around.shelf (conserves_cleared n t h.contexts.once) h.hooks)
+    (hooks_ended t (ends.cleared n t) s.around.shelf (parts_cleared n t h.contexts.once) h.hooks)
     (λ m k. lone_alone m n u (lone_emptied m n t h.contexts.once (apart t next h.contexts m n free k.protected).1 k.lone))
     (λ m expr k.
     let w = apart t next h.contexts m n free k.protected in
@@ -287,7 +247,7 @@ moved_step s n p h working node there free out other named =
     let stay : Stay t (reparented n p t) = stay_reparented t next h.contexts n p node there free out in
     contexts_step s h working (reparented n p t) next s.session.current s.around.shelf s.session.plans (contexts_reparented t next h.contexts n p node there free out)
     stay (has_reparented t next h.contexts s.session.current n p node there out h.current)
-    (hooks_reparented n p t s.around.shelf h.contexts.once node there out h.hooks)
+    (hooks_reparented n p t s.around.shelf h.contexts.once (moves_by t next h.contexts n p node there out) h.hooks)
     (still_planned s (reparented n p t) h stay (λ m k.
     let w = apart t next h.contexts m n free k.protected in lone_reparented m n p t h.contexts.once (moves_by t next h.contexts n p node there out) (λ z. other m k (sym z)) w.0 w.1 k.lone))
     (still_portals s (reparented n p t) h stay (λ m expr k.
@@ -384,7 +344,7 @@ module _ (w : Option ℕ) (moment : Moment) (h : Stands moment.scene) (working :
             (contexts_created t next h.contexts p name kind false there (λ z. absurd (cc z)))
             (stay_created t next h.contexts p name kind false)
             (has_created t next h.contexts moment.scene.session.current p name kind false h.current)
-            (hooks_put p next (new_context name kind false) t moment.scene.around.shelf h.contexts.once there refl h.hooks)
+            (hooks_put p next (new_context name kind false) t moment.scene.around.shelf h.contexts.once refl h.hooks)
             (still_planned moment.scene (created p next name kind false t) h (stay_created t next h.contexts p name kind false)
             (λ m k. lone_put m p next (new_context name kind false) Empty t (λ z. named_other parent moment.scene p h e m k (sym z)) (λ z. omega (arith, z, h.contexts.below m (protected_has m t k.protected))) refl k.lone))
             (still_portals moment.scene (created p next name kind false t) h (stay_created t next h.contexts p name kind false)

@@ -12,7 +12,7 @@ use Rattle.session_rules.proofs.PlansAmong.{plans_counted}
 use Rattle.session_rules.proofs.PortalLists.{Changes, changed_one, owner_beside, owner_here, owner_split}
 use Rattle.session_rules.proofs.PortalsAmong.{attached_by}
 use Rattle.session_rules.proofs.Ending.{Leads, each_goes, parts_of, with_parts}
-use Rattle.session_rules.proofs.Replacing.{IsBeside, first_of_rest, replaced}
+use Rattle.session_rules.proofs.Replacing.{IsBeside, first_of_rest, replaced, replaced_leads, kept_owners}
 use Rattle.session_rules.proofs.Moving.{HasMoved, has_moved, loose_moved}
 
 -- where a portal's owner moves to an owner of these levels
@@ -153,31 +153,11 @@ module _ (level : LevelState) (levels : List LevelState) (some : 1 ≤ length le
             };
         stage = inl (passed_live p h.outer i.stage);
       } in
-      let owners : AreEnding (table_of s.around.kinds) s.session.owners s.session.next_owner s.session.next_serial level levels (front ++ (q ∷ back)) = record {
-        sound = h.owners.sound;
-        each = λ n u. elim (h.owners.each n u) [
-          | inl j ↦ inl j
-          | inr k ↦ inr (elim k [
-            | inl j ↦ inl (elim (owner_split n p front back j) [ inl e ↦ owner_here n q front back e | inr r ↦ owner_beside n q front back r ])
-            | inr l ↦ inr l
-          ])
-        ];
-        begun = h.owners.begun;
-        fresh = h.owners.fresh;
-        items = h.owners.items;
-      } in
+      let owners : AreEnding (table_of s.around.kinds) s.session.owners s.session.next_owner s.session.next_serial level levels (front ++ (q ∷ back)) = kept_owners level levels levels p q front back s h (λ n e. e) in
       let e : Ending level levels levels (front ++ (q ∷ [])) back (with_parts (record (parts_of s) { portals = front ++ (q ∷ back) }) s) =
       replaced level levels levels p q front back s s.session.contexts s.session.owners s.around.shelf h (changes_passed p) h.contexts h.hooks h.all owners h.plans (λ r b d. d.portal) (λ r b k. k) own
       (λ n f z. (i.owner n f).other (inl z)) in
-      record {
-        front = front ++ (q ∷ []);
-        goes = record {
-          parts = record (parts_of s) { portals = portals };
-          same = refl;
-          is = refl;
-          ending = subst (λ (ps : List OpenPortal). Ending level levels levels (front ++ (q ∷ [])) back (with_parts (record (parts_of s) { portals = ps }) s)) (sym is) e;
-        };
-      }
+      replaced_leads level levels levels front back q s (record (parts_of s) { portals = portals }) is refl e
 
   -- its owner moves to that of the level above
   pub moves : (p : OpenPortal) (front back : List OpenPortal) (s : Scene) (o q : ℕ) → Ending level levels levels front (p ∷ back) s → p.created ≡ depth → p.owner ≡ Some o → owner_of (first_of levels) ≡ Some q
@@ -235,15 +215,7 @@ module _ (level : LevelState) (levels : List LevelState) (some : 1 ≤ length le
       replaced level levels levels p new front back s t y s.around.shelf h (changes_passed p) h.contexts h.hooks (levels_moved (level ∷ levels) o q t x s.session.current m a.other h.all) owners (plans_owner_moved s o q once w h.plans)
       (λ r b d. portal_moved levels o q t x s.session.current m p r owned b upper d.portal) (λ r b k. portal_moved (level ∷ levels) o q t x s.session.current m p r owned b (inr upper) k) own
       (λ n f z. a.other (inl (z ∙ ap Some (one_value p.owner n o f owned)))) in
-      record {
-        front = front ++ (new ∷ []);
-        goes = record {
-          parts = record (parts_of s) { owners = y; portals = portals };
-          same = refl;
-          is = refl;
-          ending = subst (λ (ps : List OpenPortal). Ending level levels levels (front ++ (new ∷ [])) back (with_parts (record (parts_of s) { owners = y; portals = ps }) s)) (sym is) e;
-        };
-      }
+      replaced_leads level levels levels front back new s (record (parts_of s) { owners = y; portals = portals }) is refl e
     where
       not_aborted : (r : OpenPortal) → IsLive r (level ∷ levels) → r.created ≡ depth → level.aborted ≡ false
       not_aborted r l deep = elim (cases_Bool level.aborted) [

@@ -43,18 +43,18 @@ split n p (q ∷ qs) apart e = elim (cases_Bool (q.number == n)) [
       }
 ]
 
--- what holds of each plan of such a list
-module _ (P : StandingPlan → Type 0) where
-  pub all_replaced : (p q : StandingPlan) (front back : List StandingPlan) → (P p → P q) → All P (front ++ (p ∷ back)) → All P (front ++ (q ∷ back))
+-- what holds of each of a list with one in the middle
+module _ {A : Type 0} (P : A → Type 0) where
+  pub all_replaced : (p q : A) (front back : List A) → (P p → P q) → All P (front ++ (p ∷ back)) → All P (front ++ (q ∷ back))
   all_replaced p q [] back so h = All-cons P q back (so (All-head P p back h)) (All-tail P p back h)
   all_replaced p q (x ∷ xs) back so h =
       All-cons P x (xs ++ (q ∷ back)) (All-head P x (xs ++ (p ∷ back)) h) (all_replaced p q xs back so (All-tail P x (xs ++ (p ∷ back)) h))
 
-  pub all_without : (p : StandingPlan) (front back : List StandingPlan) → All P (front ++ (p ∷ back)) → All P (front ++ back)
+  pub all_without : (p : A) (front back : List A) → All P (front ++ (p ∷ back)) → All P (front ++ back)
   all_without p [] back h = All-tail P p back h
   all_without p (x ∷ xs) back h = All-cons P x (xs ++ back) (All-head P x (xs ++ (p ∷ back)) h) (all_without p xs back (All-tail P x (xs ++ (p ∷ back)) h))
 
-  pub all_middle : (p : StandingPlan) (front back : List StandingPlan) → All P (front ++ (p ∷ back)) → P p
+  pub all_middle : (p : A) (front back : List A) → All P (front ++ (p ∷ back)) → P p
   all_middle p [] back h = All-head P p back h
   all_middle p (x ∷ xs) back h = all_middle p xs back (All-tail P x (xs ++ (p ∷ back)) h)
 

@@ -74,7 +74,7 @@ made_step s n h working free =
     (contexts_created t next h.contexts cache_context name kind.Small true there (λ _. guarded))
     stay
     (has_created t next h.contexts s.session.current cache_context name kind.Small true h.current)
-    (hooks_put cache_context next (new_context name kind.Small true) t s.around.shelf h.contexts.once there refl h.hooks)
+    (hooks_put cache_context next (new_context name kind.Small true) t s.around.shelf h.contexts.once refl h.hooks)
     (record {
       each = All-push (λ plan. IsPlan plan u s.session.current) s.session.plans new still.each own;
       apart = pushed_apart s.session.plans new differ still.apart;

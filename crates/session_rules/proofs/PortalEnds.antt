@@ -8,7 +8,8 @@ use Rattle.session_rules.specs.Standing.{AreContexts, AreLevels, AreOwners, AreP
 use Rattle.session_rules.proofs.Forests.{at_left, has_left, parent_left}
 use Rattle.session_rules.proofs.Guarded.{all_removed}
 use Rattle.session_rules.proofs.ContextsKept.{contexts_level_gone}
-use Rattle.session_rules.proofs.HooksKept.{conserves_gone, hooks_ended}
+use Rattle.session_rules.proofs.HooksKept.{hooks_ended}
+use Rattle.session_rules.proofs.HookSums.{parts_gone}
 use Rattle.session_rules.proofs.LevelsKept.{begun_has, levels_stay, no_value, one_value}
 use Rattle.session_rules.proofs.Settling.{Fits, HasSettled, besides_of, release_settles, with_besides}
 use Rattle.session_rules.proofs.Releasing.{swept_by, with_owners}
@@ -88,22 +89,15 @@ gone_works s name p h working e none = go p.context refl
         let m : Named name p s.session.portals = named_in name p s.session.portals e in
         let was : ArePortals (m.front ++ (p ∷ m.back)) s.session.levels s.session.contexts s.session.owners s.session.current = split_portals s h working name p m in
         let P : OpenPortal → Type 0 = λ r. IsPortal r s.session.levels s.session.contexts s.session.owners s.session.current in
+        let portals : ArePortals (m.front ++ m.back) s.session.levels s.session.contexts s.session.owners s.session.current = record {
+          each = All-append P m.front m.back (all_front P m.front (p ∷ m.back) was.each) (All-tail P p m.back (all_back P m.front (p ∷ m.back) was.each));
+          different = different_without p m.front m.back was.different;
+        } in
         record {
-          stands = record {
-            contexts = h.contexts;
-            current = h.current;
-            hooks = h.hooks;
-            levels = h.levels;
-            fit = h.fit;
-            kinds = h.kinds;
-            owners = subst (λ (ps : List OpenPortal). AreOwners (table_of s.around.kinds) s.session.owners s.session.next_owner s.session.next_serial s.session.levels ps) (sym left) owned;
-            portals = subst (λ (ps : List OpenPortal). ArePortals ps s.session.levels s.session.contexts s.session.owners s.session.current) (sym left) (record {
-              each = All-append P m.front m.back (all_front P m.front (p ∷ m.back) was.each) (All-tail P p m.back (all_back P m.front (p ∷ m.back) was.each));
-              different = different_without p m.front m.back was.different;
-            });
-            plans = h.plans;
-            snapshots = h.snapshots;
-          };
+          stands = search (
+            subst (λ (ps : List OpenPortal). AreOwners (table_of s.around.kinds) s.session.owners s.session.next_owner s.session.next_serial s.session.levels ps) (sym left) owned,
+            subst (λ (ps : List OpenPortal). ArePortals ps s.session.levels s.session.contexts s.session.owners s.session.current) (sym left) portals,
+          );
           levels = refl;
           at_rest = rests_but p.name s.session.portals;
         }
@@ -127,23 +121,22 @@ gone_works s name p h working e none = go p.context refl
         let Q : OpenPortal → Type 0 = λ r. IsPortal r ls u x cur in
         let before : All P m.front = all_front P m.front (p ∷ m.back) was.each in
         let behind : All P m.back = All-tail P p m.back (all_back P m.front (p ∷ m.back) was.each) in
+        let portals : ArePortals (m.front ++ m.back) ls u x cur = record {
+          each = All-append Q m.front m.back (λ k r below. let o = fronts k r below in still _ (λ v f z. o.context v (q ∙ ap Some (sym z)) f) (before k r below))
+              (λ k r below. let o = backs k r below in still _ (λ v f z. o.context v f (q ∙ ap Some (sym z))) (behind k r below));
+          different = different_without p m.front m.back was.different;
+        } in
         record {
-          stands = record {
-            contexts = contexts_level_gone t next h.contexts c place.own;
-            current = has_left cur c t h.contexts.once place.other outside ∙ h.current;
-            hooks = hooks_ended t (gone c t) s.around.shelf (conserves_gone c t h.contexts.once) h.hooks;
-            levels = levels_all t next h.contexts c p.expr cur place ls u x b h.levels;
-            fit = fit_working ls t u x x cur cur working h.fit;
-            kinds = h.kinds;
-            owners = subst (λ (ps : List OpenPortal). AreOwners (table_of s.around.kinds) x s.session.next_owner s.session.next_serial ls ps) (sym left) owned;
-            portals = subst (λ (ps : List OpenPortal). ArePortals ps ls u x cur) (sym left) (record {
-              each = All-append Q m.front m.back (λ k r below. let o = fronts k r below in still _ (λ v f z. o.context v (q ∙ ap Some (sym z)) f) (before k r below))
-                  (λ k r below. let o = backs k r below in still _ (λ v f z. o.context v f (q ∙ ap Some (sym z))) (behind k r below));
-              different = different_without p m.front m.back was.different;
-            });
-            plans = plans_beside t next h.contexts c p.expr cur place s.session.plans u (referred x) b h.plans;
-            snapshots = h.snapshots;
-          };
+          stands = search (
+            contexts_level_gone t next h.contexts c place.own,
+            has_left cur c t h.contexts.once place.other outside ∙ h.current,
+            hooks_ended t (gone c t) s.around.shelf (parts_gone c t h.contexts.once) h.hooks,
+            levels_all t next h.contexts c p.expr cur place ls u x b h.levels,
+            fit_working ls t u x x cur cur working h.fit,
+            subst (λ (ps : List OpenPortal). AreOwners (table_of s.around.kinds) x s.session.next_owner s.session.next_serial ls ps) (sym left) owned,
+            subst (λ (ps : List OpenPortal). ArePortals ps ls u x cur) (sym left) portals,
+            plans_beside t next h.contexts c p.expr cur place s.session.plans u (referred x) b h.plans,
+          );
           levels = refl;
           at_rest = rests_but p.name s.session.portals;
         }

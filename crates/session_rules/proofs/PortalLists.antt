@@ -2,6 +2,7 @@
 use Rattle.session_rules.proofs.Base.{◌≡◌, ◌≢◌, ◌⊎◌, ℕ, false, Some, List, [], ◌∷◌, ◌++◌, refl, sym, ap, ◌∙◌, inl, inr, All, false_from_ne_true, All-nil, All-cons, All-head, All-tail, All-weaker}
 use Rattle.session_rules.proofs.Rules.{OpenPortal, portal_changed, portals_but, AreDifferent, AreOther, IsOfPortal}
 use Rattle.session_rules.proofs.Below.{is_text, is_text-means, is_text-same}
+use Rattle.session_rules.proofs.PlansKept.{all_replaced, all_without}
 
 -- what holds of each portal of such a list
 module _ (P : OpenPortal → Type 0) where
@@ -24,23 +25,15 @@ others_back p [] back h = h.0
 others_back p (x ∷ xs) back h = others_back p xs back h.1
 
 -- one goes
-without_one : (P : OpenPortal → Type 0) (p : OpenPortal) (front back : List OpenPortal) → All P (front ++ (p ∷ back)) → All P (front ++ back)
-without_one P p [] back h = All-tail P p back h
-without_one P p (x ∷ xs) back h = All-cons P x (xs ++ back) (All-head P x (xs ++ (p ∷ back)) h) (without_one P p xs back (All-tail P x (xs ++ (p ∷ back)) h))
-
 pub different_without : (p : OpenPortal) (front back : List OpenPortal) → AreDifferent (front ++ (p ∷ back)) → AreDifferent (front ++ back)
 different_without p [] back h = h.1
-different_without p (x ∷ xs) back h = (without_one (AreOther x) p xs back h.0, different_without p xs back h.1)
+different_without p (x ∷ xs) back h = (all_without (AreOther x) p xs back h.0, different_without p xs back h.1)
 
 -- one changes: it keeps its name, and gets neither another context nor another owner
 pub record Changes (p q : OpenPortal) : Type 0 where
   pub name : q.name ≡ p.name
   pub context : (n : ℕ) → q.context ≡ Some n → p.context ≡ Some n
   pub owner : (n : ℕ) → q.owner ≡ Some n → p.owner ≡ Some n
-
-with_one : (P : OpenPortal → Type 0) (p q : OpenPortal) (front back : List OpenPortal) → (P p → P q) → All P (front ++ (p ∷ back)) → All P (front ++ (q ∷ back))
-with_one P p q [] back so h = All-cons P q back (so (All-head P p back h)) (All-tail P p back h)
-with_one P p q (x ∷ xs) back so h = All-cons P x (xs ++ (q ∷ back)) (All-head P x (xs ++ (p ∷ back)) h) (with_one P p q xs back so (All-tail P x (xs ++ (p ∷ back)) h))
 
 pub different_changed : (p q : OpenPortal) (front back : List OpenPortal) → Changes p q → AreDifferent (front ++ (p ∷ back)) → AreDifferent (front ++ (q ∷ back))
 different_changed p q [] back c h = (
@@ -49,7 +42,7 @@ different_changed p q [] back c h = (
   h.1,
 )
 different_changed p q (x ∷ xs) back c h = (
-  with_one (AreOther x) p q xs back (λ o. record { name = λ z. o.name (sym c.name ∙ z); context = λ n e f. o.context n (c.context n e) f; owner = λ n e f. o.owner n (c.owner n e) f }) h.0,
+  all_replaced (AreOther x) p q xs back (λ o. record { name = λ z. o.name (sym c.name ∙ z); context = λ n e f. o.context n (c.context n e) f; owner = λ n e f. o.owner n (c.owner n e) f }) h.0,
   different_changed p q xs back c h.1,
 )
 
@@ -113,7 +106,7 @@ different_new p q [] back new name owner is off h = (
 )
 different_new p q (x ∷ xs) back new name owner is off h =
     let mine : (n : ℕ) → x.context ≡ Some n → n ≢ new = All-head (λ r. (n : ℕ) → r.context ≡ Some n → n ≢ new) x (xs ++ (p ∷ back)) off in (
-      with_one (AreOther x) p q xs back (λ o. record { name = λ z. o.name (sym name ∙ z); context = λ n e g. mine n g (is n e); owner = λ n e g. o.owner n (owner n e) g }) h.0,
+      all_replaced (AreOther x) p q xs back (λ o. record { name = λ z. o.name (sym name ∙ z); context = λ n e g. mine n g (is n e); owner = λ n e g. o.owner n (owner n e) g }) h.0,
       different_new p q xs back new name owner is (All-tail (λ r. (n : ℕ) → r.context ≡ Some n → n ≢ new) x (xs ++ (p ∷ back)) off) h.1,
     )
 
@@ -129,6 +122,6 @@ different_owned p q [] back new name context is off h = (
 )
 different_owned p q (x ∷ xs) back new name context is off h =
     let mine : (n : ℕ) → x.owner ≡ Some n → n ≢ new = All-head (λ r. (n : ℕ) → r.owner ≡ Some n → n ≢ new) x (xs ++ (p ∷ back)) off in (
-      with_one (AreOther x) p q xs back (λ o. record { name = λ z. o.name (sym name ∙ z); context = λ n e g. o.context n (context n e) g; owner = λ n e g. mine n g (is n e) }) h.0,
+      all_replaced (AreOther x) p q xs back (λ o. record { name = λ z. o.name (sym name ∙ z); context = λ n e g. o.context n (context n e) g; owner = λ n e g. mine n g (is n e) }) h.0,
       different_owned p q xs back new name context is (All-tail (λ r. (n : ℕ) → r.owner ≡ Some n → n ≢ new) x (xs ++ (p ∷ back)) off) h.1,
     )

@@ -166,7 +166,7 @@ module _ (s : Scene) (h : Stands s) (working : IsWorking s.session.levels) (name
       portal_step s p q n.front n.back u (next + 1) s.session.owners s.session.next_owner h working n.is
       (contexts_created t next h.contexts portals_context title kind.Small true there (λ _. guarded)) stay
       (has_created t next h.contexts cur portals_context title kind.Small true h.current)
-      (hooks_put portals_context next (new_context title kind.Small true) t s.around.shelf h.contexts.once there refl h.hooks)
+      (hooks_put portals_context next (new_context title kind.Small true) t s.around.shelf h.contexts.once refl h.hooks)
       (still_planned s u h stay (λ m k. lone_put m portals_context next (new_context title kind.Small true) Empty t (λ z. omega (arith, z, k.own)) (newer m (protected_has m t k.protected)) refl k.lone))
       (levels_stay s.session.levels t u s.session.owners s.session.owners (λ m j prot. stay m prot) (λ m j w. record { there = w; parent = refl }) h.levels)
       (same_owners q (λ k e. e))
@@ -323,7 +323,7 @@ module _ (s : Scene) (h : Stands s) (working : IsWorking s.session.levels) (name
       portal_step s p q n.front n.back u (next + 1) x s.session.next_owner h working n.is
       (contexts_created t next h.contexts c title kind.Small true there (λ _. place.protected)) stay
       (has_created t next h.contexts cur c title kind.Small true h.current)
-      (hooks_put c next (new_context title kind.Small true) t s.around.shelf h.contexts.once there refl h.hooks)
+      (hooks_put c next (new_context title kind.Small true) t s.around.shelf h.contexts.once refl h.hooks)
       (still_planned s u h stay (λ m k. lone_put m c next (new_context title kind.Small true) Empty t
       (λ z. let e2 : Some cache_context ≡ Some portals_context = sym k.parent ∙ ap (λ (j : ℕ). parent_of j t) z ∙ place.parent in let e3 : cache_context ≡ portals_context = cc e2 in absurd (omega (arith, e3)))
       (newer m (protected_has m t k.protected)) refl k.lone))

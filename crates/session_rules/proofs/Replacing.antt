@@ -1,13 +1,13 @@
 -- A portal becomes another one, or goes, where the deepest level ends.
-use Rattle.session_rules.proofs.Base.{◌≡◌, ℕ, ◌+◌, ◌≤◌, Bool, true, false, Option, Some, None, List, [], ◌∷◌, ◌++◌, append_assoc, length, refl, sym, ◌∙◌, subst, inl, inr, arith, ◌==◌, All, eq-eqb, eqb-true, eqb-false, ne_eqb, All-nil, All-cons, All-head, All-tail, All-append}
+use Rattle.session_rules.proofs.Base.{◌≡◌, ℕ, ◌+◌, ◌≤◌, Bool, true, false, Option, Some, None, List, [], ◌∷◌, ◌++◌, append_assoc, length, refl, sym, ◌∙◌, subst, inl, inr, arith, ◌==◌, All, eq-eqb, eqb-true, eqb-false, ne_eqb, All-nil, All-cons, All-head, All-tail, All-append, ◌⊎◌}
 use Rattle.session_rules.proofs.Below.{Once, has, below_parent, ShelfState, Contexts, table_of, OwnerTree, once_of}
-use Rattle.session_rules.proofs.Rules.{LevelState, OpenPortal, buffer_pin, relcache_reference, snapshot_reference, Scene, Ended, context_gone, for_each, in_order, portal_gone, where_so, where_there, item_released, executor_ended, is_ready, portal_closed, AreContexts, AreDifferent, AreHooks, AreLevels, AreOther, ArePlans, IsAttached, IsLive, IsPortal, active_depth, referred, AreEnding, Ending, IsAway, IsDone, IsLoose}
+use Rattle.session_rules.proofs.Rules.{LevelState, OpenPortal, buffer_pin, relcache_reference, snapshot_reference, Scene, Ended, context_gone, for_each, in_order, portal_gone, where_so, where_there, item_released, executor_ended, is_ready, portal_closed, AreContexts, AreDifferent, AreHooks, AreLevels, AreOther, ArePlans, IsAttached, IsLive, IsPortal, active_depth, referred, AreEnding, Ending, IsAway, IsDone, IsLoose, IsOwner, IsOfPortal}
 use Rattle.session_rules.proofs.LevelsKept.{no_value}
 use Rattle.session_rules.proofs.Stacked.{depth_outer, depth_small, depth_still}
-use Rattle.session_rules.proofs.PortalLists.{Changes, different_changed, others_back, others_front}
+use Rattle.session_rules.proofs.PortalLists.{Changes, different_changed, others_back, others_front, owner_split, owner_here, owner_beside}
 use Rattle.session_rules.proofs.PortalsAmong.{attached_by}
 use Rattle.session_rules.proofs.Resting.{rests_aborted}
-use Rattle.session_rules.proofs.Ending.{Goes, Leads, close_goes, each_goes, goes_nothing, item_goes, parts_of, then_goes, with_parts}
+use Rattle.session_rules.proofs.Ending.{Goes, Leads, close_goes, each_goes, goes_nothing, item_goes, parts_of, then_goes, with_parts, Parts}
 
 -- another portal has neither the context nor the owner of one
 pub record IsBeside (p r : OpenPortal) : Type 0 where
@@ -50,6 +50,27 @@ module _ (level : LevelState) (levels done : List LevelState) where
         different = subst AreDifferent (sym joined) (different_changed p q front back change h.different);
         are = sym joined;
       }
+
+  -- whose owner is whose then, where it keeps its own
+  pub kept_owners : (p q : OpenPortal) (front back : List OpenPortal) (s : Scene) → Ending level levels done front (p ∷ back) s → ((n : ℕ) → p.owner ≡ Some n → q.owner ≡ Some n)
+      → AreEnding (table_of s.around.kinds) s.session.owners s.session.next_owner s.session.next_serial level levels (front ++ (q ∷ back))
+  kept_owners p q front back s h keeps =
+      let each : (n : ℕ) → has n s.session.owners ≡ true → IsOwner n (level ∷ levels) ⊎ (IsOfPortal n (front ++ (q ∷ back)) ⊎ IsLoose level n s.session.owners) = λ n u. elim (h.owners.each n u) [
+        | inl j ↦ inl j
+        | inr k ↦ inr (elim k [
+          | inl j ↦ inl (elim (owner_split n p front back j) [ inl e ↦ owner_here n q front back (keeps n e) | inr r ↦ owner_beside n q front back r ])
+          | inr l ↦ inr l
+        ])
+      ] in
+      search
+
+  -- An act makes it so.
+  pub replaced_leads : (front back : List OpenPortal) (q : OpenPortal) (s : Scene) (x : Parts) → x.portals ≡ front ++ (q ∷ back) → table_of x.kinds ≡ table_of s.around.kinds
+      → Ending level levels done (front ++ (q ∷ [])) back (with_parts (record x { portals = front ++ (q ∷ back) }) s) → Leads level levels done back s (with_parts x s)
+  replaced_leads front back q s x is same e = record {
+    front = front ++ (q ∷ []);
+    goes = record { parts = x; same = same; is = refl; ending = subst (λ (ps : List OpenPortal). Ending level levels done (front ++ (q ∷ [])) back (with_parts (record x { portals = ps }) s)) (sym is) e };
+  }
 
   -- A portal is done as it is.
   pub kept : (p : OpenPortal) (front back : List OpenPortal) (s : Scene) → Ending level levels done front (p ∷ back) s → IsPortal p done s.session.contexts s.session.owners s.session.current → IsAway level p → Ending level levels done (front ++ (p ∷ [])) back s

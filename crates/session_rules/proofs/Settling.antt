@@ -11,7 +11,8 @@ use Rattle.session_rules.proofs.ContextsKept.{IsSame, contexts_level_gone, off_o
 use Rattle.session_rules.proofs.Lone.{children_left}
 use Rattle.session_rules.proofs.Forests.{has_left}
 use Rattle.session_rules.proofs.HeldItems.{given, gives, gives_phase}
-use Rattle.session_rules.proofs.HooksKept.{conserves_gone, hooks_ended}
+use Rattle.session_rules.proofs.HooksKept.{hooks_ended}
+use Rattle.session_rules.proofs.HookSums.{parts_gone}
 use Rattle.session_rules.proofs.PlansKept.{Split, all_middle, all_replaced, all_without, but_is, changed_is, plans_replaced, plans_without, split}
 use Rattle.session_rules.proofs.Releasing.{HasSwept, released_swept, with_owners}
 
@@ -142,7 +143,7 @@ module _ (s : Scene) (c d : ℕ → ℕ) (h : Fits s.session.next_context s.sess
         is = refl;
         fits = record {
           contexts = contexts_level_gone t s.session.next_context h.contexts k (subst (λ (j : ℕ). abort_context < j) (sym context) own.own);
-          hooks = hooks_ended t (gone k t) s.around.shelf (conserves_gone k t h.contexts.once) h.hooks;
+          hooks = hooks_ended t (gone k t) s.around.shelf (parts_gone k t h.contexts.once) h.hooks;
           plans =
               subst (λ (x : List StandingPlan). ArePlans x (removed k t) s.session.current d) (sym is)
               (subst (λ (j : ℕ). ArePlans (w.front ++ w.back) (removed j t) s.session.current d) (sym context)

@@ -47,7 +47,6 @@ fallible_keeps P w moment own act before behind = go (refused_call w moment.fail
     go None h = behind (h refl)
     go (Some e) h = before
 
-
 -- what work in a level leads to: the session stands, its levels are as they were, and where portals were at rest they still are
 pub record Works (s z : Scene) : Type 0 where
   pub stands : Stands z
@@ -291,7 +290,7 @@ level_context_stands level levels s starting none h =
     record {
       contexts = contexts_created t next c p name kind.Default true there (λ _. guarded);
       current = has_created t next c s.session.current p name kind.Default true h.current;
-      hooks = hooks_put p next (new_context name kind.Default true) t s.around.shelf c.once there refl h.hooks;
+      hooks = hooks_put p next (new_context name kind.Default true) t s.around.shelf c.once refl h.hooks;
       levels = (
         record {
           context = λ n e. subst (λ (m : ℕ). IsContextOf m levels u) (one_value (Some next) next n refl e) (record {

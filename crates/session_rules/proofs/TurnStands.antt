@@ -1,6 +1,6 @@
 -- Commands lead from a session between two lines to one between two lines.
 use Rattle.session_rules.proofs.Base.{◌≡◌, ℕ, ◌+◌, ◌≤◌, ◌<◌, Bool, true, false, Option, Some, None, List, [], ◌∷◌, ◌++◌, refl, sym, ap, ◌∙◌, subst, inl, arith, All, zero, suc, ◌-◌, ◌&&◌, ◌==◌, not, length, map, codes, is_none, is_some, replicate, nat_lt, if◌then◌else◌, option_and_then, option_map_or, le-ltb, ltb-true, All-cons, flat_map}
-use Rattle.session_rules.proofs.Below.{Error, What, size, Scan, ScanStep, table_of, Command, is_text-same}
+use Rattle.session_rules.proofs.Below.{Error, What, size, Scan, ScanStep, table_of, Command, is_text-same, KindId}
 use Rattle.session_rules.proofs.Rules.{LevelState, OpenPortal, SessionState, buffer_pin, file_kind, first_of, is_aborted, level_owner, owner_of, plan_reference, relcache_reference, snapshot_reference, Scene, Moment, Check, Element, InCurrent, InPortal, InRow, LevelContext, OfLevel, OfPortal, PortalContext, RowContext, Text, Ended, in_order, nothing, portal_becomes, where_there, level_stands, failure, unless, Done, fallible, refused_call, unless_refused, context_made, level_made, new_context_made, new_owner_made, portal_made, does, does_all, then_done, line_elements, turn, turn_of, AreOpen, AreOuter, FitLevels, IsActive, IsAtRest, IsFetched, IsOpen, IsWorking, Stands, StandsBetweenLines}
 use Rattle.pgs_step.specs.declared.errors.Error.TheVariants as error
 use Rattle.pgs_step.specs.declared.events.What.TheVariants as what
@@ -518,44 +518,8 @@ module _ (w : Option ℕ) (levels : List LevelState) (active : IsWorking levels)
   works_in : (m : Moment) → At levels m.scene → IsWorking m.scene.session.levels
   works_in m k = working_at levels m.scene active k
 
-  -- A step that asks nothing of what was checked before it: a command of such a step has no case of its own below.
-  abbrev IsPlain : Element → Type 0
-  IsPlain (element.Switch name) = Unit {0}
-  IsPlain (element.Register name) = Unit {0}
-  IsPlain (element.ResetOnly name) = Unit {0}
-  IsPlain (element.Alloc InCurrent (Some name) size zeroed) = Unit {0}
-  IsPlain (element.Realloc name size) = Unit {0}
-  IsPlain (element.FreeChunk name) = Unit {0}
-  IsPlain (element.Put name place bytes) = Unit {0}
-  IsPlain (element.Show name place n) = Unit {0}
-  IsPlain (element.Touch file) = Unit {0}
-  IsPlain (element.GiveBack kind key) = Unit {0}
-  IsPlain (element.GiveBackNamed kind key) = Unit {0}
-  IsPlain (element.TakeLock OfLevel object mode) = Unit {0}
-  IsPlain (element.Unlock object mode) = Unit {0}
-  IsPlain (element.PushSnapshot key) = Unit {0}
-  IsPlain element.PopSnapshot = Unit {0}
-  IsPlain (element.DropPlan number) = Unit {0}
-  IsPlain other = ⊥
-
-  by_plain : (x : Element) (m : Moment) → At levels m.scene → IsPlain x → Runs w (At levels) (x ∷ []) m
-  by_plain (element.Switch name) m k plain = by_step (element.Switch name) m k tt (switch_works w m k.stands (works_in m k) name)
-  by_plain (element.Register name) m k plain = by_step (element.Register name) m k tt (register_works w m k.stands (works_in m k) name)
-  by_plain (element.ResetOnly name) m k plain = by_step (element.ResetOnly name) m k tt (reset_only_works w m k.stands (works_in m k) name)
-  by_plain (element.Alloc InCurrent (Some name) size zeroed) m k plain = by_step (element.Alloc InCurrent (Some name) size zeroed) m k tt (alloc_works w m k.stands (works_in m k) (Some name) size zeroed)
-  by_plain (element.Realloc name size) m k plain = by_step (element.Realloc name size) m k tt (realloc_works w m k.stands (works_in m k) name size)
-  by_plain (element.FreeChunk name) m k plain = by_step (element.FreeChunk name) m k tt (free_works w m k.stands (works_in m k) name)
-  by_plain (element.Put name place bytes) m k plain = by_step (element.Put name place bytes) m k tt (put_works w m k.stands (works_in m k) name place bytes)
-  by_plain (element.Show name place n) m k plain = by_step (element.Show name place n) m k tt (show_works w name place n m k.stands)
-  by_plain (element.Touch file) m k plain = by_step (element.Touch file) m k tt (touch_works w m k.stands (works_in m k) file)
-  by_plain (element.GiveBack kind key) m k plain = by_step (element.GiveBack kind key) m k tt (give_back_works w m k.stands (works_in m k) kind key)
-  by_plain (element.GiveBackNamed kind key) m k plain = by_step (element.GiveBackNamed kind key) m k tt (give_back_named_works w m k.stands (works_in m k) kind key)
-  by_plain (element.TakeLock OfLevel object mode) m k plain = by_step (element.TakeLock OfLevel object mode) m k tt (lock_works w m k.stands (works_in m k) object mode)
-  by_plain (element.Unlock object mode) m k plain = by_step (element.Unlock object mode) m k tt (unlock_works w m k.stands (works_in m k) object mode)
-  by_plain (element.PushSnapshot key) m k plain = by_step (element.PushSnapshot key) m k tt (push_works w m k.stands (works_in m k) key)
-  by_plain element.PopSnapshot m k plain = by_step element.PopSnapshot m k tt (pop_works w m k.stands)
-  by_plain (element.DropPlan number) m k plain = by_step (element.DropPlan number) m k tt (drop_plan_works w m k.stands (works_in m k) number)
-  by_plain other m k plain = elim plain [ ]
+  gives_back : (kind : KindId) (key : ℕ) (m : Moment) → At levels m.scene → Runs w (At levels) (element.GiveBack kind key ∷ []) m
+  gives_back kind key m k = by_step (element.GiveBack kind key) m k tt (give_back_works w m k.stands (works_in m k) kind key)
 
   contexts_lead : (c : ContextCommand) (m : Moment) → At levels m.scene → Steps (context_row c) m
   contexts_lead (context.Create name parent kind) m k ok = by_step _ m k tt (make_script_context_works w m k.stands (works_in m k) name parent _)
@@ -563,11 +527,17 @@ module _ (w : Option ℕ) (levels : List LevelState) (active : IsWorking levels)
   contexts_lead (context.Delete name) m k ok = by_step (element.Delete name) m k tt (delete_works w m k.stands (works_in m k) name ok.1.0)
   contexts_lead (context.DeleteChildren name) m k ok = by_step (element.DeleteChildren name) m k tt (delete_children_works w m k.stands (works_in m k) name ok.1.0)
   contexts_lead (context.Reparent name parent) m k ok = by_step (element.Reparent name parent) m k ok.1.1.0 (reparent_works w m k.stands (works_in m k) name parent ok.1.1.0)
-  contexts_lead other m k ok = by_plain _ m k tt
+  contexts_lead (context.Switch name) m k ok = by_step (element.Switch name) m k tt (switch_works w m k.stands (works_in m k) name)
+  contexts_lead (context.OnReset name) m k ok = by_step (element.Register name) m k tt (register_works w m k.stands (works_in m k) name)
+  contexts_lead (context.ResetOnly name) m k ok = by_step (element.ResetOnly name) m k tt (reset_only_works w m k.stands (works_in m k) name)
 
   chunks_lead : (c : ChunkCommand) (m : Moment) → At levels m.scene → Steps (chunk_row c) m
-  chunks_lead (chunk.Free name) m k ok = by_plain _ m k tt
-  chunks_lead other m k ok = by_plain _ m k tt
+  chunks_lead (chunk.Alloc name size) m k ok = by_step _ m k tt (alloc_works w m k.stands (works_in m k) (Some name) size false)
+  chunks_lead (chunk.AllocZeroed name size) m k ok = by_step _ m k tt (alloc_works w m k.stands (works_in m k) (Some name) size true)
+  chunks_lead (chunk.Realloc name size) m k ok = by_step (element.Realloc name size) m k tt (realloc_works w m k.stands (works_in m k) name size)
+  chunks_lead (chunk.Free name) m k ok = by_step (element.FreeChunk name) m k tt (free_works w m k.stands (works_in m k) name)
+  chunks_lead (chunk.Put name place bytes) m k ok = by_step (element.Put name place bytes) m k tt (put_works w m k.stands (works_in m k) name place bytes)
+  chunks_lead (chunk.Show name place n) m k ok = by_step (element.Show name place n) m k tt (show_works w name place n m k.stands)
 
   items_lead : (c : ItemCommand) (m : Moment) → At levels m.scene → Steps (item_row c) m
   items_lead (item.Pin buffer) m k ok =
@@ -580,15 +550,17 @@ module _ (w : Option ℕ) (levels : List LevelState) (active : IsWorking levels)
   items_lead (item.Snapshot key) m k ok =
       by_take (element.Take OfLevel snapshot_reference key) m k works_in
       (λ n l. take_works w n l.stands (works_in n l) snapshot_reference key refl (λ z. absurd (omega (arith, z))) (snapshot_item (table_of n.scene.around.kinds) key))
-  items_lead other m k ok = by_plain _ m k tt
+  items_lead (item.Touch file) m k ok = by_step (element.Touch file) m k tt (touch_works w m k.stands (works_in m k) file)
+  items_lead (item.Drop kind key) m k ok = by_step (element.GiveBackNamed kind key) m k tt (give_back_named_works w m k.stands (works_in m k) kind key)
+  items_lead other m k ok = gives_back _ _ m k
 
   locks_lead : (c : LockCommand) (m : Moment) → At levels m.scene → Steps (lock_row c) m
-  locks_lead (lock.Lock object mode) m k ok = by_plain _ m k tt
-  locks_lead other m k ok = by_plain _ m k tt
+  locks_lead (lock.Lock object mode) m k ok = by_step (element.TakeLock OfLevel object mode) m k tt (lock_works w m k.stands (works_in m k) object mode)
+  locks_lead (lock.Unlock object mode) m k ok = by_step (element.Unlock object mode) m k tt (unlock_works w m k.stands (works_in m k) object mode)
 
   snapshots_lead : (c : SnapshotCommand) (m : Moment) → At levels m.scene → Steps (snapshot_row c) m
-  snapshots_lead snapshot.Pop m k ok = by_plain _ m k tt
-  snapshots_lead other m k ok = by_plain _ m k tt
+  snapshots_lead (snapshot.Push key) m k ok = by_step (element.PushSnapshot key) m k tt (push_works w m k.stands (works_in m k) key)
+  snapshots_lead snapshot.Pop m k ok = by_step element.PopSnapshot m k tt (pop_works w m k.stands)
 
   plans_lead : (c : PlanCommand) (m : Moment) → At levels m.scene → Steps (plan_row c) m
   plans_lead (plan.Create number) m k ok = by_step (element.MakePlan number) m k tt (make_plan_works w m k.stands (works_in m k) number (is_new (plan_at number m.scene.session.plans) error.NameTaken ok.0))
@@ -597,7 +569,8 @@ module _ (w : Option ℕ) (levels : List LevelState) (active : IsWorking levels)
       (λ n l ok.
       let p = is_standing (plan_at number n.scene.session.plans) error.NoSuchName ok in
       by_step (element.Take OfLevel plan_reference number) n l (works_in n l) (take_plan_works w n l.stands (works_in n l) number p.0 p.1))
-  plans_lead other m k ok = by_plain _ m k tt
+  plans_lead (plan.Unreference number) m k ok = gives_back plan_reference number m k
+  plans_lead (plan.Drop number) m k ok = by_step (element.DropPlan number) m k tt (drop_plan_works w m k.stands (works_in m k) number)
 
   portals_lead : (c : PortalCommand) (portals : List OpenPortal) (m : Moment) → At levels m.scene → Steps (portal_row c portals) m
   portals_lead (portal.Open name object rows bad) portals m k ok = portal_leads w levels active name object rows bad m k (is_unnamed (portal_named name m.scene.session.portals) error.PortalTaken ok.0)
