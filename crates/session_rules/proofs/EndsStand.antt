@@ -16,7 +16,7 @@ use Rattle.session_rules.proofs.Stacked.{depth_small, depth_still, none_stacked,
 use Rattle.session_rules.proofs.LevelsKept.{HasLeft, IsStill, is_there, left_nothing, left_still, levels_stay, one_value, outer_contexts, outer_owners, owners_aborted, owners_end, owners_without, without_owner}
 use Rattle.session_rules.proofs.Lone.{lone_left, lone_swept}
 use Rattle.session_rules.proofs.PortalsAmong.{IsRowOf, attached_by, off_levels, off_rows, place_level, place_own, place_same, place_spared, row_left, row_of}
-use Rattle.session_rules.proofs.Resting.{all_rest_aborted, all_rest_outside, rests_becomes, rests_but}
+use Rattle.session_rules.proofs.PortalLists.{all_rest_aborted, all_rest_outside, rests_becomes, rests_but}
 use Rattle.session_rules.proofs.Ending.{Leads, Parts, with_parts}
 use Rattle.session_rules.proofs.Replacing.{all_closed, all_swept_away, swept_away}
 use Rattle.session_rules.proofs.Passing.{all_passed}

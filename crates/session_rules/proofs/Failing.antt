@@ -16,8 +16,7 @@ use Rattle.session_rules.proofs.PortalLists.{Changes, changed_one, owner_beside,
 use Rattle.session_rules.proofs.PortalsAmong.{attached_by, row_emptied}
 use Rattle.session_rules.proofs.Ending.{Beside, Leads, each_goes, goes_nothing, levels_beside, parts_of, places_beside, plans_beside, with_parts}
 use Rattle.session_rules.proofs.Replacing.{IsBeside, first_of_rest, kept, own_loose, replaced, replaced_leads, kept_owners}
-use Rattle.session_rules.proofs.Moving.{HasMoved, has_moved, loose_moved}
-use Rattle.session_rules.proofs.Passing.{IsBounded, bounded, levels_moved, plans_owner_moved, portal_moved}
+use Rattle.session_rules.proofs.Passing.{IsBounded, bounded, levels_moved, plans_owner_moved, portal_moved, HasMoved, has_moved, loose_moved}
 
 module _ (level : LevelState) (levels : List LevelState) where
   abbrev pub deep : ℕ

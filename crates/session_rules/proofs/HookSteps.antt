@@ -6,8 +6,7 @@ use Rattle.pgs_step.specs.declared.events.What.TheVariants as what
 use Rattle.context_rules.specs.Ends as ends
 use Rattle.session_rules.specs.Acts.{Ended, behind, children_gone, context_cleared, context_cleared_alone, context_gone}
 use Rattle.session_rules.specs.HookCounts.{HookCount, HooksCounted, CountsHooks, runs_of}
-use Rattle.session_rules.proofs.Forests.{has_put_other, once_emptied, once_left, times_emptied}
-use Rattle.session_rules.proofs.Sums.{sum_changed, sum_put, sum_same}
+use Rattle.session_rules.proofs.Forests.{has_put_other, once_emptied, once_left, times_emptied, sum_changed, sum_put, sum_same}
 use Rattle.session_rules.proofs.HookSums.{Parts, Runs, callbacks_both, hooks_ran, more_runs, none_run, of_context, parts_alone, parts_children, parts_cleared, parts_gone, registered_both, runs_ran, sum_waiting}
 use Rattle.session_rules.proofs.ContextsKept.{by_alone}
 

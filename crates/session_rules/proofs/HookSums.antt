@@ -4,8 +4,7 @@ use Rattle.session_rules.proofs.Below.{What, Empty, Node, Once, at, changed, chi
 use Rattle.pgs_step.specs.declared.events.What.TheVariants as what
 use Rattle.context_rules.specs.Ends as ends
 use Rattle.session_rules.specs.HookCounts.{callbacks_of, hooks_of, is_callback, is_registered, registered_of, runs_of}
-use Rattle.session_rules.proofs.Forests.{once_emptied}
-use Rattle.session_rules.proofs.Sums.{sum_changed, sum_emptied, sum_left}
+use Rattle.session_rules.proofs.Forests.{once_emptied, sum_changed, sum_emptied, sum_left}
 
 -- a hook that runs counts one more
 pub runs_ran : (n k : ℕ) (hooks : List Hook) → min (k + runs_of n (map ran hooks)) (2 ^ 64 - 1) ≡ min (k + (runs_of n hooks + hooks_of n hooks)) (2 ^ 64 - 1)

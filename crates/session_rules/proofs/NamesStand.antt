@@ -22,7 +22,7 @@ use Rattle.session_rules.proofs.LevelsKept.{IsContext, no_value, one_value}
 use Rattle.session_rules.proofs.Lone.{lone_changed, lone_emptied, lone_left, lone_moved, lone_put}
 use Rattle.session_rules.proofs.PlansAmong.{IsCached, levels_other, own_other, plans_current}
 use Rattle.session_rules.proofs.PortalsAmong.{place_current, place_level, place_own, place_same, portals_moved, row_changed, row_emptied, row_free, row_left, row_put}
-use Rattle.session_rules.proofs.StepsStand.{Works, contexts_step, fallible_keeps, nothing_works, still_planned, still_portals}
+use Rattle.session_rules.proofs.StepsStand.{Works, contexts_step, fallible_keeps, nothing_works, still_planned, still_portals, beside_by}
 
 -- the context of the first level of a list that is put together
 first_context : (levels : List LevelState) (n : ℕ) → context_of (first_of levels) ≡ Some n → IsContext n levels
@@ -275,15 +275,12 @@ module _ (w : Option ℕ) (moment : Moment) (h : Stands moment.scene) (working :
   unfolding does
   switch_works name =
       at_name (Works moment.scene) (context_named name moment.scene.session) switched moment.scene (nothing_works moment.scene h)
-      (λ n e. record {
-        stands = contexts_step moment.scene h working moment.scene.session.contexts moment.scene.session.next_context n moment.scene.around.shelf moment.scene.session.plans h.contexts (stay_same moment.scene.session.contexts)
-            (named_there name moment.scene n h e) h.hooks
-            (plans_current moment.scene.session.plans moment.scene.session.contexts moment.scene.session.current n (referred moment.scene.session.owners) (named_other name moment.scene n h e) h.plans)
-            (portals_moved moment.scene.session.portals moment.scene.session.levels moment.scene.session.contexts moment.scene.session.contexts moment.scene.session.owners moment.scene.session.current n
-            (λ m expr k. named_place name moment.scene n h e m expr k) h.portals);
-        levels = refl;
-        at_rest = λ r. r;
-      })
+      (λ n e. (beside_by moment.scene _ refl refl
+      (contexts_step moment.scene h working moment.scene.session.contexts moment.scene.session.next_context n moment.scene.around.shelf moment.scene.session.plans h.contexts (stay_same moment.scene.session.contexts)
+      (named_there name moment.scene n h e) h.hooks
+      (plans_current moment.scene.session.plans moment.scene.session.contexts moment.scene.session.current n (referred moment.scene.session.owners) (named_other name moment.scene n h e) h.plans)
+      (portals_moved moment.scene.session.portals moment.scene.session.levels moment.scene.session.contexts moment.scene.session.contexts moment.scene.session.owners moment.scene.session.current n
+      (λ m expr k. named_place name moment.scene n h e m expr k) h.portals))).works)
 
   pub delete_works : (name : Text) → failure (element.MayDelete name) moment.scene ≡ None → Works moment.scene (does w (element.Delete name) moment).moment.scene
   unfolding does

@@ -16,9 +16,8 @@ use Rattle.session_rules.proofs.Releasing.{swept_by, with_owners}
 use Rattle.session_rules.proofs.Swept.{removed_swept}
 use Rattle.session_rules.proofs.EndsStand.{left_count}
 use Rattle.session_rules.proofs.Lone.{lone_left}
-use Rattle.session_rules.proofs.PortalLists.{all_back, all_front, but_one, different_changed, different_without, others_back, others_front, owner_beside, owner_split}
+use Rattle.session_rules.proofs.PortalLists.{all_back, all_front, but_one, different_changed, different_without, others_back, others_front, owner_beside, owner_split, rests_becomes, rests_but}
 use Rattle.session_rules.proofs.PortalsAmong.{attached_by, place_spared}
-use Rattle.session_rules.proofs.Resting.{rests_becomes, rests_but}
 use Rattle.session_rules.proofs.Ending.{Beside, below_place, beside_removed, levels_beside, places_beside, plans_beside}
 use Rattle.session_rules.proofs.PlansAmong.{levels_apart, plans_counted}
 use Rattle.session_rules.proofs.StepsStand.{Works, fit_working, not_released, nothing_works}

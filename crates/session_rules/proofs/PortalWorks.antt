@@ -9,20 +9,14 @@ use Rattle.exec_core.specs.Turn.{taken}
 use Rattle.lock_local.specs.Changes.{acquired}
 use Rattle.session_rules.specs.Elements as element
 use Rattle.session_rules.proofs.EndsStand.{stands_tabled}
-use Rattle.session_rules.proofs.ItemsStand.{give_step, other_step}
+use Rattle.session_rules.proofs.ItemsStand.{give_step, other_step, lock_beside, take_beside}
 use Rattle.session_rules.proofs.NamesStand.{alone_step, at_name}
 use Rattle.session_rules.proofs.Releasing.{tables_of}
-use Rattle.session_rules.proofs.StepsStand.{Works, fallible_keeps, keeps_allocated, kept_step, nothing_works}
+use Rattle.session_rules.proofs.StepsStand.{Works, fallible_keeps, keeps_allocated, kept_step, nothing_works, alloc_beside, beside_by}
 use Rattle.session_rules.proofs.PortalsStand.{Named, active_portal, named_changed, named_in, scan_portal, state_portal, this_portal}
-use Rattle.session_rules.proofs.Resting.{rests_becomes}
+use Rattle.session_rules.proofs.PortalLists.{rests_becomes}
+pub use Rattle.session_rules.proofs.StepsStand.{Beside, nothing_beside}
 
--- steps that leave the portals as they are
-pub record Beside (s z : Scene) : Type 0 where
-  pub works : Works s z
-  pub portals : z.session.portals ≡ s.session.portals
-
-pub nothing_beside : (s : Scene) → Stands s → Beside s s
-nothing_beside s h = record { works = nothing_works s h; portals = refl }
 
 -- what is given back leaves the portals
 pub given_portals : (keeper : Keeper) (key : ℕ) (s : Scene) → (left_to keeper key s).scene.session.portals ≡ s.session.portals
@@ -131,46 +125,20 @@ module _ (w : Option ℕ) (moment : Moment) (h : Stands moment.scene) (working :
 
   pub portal_locks : (object : ℕ) (mode : Mode) → Beside moment.scene (does w (element.TakeLock (OfPortal name) object mode) moment).moment.scene
   unfolding does
-  portal_locks object mode =
-      fallible_keeps (Beside moment.scene) w moment _ (at_owner (OfPortal name) (lock_taken object mode)) (nothing_beside moment.scene h)
-      (λ _. at_name (Beside moment.scene) (option_and_then (λ (p : OpenPortal). p.owner) (portal_named name moment.scene.session.portals)) (lock_taken object mode) moment.scene (nothing_beside moment.scene h)
-      (λ n e. record {
-        works = record { stands = stands_tabled (record (tables_of moment.scene) { locks = acquired n object mode moment.scene.session.locks }) moment.scene refl h; levels = refl; at_rest = λ r. r };
-        portals = refl;
-      }))
+  portal_locks object mode = lock_beside w moment h working (OfPortal name) owner_named object mode
 
   pub portal_takes : (kind : KindId) (key : ℕ) → keeper_of kind ≡ NoOne → kind.0 ≢ 5 → ((serial : ℕ) → IsItem (table_of moment.scene.around.kinds) (record { kind = kind; key = key; serial = serial }))
       → Beside moment.scene (does w (element.Take (OfPortal name) kind key) moment).moment.scene
   unfolding does
-  portal_takes kind key unkept ne is =
-      fallible_keeps (Beside moment.scene) w moment _ (at_owner (OfPortal name) (λ owner. item_taken owner kind key)) (nothing_beside moment.scene h)
-      (λ _. at_name (Beside moment.scene) (option_and_then (λ (p : OpenPortal). p.owner) (portal_named name moment.scene.session.portals)) (λ owner. item_taken owner kind key) moment.scene (nothing_beside moment.scene h)
-      (λ n e. subst (Beside moment.scene) (sym (ap (λ (k : Keeper). (in_order (taken_by k key ∷ remembers n kind key ∷ []) moment.scene).scene) unkept))
-      (record { works = record { stands = other_step moment.scene n kind key (tables_of moment.scene) h working (owner_named n e) ne is refl; levels = refl; at_rest = λ r. r }; portals = refl })))
-
-  -- memory is taken in a context
-  pub memory : (o : Option ℕ) (title : Option Text) (bytes : ℕ) → Beside moment.scene (where_there o (memory_taken title bytes false) moment.scene).scene
-  memory None title bytes = nothing_beside moment.scene h
-  memory (Some n) title bytes = record {
-    works = record {
-      stands = kept_step moment.scene h working _ (keeps_allocated moment.scene.session.contexts moment.scene.session.next_context n (left moment.scene) title bytes [] h.contexts);
-      levels = refl;
-      at_rest = λ r. r;
-    };
-    portals = refl;
-  }
+  portal_takes kind key unkept ne is = take_beside w moment h working (OfPortal name) owner_named kind key unkept ne is
 
   pub portal_allocates : (title : Option Text) (bytes : ℕ) → Beside moment.scene (does w (element.Alloc (InPortal name) title bytes false) moment).moment.scene
   unfolding does
-  portal_allocates title bytes =
-      fallible_keeps (Beside moment.scene) w moment _ (λ scene. where_there (option_and_then (λ (p : OpenPortal). p.context) (portal_named name scene.session.portals)) (memory_taken title bytes false) scene) (nothing_beside moment.scene h)
-      (λ _. memory (option_and_then (λ (p : OpenPortal). p.context) (portal_named name moment.scene.session.portals)) title bytes)
+  portal_allocates title bytes = alloc_beside w moment h working (InPortal name) title bytes false
 
   pub row_allocates : (title : Option Text) (bytes : ℕ) → Beside moment.scene (does w (element.Alloc (InRow name) title bytes false) moment).moment.scene
   unfolding does
-  row_allocates title bytes =
-      fallible_keeps (Beside moment.scene) w moment _ (λ scene. where_there (option_and_then (λ (p : OpenPortal). p.expr) (portal_named name scene.session.portals)) (memory_taken title bytes false) scene) (nothing_beside moment.scene h)
-      (λ _. memory (option_and_then (λ (p : OpenPortal). p.expr) (portal_named name moment.scene.session.portals)) title bytes)
+  row_allocates title bytes = alloc_beside w moment h working (InRow name) title bytes false
 
   pub check_beside : (check : Check) → Beside moment.scene (does w (element.Checks check) moment).moment.scene
   unfolding does
@@ -202,7 +170,7 @@ module _ (w : Option ℕ) (moment : Moment) (h : Stands moment.scene) (working :
     where
       go : (o : Option ℕ) → Beside s (where_there o context_cleared_alone s).scene
       go None = nothing_beside s k
-      go (Some n) = record { works = record { stands = alone_step s n k work; levels = refl; at_rest = λ r. r }; portals = refl }
+      go (Some n) = beside_by s _ refl refl (alone_step s n k work)
   part_beside s (step.Unpin page) p k work own = go p.owner refl
     where
       go : (o : Option ℕ) → p.owner ≡ o → Beside s (where_there o (λ owner. item_released owner buffer_pin page) s).scene

@@ -4,9 +4,8 @@ use Rattle.session_rules.proofs.Below.{Once, has, below_parent, ShelfState, Cont
 use Rattle.session_rules.proofs.Rules.{LevelState, OpenPortal, buffer_pin, relcache_reference, snapshot_reference, Scene, Ended, context_gone, for_each, in_order, portal_gone, where_so, where_there, item_released, executor_ended, is_ready, portal_closed, AreContexts, AreDifferent, AreHooks, AreLevels, AreOther, ArePlans, IsAttached, IsLive, IsPortal, active_depth, referred, AreEnding, Ending, IsAway, IsDone, IsLoose, IsOwner, IsOfPortal}
 use Rattle.session_rules.proofs.LevelsKept.{no_value}
 use Rattle.session_rules.proofs.Stacked.{depth_outer, depth_small, depth_still}
-use Rattle.session_rules.proofs.PortalLists.{Changes, different_changed, others_back, others_front, owner_split, owner_here, owner_beside}
+use Rattle.session_rules.proofs.PortalLists.{Changes, different_changed, others_back, others_front, owner_split, owner_here, owner_beside, rests_aborted}
 use Rattle.session_rules.proofs.PortalsAmong.{attached_by}
-use Rattle.session_rules.proofs.Resting.{rests_aborted}
 use Rattle.session_rules.proofs.Ending.{Goes, Leads, close_goes, each_goes, goes_nothing, item_goes, parts_of, then_goes, with_parts, Parts}
 
 -- another portal has neither the context nor the owner of one

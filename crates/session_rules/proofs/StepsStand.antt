@@ -30,6 +30,7 @@ use Rattle.session_rules.proofs.PlansAmong.{IsCached, levels_apart, levels_other
 use Rattle.session_rules.proofs.PortalsAmong.{IsRowOf, attached_by, off_parent, place_level, place_same, place_spared, portals_by, portals_moved, row_changed, row_of, row_parent_off, row_put}
 use Rattle.session_rules.proofs.LevelsKept.{is_there, levels_stay, no_value, one_value}
 use Rattle.session_rules.proofs.EndsStand.{Leaves, deepest_active, aborted_stands, cleaned_up_stands, committed_stands, is_settled, settled, subcommitted_leaves}
+use Rattle.session_rules.specs.Elements.{MemoryRole}
 
 -- a refused call changes nothing but the count
 pub not_refused : (a b : Bool) (x y : Error) (own : Option Error) → (if a then Some x else (if b then Some y else own)) ≡ None → own ≡ None
@@ -55,6 +56,17 @@ pub record Works (s z : Scene) : Type 0 where
 
 pub nothing_works : (s : Scene) → Stands s → Works s s
 nothing_works s h = record { stands = h; levels = refl; at_rest = λ r. r }
+
+-- steps that leave the portals as they are
+pub record Beside (s z : Scene) : Type 0 where
+  pub works : Works s z
+  pub portals : z.session.portals ≡ s.session.portals
+
+pub beside_by : (s z : Scene) → z.session.levels ≡ s.session.levels → z.session.portals ≡ s.session.portals → Stands z → Beside s z
+beside_by s z levels portals h = record { works = record { stands = h; levels = levels; at_rest = subst (All IsAtRest) (sym portals) }; portals = portals }
+
+pub nothing_beside : (s : Scene) → Stands s → Beside s s
+nothing_beside s h = beside_by s s refl refl h
 
 pub fit_working : (levels : List LevelState) (t u : Contexts) (x y : OwnerTree) (a b : ℕ) → IsWorking levels → FitLevels levels t x a → FitLevels levels u y b
 fit_working [] t u x y a b w h = absurd w
@@ -597,40 +609,26 @@ module _ (w : Option ℕ) (moment : Moment) (h : Stands moment.scene) where
     pub free_works : (name : Text) → Works moment.scene (does w (element.FreeChunk name) moment).moment.scene
     unfolding does
     free_works name =
-        record {
-          stands = kept_step moment.scene h working (freed name moment.scene.session.contexts) (keeps_freed moment.scene.session.contexts moment.scene.session.next_context name h.contexts);
-          levels = refl;
-          at_rest = λ r. r;
-        }
+        (beside_by moment.scene _ refl refl (kept_step moment.scene h working (freed name moment.scene.session.contexts) (keeps_freed moment.scene.session.contexts moment.scene.session.next_context name h.contexts))).works
 
     pub put_works : (name : Text) (from : ℕ) (bytes : List ℕ) → Works moment.scene (does w (element.Put name from bytes) moment).moment.scene
     unfolding does
     put_works name from bytes =
-        record {
-          stands = kept_step moment.scene h working (written name from bytes moment.scene.session.contexts)
-              (keeps_written moment.scene.session.contexts moment.scene.session.next_context name from bytes h.contexts);
-          levels = refl;
-          at_rest = λ r. r;
-        }
+        (beside_by moment.scene _ refl refl (kept_step moment.scene h working (written name from bytes moment.scene.session.contexts)
+        (keeps_written moment.scene.session.contexts moment.scene.session.next_context name from bytes h.contexts))).works
 
     pub realloc_works : (name : Text) (bytes : ℕ) → Works moment.scene (does w (element.Realloc name bytes) moment).moment.scene
     unfolding does
     realloc_works name bytes =
         fallible_keeps (Works moment.scene) w moment _ (chunk_resized name bytes) (nothing_works moment.scene h)
-        (λ _. record {
-          stands = kept_step moment.scene h working (resized (held moment.scene.session) moment.scene.around.space name bytes moment.scene.session.contexts)
-              (keeps_resized moment.scene.session.contexts moment.scene.session.next_context (held moment.scene.session) moment.scene.around.space name bytes h.contexts);
-          levels = refl;
-          at_rest = λ r. r;
-        })
+        (λ _. (beside_by moment.scene _ refl refl (kept_step moment.scene h working (resized (held moment.scene.session) moment.scene.around.space name bytes moment.scene.session.contexts)
+        (keeps_resized moment.scene.session.contexts moment.scene.session.next_context (held moment.scene.session) moment.scene.around.space name bytes h.contexts))).works)
 
-    pub alloc_works : (name : Option Text) (bytes : ℕ) (zeroed : Bool) → Works moment.scene (does w (element.Alloc InCurrent name bytes zeroed) moment).moment.scene
+    pub alloc_beside : (role : MemoryRole) (name : Option Text) (bytes : ℕ) (zeroed : Bool) → Beside moment.scene (does w (element.Alloc role name bytes zeroed) moment).moment.scene
     unfolding does
-    alloc_works name bytes zeroed =
-        fallible_keeps (Works moment.scene) w moment _ (λ scene. where_there (memory_in InCurrent scene.session) (memory_taken name bytes zeroed) scene) (nothing_works moment.scene h)
-        (λ _. record {
-          stands = kept_step moment.scene h working (allocated moment.scene.session.current (left moment.scene) name bytes (if zeroed then zeros bytes else []) moment.scene.session.contexts)
-              (keeps_allocated moment.scene.session.contexts moment.scene.session.next_context moment.scene.session.current (left moment.scene) name bytes (if zeroed then zeros bytes else []) h.contexts);
-          levels = refl;
-          at_rest = λ r. r;
-        })
+    alloc_beside role name bytes zeroed =
+        fallible_keeps (Beside moment.scene) w moment _ (λ scene. where_there (memory_in role scene.session) (memory_taken name bytes zeroed) scene) (nothing_beside moment.scene h) (λ _. memory (memory_in role moment.scene.session))
+      where
+        memory : (o : Option ℕ) → Beside moment.scene (where_there o (memory_taken name bytes zeroed) moment.scene).scene
+        memory None = nothing_beside moment.scene h
+        memory (Some n) = beside_by moment.scene _ refl refl (kept_step moment.scene h working _ (keeps_allocated moment.scene.session.contexts moment.scene.session.next_context n (left moment.scene) name bytes (if zeroed then zeros bytes else []) h.contexts))

@@ -41,12 +41,11 @@ use Rattle.session_rules.proofs.LevelsKept.{is_there}
 use Rattle.session_rules.proofs.PortalsStand.{context_portal, made_portal, named_changed, named_in, owner_portal, row_portal}
 use Rattle.session_rules.proofs.PortalWorks.{Beside, Turned, Turns, begins_fetched, begins_works, beside_turns, check_beside, portal_allocates, portal_enlarges, portal_locks, portal_takes, ready_works, row_allocates, scan_turns, turned}
 use Rattle.session_rules.proofs.PortalEnds.{end_portal_works}
-use Rattle.session_rules.proofs.Resting.{RestsBeside, beside_becomes, beside_rests, rests_beside}
+use Rattle.session_rules.proofs.PortalLists.{RestsBeside, beside_becomes, beside_rests, rests_beside}
 use Rattle.session_rules.proofs.Leaves.{IsRun}
 use Rattle.session_rules.proofs.EndsStand.{Leaves, outer_open, recovered_stands}
-use Rattle.session_rules.proofs.StepsStand.{Works, abort_stands, alloc_works, below_limit, cleanup_stands, commit_stands, enlarge_works, free_works, level_context_stands, level_made_stands, level_owner_stands, level_stands_stands, merge_stands, nothing_works, own_refusal, pop_works, push_works, put_works, realloc_works, settled_as}
-use Rattle.session_rules.proofs.ItemsStand.{class_item, class_other, class_unkept, file_works, give_back_named_works, give_back_works, lock_works, pin_works, snapshot_item, take_named_works, take_plan_works, take_works, touch_works, unlock_works}
-use Rattle.session_rules.proofs.PlansStand.{drop_plan_works, is_new, is_standing, make_plan_works}
+use Rattle.session_rules.proofs.StepsStand.{Works, abort_stands, below_limit, cleanup_stands, commit_stands, enlarge_works, free_works, level_context_stands, level_made_stands, level_owner_stands, level_stands_stands, merge_stands, nothing_works, own_refusal, pop_works, push_works, put_works, realloc_works, settled_as, alloc_beside}
+use Rattle.session_rules.proofs.ItemsStand.{class_item, class_other, class_unkept, file_works, give_back_named_works, give_back_works, pin_works, snapshot_item, take_named_works, take_plan_works, take_works, touch_works, unlock_works, drop_plan_works, is_new, is_standing, make_plan_works, lock_beside, there}
 use Rattle.session_rules.proofs.NamesStand.{delete_children_works, delete_works, make_script_context_works, register_works, reparent_works, reset_only_works, reset_works, switch_works}
 
 -- What some elements led to: whatever refused them the session stands, and where nothing did, more is known of it.
@@ -532,8 +531,8 @@ module _ (w : Option ℕ) (levels : List LevelState) (active : IsWorking levels)
   contexts_lead (context.ResetOnly name) m k ok = by_step (element.ResetOnly name) m k tt (reset_only_works w m k.stands (works_in m k) name)
 
   chunks_lead : (c : ChunkCommand) (m : Moment) → At levels m.scene → Steps (chunk_row c) m
-  chunks_lead (chunk.Alloc name size) m k ok = by_step _ m k tt (alloc_works w m k.stands (works_in m k) (Some name) size false)
-  chunks_lead (chunk.AllocZeroed name size) m k ok = by_step _ m k tt (alloc_works w m k.stands (works_in m k) (Some name) size true)
+  chunks_lead (chunk.Alloc name size) m k ok = by_step _ m k tt (alloc_beside w m k.stands (works_in m k) InCurrent (Some name) size false).works
+  chunks_lead (chunk.AllocZeroed name size) m k ok = by_step _ m k tt (alloc_beside w m k.stands (works_in m k) InCurrent (Some name) size true).works
   chunks_lead (chunk.Realloc name size) m k ok = by_step (element.Realloc name size) m k tt (realloc_works w m k.stands (works_in m k) name size)
   chunks_lead (chunk.Free name) m k ok = by_step (element.FreeChunk name) m k tt (free_works w m k.stands (works_in m k) name)
   chunks_lead (chunk.Put name place bytes) m k ok = by_step (element.Put name place bytes) m k tt (put_works w m k.stands (works_in m k) name place bytes)
@@ -555,7 +554,7 @@ module _ (w : Option ℕ) (levels : List LevelState) (active : IsWorking levels)
   items_lead other m k ok = gives_back _ _ m k
 
   locks_lead : (c : LockCommand) (m : Moment) → At levels m.scene → Steps (lock_row c) m
-  locks_lead (lock.Lock object mode) m k ok = by_step (element.TakeLock OfLevel object mode) m k tt (lock_works w m k.stands (works_in m k) object mode)
+  locks_lead (lock.Lock object mode) m k ok = by_step (element.TakeLock OfLevel object mode) m k tt (lock_beside w m k.stands (works_in m k) OfLevel (there w m k.stands (works_in m k)) object mode).works
   locks_lead (lock.Unlock object mode) m k ok = by_step (element.Unlock object mode) m k tt (unlock_works w m k.stands (works_in m k) object mode)
 
   snapshots_lead : (c : SnapshotCommand) (m : Moment) → At levels m.scene → Steps (snapshot_row c) m
