@@ -19,24 +19,14 @@ cached plan t current i = record { protected = i.protected; parent = i.parent; o
 
 -- another context is the current one
 pub plans_current : (plans : List StandingPlan) (t : Contexts) (a b : ℕ) (c : ℕ → ℕ) → ((m : ℕ) → IsCached m t → b ≢ m) → ArePlans plans t a c → ArePlans plans t b c
-plans_current plans t a b c other h = record {
-  each = All-weaker (λ plan. IsPlan plan t a) (λ plan. IsPlan plan t b)
-      (λ plan i. record { protected = i.protected; parent = i.parent; own = i.own; lone = i.lone; other = other plan.context (cached plan t a i); kept = i.kept }) plans h.each;
-  apart = h.apart;
-  counted = h.counted;
-}
+plans_current plans t a b c other h =
+    search (All-weaker (λ plan. IsPlan plan t a) (λ plan. IsPlan plan t b) (λ plan i. search (other plan.context (cached plan t a i))) plans h.each)
 
 -- contexts change
 pub plans_moved : (plans : List StandingPlan) (t u : Contexts) (current : ℕ) (c : ℕ → ℕ) → ((m : ℕ) → IsCached m t → IsSame m t u × (children m u ≡ Empty)) → ArePlans plans t current c → ArePlans plans u current c
-plans_moved plans t u current c stay h = record {
-  each = All-weaker (λ plan. IsPlan plan t current) (λ plan. IsPlan plan u current)
-      (λ plan i.
-      let s = stay plan.context (cached plan t current i) in
-      record { protected = s.0.protected; parent = s.0.parent ∙ i.parent; own = i.own; lone = s.1; other = i.other; kept = i.kept })
-      plans h.each;
-  apart = h.apart;
-  counted = h.counted;
-}
+plans_moved plans t u current c stay h =
+    search (All-weaker (λ plan. IsPlan plan t current) (λ plan. IsPlan plan u current)
+    (λ plan i. let s = stay plan.context (cached plan t current i) in search (s, s.0.parent ∙ i.parent)) plans h.each)
 
 -- references are counted in another way
 pub plans_counted : (plans : List StandingPlan) (t : Contexts) (current : ℕ) (c d : ℕ → ℕ) → ((m : ℕ) → c m ≡ d m) → ArePlans plans t current c → ArePlans plans t current d

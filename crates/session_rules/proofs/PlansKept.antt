@@ -162,14 +162,7 @@ plans_without plans t next current c d n p contexts h s now others =
           let i : IsPlan _ t current = stands k x below in
           let ne = differ k x below in
           let same : IsSame _ t (removed p.context t) = same_removed t next contexts _ p.context (ne, out _) i.protected in
-          record {
-            protected = same.protected;
-            parent = same.parent ∙ i.parent;
-            own = i.own;
-            lone = lone_left _ p.context t contexts.once ne (out _) i.lone;
-            other = i.other;
-            kept = i.kept;
-          };
+          search (same.parent ∙ i.parent, lone_left _ p.context t contexts.once ne (out _) i.lone);
       apart = apart_without p s.front s.back was.apart;
       counted = λ m. elim (cases_eq n m) [
         | inl e ↦ ap (λ (k : ℕ). references_of k (s.front ++ s.back)) (sym e) ∙ none_without n s.front s.back s.before s.behind ∙ sym now ∙ ap d e

@@ -78,10 +78,7 @@ own_rows t next h n low small e c own_c p = λ z. go z (cases_eq n top_context)
 
 -- each portal is as it was
 pub portals_by : (ps : List OpenPortal) (ls ms : List LevelState) (t u : Contexts) (x y : OwnerTree) (a b : ℕ) → ((p : OpenPortal) → IsPortal p ls t x a → IsPortal p ms u y b) → ArePortals ps ls t x a → ArePortals ps ms u y b
-portals_by ps ls ms t u x y a b each h = record {
-  each = All-weaker (λ p. IsPortal p ls t x a) (λ p. IsPortal p ms u y b) each ps h.each;
-  different = h.different;
-}
+portals_by ps ls ms t u x y a b each h = search (All-weaker (λ p. IsPortal p ls t x a) (λ p. IsPortal p ms u y b) each ps h.each)
 
 -- What holds of portals where contexts change: each place is as it was, and of its row is left what was.
 pub portals_moved : (ps : List OpenPortal) (levels : List LevelState) (t u : Contexts) (x : OwnerTree) (a b : ℕ) → ((n : ℕ) (expr : Option ℕ) → IsPlace n expr t a → IsPlace n expr u b) → ArePortals ps levels t x a → ArePortals ps levels u x b
@@ -89,14 +86,7 @@ portals_moved ps levels t u x a b stay h =
     portals_by ps levels levels t u x x a b (λ p i. record { place = λ n e. stay n p.expr (i.place n e); made = i.made; owner = i.owner; stage = i.stage }) h
 
 pub place_same : (n : ℕ) (expr : Option ℕ) (t u : Contexts) (current : ℕ) → IsSame n t u → IsRow expr (children n u) → IsPlace n expr t current → IsPlace n expr u current
-place_same n expr t u current s row h = record {
-  protected = s.protected;
-  parent = s.parent ∙ h.parent;
-  own = h.own;
-  row = row;
-  other = h.other;
-  apart = h.apart;
-}
+place_same n expr t u current s row h = search (s.parent ∙ h.parent)
 
 -- rows behind changes elsewhere
 module _ (t : Contexts) (once : Once t) (n : ℕ) (expr : Option ℕ) (current : ℕ) (h : IsPlace n expr t current) where
@@ -155,14 +145,7 @@ place_spared x y a spares each n expr current h =
 
 -- another context is the current one
 pub place_current : (n : ℕ) (expr : Option ℕ) (t : Contexts) (a b : ℕ) → b ≢ n → ((e : ℕ) → expr ≡ Some e → b ≢ e) → IsPlace n expr t a → IsPlace n expr t b
-place_current n expr t a b ne off h = record {
-  protected = h.protected;
-  parent = h.parent;
-  own = h.own;
-  row = h.row;
-  other = ne;
-  apart = λ z. off b z refl;
-}
+place_current n expr t a b ne off h = search (λ (z : expr ≡ Some b). off b z refl)
 
 -- one of the session's own is
 pub place_own : (t : Contexts) (next : ℕ) → AreContexts t next → (b : ℕ) → 1 ≤ b → b ≤ abort_context → (n : ℕ) (expr : Option ℕ) (a : ℕ) → IsPlace n expr t a → IsPlace n expr t b
@@ -181,12 +164,7 @@ place_level levels t x once l b i n expr a h =
 -- a portal's owner where owners change and stay where they are
 pub attached_by : (n number : ℕ) (ls ms : List LevelState) (x y : OwnerTree) → (has n x ≡ true → has n y ≡ true) → (parent_of n y ≡ parent_of n x) → (children n x ≡ Empty → children n y ≡ Empty) → owner_at number ms ≡ owner_at number ls → (IsOwner n ms → IsOwner n ls)
     → IsAttached n number ls x → IsAttached n number ms y
-attached_by n number ls ms x y there parent lone at own h = record {
-  there = there h.there;
-  parent = parent ∙ h.parent ∙ sym at;
-  lone = lone h.lone;
-  other = λ i. h.other (own i);
-}
+attached_by n number ls ms x y there parent lone at own h = search (there h.there, parent ∙ h.parent ∙ sym at, lone h.lone, λ (i : IsOwner n ms). h.other (own i))
 
 -- the parent of a new context of a level is neither a portal's context nor that of one row
 pub off_parent : (levels : List LevelState) (t : Contexts) (x : OwnerTree) → AreLevels levels t x → AreOuter levels → (m : ℕ) → parent_of m t ≡ Some portals_context → abort_context < m → level_parent (first_of levels) ≢ m
