@@ -1,5 +1,5 @@
 -- Hooks that wait are counted, and so are those of the shelf.
-use Rattle.session_rules.proofs.Base.{◌≡◌, ◌≢◌, ℕ, ◌+◌, ◌≤◌, List, [], ◌∷◌, ◌++◌, Some, cond, ap, sym, ◌∙◌, refl, inl, inr, arith, ◌==◌, if◌then◌else◌, All-nil, All-cons, All-head, All-tail, cases_eq, eq-eqb, ne_eqb, sum_by-cons}
+use Rattle.session_rules.proofs.Base.{◌≡◌, ◌≢◌, ℕ, ◌+◌, ◌≤◌, List, [], ◌∷◌, ◌++◌, Some, cond, ap, sym, ◌∙◌, refl, inl, inr, arith, ◌==◌, if◌then◌else◌, All-nil, All-cons, All-head, All-tail, cases_eq, eq-eqb, ne_eqb, sum_by-cons, nat_tests}
 use Rattle.session_rules.proofs.Below.{What, Empty, Once, at, put, changed, moved, Moves, sum_moved, ShelfState, held, taken, Context, Contexts, reparented, Ended, waiting, handed_in}
 use Rattle.session_rules.proofs.Rules.{first_of, AreHooks}
 use Rattle.reset_callbacks.specs.Hook.{Hook, Lacks, AreDistinct}
@@ -25,23 +25,11 @@ lacks_times w (x ∷ xs) h =
 
 pub times_lacks : (w : ℕ) (hs : List Hook) → word_times w hs ≡ 0 → Lacks hs w
 times_lacks w [] h = All-nil (λ (other : Hook). other.word ≢ w)
-times_lacks w (x ∷ xs) h =
-    elim (cases_eq x.word w) [
-      | inl e ↦ let z : 1 + word_times w xs ≡ 0 = rw (eq-eqb x.word w e) at h in absurd (omega arith)
-      | inr ne ↦
-          let z : 0 + word_times w xs ≡ 0 = rw (ne_eqb x.word w ne) at h in
-          All-cons (λ (other : Hook). other.word ≢ w) x xs ne (times_lacks w xs (omega arith))
-    ]
+times_lacks w (x ∷ xs) h = grind (arith, nat_tests, times_lacks w xs)
 
 pub distinct_times : (hs : List Hook) → AreDistinct hs → (w : ℕ) → word_times w hs ≤ 1
 distinct_times [] d w = omega arith
-distinct_times (x ∷ xs) d w =
-    elim (cases_eq x.word w) [
-      | inl e ↦
-          let none : word_times w xs ≡ 0 = ap (λ (n : ℕ). word_times n xs) (sym e) ∙ lacks_times x.word xs d.0 in
-          rw (eq-eqb x.word w e) (omega arith)
-      | inr ne ↦ rw (ne_eqb x.word w ne) (omega (arith, distinct_times xs d.1 w))
-    ]
+distinct_times (x ∷ xs) d w = grind (arith, nat_tests, lacks_times x.word xs d.0, distinct_times xs d.1 w)
 
 pub times_distinct : (hs : List Hook) → ((w : ℕ) → word_times w hs ≤ 1) → AreDistinct hs
 times_distinct [] h = tt

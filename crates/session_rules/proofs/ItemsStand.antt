@@ -193,20 +193,7 @@ file_item kinds file serial = record { kind = inl (record { from = omega arith; 
 -- the kind of a name is one of the extension kinds
 pub kind_from_is : (n : ℕ) (name : Text) (kinds : List Kind) (kind : KindId) → kind_from n name kinds ≡ Some kind → (n ≤ kind.0) × (kind.0 < n + length kinds)
 kind_from_is n name [] kind e = absurd (cc e)
-kind_from_is n name (k ∷ ks) kind e =
-    elim (cases_Bool (is_text k.name name)) [
-      | inl y ↦
-          let same : Some (record { 0 = n }) ≡ Some kind = rw y at e in
-          let is : n ≡ kind.0 = ap (λ (z : KindId). z.0) (some_is same) in
-          (omega arith, omega arith)
-      | inr y ↦
-          let rest : kind_from (n + 1) name ks ≡ Some kind = rw y at e in
-          let below = kind_from_is (n + 1) name ks kind rest in
-          (omega arith, omega arith)
-    ]
-  where
-    some_is : {a b : KindId} → Some a ≡ Some b → a ≡ b
-    some_is e = cc e
+kind_from_is n name (k ∷ ks) kind e = grind (arith, nat_tests, kind_from_is (n + 1) name ks kind)
 
 pub named_extension : (name : Text) (kinds : List Kind) (kind : KindId) → kind_named name kinds ≡ Some kind → IsExtension (table_of kinds) kind
 named_extension name kinds kind e =
@@ -327,23 +314,13 @@ pushed_apart (plan ∷ plans) new d h = (
 )
 
 pub pushed_counted : (plans : List StandingPlan) (new : StandingPlan) (m : ℕ) → new.references ≡ 0 → references_of m (plans ++ (new ∷ [])) ≡ references_of m plans
-pushed_counted [] new m none = go (new.number == m)
-  where
-    go : (b : Bool) → option_map_or (λ (plan : StandingPlan). plan.references) (cond b (Some new) None) 0 ≡ 0
-    go true = none
-    go false = refl
-pushed_counted (plan ∷ plans) new m none = elim (cases_Bool (plan.number == m)) [
-  | inl y ↦ rw y refl
-  | inr y ↦ rw y (pushed_counted plans new m none)
-]
+pushed_counted [] new m none = grind (arith, nat_tests)
+pushed_counted (plan ∷ plans) new m none = grind (arith, nat_tests, pushed_counted plans new m none)
 
 -- no plan has a number that isn't found
 pub none_found : (n : ℕ) (plans : List StandingPlan) → plan_at n plans ≡ None → All (IsOther n) plans
 none_found n [] e = All-nil (IsOther n)
-none_found n (plan ∷ plans) e = elim (cases_Bool (plan.number == n)) [
-  | inl y ↦ let z : Some plan ≡ None = rw y at e in absurd (cc z)
-  | inr y ↦ All-cons (IsOther n) plan plans (λ z. both_ways (plan.number == n) y (eq-eqb plan.number n z)) (none_found n plans (rw y at e))
-]
+none_found n (plan ∷ plans) e = grind (arith, nat_tests, none_found n plans)
 
 -- A plan of a new number is made.
 pub made_step : (s : Scene) (n : ℕ) → Stands s → IsWorking s.session.levels → plan_at n s.session.plans ≡ None → Stands (plan_made n s).scene

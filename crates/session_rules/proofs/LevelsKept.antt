@@ -1,5 +1,5 @@
 -- What levels and their owners keep where the deepest level goes, is released or is made.
-use Rattle.session_rules.proofs.Base.{◌≡◌, ◌≢◌, ◌⊎◌, ℕ, ◌<◌, true, false, Option, Some, None, List, [], ◌∷◌, refl, sym, ap, ◌∙◌, subst, inl, inr, arith, is_some, option_map_or, cases_eq, cases_Bool, both_ways}
+use Rattle.session_rules.proofs.Base.{◌≡◌, ◌≢◌, ◌⊎◌, ℕ, ◌<◌, true, false, Option, Some, None, List, [], ◌∷◌, refl, sym, ap, ◌∙◌, subst, inl, inr, arith, is_some, option_map_or, cases_eq, cases_Bool, both_ways, nat_tests}
 use Rattle.session_rules.proofs.Below.{has, Once, children, parent_of, is_above, removed, AllNodes, swept, at_absent, has_of_removed, left_apart, above_by_parent, above_none, Contexts, is_protected, KindTable, IsSoundTable, Owner, OwnerTree, AllAt, HoldsNothing, has_begun, once_of, sound_removed}
 use Rattle.session_rules.proofs.Rules.{LevelState, OpenPortal, abort_context, first_of, owner_of, top_context, level_parent, AreContexts, AreLevels, AreOuter, AreOwners, HasItems, IsContextOf, IsOwner, IsOwnerOf, IsReleased, AreEnding, IsLoose}
 use Rattle.session_rules.proofs.Forests.{at_left}
@@ -105,10 +105,7 @@ outer_owners (level ∷ levels) t x p once l o above m i =
     go n own (Some q) e up rest = above_by_parent n q p x once (own.parent ∙ e) (λ z. omega (arith, z, up q e)) ∙ rest q (first_owner levels q e)
 
 pub begun_has : (n : ℕ) (owners : OwnerTree) → has_begun n owners ≡ true → has n owners ≡ true
-begun_has n owners u = elim (cases_Bool (has n owners)) [
-  | inl y ↦ y
-  | inr y ↦ let z : option_map_or (λ (owner : Owner). owner.begun) None false ≡ true = rw (at_absent n owners y) at u in absurd (cc z)
-]
+begun_has n owners u = grind (arith, nat_tests, at_absent n owners)
 
 -- without the deepest level's owner
 abbrev pub without_owner : Option ℕ → OwnerTree → OwnerTree
@@ -116,16 +113,7 @@ without_owner None owners = owners
 without_owner (Some p) owners = removed p owners
 
 pub owners_end : (kinds : KindTable) (owners : OwnerTree) (a b : ℕ) (level : LevelState) (levels : List LevelState) (portals : List OpenPortal) → AreOwners kinds owners a b (level ∷ levels) portals → AreEnding kinds owners a b level levels portals
-owners_end kinds owners a b level levels portals h = record {
-  sound = h.sound;
-  each = λ n u. elim (h.each n u) [
-    | inl i ↦ inl i
-    | inr j ↦ elim j [ inl p ↦ inr (inl p) | inr r ↦ inr (inr (record { owner = r.owner; is = r.is; within = r.within })) ]
-  ];
-  begun = λ n u. let r : IsReleased level n owners = h.begun n u in record { owner = r.owner; is = r.is; within = r.within };
-  fresh = λ active n u. let r : IsReleased level n owners = h.begun n u in both_ways level.aborted active r.aborted;
-  items = h.items;
-}
+owners_end kinds owners a b level levels portals h = grind (arith, nat_tests)
 
 pub owners_without : (kinds : KindTable) (level : LevelState) (levels : List LevelState) (portals : List OpenPortal) (owners : OwnerTree) (a b : ℕ) (o : Option ℕ) → level.owner ≡ o → ((p : ℕ) → level.owner ≡ Some p → has p owners ≡ true)
     → AreEnding kinds owners a b level levels portals → AreOwners kinds (without_owner o owners) a b levels portals

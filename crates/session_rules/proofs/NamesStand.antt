@@ -1,6 +1,6 @@
 -- The steps on contexts of a name lead from a session that stands to one that stands.
-use Rattle.session_rules.proofs.Base.{◌≡◌, ◌≢◌, ◌⊎◌, ℕ, ◌+◌, Bool, true, false, Option, Some, None, List, [], ◌∷◌, ◌++◌, refl, sym, ap, ◌∙◌, subst, inl, inr, arith, ◌==◌, ◌&&◌, ◌||◌, not, reverse, if◌then◌else◌, codes, option_map, option_map_or, option_and_then, eq-eqb, ne_eqb, both_ways, or_parts}
-use Rattle.session_rules.proofs.Below.{Empty, Node, Once, at, children, either, has, is_above, moved, removed, with_children, Moves, apart_of, at_absent, at_some, has_changed, Hook, taken, CtxKind, Context, Contexts, created, is_protected, new_context, reparented, OwnerTree, is_text}
+use Rattle.session_rules.proofs.Base.{◌≡◌, ◌≢◌, ◌⊎◌, ℕ, ◌+◌, Bool, true, false, Option, Some, None, List, [], ◌∷◌, ◌++◌, refl, sym, ap, ◌∙◌, subst, inl, inr, arith, ◌==◌, ◌&&◌, ◌||◌, not, reverse, if◌then◌else◌, codes, option_map, option_map_or, option_and_then, eq-eqb, ne_eqb, both_ways, or_parts, nat_tests}
+use Rattle.session_rules.proofs.Below.{Empty, Node, Once, at, children, either, has, is_above, moved, removed, with_children, Moves, apart_of, at_absent, at_some, has_changed, Hook, taken, CtxKind, Context, Contexts, created, is_protected, new_context, reparented, OwnerTree, is_text, Apart}
 use Rattle.session_rules.proofs.Rules.{LevelState, SessionState, cache_context, context_of, first_of, last_of, level_context, top_context, Scene, Moment, Text, context_named, context_made, new_context_made, at_context, context_moved, hook_registered, hook_waits, does, AreContexts, AreHooks, AreLevels, IsPlace, IsRow, IsWorking, Stands, referred}
 use Rattle.std.proofs.lemmas.List.{reverse-append}
 use Rattle.context_rules.specs.Names.{same_name}
@@ -31,10 +31,7 @@ first_context (level ∷ levels) n e = inl e
 
 in_both : (xs ys : List LevelState) (n : ℕ) → IsContext n (xs ++ ys) → IsContext n xs ⊎ IsContext n ys
 in_both [] ys n i = inr i
-in_both (x ∷ xs) ys n i = elim i [
-  | inl e ↦ inl (inl e)
-  | inr j ↦ elim (in_both xs ys n j) [ inl k ↦ inl (inr k) | inr k ↦ inr k ]
-]
+in_both (x ∷ xs) ys n i = grind (arith, nat_tests, in_both xs ys n)
 
 in_reverse : (levels : List LevelState) (n : ℕ) → IsContext n (reverse levels) → IsContext n levels
 in_reverse [] n i = i
@@ -46,32 +43,12 @@ in_reverse (level ∷ levels) n i = elim (in_both (reverse levels) (level ∷ []
 -- a level's context is there
 level_there : (levels : List LevelState) (t : Contexts) (x : OwnerTree) (n : ℕ) → AreLevels levels t x → IsContext n levels → has n t ≡ true
 level_there [] t x n l i = absurd i
-level_there (level ∷ levels) t x n l i = elim i [
-  | inl e ↦ protected_has n t (l.0.context n e).protected
-  | inr j ↦ level_there levels t x n l.1 j
-]
+level_there (level ∷ levels) t x n l i = grind (arith, nat_tests, protected_has n t, level_there levels t x n l.1)
 
 -- so is a context of the script that a name leads to
 script_there : (name : Text) (t : Contexts) (n : ℕ) → rules.context_named name t ≡ Some n → has n t ≡ true
 script_there name Empty n e = absurd (no_value None n refl e)
-script_there name (Node k c below beside) n e =
-    by_name (not c.protected && same_name c.name name) (rules.context_named name below) refl e (λ q. script_there name below n q) (λ q. script_there name beside n q)
-  where
-    by_name : (b : Bool) (o : Option ℕ) → rules.context_named name below ≡ o → (if b then Some k else either o (rules.context_named name beside)) ≡ Some n
-        → (rules.context_named name below ≡ Some n → has n below ≡ true) → (rules.context_named name beside ≡ Some n → has n beside ≡ true) → has n (Node k c below beside) ≡ true
-    by_name true o q e low high = rw (eq-eqb k n (one_value (Some k) k n refl e)) refl
-    by_name false None q e low high = let u : has n beside ≡ true = high e in some_third (k == n) (has n below) (has n beside) u
-      where
-        some_third : (x y z : Bool) → z ≡ true → (x || (y || z)) ≡ true
-        some_third true y z h = refl
-        some_third false true z h = refl
-        some_third false false z h = h
-    by_name false (Some m) q e low high = let u : has n below ≡ true = low (q ∙ e) in some_second (k == n) (has n below) (has n beside) u
-      where
-        some_second : (x y z : Bool) → y ≡ true → (x || (y || z)) ≡ true
-        some_second true y z h = refl
-        some_second false true z h = refl
-        some_second false false z h = absurd (cc h)
+script_there name (Node k c below beside) n e = grind (arith, nat_tests, script_there name below n, script_there name beside n)
 
 -- A name leads to the topmost context, to the one for caches, to that of a level or to one of the script.
 leads_to : (P : Type 0) (name : Text) (s : SessionState) (n : ℕ) → context_named name s ≡ Some n
@@ -100,28 +77,8 @@ named_there name s n h e =
 script_free : (name : Text) (t : Contexts) (n : ℕ) → Once t → rules.context_named name t ≡ Some n → is_protected n t ≡ false
 script_free name Empty n o e = refl
 script_free name (Node k c below beside) n o e =
-    by_name (not c.protected && same_name c.name name) refl (rules.context_named name below) refl e
-    (λ once q. script_free name below n once q) (λ once q. script_free name beside n once q)
-  where
-    free : (a b : Bool) → (not a && b) ≡ true → a ≡ false
-    free true b q = absurd (cc q)
-    free false b q = refl
-
-    by_name : (b : Bool) → (not c.protected && same_name c.name name) ≡ b → (o : Option ℕ) → rules.context_named name below ≡ o → (if b then Some k else either o (rules.context_named name beside)) ≡ Some n
-        → (Once below → rules.context_named name below ≡ Some n → is_protected n below ≡ false) → (Once beside → rules.context_named name beside ≡ Some n → is_protected n beside ≡ false)
-        → is_protected n (Node k c below beside) ≡ false
-    by_name true y o q e low high = rw (eq-eqb k n (one_value (Some k) k n refl e)) (free c.protected (same_name c.name name) y)
-    by_name false y None q e low high =
-        let u : has n beside ≡ true = script_there name beside n e in
-        let ne : k ≢ n = λ z. both_ways (has n beside) (ap (λ (j : ℕ). has j beside) (sym z) ∙ (apart_of k c below beside o).not_beside) u in
-        rw (ne_eqb k n ne, at_absent n below ((apart_of k c below beside o).apart_back n u)) (high (apart_of k c below beside o).once_beside e)
-    by_name false y (Some m) q e low high =
-        let there : rules.context_named name below ≡ Some n = q ∙ e in
-        let u : has n below ≡ true = script_there name below n there in
-        let ne : k ≢ n = λ z. both_ways (has n below) (ap (λ (j : ℕ). has j below) (sym z) ∙ (apart_of k c below beside o).not_below) u in
-        let w = at_some n below u in
-        let known : w.0.protected ≡ false = rw w.1 at (low (apart_of k c below beside o).once_below there) in
-        rw (ne_eqb k n ne, w.1) known
+    let apart : Apart k below beside = apart_of k c below beside o in
+    grind (arith, nat_tests, script_there name below n, script_there name beside n, apart.apart_back n, at_absent n below, at_some n below, script_free name below n apart.once_below, script_free name beside n apart.once_beside)
 
 -- A context that a name leads to isn't that of a plan.
 pub named_other : (name : Text) (s : Scene) (n : ℕ) → Stands s → context_named name s.session ≡ Some n → (m : ℕ) → IsCached m s.session.contexts → n ≢ m

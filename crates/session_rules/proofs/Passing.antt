@@ -1,5 +1,5 @@
 -- Portals pass to the level above where the deepest one is merged into it.
-use Rattle.session_rules.proofs.Base.{◌≡◌, ◌≢◌, ◌⊎◌, ℕ, ◌+◌, ◌-◌, ◌≤◌, Bool, true, false, Option, Some, None, List, [], ◌∷◌, ◌++◌, length, refl, sym, ap, ◌∙◌, subst, inl, inr, arith, ◌==◌, option_map_or, cases_eq, cases_Bool, eq-eqb, eqb-true, eqb-false, ne_eqb}
+use Rattle.session_rules.proofs.Base.{◌≡◌, ◌≢◌, ◌⊎◌, ℕ, ◌+◌, ◌-◌, ◌≤◌, Bool, true, false, Option, Some, None, List, [], ◌∷◌, ◌++◌, length, refl, sym, ap, ◌∙◌, subst, inl, inr, arith, ◌==◌, option_map_or, cases_eq, cases_Bool, eq-eqb, eqb-true, eqb-false, ne_eqb, nat_tests}
 use Rattle.session_rules.proofs.Below.{Once, has, moved, Moves, Contexts, table_of, Owner, OwnerTree, once_of, sound_moved, Forest, Empty, Node, times, at, children, parent_of, put, removed, at_moved}
 use Rattle.session_rules.proofs.Rules.{LevelState, OpenPortal, first_of, owner_of, plan_reference, Scene, portal_changed, for_each, in_order, portal_becomes, where_so, where_there, owner_moved, portal_passed, AreLevels, AreOuter, ArePlans, HasItems, IsAtRest, IsAtWork, IsAttached, IsDead, IsLive, IsOwner, IsPortal, owner_at, referred, AreEnding, Ending, IsLoose}
 use Rattle.portal_store.specs.Portal.{lowered}
@@ -20,37 +20,13 @@ use Rattle.session_rules.proofs.Lone.{children_left, lone_moved}
 
 module _ {A : Type 0} where
   same_has : (m : ℕ) (t u : Forest A) → times m u ≡ times m t → has m u ≡ has m t
-  same_has m t u e = elim (cases_Bool (has m t)) [
-    | inl y ↦ has_some m u (omega (arith, e, times_some m t y)) ∙ sym y
-    | inr y ↦ has_none m u (omega (arith, e, times_none m t y)) ∙ sym y
-  ]
+  same_has m t u e = grind (arith, nat_tests, has_some m u, times_some m t, has_none m u, times_none m t)
 
   -- what is below a node is so still where another one comes
   put_above : (m lo q o : ℕ) (a : A) (t : Forest A) → lo ≢ o → m ≢ o → has m (children lo t) ≡ true → has m (children lo (put q o a Empty t)) ≡ true
   put_above m lo q o a Empty ne other h = absurd (cc h)
   put_above m lo q o a (Node k b below beside) ne other h =
-      elim (cases_Bool (k == lo)) [
-        | inl z ↦
-            let r : has m below ≡ true = rw z at h in
-            elim (cases_Bool (k == q)) [
-              | inl y ↦ rw (z, y, ne_eqb o m (λ e. other (sym e))) r
-              | inr y ↦ rw (z, y) (has_put_other m q o a Empty below other refl ∙ r)
-            ]
-        | inr z ↦ elim (cases_Bool (has lo below)) [
-          | inl s ↦
-              let r : has m (children lo below) ≡ true = rw (z, s) at h in
-              elim (cases_Bool (k == q)) [
-                | inl y ↦ rw (z, y, ne_eqb o lo (λ e. ne (sym e)), s) r
-                | inr y ↦ rw (z, y, has_put_other lo q o a Empty below ne refl, s) (put_above m lo q o a below ne other r)
-              ]
-          | inr s ↦
-              let r : has m (children lo beside) ≡ true = rw (z, s) at h in
-              elim (cases_Bool (k == q)) [
-                | inl y ↦ rw (z, y, ne_eqb o lo (λ e. ne (sym e)), s) (put_above m lo q o a beside ne other r)
-                | inr y ↦ rw (z, y, has_put_other lo q o a Empty below ne refl, s) (put_above m lo q o a beside ne other r)
-              ]
-        ]
-      ]
+      grind (arith, nat_tests, has_put_other m q o a Empty below other refl, has_put_other lo q o a Empty below ne refl, put_above m lo q o a below ne other, put_above m lo q o a beside ne other)
 
   -- A node without children moves.
   pub record HasMoved (o q : ℕ) (t : Forest A) : Type 0 where
@@ -120,33 +96,16 @@ pub record IsBounded (p : OpenPortal) (depth : ℕ) : Type 0 where
   pub active : p.active ≤ depth
 
 pub bounded : (p : OpenPortal) (levels : List LevelState) → IsLive p levels ⊎ IsDead p levels → IsBounded p (length levels)
-bounded p levels s = elim s [
-  | inl l ↦ record { within = l.within; active = omega (arith, l.active, depth_small levels) }
-  | inr d ↦ record { within = d.within; active = d.active }
-]
+bounded p levels s = grind (arith, depth_small levels)
 
 pub lowered_most : (depth n : ℕ) → n ≤ depth → lowered depth n ≤ depth - 1
-lowered_most depth n small = elim (cases_Bool (n == depth)) [
-  | inl y ↦ let same : n ≡ depth = eqb-true n depth y in rw y (omega (arith, same))
-  | inr y ↦ let ne = eqb-false n depth y in rw y (omega (arith, small, ne))
-]
+lowered_most depth n small = grind (arith, nat_tests)
 
 pub lowered_within : (depth c a : ℕ) → c ≤ a → a ≤ depth → lowered depth c ≤ lowered depth a
-lowered_within depth c a within small = elim (cases_Bool (a == depth)) [
-  | inl y ↦
-      let same : a ≡ depth = eqb-true a depth y in
-      let most : lowered depth c ≤ depth - 1 = lowered_most depth c (omega (arith, within, small)) in
-      rw y (omega (arith, most, same))
-  | inr y ↦
-      let ne = eqb-false a depth y in
-      rw (y, ne_eqb c depth (λ z. ne (omega (arith, z, within, small)))) within
-]
+lowered_within depth c a within small = grind (arith, nat_tests, lowered_most depth c)
 
 pub lowered_some : (depth n : ℕ) → 2 ≤ depth → 1 ≤ n → 1 ≤ lowered depth n
-lowered_some depth n deep some = elim (cases_Bool (n == depth)) [
-  | inl y ↦ let same : n ≡ depth = eqb-true n depth y in rw y (omega (arith, same, deep))
-  | inr y ↦ rw y some
-]
+lowered_some depth n deep some = grind (arith, nat_tests)
 
 -- a portal that passes
 module _ (level : LevelState) (levels : List LevelState) (some : 1 ≤ length levels) where

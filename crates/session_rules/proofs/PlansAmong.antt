@@ -1,5 +1,5 @@
 -- The contexts of plans among those of levels, and what plans keep where other contexts change.
-use Rattle.session_rules.proofs.Base.{◌≡◌, ◌≢◌, ℕ, ◌≤◌, ◌<◌, true, false, Option, Some, None, List, [], ◌∷◌, refl, sym, ap, ◌∙◌, inl, inr, arith, unwrap_or, All, option_map_or, All-weaker}
+use Rattle.session_rules.proofs.Base.{◌≡◌, ◌≢◌, ℕ, ◌≤◌, ◌<◌, true, false, Option, Some, None, List, [], ◌∷◌, refl, sym, ap, ◌∙◌, inl, inr, arith, unwrap_or, All, option_map_or, All-weaker, nat_tests}
 use Rattle.session_rules.proofs.Below.{Empty, has, children, parent_of, removed, above_by_parent, Contexts, is_protected, OwnerTree}
 use Rattle.session_rules.proofs.Rules.{LevelState, StandingPlan, abort_context, cache_context, context_of, first_of, top_context, level_parent, AreContexts, AreLevels, AreOuter, ArePlans, IsPlan}
 use Rattle.session_rules.proofs.ContextsKept.{IsSame, own_outside, same_removed}
@@ -35,11 +35,7 @@ plans_counted plans t current c d same h = record { each = h.each; apart = h.apa
 -- the parent of a level's context isn't the one for caches
 pub above_other : (levels : List LevelState) (t : Contexts) (x : OwnerTree) → AreLevels levels t x → level_parent (first_of levels) ≢ cache_context
 above_other [] t x l = λ z. absurd (omega (arith, z))
-above_other (level ∷ levels) t x l = go level.context (λ n e. (l.0.context n e).own)
-  where
-    go : (o : Option ℕ) → ((n : ℕ) → o ≡ Some n → abort_context < n) → option_map_or (λ n. n) o top_context ≢ cache_context
-    go None own = λ z. absurd (omega (arith, z))
-    go (Some n) own = λ z. absurd (omega (arith, z, own n refl))
+above_other (level ∷ levels) t x l = grind (arith, λ (n : ℕ) (e : level.context ≡ Some n). (l.0.context n e).own)
 
 pub some_is : (a b : ℕ) → Some a ≡ Some b → a ≡ b
 some_is a b e = cc e
@@ -47,12 +43,8 @@ some_is a b e = cc e
 -- a level's context isn't that of a plan
 pub levels_other : (levels : List LevelState) (t : Contexts) (x : OwnerTree) → AreLevels levels t x → (n : ℕ) → IsContext n levels → (m : ℕ) → IsCached m t → n ≢ m
 levels_other [] t x l n i m c = absurd i
-levels_other (level ∷ levels) t x l n i m c = elim i [
-  | inl e ↦ λ z.
-      above_other levels t x l.1
-      (some_is (level_parent (first_of levels)) cache_context (sym (l.0.context n e).parent ∙ ap (λ (k : ℕ). parent_of k t) z ∙ c.parent))
-  | inr j ↦ levels_other levels t x l.1 n j m c
-]
+levels_other (level ∷ levels) t x l n i m c =
+    grind (arith, nat_tests, above_other levels t x l.1, some_is (level_parent (first_of levels)) cache_context, levels_other levels t x l.1 n)
 
 pub levels_apart : (levels : List LevelState) (t : Contexts) (x : OwnerTree) (plans : List StandingPlan) (current : ℕ) → AreLevels levels t x → All (λ plan. IsPlan plan t current) plans → (n : ℕ) → IsContext n levels → IsApart n plans
 levels_apart levels t x plans current l each n i =

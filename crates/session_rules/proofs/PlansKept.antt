@@ -1,5 +1,5 @@
 -- What plans keep where one of them changes or goes.
-use Rattle.session_rules.proofs.Base.{◌≡◌, ◌≢◌, ℕ, ◌≤◌, ◌<◌, true, false, Some, List, [], ◌∷◌, ◌++◌, refl, sym, ap, ◌∙◌, subst, inl, inr, ◌==◌, All, cases_eq, cases_Bool, eqb-true, eq-eqb, ne_eqb, both_ways, All-nil, All-cons, All-head, All-tail, All-weaker}
+use Rattle.session_rules.proofs.Base.{◌≡◌, ◌≢◌, ℕ, ◌≤◌, ◌<◌, true, false, Some, List, [], ◌∷◌, ◌++◌, refl, sym, ap, ◌∙◌, subst, inl, inr, ◌==◌, All, cases_eq, cases_Bool, eqb-true, eq-eqb, ne_eqb, both_ways, All-nil, All-cons, All-head, All-tail, All-weaker, arith, nat_tests}
 use Rattle.session_rules.proofs.Below.{Empty, has, children, parent_of, removed, Contexts, is_protected}
 use Rattle.session_rules.proofs.Rules.{StandingPlan, abort_context, cache_context, plan_at, plan_changed, plans_but, AreApart, AreContexts, ArePlans, Differ, IsPlan, references_of}
 use Rattle.session_rules.proofs.ContextsKept.{IsSame, same_removed}
@@ -117,10 +117,7 @@ none_without n (x ∷ xs) back f b = rw (ne_eqb x.number n (All-head (IsOther n)
 
 counted_other : (m : ℕ) (p : StandingPlan) (front back : List StandingPlan) → p.number ≢ m → references_of m (front ++ (p ∷ back)) ≡ references_of m (front ++ back)
 counted_other m p [] back ne = rw (ne_eqb p.number m ne) refl
-counted_other m p (x ∷ xs) back ne = elim (cases_Bool (x.number == m)) [
-  | inl y ↦ rw y refl
-  | inr y ↦ rw y (counted_other m p xs back ne)
-]
+counted_other m p (x ∷ xs) back ne = grind (arith, nat_tests, counted_other m p xs back ne)
 
 -- A plan becomes another one of its number and its context.
 pub plans_replaced : (plans : List StandingPlan) (t : Contexts) (current : ℕ) (c d : ℕ → ℕ) (n : ℕ) (p q : StandingPlan) → ArePlans plans t current c → (s : Split n p plans)

@@ -1,5 +1,5 @@
 -- What lists of portals keep where one of them changes or goes.
-use Rattle.session_rules.proofs.Base.{◌≡◌, ◌≢◌, ◌⊎◌, ℕ, false, Some, List, [], ◌∷◌, ◌++◌, refl, sym, ap, ◌∙◌, inl, inr, All, false_from_ne_true, All-nil, All-cons, All-head, All-tail, All-weaker, Bool, true, arith, if◌then◌else◌, both_ways, cases_Bool}
+use Rattle.session_rules.proofs.Base.{◌≡◌, ◌≢◌, ◌⊎◌, ℕ, false, Some, List, [], ◌∷◌, ◌++◌, refl, sym, ap, ◌∙◌, inl, inr, All, false_from_ne_true, All-nil, All-cons, All-head, All-tail, All-weaker, Bool, true, arith, if◌then◌else◌, both_ways, cases_Bool, nat_tests}
 use Rattle.session_rules.proofs.Rules.{OpenPortal, portal_changed, portals_but, AreDifferent, AreOther, IsOfPortal, LevelState, Text, IsAtRest, IsDead, IsLive, IsPortal}
 use Rattle.session_rules.proofs.Below.{is_text, is_text-means, is_text-same, Contexts, OwnerTree}
 use Rattle.session_rules.proofs.PlansKept.{all_replaced, all_without}
@@ -50,10 +50,7 @@ different_changed p q (x ∷ xs) back c h = (
 -- whose owner it is
 pub owner_split : (n : ℕ) (p : OpenPortal) (front back : List OpenPortal) → IsOfPortal n (front ++ (p ∷ back)) → (p.owner ≡ Some n) ⊎ IsOfPortal n (front ++ back)
 owner_split n p [] back i = i
-owner_split n p (x ∷ xs) back i = elim i [
-  | inl e ↦ inr (inl e)
-  | inr j ↦ elim (owner_split n p xs back j) [ inl e ↦ inl e | inr k ↦ inr (inr k) ]
-]
+owner_split n p (x ∷ xs) back i = grind (arith, nat_tests, owner_split n p xs back)
 
 pub owner_beside : (n : ℕ) (p : OpenPortal) (front back : List OpenPortal) → IsOfPortal n (front ++ back) → IsOfPortal n (front ++ (p ∷ back))
 owner_beside n p [] back i = inr i
@@ -129,17 +126,11 @@ different_owned p q (x ∷ xs) back new name context is off h =
 
 -- no line is at work on a portal where the deepest level is aborted
 pub rests_aborted : (p : OpenPortal) (level : LevelState) (levels : List LevelState) → level.aborted ≡ true → IsLive p (level ∷ levels) ⊎ IsDead p (level ∷ levels) → IsAtRest p
-rests_aborted p level levels aborted s = elim s [
-  | inl l ↦ elim l.line [ inl r ↦ r | inr a ↦ absurd (omega (arith, a.0, l.active, depth_still level levels aborted)) ]
-  | inr d ↦ λ _. d.owner
-]
+rests_aborted p level levels aborted s = grind (arith, nat_tests, depth_still level levels aborted)
 
 -- without a level there is no portal
 pub rests_outside : (p : OpenPortal) → IsLive p [] ⊎ IsDead p [] → IsAtRest p
-rests_outside p s = elim s [
-  | inl l ↦ absurd (omega (arith, l.some, l.within, l.active))
-  | inr d ↦ λ _. d.owner
-]
+rests_outside p s = grind (arith, nat_tests)
 
 -- a portal of a name changes
 module _ (name : Text) (f : OpenPortal → OpenPortal) (P Q : OpenPortal → Type 0) where

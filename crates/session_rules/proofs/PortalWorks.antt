@@ -1,5 +1,5 @@
 -- The elements of portals lead from a session that stands to one that stands, with its levels as they were.
-use Rattle.session_rules.proofs.Base.{◌≡◌, ◌≢◌, ℕ, ◌-◌, Bool, true, false, Option, Some, None, List, [], ◌∷◌, length, refl, sym, ap, ◌∙◌, subst, inl, inr, ◌==◌, ◌&&◌, option_and_then, cases_Bool}
+use Rattle.session_rules.proofs.Base.{◌≡◌, ◌≢◌, ℕ, ◌-◌, Bool, true, false, Option, Some, None, List, [], ◌∷◌, length, refl, sym, ap, ◌∙◌, subst, inl, inr, ◌==◌, ◌&&◌, option_and_then, cases_Bool, arith, nat_tests}
 use Rattle.session_rules.proofs.Below.{has, Error, Item, KindId, Mode, ScanStep, table_of, is_among, without, forgotten, is_text}
 use Rattle.session_rules.proofs.Rules.{OpenPortal, StandingPlan, buffer_pin, Scene, Moment, Check, Element, InPortal, InRow, OfPortal, Text, newest, plan_at, portal_changed, portal_named, Ended, changes, context_cleared_alone, in_order, nothing, portal_becomes, say, where_so, where_there, failure, Done, unless_refused, Keeper, NoOne, TheDescriptors, TheKind, ThePlans, given_back, item_released, keeper_of, left_to, plan_becomes, plan_settled, plan_stays, left, item_taken, lock_taken, memory_taken, remembers, taken_by, at_owner, scan_part, scanned, does, failing_turn, IsAtRest, IsFetched, IsItem, IsWorking, Stands}
 use Rattle.pgs_step.specs.declared.events.What.TheVariants as what
@@ -16,7 +16,6 @@ use Rattle.session_rules.proofs.StepsStand.{Works, fallible_keeps, keeps_allocat
 use Rattle.session_rules.proofs.PortalsStand.{Named, active_portal, named_changed, named_in, scan_portal, state_portal, this_portal}
 use Rattle.session_rules.proofs.PortalLists.{rests_becomes}
 pub use Rattle.session_rules.proofs.StepsStand.{Beside, nothing_beside}
-
 
 -- what is given back leaves the portals
 pub given_portals : (keeper : Keeper) (key : ℕ) (s : Scene) → (left_to keeper key s).scene.session.portals ≡ s.session.portals
@@ -55,10 +54,7 @@ then_beside a b c x y = record { works = record { stands = y.works.stands; level
 -- without a portal of the name nothing changes
 pub none_changed : (name : Text) (f : OpenPortal → OpenPortal) (ps : List OpenPortal) → portal_named name ps ≡ None → portal_changed name f ps ≡ ps
 none_changed name f [] e = refl
-none_changed name f (p ∷ ps) e = elim (cases_Bool (is_text p.name name)) [
-  | inl y ↦ let z : Some p ≡ None = rw y at e in absurd (cc z)
-  | inr y ↦ rw y (ap (λ (qs : List OpenPortal). p ∷ qs) (none_changed name f ps (rw y at e)))
-]
+none_changed name f (p ∷ ps) e = grind (arith, nat_tests, none_changed name f ps)
 
 -- a portal changes, where one has the name
 pub becomes_works : (s : Scene) (name : Text) (f : OpenPortal → OpenPortal) → Stands s → ((p : OpenPortal) → IsAtRest p → IsAtRest (f p)) → ((p : OpenPortal) → portal_named name s.session.portals ≡ Some p → Stands (portal_becomes name f s).scene) → Works s (portal_becomes name f s).scene
@@ -142,11 +138,7 @@ module _ (w : Option ℕ) (moment : Moment) (h : Stands moment.scene) (working :
 
   pub check_beside : (check : Check) → Beside moment.scene (does w (element.Checks check) moment).moment.scene
   unfolding does
-  check_beside check = go (failure check moment.scene)
-    where
-      go : (r : Option Error) → Beside moment.scene (unless_refused r moment nothing).moment.scene
-      go None = nothing_beside moment.scene h
-      go (Some e) = nothing_beside moment.scene h
+  check_beside check = grind (arith, nat_tests)
 
   pub begins_works : Works moment.scene (does w (element.FetchBegins name) moment).moment.scene
   unfolding does

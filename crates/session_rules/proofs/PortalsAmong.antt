@@ -1,5 +1,5 @@
 -- The contexts and owners of portals among those of levels, and what portals keep where others change.
-use Rattle.session_rules.proofs.Base.{◌≡◌, ◌≢◌, ◌⊎◌, ℕ, ◌≤◌, ◌<◌, Bool, true, false, Option, Some, None, List, [], ◌∷◌, refl, sym, ap, ◌∙◌, subst, inl, inr, arith, ◌==◌, if◌then◌else◌, All, option_map_or, cases_eq, both_ways, eq-eqb, ne_eqb, All-weaker}
+use Rattle.session_rules.proofs.Base.{◌≡◌, ◌≢◌, ◌⊎◌, ℕ, ◌≤◌, ◌<◌, Bool, true, false, Option, Some, None, List, [], ◌∷◌, refl, sym, ap, ◌∙◌, subst, inl, inr, arith, ◌==◌, if◌then◌else◌, All, option_map_or, cases_eq, both_ways, eq-eqb, ne_eqb, All-weaker, nat_tests}
 use Rattle.session_rules.proofs.Below.{Empty, Node, Once, has, at, children, parent_of, put, removed, changed, with_children, Context, Contexts, is_protected, OwnerTree}
 use Rattle.session_rules.proofs.Rules.{LevelState, OpenPortal, StandingPlan, abort_context, cache_context, first_of, portals_context, top_context, level_parent, AreContexts, AreLevels, AreOuter, ArePortals, IsAttached, IsOfSession, IsOwner, IsPlace, IsPlan, IsPortal, IsRow, owner_at}
 use Rattle.forest.proofs.Moved.{at_children}
@@ -32,21 +32,15 @@ row_of e c t current once h =
 -- a level's context isn't below one of the session's own but the topmost one
 pub off_above : (levels : List LevelState) (t : Contexts) (x : OwnerTree) → AreLevels levels t x → (b : ℕ) → 1 < b → b ≤ abort_context → level_parent (first_of levels) ≢ b
 off_above [] t x l b low high = λ z. absurd (omega (arith, z))
-off_above (level ∷ levels) t x l b low high = go level.context (λ n e. (l.0.context n e).own)
-  where
-    go : (o : Option ℕ) → ((n : ℕ) → o ≡ Some n → abort_context < n) → option_map_or (λ n. n) o top_context ≢ b
-    go None own = λ z. absurd (omega (arith, z))
-    go (Some n) own = λ z. absurd (omega (arith, z, own n refl))
+off_above (level ∷ levels) t x l b low high = grind (arith, λ (n : ℕ) (e : level.context ≡ Some n). (l.0.context n e).own)
 
 pub some_is : (a b : ℕ) → Some a ≡ Some b → a ≡ b
 some_is a b e = cc e
 
 pub off_levels : (levels : List LevelState) (t : Contexts) (x : OwnerTree) → AreLevels levels t x → (n : ℕ) → IsContext n levels → (m b : ℕ) → 1 < b → b ≤ abort_context → parent_of m t ≡ Some b → n ≢ m
 off_levels [] t x l n i m b low high p = absurd i
-off_levels (level ∷ levels) t x l n i m b low high p = elim i [
-  | inl e ↦ λ z. off_above levels t x l.1 b low high (some_is (level_parent (first_of levels)) b (sym (l.0.context n e).parent ∙ ap (λ (k : ℕ). parent_of k t) z ∙ p))
-  | inr j ↦ off_levels levels t x l.1 n j m b low high p
-]
+off_levels (level ∷ levels) t x l n i m b low high p =
+    grind (arith, nat_tests, off_above levels t x l.1 b low high, some_is (level_parent (first_of levels)) b, off_levels levels t x l.1 n)
 
 -- the parent of a level's context isn't a portal's
 pub levels_up : (levels : List LevelState) (t : Contexts) (x : OwnerTree) → AreLevels levels t x → (c : ℕ) → abort_context < c → parent_of c t ≡ Some portals_context → level_parent (first_of levels) ≢ c
@@ -60,10 +54,8 @@ levels_up (level ∷ levels) t x l c own p = go level.context refl
 -- a level's context isn't that of one row
 pub off_rows : (levels : List LevelState) (t : Contexts) (x : OwnerTree) → AreLevels levels t x → (n : ℕ) → IsContext n levels → (e c : ℕ) → abort_context < c → parent_of c t ≡ Some portals_context → parent_of e t ≡ Some c → n ≢ e
 off_rows [] t x l n i e c own up p = absurd i
-off_rows (level ∷ levels) t x l n i e c own up p = elim i [
-  | inl q ↦ λ z. levels_up levels t x l.1 c own up (some_is (level_parent (first_of levels)) c (sym (l.0.context n q).parent ∙ ap (λ (k : ℕ). parent_of k t) z ∙ p))
-  | inr j ↦ off_rows levels t x l.1 n j e c own up p
-]
+off_rows (level ∷ levels) t x l n i e c own up p =
+    grind (arith, nat_tests, levels_up levels t x l.1 c own up, some_is (level_parent (first_of levels)) c, off_rows levels t x l.1 n)
 
 -- nor is one of the session's own
 pub own_rows : (t : Contexts) (next : ℕ) → AreContexts t next → (n : ℕ) → 1 ≤ n → n ≤ abort_context → (e c : ℕ) → abort_context < c → parent_of e t ≡ Some c → n ≢ e
@@ -91,19 +83,7 @@ place_same n expr t u current s row h = search (s.parent ∙ h.parent)
 -- rows behind changes elsewhere
 module _ (t : Contexts) (once : Once t) (n : ℕ) (expr : Option ℕ) (current : ℕ) (h : IsPlace n expr t current) where
   pub row_changed : (k : ℕ) (f : Context → Context) → ((c : Context) → (f c).protected ≡ c.protected) → IsRow expr (children n (changed k f t))
-  row_changed k f keeps = subst (IsRow expr) (sym (children_changed n k f t)) (go expr (children n t) h.row)
-    where
-      go : (o : Option ℕ) (v : Contexts) → IsRow o v → IsRow o (changed k f v)
-      go None v r = ap (changed k f) r
-      go (Some e) v r = (
-        if e == k then f r.0 else r.0,
-        ap (changed k f) r.1,
-        guarded (e == k) r.2,
-      )
-        where
-          guarded : (b : Bool) → r.0.protected ≡ true → (if b then f r.0 else r.0).protected ≡ true
-          guarded true p = keeps r.0 ∙ p
-          guarded false p = p
+  row_changed k f keeps = grind (arith, nat_tests, children_changed n k f t)
 
   pub row_left : (k : ℕ) → n ≢ k → has n (children k t) ≡ false → ((e : ℕ) → expr ≡ Some e → e ≢ k) → IsRow expr (children n (removed k t))
   row_left k ne out other = subst (IsRow expr) (sym (children_left n k t once ne out)) (go expr other (children n t) h.row)
@@ -113,22 +93,10 @@ module _ (t : Contexts) (once : Once t) (n : ℕ) (expr : Option ℕ) (current :
       go (Some e) other v r = (r.0, ap (removed k) r.1 ∙ rw (ne_eqb e k (other e refl)) refl, r.2)
 
   pub row_emptied : (k : ℕ) → n ≢ k → has n (children k t) ≡ false → IsRow expr (children n (with_children k Empty t))
-  row_emptied k ne out = subst (IsRow expr) (sym (children_emptied n k t once ne out)) (go expr (children n t) h.row)
-    where
-      go : (o : Option ℕ) (v : Contexts) → IsRow o v → IsRow o (with_children k Empty v)
-      go None v r = ap (with_children k Empty) r
-      go (Some e) v r = (r.0, ap (with_children k Empty) r.1 ∙ nothing (e == k), r.2)
-        where
-          nothing : (b : Bool) → Node e r.0 (if b then Empty else Empty) Empty ≡ Node e r.0 Empty Empty
-          nothing true = refl
-          nothing false = refl
+  row_emptied k ne out = grind (arith, nat_tests, children_emptied n k t once ne out)
 
   pub row_put : (q m : ℕ) (a : Context) (sub : Contexts) → n ≢ q → n ≢ m → has n sub ≡ false → ((e : ℕ) → expr ≡ Some e → e ≢ q) → IsRow expr (children n (put q m a sub t))
-  row_put q m a sub ne new out other = subst (IsRow expr) (sym (children_put_other n q m a sub t once ne new out)) (go expr other (children n t) h.row)
-    where
-      go : (o : Option ℕ) → ((e : ℕ) → o ≡ Some e → e ≢ q) → (v : Contexts) → IsRow o v → IsRow o (put q m a sub v)
-      go None other v r = ap (put q m a sub) r
-      go (Some e) other v r = (r.0, ap (put q m a sub) r.1 ∙ rw (ne_eqb e q (other e refl)) refl, r.2)
+  row_put q m a sub ne new out other = grind (arith, nat_tests, children_put_other n q m a sub t once ne new out)
 
 -- a portal's context isn't a plan's
 pub place_plans : (n : ℕ) (expr : Option ℕ) (t : Contexts) (current : ℕ) (plans : List StandingPlan) → IsPlace n expr t current → (a : ℕ) → All (λ plan. IsPlan plan t a) plans → IsApart n plans

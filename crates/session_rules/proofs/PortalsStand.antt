@@ -1,5 +1,5 @@
 -- The steps of a portal lead from a session that stands to one that stands.
-use Rattle.session_rules.proofs.Base.{◌≡◌, ◌≢◌, ◌⊎◌, ℕ, ◌+◌, ◌≤◌, ◌<◌, true, false, Option, Some, None, List, [], ◌∷◌, ◌++◌, length, refl, sym, ap, ◌∙◌, subst, inl, inr, arith, ◌==◌, ◌||◌, All, codes, option_map_or, option_and_then, cases_eq, cases_Bool, both_ways, eq-eqb, or_parts, All-nil, All-cons, All-head, All-tail, All-append, All-weaker}
+use Rattle.session_rules.proofs.Base.{◌≡◌, ◌≢◌, ◌⊎◌, ℕ, ◌+◌, ◌≤◌, ◌<◌, true, false, Option, Some, None, List, [], ◌∷◌, ◌++◌, length, refl, sym, ap, ◌∙◌, subst, inl, inr, arith, ◌==◌, ◌||◌, All, codes, option_map_or, option_and_then, cases_eq, cases_Bool, both_ways, eq-eqb, or_parts, All-nil, All-cons, All-head, All-tail, All-append, All-weaker, nat_tests}
 use Rattle.session_rules.proofs.Below.{Forest, Empty, Node, Once, at, has, children, parent_of, put, size, Apart, apart_of, Contexts, created, is_protected, new_context, table_of, Owner, OwnerTree, has_begun, once_of, fresh, sound_created, new_scan, Scan, is_text, is_text-means, is_text-same}
 use Rattle.session_rules.proofs.Rules.{LevelState, OpenPortal, cache_context, first_of, level_owner, plan_reference, portals_context, Scene, OfPortal, PortalContext, Text, portal_changed, portal_named, in_order, portal_becomes, context_made, new_context_made, new_owner_made, owner_made, portal_made}
 use Rattle.portal_store.specs.declared.portal.PortalState.TheVariants as portal
@@ -41,13 +41,7 @@ named_in name p (q ∷ qs) e = elim (cases_Bool (is_text q.name name)) [
 -- and behind its change
 pub named_changed : (name : Text) (p : OpenPortal) (f : OpenPortal → OpenPortal) (ps : List OpenPortal) → ((q : OpenPortal) → (f q).name ≡ q.name) → portal_named name ps ≡ Some p → portal_named name (portal_changed name f ps) ≡ Some (f p)
 named_changed name p f [] keeps e = absurd (cc e)
-named_changed name p f (q ∷ qs) keeps e = elim (cases_Bool (is_text q.name name)) [
-  | inl y ↦
-      let same : q ≡ p = let z : Some q ≡ Some p = rw y at e in cc z in
-      let now : is_text (f q).name name ≡ true = ap (λ (n : Text). is_text n name) (keeps q) ∙ y in
-      rw (y, now) (ap (λ (x : OpenPortal). Some (f x)) same)
-  | inr y ↦ rw (y, y) (named_changed name p f qs keeps (rw y at e))
-]
+named_changed name p f (q ∷ qs) keeps e = grind (arith, nat_tests, named_changed name p f qs keeps)
 
 -- in a level where steps are taken each portal is live
 pub live_here : (p : OpenPortal) (levels : List LevelState) → IsWorking levels → IsLive p levels ⊎ IsDead p levels → IsLive p levels
@@ -182,18 +176,7 @@ pub put_here : {A : Type 0} (q m : ℕ) (a : A) (t : Forest A) → Once t → ha
 put_here q m a Empty o h u = absurd (cc h)
 put_here q m a (Node k b below beside) o h u =
     let apart : Apart k below beside = apart_of k b below beside o in
-    let out = or_parts (k == m) (has m below || has m beside) u in
-    let rest = or_parts (has m below) (has m beside) out.1 in
-    let ne : q ≢ m = λ z. both_ways (has m (Node k b below beside)) u (ap (λ (j : ℕ). has j (Node k b below beside)) (sym z) ∙ h) in
-    elim (cases_Bool (k == q)) [
-      | inl y ↦ rw y refl
-      | inr y ↦ elim (cases_Bool (has q below)) [
-        | inl s ↦ rw (y, has_put_other q q m a Empty below ne refl, s) (put_here q m a below apart.once_below s rest.0)
-        | inr s ↦
-            let there : has q beside ≡ true = rw (y, s) at h in
-            rw (y, has_put_other q q m a Empty below ne refl, s) (put_here q m a beside apart.once_beside there rest.1)
-      ]
-    ]
+    grind (arith, nat_tests, apart_of k b below beside o, or_parts (k == m) (has m below || has m beside) u, or_parts (has m below) (has m beside), has_put_other q q m a Empty below, put_here q m a below apart.once_below, put_here q m a beside apart.once_beside)
 
 -- a level's owner is there
 pub owners_there : (levels : List LevelState) (t : Contexts) (x : OwnerTree) (m : ℕ) → AreLevels levels t x → IsOwner m levels → has m x ≡ true
