@@ -1,5 +1,5 @@
 -- What the calls on contexts keep of them.
-use Rattle.session_rules.proofs.Base.{◌≡◌, ◌≢◌, ℕ, ◌+◌, ◌≤◌, ◌<◌, Bool, true, false, Option, Some, None, List, refl, sym, ap, ◌∙◌, inl, inr, arith, ◌==◌, option_map_or, cases_eq, eq-eqb, both_ways, false_from_ne_true, or_parts}
+use Rattle.session_rules.proofs.Base.{◌≡◌, ◌≢◌, ℕ, ◌+◌, ◌≤◌, ◌<◌, Bool, true, false, Option, Some, None, List, refl, sym, ap, ◌∙◌, inl, inr, arith, ◌==◌, option_map_or, cases_eq, eq-eqb, both_ways, false_from_ne_true, or_parts, nat_tests}
 use Rattle.session_rules.proofs.Below.{Empty, has, times, Once, at, children, parent_of, is_above, removed, changed, moved, with_children, times_some, has_some, at_some, has_of_removed, Moves, once_put, once_changed, times_moved, has_changed, above_by_parent, above_none, at_moved, parent_changed, at_changed, at_changed_other, CtxKind, Context, Contexts, new_context, is_protected, is_empty, is_child, created, placed_under, reparented, emptied, is_within}
 use Rattle.session_rules.proofs.Rules.{abort_context, top_context, IsFresh, IsOfSession, AreContexts}
 use Rattle.context_rules.specs.Ends as ends
@@ -31,10 +31,7 @@ stay_on t u v a b m prot =
 
 -- the session's own contexts do
 pub own_stay : (t u : Contexts) → ((m : ℕ) → 1 < m → m ≤ abort_context → IsOfSession m t) → Stay t u → (m : ℕ) → 1 < m → m ≤ abort_context → IsOfSession m u
-own_stay t u h stay m l b =
-    let x : IsOfSession m t = h m l b in
-    let y : IsSame m t u = stay m x.protected in
-    record { protected = y.protected; parent = y.parent ∙ x.parent }
+own_stay t u h stay m l b = grind (arith, nat_tests)
 
 -- two forests that have the same at a number
 pub same_own : (m : ℕ) (t u : Contexts) → at m u ≡ at m t → is_protected m t ≡ true → is_protected m u ≡ true
@@ -57,11 +54,7 @@ by_alone P n t same reset = go (at n t)
 
 -- so with one moved
 pub by_reparented : (P : Contexts → Type 0) (n p : ℕ) (t : Contexts) → P t → P (moved n p t) → P (reparented n p t)
-by_reparented P n p t same moves = go (is_child n p t)
-  where
-    go : (b : Bool) → P (placed_under b n p t)
-    go true = same
-    go false = moves
+by_reparented P n p t same moves = grind (arith, nat_tests)
 
 module _ (t : Contexts) (next : ℕ) (h : AreContexts t next) where
   pub top_protected : is_protected top_context t ≡ true
@@ -88,10 +81,8 @@ module _ (t : Contexts) (next : ℕ) (h : AreContexts t next) where
       above_by_parent m b n t h.once p out.0 ∙ out.1
 
   pub same_removed : (m n : ℕ) → (m ≢ n) × (has m (children n t) ≡ false) → is_protected m t ≡ true → IsSame m t (removed n t)
-  same_removed m n w prot = record {
-    protected = same_own m t (removed n t) (at_left m n t h.once w.0 w.1) prot;
-    parent = parent_left m n t h.once w.0 w.1;
-  }
+  same_removed m n w prot =
+      grind (arith, nat_tests, same_own m t (removed n t) (at_left m n t h.once w.0 w.1) prot, at_left m n t h.once w.0 w.1, parent_left m n t h.once w.0 w.1)
 
   pub contexts_removed : (n : ℕ) → n ≢ top_context → ((m : ℕ) → 1 < m → m ≤ abort_context → (m ≢ n) × (has m (children n t) ≡ false)) → AreContexts (removed n t) next
   contexts_removed n ne out = record {
@@ -166,15 +157,8 @@ module _ (t : Contexts) (next : ℕ) (h : AreContexts t next) where
   }
 
   pub contexts_changed : (n : ℕ) (f : Context → Context) → ((c : Context) → (f c).protected ≡ c.protected) → ((c : Context) → IsFresh c → IsFresh (f c)) → AreContexts (changed n f t) next
-  contexts_changed n f keeps fresh = record {
-    rooted = rooted_changed own top_context n f t keeps h.rooted;
-    guarded = guarded_changed own n f t keeps h.guarded;
-    once = once_changed n f t h.once;
-    below = λ m u. h.below m (sym (has_changed m n f t) ∙ u);
-    room = h.room;
-    own = own_stay t (changed n f t) h.own (stay_changed n f keeps);
-    fresh = all_changed IsFresh n f t fresh h.fresh;
-  }
+  contexts_changed n f keeps fresh =
+      grind (arith, nat_tests, rooted_changed own top_context n f t keeps h.rooted, guarded_changed own n f t keeps h.guarded, once_changed n f t h.once, has_changed, own_stay t (changed n f t) h.own (stay_changed n f keeps), stay_changed n f keeps, all_changed IsFresh n f t fresh h.fresh)
 
   -- a context is reset alone
   pub stay_alone : (n : ℕ) → Stay t (ends.cleared_alone n t).contexts
@@ -190,10 +174,7 @@ module _ (t : Contexts) (next : ℕ) (h : AreContexts t next) where
   pub stay_created : (p : ℕ) (name : List ℕ) (kind : CtxKind) (b : Bool) → Stay t (created p next name kind b t)
   stay_created p name kind b m prot =
       let ne : m ≢ next = λ e. omega (arith, e, h.below m (protected_has m t prot)) in
-      record {
-        protected = same_own m t (created p next name kind b t) (at_put_other m p next (new_context name kind b) Empty t ne refl) prot;
-        parent = parent_put_other m p next (new_context name kind b) Empty t ne refl;
-      }
+      grind (arith, nat_tests, protected_has m t prot, same_own m t (created p next name kind b t) (at_put_other m p next (new_context name kind b) Empty t ne refl) prot, at_put_other m p next (new_context name kind b) Empty t ne refl, parent_put_other m p next (new_context name kind b) Empty t ne refl)
 
   pub guarded_created : (p : ℕ) (name : List ℕ) (kind : CtxKind) (b : Bool) → (b ≡ true → is_protected p t ≡ true) → AreGuarded own (created p next name kind b t)
   guarded_created p name kind true needs = guarded_put_own own p next (new_context name kind true) t h.once (needs refl) h.guarded
@@ -230,14 +211,7 @@ module _ (t : Contexts) (next : ℕ) (h : AreContexts t next) where
 
   -- an unprotected context moves
   pub moves_by : (n p : ℕ) → has n t ≡ true → has p t ≡ true → is_within n p t ≡ false → Moves n p t
-  moves_by n p node there out =
-      let w = or_parts (p == n) (is_above n p t) out in
-      record {
-        node = node;
-        parent = there;
-        other = λ e. both_ways (p == n) w.0 (eq-eqb p n e);
-        apart = w.1;
-      }
+  moves_by n p node there out = grind (arith, nat_tests, or_parts (p == n) (is_above n p t) out, is_above n p t, apart)
 
   pub stay_swapped : (n p : ℕ) → Moves n p t → is_protected n t ≡ false → Stay t (moved n p t)
   stay_swapped n p w free m prot =
@@ -255,15 +229,8 @@ module _ (t : Contexts) (next : ℕ) (h : AreContexts t next) where
   once_swapped n p w = record { once = λ m. omega (arith, has_swapped m n p w, h.once.once m) }
 
   pub contexts_swapped : (n p : ℕ) → Moves n p t → is_protected n t ≡ false → AreContexts (moved n p t) next
-  contexts_swapped n p w free = record {
-    rooted = rooted_moved own top_context n p t (λ e. both_ways (is_protected n t) free (ap (λ (x : ℕ). is_protected x t) e ∙ top_protected)) h.rooted;
-    guarded = guarded_moved own n p t h.guarded free;
-    once = once_swapped n p w;
-    below = λ m u. h.below m (has_some m t (omega (arith, has_swapped m n p w, times_some m (moved n p t) u)));
-    room = h.room;
-    own = own_stay t (moved n p t) h.own (stay_swapped n p w free);
-    fresh = all_moved IsFresh n p t h.fresh;
-  }
+  contexts_swapped n p w free =
+      grind (arith, nat_tests, rooted_moved own top_context n p t, top_protected, guarded_moved own n p t h.guarded free, once_swapped n p w, has_some, has_swapped, times_some, moved n p t, own_stay t (moved n p t) h.own (stay_swapped n p w free), stay_swapped n p w free, all_moved IsFresh n p t h.fresh)
 
   pub stay_reparented : (n p : ℕ) → has n t ≡ true → has p t ≡ true → is_protected n t ≡ false → is_within n p t ≡ false → Stay t (reparented n p t)
   stay_reparented n p node there free out = by_reparented (Stay t) n p t (stay_same t) (stay_swapped n p (moves_by n p node there out) free)

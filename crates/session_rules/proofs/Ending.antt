@@ -1,20 +1,10 @@
 -- A session of which the deepest level ends, on its way through the portals.
-use Rattle.session_rules.proofs.Base.{◌≡◌, All, ◌≢◌, ℕ, ◌+◌, find, true, false, Option, Some, None, List, [], ◌∷◌, ◌++◌, refl, sym, ap, ◌∙◌, subst, inl, inr, arith, if◌then◌else◌, option_map_or, cases_eq, cases_Bool, ne_eqb, All-head, All-tail, All-weaker}
+use Rattle.session_rules.proofs.Base.{◌≡◌, All, ◌≢◌, ℕ, ◌+◌, find, true, false, Option, Some, None, List, [], ◌∷◌, ◌++◌, refl, sym, ap, ◌∙◌, subst, inl, inr, arith, if◌then◌else◌, option_map_or, cases_eq, cases_Bool, ne_eqb, All-head, All-tail, All-weaker, nat_tests}
 use Rattle.session_rules.proofs.Below.{Empty, Once, has, at, children, parent_of, changed, removed, at_some, at_absent, has_changed, at_changed, at_changed_other, parent_changed, children_changed, Item, KindId, ShelfState, Contexts, is_protected, gone, handed_in, Kind, KindTable, IsSoundTable, table_of, is_of, without_newest, Owner, OwnerTree, forgotten, has_begun, IsSound, once_of, sound_forgotten, Lock}
 use Rattle.session_rules.proofs.Rules.{LevelState, OpenPortal, StandingPlan, cache_context, plan_reference, portals_context, Scene, newest, portals_but, Ended, changes, context_gone, for_each, in_order, portal_gone, say, where_there, given_back, item_released, AreContexts, AreLevels, ArePlans, HasItems, IsItem, IsPlace, IsPortal, IsRow, referred, AreEnding, Ending, IsDone, IsLoose}
 use Rattle.pgs_step.specs.declared.events.What.TheVariants as what
 use Rattle.owner_items.proofs.Order.{All-without}
-use Rattle.session_rules.proofs.Guarded.{all_changed}
-use Rattle.session_rules.proofs.ContextsKept.{IsSame, contexts_level_gone, off_outside, same_removed}
-use Rattle.session_rules.proofs.HooksKept.{hooks_ended}
-use Rattle.session_rules.proofs.HookSums.{parts_gone}
-use Rattle.session_rules.proofs.HeldItems.{held_forgotten}
-use Rattle.session_rules.proofs.LevelsKept.{levels_stay}
-use Rattle.session_rules.proofs.Lone.{lone_changed, lone_left}
-use Rattle.session_rules.proofs.PlansAmong.{levels_apart, plans_moved}
-use Rattle.session_rules.proofs.PortalLists.{but_one, different_without, others_back, others_front, owner_split}
-use Rattle.session_rules.proofs.PortalsAmong.{IsRowOf, attached_by, off_levels, off_rows, place_same, place_spared, row_left, row_of}
-use Rattle.session_rules.proofs.Settling.{Fits, Settles, besides_of, item_settles}
+use Rattle.session_rules.proofs.Kept.{all_changed, IsSame, contexts_level_gone, off_outside, same_removed, hooks_ended, parts_gone, held_forgotten, levels_stay, lone_changed, lone_left, levels_apart, plans_moved, but_one, different_without, others_back, others_front, owner_split, IsRowOf, attached_by, off_levels, off_rows, place_same, place_spared, row_left, row_of, Fits, Settles, besides_of, item_settles}
 
 -- what an end changes on this way
 pub record Parts : Type 0 where
@@ -104,16 +94,8 @@ loose_changed level m n f x l = record {
 
 pub ending_changed : (kinds : KindTable) (level : LevelState) (levels : List LevelState) (portals : List OpenPortal) (x : OwnerTree) (a b n : ℕ) (f : Owner → Owner) → ((o : Owner) → (f o).begun ≡ o.begun) → ((o : Owner) → HasItems kinds o → HasItems kinds (f o))
     → IsSound (changed n f x) a b → AreEnding kinds x a b level levels portals → AreEnding kinds (changed n f x) a b level levels portals
-ending_changed kinds level levels portals x a b n f begun known sound h = record {
-  sound = sound;
-  each = λ m u. elim (h.each m (sym (has_changed m n f x) ∙ u)) [
-    | inl i ↦ inl i
-    | inr k ↦ elim k [ inl p ↦ inr (inl p) | inr l ↦ inr (inr (loose_changed level m n f x l)) ]
-  ];
-  begun = λ m u. loose_changed level m n f x (h.begun m (sym (begun_changed m n f x begun) ∙ u));
-  fresh = λ active m u. h.fresh active m (sym (begun_changed m n f x begun) ∙ u);
-  items = all_changed (HasItems kinds) n f x known h.items;
-}
+ending_changed kinds level levels portals x a b n f begun known sound h =
+    grind (arith, nat_tests, has_changed, loose_changed level, begun_changed, all_changed (HasItems kinds) n f x known h.items)
 
 -- An owner gives its newest item of a kind and key back.
 module _ (level : LevelState) (levels done : List LevelState) where
@@ -167,21 +149,14 @@ pub record Beside (c : ℕ) (t u : Contexts) (current : ℕ) : Type 0 where
 module _ (t : Contexts) (next : ℕ) (h : AreContexts t next) (c : ℕ) (expr : Option ℕ) (current : ℕ) (place : IsPlace c expr t current) where
   -- what isn't its row isn't below a portal's context
   pub below_place : (m : ℕ) → ((e : ℕ) → expr ≡ Some e → m ≢ e) → has m (children c t) ≡ false
-  below_place m off = go expr off place.row
-    where
-      go : (o : Option ℕ) → ((e : ℕ) → o ≡ Some e → m ≢ e) → IsRow o (children c t) → has m (children c t) ≡ false
-      go None off r = ap (has m) r
-      go (Some e) off r = ap (has m) r.1 ∙ rw (ne_eqb e m (λ z. off e refl (sym z))) refl
+  below_place m off = grind (arith, nat_tests)
 
   pub row_here : (e : ℕ) → expr ≡ Some e → IsRowOf e c t
   row_here e q = row_of e c t current h.once (subst (λ (o : Option ℕ). IsPlace c o t current) q place)
 
   -- a row of another portal isn't its context
   pub row_other : (m : ℕ) (o : Option ℕ) → IsPlace m o t current → (e : ℕ) → o ≡ Some e → e ≢ c
-  row_other m o k e q z =
-      let r : IsRowOf e m t = row_of e m t current h.once (subst (λ (x : Option ℕ). IsPlace m x t current) q k) in
-      let same : m ≡ portals_context = let w : Some m ≡ Some portals_context = sym r.parent ∙ ap (λ (j : ℕ). parent_of j t) z ∙ place.parent in cc w in
-      absurd (omega (arith, same, k.own))
+  row_other m o k e q z = grind (arith, nat_tests, row_of e m t current h.once)
 
   pub beside_removed : Beside c t (removed c t) current
   beside_removed = record {

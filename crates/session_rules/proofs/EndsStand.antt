@@ -1,27 +1,14 @@
 -- The ends of levels and of sessions lead from a session that stands to one that stands.
-use Rattle.session_rules.proofs.Base.{◌≡◌, ◌≢◌, ℕ, ◌<◌, ◌≤◌, ◌-◌, Bool, true, false, Option, Some, None, List, [], ◌∷◌, refl, sym, ap, ◌∙◌, subst, inl, inr, arith, ◌==◌, ◌+◌, ◌⊎◌, not, unwrap_or, length, map, All, All-nil, All-append, All-head, All-weaker, cases_Bool, eq-eqb, eqb-false, both_ways}
+use Rattle.session_rules.proofs.Base.{◌≡◌, ◌≢◌, ℕ, ◌<◌, ◌≤◌, ◌-◌, Bool, true, false, Option, Some, None, List, [], ◌∷◌, refl, sym, ap, ◌∙◌, subst, inl, inr, arith, ◌==◌, ◌+◌, ◌⊎◌, not, unwrap_or, length, map, All, All-nil, All-append, All-head, All-weaker, cases_Bool, eq-eqb, eqb-false, both_ways, nat_tests}
 use Rattle.session_rules.proofs.Below.{Forest, Empty, Node, has, Once, children, removed, AllNodes, above_by_parent, Error, ShelfState, Contexts, is_empty, is_protected, gone, handed_in, KindTable, IsSoundTable, table_of, OwnerTree, AllAt, HoldsNothing, IsSound, once_of, level_lowered, Active, kept_below, lowered}
 use Rattle.session_rules.proofs.Rules.{LevelState, OpenPortal, abort_context, context_of, first_of, deepest_changed, is_aborted, owner_of, plan_reference, portals_context, top_context, Scene, Ended, changes, context_gone, for_each, in_order, portal_becomes, portal_gone, switched, where_so, where_there, portal_aborted, portal_closed, portal_passed, owner_moved, owner_released, AreEnding, Ending, IsAway, IsDone, gone_levels}
 use Rattle.session_rules.specs.Ends.{aborted, cleaned_up, committed, empty_context_gone, exited, given_up, level_context_gone, level_owner_gone, level_popped, level_released, level_rolled_back, recovered, stack_lowered, stack_popped, subcommitted, switched_up}
 use Rattle.session_rules.specs.Standing.{IsActive, IsDeepest, AreContexts, AreHooks, AreLevels, AreOpen, AreDifferent, AreOwners, AreOuter, ArePlans, ArePortals, AreStacked, FitLevels, HasExited, HasItems, IsAtRest, IsAttached, IsDead, IsLevel, IsLive, IsOfPortal, IsOwner, IsPlace, IsPortal, IsMade, IsOpen, Stands, StandsBetweenLines, active_depth, owner_at, referred}
-use Rattle.session_rules.proofs.Forests.{has_left, parent_left}
-use Rattle.session_rules.proofs.ContextsKept.{IsSame, contexts_level_gone, nothing_left, off_outside, protected_has, same_removed, stay_same, top_protected}
-use Rattle.session_rules.proofs.HooksKept.{hooks_ended}
-use Rattle.session_rules.proofs.HookSums.{parts_gone}
-use Rattle.session_rules.proofs.Swept.{removed_swept}
-use Rattle.session_rules.proofs.HeldItems.{held_removed}
-use Rattle.session_rules.proofs.Releasing.{Tables, still_sound, swept_by, tabled, with_owners}
-use Rattle.session_rules.proofs.Settling.{Besides, Fits, HasSettled, Spares, besides_of, release_settles, spares_same, with_besides}
-use Rattle.session_rules.proofs.Stacked.{depth_small, depth_still, none_stacked, stacked_above, stacked_below, stacked_lowered, stacked_within}
-use Rattle.session_rules.proofs.LevelsKept.{HasLeft, IsStill, is_there, left_nothing, left_still, levels_stay, one_value, outer_contexts, outer_owners, owners_aborted, owners_end, owners_without, without_owner}
-use Rattle.session_rules.proofs.Lone.{lone_left, lone_swept}
-use Rattle.session_rules.proofs.PortalsAmong.{IsRowOf, attached_by, off_levels, off_rows, place_level, place_own, place_same, place_spared, row_left, row_of}
-use Rattle.session_rules.proofs.PortalLists.{all_rest_aborted, all_rest_outside, rests_becomes, rests_but}
+use Rattle.session_rules.proofs.Kept.{has_left, parent_left, IsSame, contexts_level_gone, nothing_left, off_outside, protected_has, same_removed, stay_same, top_protected, hooks_ended, parts_gone, removed_swept, held_removed, Tables, still_sound, swept_by, tabled, with_owners, Besides, Fits, HasSettled, Spares, besides_of, release_settles, spares_same, with_besides, depth_small, depth_still, none_stacked, stacked_above, stacked_below, stacked_lowered, stacked_within, HasLeft, IsStill, is_there, left_nothing, left_still, levels_stay, one_value, outer_contexts, outer_owners, owners_aborted, owners_end, owners_without, without_owner, lone_left, lone_swept, IsRowOf, attached_by, off_levels, off_rows, place_level, place_own, place_same, place_spared, row_left, row_of, all_rest_aborted, all_rest_outside, rests_becomes, rests_but, above_apart, cached_left, levels_apart, own_other, plan_outside, plans_counted, plans_current, plans_moved}
 use Rattle.session_rules.proofs.Ending.{Leads, Parts, with_parts}
 use Rattle.session_rules.proofs.Replacing.{all_closed, all_swept_away, swept_away}
 use Rattle.session_rules.proofs.Passing.{all_passed}
 use Rattle.session_rules.proofs.Failing.{all_aborted}
-use Rattle.session_rules.proofs.PlansAmong.{above_apart, cached_left, levels_apart, own_other, plan_outside, plans_counted, plans_current, plans_moved}
 
 -- A scene with these levels. Each scene is of this form.
 abbrev pub settled : List LevelState → Scene → Scene
@@ -91,9 +78,7 @@ same_without (Some n) t next h m out prot = same_removed t next h m n (out n ref
 
 pub still_without : (o : Option ℕ) (x : OwnerTree) → Once x → (m : ℕ) → ((p : ℕ) → o ≡ Some p → (m ≢ p) × (has m (children p x) ≡ false)) → has m x ≡ true → IsStill m x (without_owner o x)
 still_without None x once m out there = record { there = there; parent = refl }
-still_without (Some p) x once m out there =
-    let w = out p refl in
-    record { there = has_left m p x once w.0 w.1 ∙ there; parent = parent_left m p x once w.0 w.1 }
+still_without (Some p) x once m out there = grind (arith, nat_tests, has_left m p x once, parent_left m p x once)
 
 -- a level in which steps can be taken is deepest
 pub deepest_active : (level : LevelState) (t : Contexts) (x : OwnerTree) (current : ℕ) → IsActive level → IsDeepest level t x current
@@ -212,11 +197,7 @@ owner_made (level ∷ levels) outer k low high = elim (cases_Bool (length levels
 ]
 
 pub outer_live : (p : OpenPortal) (levels : List LevelState) → AreOuter levels → IsLive p levels ⊎ IsDead p levels → IsLive p levels
-outer_live p levels outer s = elim s [ inl l ↦ l | inr d ↦ absurd (none levels outer d.aborted) ]
-  where
-    none : (ls : List LevelState) → AreOuter ls → is_aborted ls ≡ true → ⊥
-    none [] o e = cc e
-    none (l ∷ ls) o e = both_ways l.aborted o.0.unaborted e
+outer_live p levels outer s = grind (arith, nat_tests)
 
 -- a portal's owner where the level's goes
 pub attached_popped : (level : LevelState) (levels : List LevelState) (t : Contexts) (x : OwnerTree) → Once x → AreLevels (level ∷ levels) t x → AreOuter levels → (p : OpenPortal) → IsLive p levels → IsAway level p → (o : Option ℕ) → level.owner ≡ o
@@ -288,22 +269,13 @@ sweep_is name (Some n) (Some p) i a b levels z = refl
 -- a cleanup leaves owners alone until then
 pub sweep_owners : (level : LevelState) (levels : List LevelState) (gone : level.aborted ≡ true) (ps : List OpenPortal) (s : Scene) → (for_each (swept_away level levels gone) ps s).scene.session.owners ≡ s.session.owners
 sweep_owners level levels gone [] s = refl
-sweep_owners level levels gone (p ∷ ps) s = sweep_owners level levels gone ps (swept_away level levels gone p s).scene ∙ one (p.created == length (level ∷ levels)) p.context
-  where
-    one : (b : Bool) (c : Option ℕ) → (where_so b (in_order (where_there c context_gone ∷ portal_gone p.name ∷ [])) s).scene.session.owners ≡ s.session.owners
-    one true None = refl
-    one true (Some n) = refl
-    one false c = refl
+sweep_owners level levels gone (p ∷ ps) s = grind (arith, nat_tests, sweep_owners level levels gone ps, in_order)
 
 -- and leaves portals at rest
 pub sweep_rests : (level : LevelState) (levels : List LevelState) (gone : level.aborted ≡ true) (ps : List OpenPortal) (s : Scene) → All IsAtRest s.session.portals → All IsAtRest (for_each (swept_away level levels gone) ps s).scene.session.portals
 sweep_rests level levels gone [] s h = h
-sweep_rests level levels gone (p ∷ ps) s h = sweep_rests level levels gone ps (swept_away level levels gone p s).scene (one (p.created == length (level ∷ levels)) p.context)
-  where
-    one : (b : Bool) (c : Option ℕ) → All IsAtRest (where_so b (in_order (where_there c context_gone ∷ portal_gone p.name ∷ [])) s).scene.session.portals
-    one true None = rests_but p.name s.session.portals h
-    one true (Some n) = rests_but p.name s.session.portals h
-    one false c = h
+sweep_rests level levels gone (p ∷ ps) s h =
+    grind (arith, nat_tests, sweep_rests level levels gone ps, in_order, rests_but p.name s.session.portals h)
 
 pub clean_from : (level : LevelState) (levels : List LevelState) (s : Scene) → level.aborted ≡ true → Ending level levels levels [] s.session.portals s → ((n : ℕ) → level.owner ≡ Some n → AllAt HoldsNothing n s.session.owners)
     → AreStacked 1 (active_depth levels) s.session.snapshots → Leaves levels (cleaned_up (settled (level ∷ levels) s)).scene
@@ -401,10 +373,7 @@ gives_now commit top level levels done s h = gives commit top level.owner (settl
 
 -- the deepest level has its owner where something is active there
 pub owner_when_active : (level : LevelState) (levels : List LevelState) → (level.starting ≡ false → IsMade level) → length levels + 1 ≤ active_depth (level ∷ levels) → (lo : ℕ) × (level.owner ≡ Some lo)
-owner_when_active level levels made low = elim (cases_Bool level.starting) [
-  | inl y ↦ let few : active_depth (level ∷ levels) ≡ length levels = rw y refl in absurd (omega (arith, low, few))
-  | inr y ↦ is_there level.owner (made y).owner
-]
+owner_when_active level levels made low = grind (arith, nat_tests, is_there level.owner)
 
 -- what a commit does behind the release
 abbrev pub behind_commit : Scene → Scene
@@ -488,11 +457,7 @@ merge_is level name (Some n) (Some p) i a st levels z = merge_context (is_empty 
 
 pub context_to_go_is : (c : Option ℕ) (t : Contexts) (n : ℕ) → context_to_go c t ≡ Some n → c ≡ Some n
 context_to_go_is None t n e = absurd (cc e)
-context_to_go_is (Some m) t n e = go (is_empty m t) e
-  where
-    go : (b : Bool) → gone_if b m ≡ Some n → Some m ≡ Some n
-    go true e = e
-    go false e = absurd (cc e)
+context_to_go_is (Some m) t n e = grind (arith, nat_tests)
 
 -- what a merge leads to: the session stands with the levels above, and where portals were at rest they still are
 pub record Merges (levels : List LevelState) (s z : Scene) : Type 0 where
@@ -522,16 +487,7 @@ merge_from level levels s h stacked =
 -- portals that pass stay at rest
 pub passes_rest : (n : ℕ) (above : Option ℕ) (ps : List OpenPortal) (s : Scene) → All IsAtRest s.session.portals → All IsAtRest (for_each (portal_passed n above) ps s).scene.session.portals
 passes_rest n above [] s h = h
-passes_rest n above (p ∷ ps) s h = passes_rest n above ps (portal_passed n above p s).scene (one (p.created == n) p.owner above)
-  where
-    passes : OpenPortal → OpenPortal
-    passes = λ old. record old { created = level_lowered n old.created; active = level_lowered n old.active }
-
-    one : (b : Bool) (o up : Option ℕ) → All IsAtRest (in_order (where_so b (where_there o (λ owner. where_there up (owner_moved owner))) ∷ portal_becomes p.name passes ∷ []) s).scene.session.portals
-    one false o up = rests_becomes p.name passes s.session.portals (λ q r. r) h
-    one true None up = rests_becomes p.name passes s.session.portals (λ q r. r) h
-    one true (Some k) None = rests_becomes p.name passes s.session.portals (λ q r. r) h
-    one true (Some k) (Some q) = rests_becomes p.name passes s.session.portals (λ q r. r) h
+passes_rest n above (p ∷ ps) s h = grind (arith, nat_tests, passes_rest n above ps, in_order, rests_becomes p.name)
 
 -- A level that isn't level 1 is merged into the one above it.
 pub subcommitted_stands : (level : LevelState) (levels : List LevelState) (s : Scene) → 1 ≤ length levels → Stands (settled (level ∷ levels) s) → Merges levels s (subcommitted (settled (level ∷ levels) s)).scene

@@ -1,19 +1,11 @@
 -- Portals of a level that aborts fail, and those from further out that are active there belong to the level above.
-use Rattle.session_rules.proofs.Base.{◌≡◌, ◌≢◌, ℕ, ◌-◌, ◌≤◌, Bool, true, false, Option, Some, None, List, [], ◌∷◌, ◌++◌, length, refl, sym, ap, ◌∙◌, subst, inl, inr, arith, ◌==◌, if◌then◌else◌, option_map_or, cases_eq, cases_Bool, eqb-true, eqb-false}
+use Rattle.session_rules.proofs.Base.{◌≡◌, ◌≢◌, ℕ, ◌-◌, ◌≤◌, Bool, true, false, Option, Some, None, List, [], ◌∷◌, ◌++◌, length, refl, sym, ap, ◌∙◌, subst, inl, inr, arith, ◌==◌, if◌then◌else◌, option_map_or, cases_eq, cases_Bool, eqb-true, eqb-false, nat_tests}
 use Rattle.session_rules.proofs.Below.{Empty, Once, has, at, children, moved, with_children, Moves, first_child_other, below_parent, ShelfState, Contexts, handed_in, table_of, Owner, OwnerTree, once_of, sound_moved}
 use Rattle.session_rules.proofs.Rules.{LevelState, OpenPortal, Scene, portal_changed, Ended, children_gone, for_each, in_order, portal_becomes, where_so, where_there, owner_moved, has_failed, is_ready, portal_aborted, portal_failed, portal_withdrawn, HasItems, IsAtRest, IsAttached, IsDead, IsLive, IsOwner, IsPlace, IsPortal, active_depth, referred, AreEnding, Ending, IsLoose, gone_levels}
 use Rattle.portal_store.specs.declared.portal.PortalState.{PortalState}
 use Rattle.portal_store.specs.declared.portal.PortalState.TheVariants as portal
 use Rattle.context_rules.specs.Ends as ends
-use Rattle.session_rules.proofs.Guarded.{all_moved}
-use Rattle.session_rules.proofs.ContextsKept.{contexts_emptied, protected_has, same_emptied}
-use Rattle.session_rules.proofs.HooksKept.{hooks_ended}
-use Rattle.session_rules.proofs.HookSums.{parts_children}
-use Rattle.session_rules.proofs.LevelsKept.{no_value, one_value}
-use Rattle.session_rules.proofs.Lone.{lone_emptied, own_emptied}
-use Rattle.session_rules.proofs.Stacked.{depth_small, depth_still}
-use Rattle.session_rules.proofs.PortalLists.{Changes, changed_one, owner_beside, owner_here, owner_split}
-use Rattle.session_rules.proofs.PortalsAmong.{attached_by, row_emptied}
+use Rattle.session_rules.proofs.Kept.{all_moved, contexts_emptied, protected_has, same_emptied, hooks_ended, parts_children, no_value, one_value, lone_emptied, own_emptied, depth_small, depth_still, Changes, changed_one, owner_beside, owner_here, owner_split, attached_by, row_emptied}
 use Rattle.session_rules.proofs.Ending.{Beside, Leads, each_goes, goes_nothing, levels_beside, parts_of, places_beside, plans_beside, with_parts}
 use Rattle.session_rules.proofs.Replacing.{IsBeside, first_of_rest, kept, own_loose, replaced, replaced_leads, kept_owners}
 use Rattle.session_rules.proofs.Passing.{IsBounded, bounded, levels_moved, plans_owner_moved, portal_moved, HasMoved, has_moved, loose_moved}
@@ -148,17 +140,10 @@ module _ (level : LevelState) (levels : List LevelState) where
     -- it is at rest then: where it has failed it has no owner, and it isn't new
     pub drawn_rests : (b : Bool) (p : OpenPortal) → has_failed p.state ≡ b → IsLive p (level ∷ levels) → p.created ≢ deep → IsAtRest (drawn b p)
     drawn_rests true p e l ne = λ _. refl
-    drawn_rests false p e l ne = elim l.line [ inl r ↦ r | inr a ↦ λ unready. absurd (ne (a.1 (is_new p.state e unready))) ]
-      where
-        is_new : (state : PortalState) → has_failed state ≡ false → is_ready state ≡ false → state ≡ portal.New
-        is_new portal.New e unready = refl
-        is_new portal.Ready e unready = absurd (cc unready)
-        is_new portal.Failed e unready = absurd (cc e)
+    drawn_rests false p e l ne = grind (arith, nat_tests)
 
     pub drawn_live : (b : Bool) (p : OpenPortal) → has_failed p.state ≡ b → IsLive p (level ∷ levels) → p.created ≢ deep → IsLive (drawn b p) (gone_levels level levels)
-    drawn_live b p e l ne =
-        let few : active_depth (level ∷ levels) ≤ deep = depth_small (level ∷ levels) in
-        record { some = l.some; within = omega (arith, l.within, l.active, few, ne); active = omega (arith, gone_depth); line = inl (drawn_rests b p e l ne) }
+    drawn_live b p e l ne = grind (arith, nat_tests, deep, depth_small (level ∷ levels), gone_depth, drawn_rests b p e l ne)
 
     pub live : (p : OpenPortal) (t : Contexts) (x : OwnerTree) (current : ℕ) → IsPortal p (level ∷ levels) t x current → p.created ≢ deep → IsLive p (level ∷ levels)
     live p t x current i ne = elim i.stage [ inl l ↦ l | inr d ↦ absurd (ne d.created) ]

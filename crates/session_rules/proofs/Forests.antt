@@ -26,11 +26,7 @@ module _ {A : Type 0} where
       grind (arith, nat_tests, root_absent m below, root_left m n below ne, removed_absent n below, removed_absent n beside, apart.apart n, has_left m n below apart.once_below ne, parent_left m n below apart.once_below ne, parent_left m n beside apart.once_beside ne)
 
   pub once_left : (n : ℕ) (t : Forest A) → Once t → Once (removed n t)
-  once_left n t o =
-      elim (cases_Bool (has n t)) [
-        | inl h ↦ record { once = λ m. omega (arith, o.once m, times_removed m n t o h) }
-        | inr h ↦ rw (removed_absent n t h) o
-      ]
+  once_left n t o = grind (arith, nat_tests, times_removed, removed_absent n t)
 
   -- all below a node goes
   pub emptied_absent : (n : ℕ) (new t : Forest A) → has n t ≡ false → with_children n new t ≡ t

@@ -120,14 +120,7 @@ module _ (kind : KindId) (key : ℕ) where
   gives_below kinds phase commit top parent (Node n owner below beside) =
       let locks : List Step = if top then [] else lock_step commit n parent ∷ [] in
       let own : List Step = own_steps kinds phase commit n owner locks in
-      omega (
-        arith,
-        gives_both (steps_below kinds phase commit top n below) (own ++ steps_below kinds phase commit top parent beside),
-        gives_both own (steps_below kinds phase commit top parent beside),
-        gives_own kinds phase commit n owner locks (locks_give top commit n parent),
-        gives_below kinds phase commit top n below,
-        gives_below kinds phase commit top parent beside,
-      )
+      grind (arith, nat_tests, gives_both (steps_below kinds phase commit top n below) (own ++ steps_below kinds phase commit top parent beside), gives_both own (steps_below kinds phase commit top parent beside), gives_own kinds phase commit n owner locks (locks_give top commit n parent), locks_give top commit n parent, gives_below kinds phase commit top n below, gives_below kinds phase commit top parent beside)
 
   -- what a change of an owner and of all below it does to the sum
   unswept : (f : Owner → Owner) (n : ℕ) (t : OwnerTree) → has n t ≡ false → swept f n t ≡ t

@@ -4,7 +4,7 @@ use Rattle.session_rules.proofs.Below.{Error, What, CtxKind, changed, Context, n
 use Rattle.session_rules.proofs.Rules.{is_aborted, Moment, Scene, Element, Text, in_order, where_so, context_made, Done, does_all, exited, given_up, recovered, line_elements, turn, turn_of, Stands, StandsBetweenLines, CountsHooks, opening, elements_of, does}
 use Rattle.pgs_step.specs.declared.events.What.TheVariants as what
 use Rattle.session_rules.specs.Elements as e
-use Rattle.session_rules.proofs.HookSums.{Runs, is_of_hooks, more_runs, none_run}
+use Rattle.session_rules.proofs.Kept.{Runs, is_of_hooks, more_runs, none_run}
 use Rattle.session_rules.proofs.HookSteps.{Counted, IsNumbered, counted_alone, counted_both, counted_children, counted_cleared, counted_gone, counted_hook, counted_kept, counted_moved, counted_on, counted_put, counted_same, numbered_changed, numbered_put, waiting_changed}
 use Rattle.session_rules.proofs.Chunked.{LeavesHooks}
 use Rattle.session_rules.proofs.NamesStand.{named_there}

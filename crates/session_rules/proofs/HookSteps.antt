@@ -1,5 +1,5 @@
 -- What became of a scene's hooks is counted: where contexts end, come and move, where a hook is registered, and where nothing becomes of them.
-use Rattle.session_rules.proofs.Base.{◌≡◌, ℕ, ◌+◌, ◌<◌, Bool, true, false, cond, if◌then◌else◌, Option, Some, None, List, [], ◌∷◌, ◌++◌, length, map, drop, refl, sym, ap, ◌∙◌, inl, inr, arith, ◌≤◌, ◌==◌, option_map_or, sum_by, cases_Bool, cases_eq, eq-eqb, both_ways, false_from_ne_true, or_parts, sum_by-append, sum_by-cons}
+use Rattle.session_rules.proofs.Base.{◌≡◌, ℕ, ◌+◌, ◌<◌, Bool, true, false, cond, if◌then◌else◌, Option, Some, None, List, [], ◌∷◌, ◌++◌, length, map, drop, refl, sym, ap, ◌∙◌, inl, inr, arith, ◌≤◌, ◌==◌, option_map_or, sum_by, cases_Bool, cases_eq, eq-eqb, both_ways, false_from_ne_true, or_parts, sum_by-append, sum_by-cons, nat_tests}
 use Rattle.session_rules.proofs.Below.{What, Empty, has, times, Once, at, changed, is_above, moved, put, with_children, Moves, at_some, has_changed, has_of_removed, has_some, once_changed, once_put, put_absent, times_moved, times_some, sum_moved, Hook, ran, ShelfState, held, taken, Context, Contexts, is_child, placed_under, move_events, cleared, cleared_alone, emptied, gone, handed_in, waiting, is_within}
 use Rattle.session_rules.proofs.Rules.{first_of, Scene, context_moved, hook_waits}
 use Rattle.pgs_step.specs.declared.events.What.TheVariants as what
@@ -87,10 +87,7 @@ numbered_gone : (n : ℕ) (t : Contexts) (next : ℕ) → AreNumbered t next →
 numbered_gone n t next k = record { once = once_left n t k.once; below = λ m u. k.below m (has_of_removed m n t u) }
 
 numbered_children : (n : ℕ) (t : Contexts) (next : ℕ) → AreNumbered t next → AreNumbered (with_children n Empty t) next
-numbered_children n t next k = record {
-  once = once_emptied n t k.once;
-  below = λ m u. k.below m (has_some m t (omega (arith, times_emptied m n t k.once, times_some m (with_children n Empty t) u)));
-}
+numbered_children n t next k = grind (arith, nat_tests, once_emptied n t k.once, has_some, times_emptied, times_some)
 
 pub numbered_changed : (n : ℕ) (f : Context → Context) (t : Contexts) (next : ℕ) → AreNumbered t next → AreNumbered (changed n f t) next
 numbered_changed n f t next k = record { once = once_changed n f t k.once; below = λ m u. k.below m (sym (has_changed m n f t) ∙ u) }
@@ -153,16 +150,7 @@ waiting_put g p n c t o none = elim (cases_Bool (has p t)) [
 ]
 
 pub numbered_put : (p n : ℕ) (c : Context) (t : Contexts) → AreNumbered t n → AreNumbered (put p n c Empty t) (n + 1)
-numbered_put p n c t k = elim (cases_Bool (has p t)) [
-  | inl y ↦ record {
-    once = once_put p n c t k.once y (false_from_ne_true (has n t) (λ e. omega (arith, k.below n e)));
-    below = λ m u. elim (cases_eq m n) [
-      | inl e ↦ omega (arith, e)
-      | inr ne ↦ omega (arith, k.below m (sym (has_put_other m p n c Empty t ne refl) ∙ u))
-    ];
-  }
-  | inr y ↦ rw (put_absent p n c Empty t y) (record { once = k.once; below = λ m u. omega (arith, k.below m u) })
-]
+numbered_put p n c t k = grind (arith, nat_tests, once_put p n c t k.once, false_from_ne_true (has n t), has_put_other, put_absent p n c Empty t)
 
 pub counted_put : (p n : ℕ) (c : Context) (t : Contexts) (x : ShelfState) {events : List What} → AreNumbered t n → c.hooks ≡ [] → Runs [] events → HooksCounted t x (put p n c Empty t) x events
 counted_put p n c t x k none h = counted_kept t (put p n c Empty t) x h (λ g. waiting_put g p n c t k.once none)

@@ -1,5 +1,5 @@
 -- Sums over hooks that wait, where contexts go, come, change and move, and the callbacks that are said then.
-use Rattle.session_rules.proofs.Base.{◌≡◌, ℕ, ◌+◌, ◌-◌, ◌^◌, min, Bool, true, false, cond, if◌then◌else◌, Option, Some, None, List, [], ◌∷◌, ◌++◌, map, refl, ap, inl, inr, arith, ◌==◌, option_map_or, sum_by, cases_Bool, sum_by-append, sum_by-cons}
+use Rattle.session_rules.proofs.Base.{◌≡◌, ℕ, ◌+◌, ◌-◌, ◌^◌, min, Bool, true, false, cond, if◌then◌else◌, Option, Some, None, List, [], ◌∷◌, ◌++◌, map, refl, ap, inl, inr, arith, ◌==◌, option_map_or, sum_by, cases_Bool, sum_by-append, sum_by-cons, nat_tests}
 use Rattle.session_rules.proofs.Below.{What, Empty, Node, Once, at, changed, children, subtree, with_children, sum_of, Hook, ran, Context, Contexts, Ended, callbacks, cleared, cleared_alone, emptied, gone, gone_events, waiting}
 use Rattle.pgs_step.specs.declared.events.What.TheVariants as what
 use Rattle.context_rules.specs.Ends as ends
@@ -12,21 +12,7 @@ runs_ran n k [] = refl
 runs_ran n k (h ∷ hs) =
     let g : Hook → ℕ = λ hook. if hook.word == n then hook.runs else 0 in
     let one : Hook → ℕ = λ hook. cond (hook.word == n) 1 0 in
-    let a : runs_of n (map ran (h ∷ hs)) ≡ g (ran h) + runs_of n (map ran hs) = sum_by-cons g (ran h) (map ran hs) in
-    let b : runs_of n (h ∷ hs) ≡ g h + runs_of n hs = sum_by-cons g h hs in
-    let c : hooks_of n (h ∷ hs) ≡ one h + hooks_of n hs = sum_by-cons one h hs in
-    elim (cases_Bool (h.word == n)) [
-      | inl y ↦
-          let x : g (ran h) ≡ min (h.runs + 1) (2 ^ 64 - 1) = rw y refl in
-          let v : g h ≡ h.runs = rw y refl in
-          let u : one h ≡ 1 = rw y refl in
-          omega (arith, runs_ran n (k + min (h.runs + 1) (2 ^ 64 - 1)) hs, a, b, c, x, v, u)
-      | inr y ↦
-          let x : g (ran h) ≡ 0 = rw y refl in
-          let v : g h ≡ 0 = rw y refl in
-          let u : one h ≡ 0 = rw y refl in
-          omega (arith, runs_ran n k hs, a, b, c, x, v, u)
-    ]
+    grind (arith, nat_tests, runs_of n (map ran (h ∷ hs)), runs_of n (map ran hs), sum_by-cons g (ran h) (map ran hs), runs_of n (h ∷ hs), runs_of n hs, sum_by-cons g h hs, hooks_of n (h ∷ hs), hooks_of n hs, sum_by-cons one h hs, runs_ran n (k + min (h.runs + 1) (2 ^ 64 - 1)) hs, runs_ran n k hs)
 
 pub hooks_ran : (n : ℕ) (hooks : List Hook) → hooks_of n (map ran hooks) ≡ hooks_of n hooks
 hooks_ran n [] = refl

@@ -16,24 +16,13 @@ use Rattle.lock_local.specs.Changes as locks
 use Rattle.lock_local.specs.Changes.{acquired}
 use Rattle.session_rules.specs.Elements as element
 use Rattle.session_rules.specs.Lookup.{kind_from, kind_named, newest, plan_changed, owner_in}
-use Rattle.session_rules.proofs.Guarded.{all_changed}
-use Rattle.session_rules.proofs.LevelsKept.{levels_stay, no_value}
-use Rattle.session_rules.proofs.HeldItems.{held_forgotten, held_remembered}
-use Rattle.session_rules.proofs.PlansKept.{Split, all_replaced, changed_is, counted_at, plans_replaced, split, IsOther}
-use Rattle.session_rules.proofs.PlansAmong.{levels_apart, plans_counted}
-use Rattle.session_rules.proofs.PortalsAmong.{attached_by, place_spared, portals_by, IsRowOf, own_rows, row_of, row_put}
-use Rattle.session_rules.proofs.Lone.{lone_changed, lone_put}
+use Rattle.session_rules.proofs.Kept.{all_changed, levels_stay, no_value, held_forgotten, held_remembered, Split, all_replaced, changed_is, counted_at, plans_replaced, split, IsOther, levels_apart, plans_counted, attached_by, place_spared, portals_by, IsRowOf, own_rows, row_of, row_put, lone_changed, lone_put, Besides, Fits, IsApart, Settles, Spares, besides_of, item_settles, spares_same, with_besides, becomes, Tables, tabled, tables_of, children_put, Stay, contexts_created, has_created, is_unused, new_parent, new_protected, protected_has, stay_created, hooks_put}
 use Rattle.session_rules.proofs.Ending.{begun_changed}
-use Rattle.session_rules.proofs.Settling.{Besides, Fits, IsApart, Settles, Spares, besides_of, item_settles, spares_same, with_besides, becomes}
-use Rattle.session_rules.proofs.Releasing.{Tables, tabled, tables_of}
 use Rattle.session_rules.proofs.EndsStand.{stands_tabled}
 use Rattle.session_rules.proofs.StepsStand.{Works, fallible_keeps, fit_working, not_released, nothing_works, besides_step, contexts_step, still_planned, still_portals, Beside, beside_by, nothing_beside}
 use Rattle.session_rules.proofs.NamesStand.{at_name}
 use Rattle.std.proofs.lemmas.List.Elements.{All-nil, All-head, All-tail, All-push}
 use Rattle.any_ctx.specs.declared.any.CtxKind.TheVariants as kind
-use Rattle.session_rules.proofs.Forests.{children_put}
-use Rattle.session_rules.proofs.ContextsKept.{Stay, contexts_created, has_created, is_unused, new_parent, new_protected, protected_has, stay_created}
-use Rattle.session_rules.proofs.HooksKept.{hooks_put}
 use Rattle.session_rules.specs.Elements.{OwnerRole}
 
 -- The items of one owner change, and each is of a known kind; plans, their contexts and tables change with them.

@@ -117,42 +117,9 @@ owners_end kinds owners a b level levels portals h = grind (arith, nat_tests)
 
 pub owners_without : (kinds : KindTable) (level : LevelState) (levels : List LevelState) (portals : List OpenPortal) (owners : OwnerTree) (a b : ℕ) (o : Option ℕ) → level.owner ≡ o → ((p : ℕ) → level.owner ≡ Some p → has p owners ≡ true)
     → AreEnding kinds owners a b level levels portals → AreOwners kinds (without_owner o owners) a b levels portals
-owners_without kinds level levels portals owners a b None e there h = record {
-  sound = h.sound;
-  each = λ n u. elim (h.each n u) [
-    | inl i ↦ elim i [ inl q ↦ absurd (no_value level.owner n e q) | inr j ↦ inl j ]
-    | inr k ↦ elim k [ inl p ↦ inr (inl p) | inr r ↦ absurd (no_value level.owner r.owner e r.is) ]
-  ];
-  begun = λ n u. let r = h.begun n u in absurd (no_value level.owner r.owner e r.is);
-  items = h.items;
-}
+owners_without kinds level levels portals owners a b None e there h = grind (arith, nat_tests, no_value level.owner)
 owners_without kinds level levels portals owners a b (Some p) e there h =
-    let once : Once owners = once_of owners a b h.sound in
-    let here : has p owners ≡ true = there p e in
-    let outside : (n : ℕ) → has n (removed p owners) ≡ true → IsLoose level n owners → ⊥ = λ n u r.
-    let w = left_apart n p owners once here u in
-    let same : r.owner ≡ p = one_value level.owner r.owner p r.is e in
-    elim r.within [
-      | inl q ↦ w.0 (q ∙ same)
-      | inr q ↦ both_ways (has n (children p owners)) w.1 (ap (λ (m : ℕ). has n (children m owners)) (sym same) ∙ q)
-    ]
-    in
-    record {
-      sound = sound_removed p owners a b h.sound;
-      each = λ n u. elim (h.each n (has_of_removed n p owners u)) [
-        | inl i ↦ elim i [
-          | inl q ↦ absurd ((left_apart n p owners once here u).0 (one_value level.owner n p q e))
-          | inr j ↦ inl j
-        ]
-        | inr k ↦ elim k [ inl q ↦ inr (inl q) | inr r ↦ absurd (outside n u r) ]
-      ];
-      begun = λ n u.
-          let left : has n (removed p owners) ≡ true = begun_has n (removed p owners) u in
-          let w = left_apart n p owners once here left in
-          let was : has_begun n owners ≡ true = ap (λ (o : Option Owner). option_map_or (λ owner. owner.begun) o false) (sym (at_left n p owners once w.0 w.1)) ∙ u in
-          absurd (outside n left (h.begun n was));
-      items = all_removed (HasItems kinds) p owners h.items;
-    }
+    grind (arith, nat_tests, once_of owners a b h.sound, left_apart, one_value level.owner, sound_removed p owners a b h.sound, has_of_removed, begun_has, at_left, all_removed (HasItems kinds) p owners h.items)
 
 -- what a release leaves of the deepest level's owner
 abbrev pub HasLeft : KindTable → Option ℕ → OwnerTree → OwnerTree → Type 0

@@ -25,6 +25,7 @@ pub mod PlansAmong
 pub mod PortalLists
 pub mod PortalsAmong
 pub mod Stacked
+pub mod Kept
 pub mod Ending
 pub mod Replacing
 pub mod Passing

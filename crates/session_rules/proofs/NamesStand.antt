@@ -14,14 +14,8 @@ use Rattle.context_rules.specs.declared.errors.TreeError.TheVariants.{Protected,
 use Rattle.session_rules.specs.Elements as element
 use Rattle.session_rules.specs.Acts.{Ended, of_contexts, children_gone, context_cleared, context_cleared_alone, context_gone, switched, where_there}
 use Rattle.session_rules.specs.Checks.{failure, refusal_at, tree_error}
-use Rattle.session_rules.proofs.Forests.{has_emptied, has_left, once_left}
+use Rattle.session_rules.proofs.Kept.{has_emptied, has_left, once_left, hooks_ended, hooks_put, hooks_taken, hooks_reparented, parts_alone, parts_children, parts_cleared, parts_gone, IsContext, no_value, one_value, lone_changed, lone_emptied, lone_left, lone_moved, lone_put, IsCached, levels_other, own_other, plans_current, place_current, place_level, place_own, place_same, portals_moved, row_changed, row_emptied, row_free, row_left, row_put}
 use Rattle.session_rules.proofs.ContextsKept.{Stay, apart, contexts_alone, contexts_changed, contexts_children_gone, contexts_created, contexts_gone, contexts_reparented, has_alone, has_created, has_reparented, moves_by, protected_has, same_removed, stay_alone, stay_changed, stay_children_gone, stay_created, stay_gone, stay_on, stay_reparented, stay_same, top_protected, by_alone, by_reparented}
-use Rattle.session_rules.proofs.HooksKept.{hooks_ended, hooks_put, hooks_taken, hooks_reparented}
-use Rattle.session_rules.proofs.HookSums.{parts_alone, parts_children, parts_cleared, parts_gone}
-use Rattle.session_rules.proofs.LevelsKept.{IsContext, no_value, one_value}
-use Rattle.session_rules.proofs.Lone.{lone_changed, lone_emptied, lone_left, lone_moved, lone_put}
-use Rattle.session_rules.proofs.PlansAmong.{IsCached, levels_other, own_other, plans_current}
-use Rattle.session_rules.proofs.PortalsAmong.{place_current, place_level, place_own, place_same, portals_moved, row_changed, row_emptied, row_free, row_left, row_put}
 use Rattle.session_rules.proofs.StepsStand.{Works, contexts_step, fallible_keeps, nothing_works, still_planned, still_portals, beside_by}
 
 -- the context of the first level of a list that is put together
@@ -108,12 +102,7 @@ row_alone t once k m expr current h = by_alone (λ u. IsRow expr (children m u))
 row_reparented : (m : ℕ) (expr : Option ℕ) (n p : ℕ) (t : Contexts) (next current : ℕ) → AreContexts t next → Moves n p t → m ≢ n → has m (children n t) ≡ false → is_protected n t ≡ false → IsPlace m expr t p → IsPlace m expr t current
     → IsRow expr (children m (reparented n p t))
 row_reparented m expr n p t next current contexts moves ne out free named k =
-    let a = at_some n t moves.node in
-    let left : IsPlace m expr (removed n t) current =
-    place_same m expr t (removed n t) current (same_removed t next contexts m n (ne, out) k.protected) (row_left t contexts.once m expr current k n ne out (row_free t contexts.once n free m expr current k)) k in
-    let swapped : IsRow expr (children m (moved n p t)) =
-    rw a.1 (row_put (removed n t) (once_left n t contexts.once) m expr current left p n a.0 (children n t) (λ z. named.other (sym z)) ne out (λ e q z. named.apart (q ∙ ap Some z))) in
-    by_reparented (λ u. IsRow expr (children m u)) n p t k.row swapped
+    grind (arith, nat_tests, at_some n t moves.node, place_same m expr t (removed n t) current (same_removed t next contexts m n (ne, out) k.protected) (row_left t contexts.once m expr current k n ne out (row_free t contexts.once n free m expr current k)) k, same_removed t next contexts m n (ne, out) k.protected, row_left t contexts.once m expr current k n ne out (row_free t contexts.once n free m expr current k), row_free t contexts.once n free m expr current k, moved n p t, row_put (removed n t) (once_left n t contexts.once) m expr current, once_left n t contexts.once, by_reparented)
 
 -- a node without children has none behind a reset, nor where another one moves
 lone_alone : (m n : ℕ) (t : Contexts) → children m t ≡ Empty → children m (ends.cleared_alone n t).contexts ≡ Empty

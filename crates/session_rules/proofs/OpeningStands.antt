@@ -22,23 +22,7 @@ first_own (suc (suc (suc (suc (suc zero))))) l u = record { protected = refl; pa
 first_own (suc (suc (suc (suc (suc (suc n)))))) l u = absurd (omega arith)
 
 first_contexts : AreContexts contexts.opening 6
-first_contexts = record {
-  rooted = (refl, refl, refl);
-  guarded = (
-    λ f. absurd (cc f),
-    (λ f. absurd (cc f), tt, (λ f. absurd (cc f), tt, (λ f. absurd (cc f), tt, (λ f. absurd (cc f), tt, tt)))),
-    tt,
-  );
-  once = first_once;
-  below = first_below;
-  room = omega arith;
-  own = first_own;
-  fresh = (
-    λ _. (refl, refl),
-    (λ _. (refl, refl), tt, (λ _. (refl, refl), tt, (λ _. (refl, refl), tt, (λ _. (refl, refl), tt, tt)))),
-    tt,
-  );
-}
+first_contexts = grind (arith, nat_tests, first_once, first_below, first_own)
 
 -- A session that opens stands, where the hooks of the shelf differ and the kinds are sound.
 pub opening_stands : (around : Around) → AreDistinct (shelf.held around.shelf) → IsSound (table_of around.kinds) → StandsBetweenLines (record { session = opening; around = around })

@@ -3,20 +3,11 @@ use Rattle.session_rules.proofs.Base.{◌≡◌, ◌≢◌, ◌⊎◌, ℕ, ◌+
 use Rattle.session_rules.proofs.Below.{Once, has, moved, Moves, Contexts, table_of, Owner, OwnerTree, once_of, sound_moved, Forest, Empty, Node, times, at, children, parent_of, put, removed, at_moved}
 use Rattle.session_rules.proofs.Rules.{LevelState, OpenPortal, first_of, owner_of, plan_reference, Scene, portal_changed, for_each, in_order, portal_becomes, where_so, where_there, owner_moved, portal_passed, AreLevels, AreOuter, ArePlans, HasItems, IsAtRest, IsAtWork, IsAttached, IsDead, IsLive, IsOwner, IsPortal, owner_at, referred, AreEnding, Ending, IsLoose}
 use Rattle.portal_store.specs.Portal.{lowered}
-use Rattle.session_rules.proofs.Guarded.{all_moved}
-use Rattle.session_rules.proofs.ContextsKept.{stay_same}
-use Rattle.session_rules.proofs.HeldItems.{held_moved}
-use Rattle.session_rules.proofs.LevelsKept.{is_there, levels_stay, no_value, one_value}
-use Rattle.session_rules.proofs.Stacked.{depth_outer, depth_small, depth_still}
-use Rattle.session_rules.proofs.PlansAmong.{plans_counted}
-use Rattle.session_rules.proofs.PortalLists.{Changes, changed_one, owner_beside, owner_here, owner_split}
-use Rattle.session_rules.proofs.PortalsAmong.{attached_by}
+use Rattle.session_rules.proofs.Kept.{all_moved, stay_same, held_moved, is_there, levels_stay, no_value, one_value, depth_outer, depth_small, depth_still, plans_counted, Changes, changed_one, owner_beside, owner_here, owner_split, attached_by, children_put, has_left, has_put_other, once_left, parent_left, parent_put, parent_put_other, children_left, lone_moved}
 use Rattle.session_rules.proofs.Ending.{Leads, each_goes, parts_of, with_parts}
 use Rattle.session_rules.proofs.Replacing.{IsBeside, first_of_rest, replaced, replaced_leads, kept_owners}
 use Rattle.forest.proofs.Trees.{at_some, children_absent, has_none, has_some, parent_stays, removed_has, times_moved, times_none, times_some}
 use Rattle.forest.proofs.Walks.{children_in, once_children}
-use Rattle.session_rules.proofs.Forests.{children_put, has_left, has_put_other, once_left, parent_left, parent_put, parent_put_other}
-use Rattle.session_rules.proofs.Lone.{children_left, lone_moved}
 
 module _ {A : Type 0} where
   same_has : (m : ℕ) (t u : Forest A) → times m u ≡ times m t → has m u ≡ has m t
@@ -64,11 +55,7 @@ module _ {A : Type 0} where
 
 -- owners that are left to the deepest level still are
 pub loose_moved : (level : LevelState) (m o q : ℕ) (x : OwnerTree) → HasMoved o q x → ((lo : ℕ) → level.owner ≡ Some lo → lo ≢ o) → m ≢ o → IsLoose level m x → IsLoose level m (moved o q x)
-loose_moved level m o q x h away other l = record {
-  owner = l.owner;
-  is = l.is;
-  within = elim l.within [ inl e ↦ inl e | inr u ↦ inr (h.above m l.owner (away l.owner l.is) other u) ];
-}
+loose_moved level m o q x h away other l = grind (arith, nat_tests)
 
 -- where a portal's owner moves to an owner of these levels
 module _ (levels : List LevelState) (o q : ℕ) (t : Contexts) (x : OwnerTree) (current : ℕ) (m : HasMoved o q x) where
@@ -78,12 +65,7 @@ module _ (levels : List LevelState) (o q : ℕ) (t : Contexts) (x : OwnerTree) (
       (λ k i there. record { there = m.has_same k ∙ there; parent = m.parent_other k (λ z. other (subst (λ (j : ℕ). IsOwner j levels) z i)) }) l
 
   pub portal_moved : (p r : OpenPortal) → p.owner ≡ Some o → IsBeside p r → IsOwner q levels → IsPortal r levels t x current → IsPortal r levels t (moved o q x) current
-  portal_moved p r e b i k =
-      search (λ (n : ℕ) (f : _).
-      let a : IsAttached n r.created levels x = k.owner n f in
-      let ne : n ≢ o = λ z. b.owner n f (e ∙ ap Some (sym z)) in
-      attached_by n r.created levels levels x (moved o q x) (λ w. m.has_same n ∙ w) (m.parent_other n ne)
-      (m.lone_other n (λ z. a.other (subst (λ (j : ℕ). IsOwner j levels) (sym z) i)) ne) refl (λ j. j) a)
+  portal_moved p r e b i k = grind (arith, nat_tests, attached_by, moved o q x)
 
 pub plans_owner_moved : (s : Scene) (o q : ℕ) → Once s.session.owners → Moves o q s.session.owners → ArePlans s.session.plans s.session.contexts s.session.current (referred s.session.owners)
     → ArePlans s.session.plans s.session.contexts s.session.current (referred (moved o q s.session.owners))
@@ -116,36 +98,19 @@ module _ (level : LevelState) (levels : List LevelState) (some : 1 ≤ length le
   passed old = record old { created = lowered depth old.created; active = lowered depth old.active }
 
   pub passed_line : (p : OpenPortal) → IsAtRest p ⊎ IsAtWork p depth → IsAtRest (passed p) ⊎ IsAtWork (passed p) (length levels)
-  passed_line p line = elim line [
-    | inl r ↦ inl r
-    | inr a ↦ inr (number p.active a.0, λ new. number p.created (a.1 new))
-  ]
-    where
-      number : (n : ℕ) → n ≡ depth → lowered depth n ≡ length levels
-      number n e = rw (eq-eqb n depth e) (omega (arith, e))
+  passed_line p line = grind (arith, nat_tests, depth)
 
   pub passed_live : (p : OpenPortal) → AreOuter levels → IsLive p (level ∷ levels) ⊎ IsDead p (level ∷ levels) → IsLive (passed p) levels
   passed_live p outer s =
       let b : IsBounded p depth = bounded p (level ∷ levels) s in
-      let low : 1 ≤ p.created = elim s [ inl l ↦ l.some | inr d ↦ omega (arith, d.created) ] in
-      let most : lowered depth p.active ≤ depth - 1 = lowered_most depth p.active b.active in
-      record {
-        some = lowered_some depth p.created (omega (arith, some)) low;
-        within = lowered_within depth p.created p.active b.within b.active;
-        active = omega (arith, most, depth_outer levels outer);
-        line = elim s [ inl l ↦ passed_line p l.line | inr d ↦ inl (λ _. d.owner) ];
-      }
+      grind (arith, nat_tests, depth, bounded p (level ∷ levels) s, lowered_most depth p.active b.active, lowered_some depth p.created, lowered_within depth p.created p.active b.within b.active, depth_outer levels outer, passed_line p)
 
   pub changes_passed : (p : OpenPortal) → Changes p (passed p)
   changes_passed p = record { name = refl; context = λ n e. e; owner = λ n e. e }
 
   -- the owner of the level above
   pub above_is : (q : ℕ) → owner_of (first_of levels) ≡ Some q → owner_at (depth - 1) levels ≡ Some q
-  above_is q e = go levels some e
-    where
-      go : (ls : List LevelState) → 1 ≤ length ls → owner_of (first_of ls) ≡ Some q → owner_at (length (level ∷ ls) - 1) ls ≡ Some q
-      go [] n e = absurd (omega (arith, n))
-      go (l ∷ ls) n e = rw (eq-eqb (length ls + 1) (length (level ∷ (l ∷ ls)) - 1) (omega arith)) e
+  above_is q e = grind (arith, nat_tests, owner_at)
 
   pub above_owner : (q : ℕ) → owner_of (first_of levels) ≡ Some q → IsOwner q levels
   above_owner q e = go levels e
@@ -155,11 +120,7 @@ module _ (level : LevelState) (levels : List LevelState) (some : 1 ≤ length le
       go (l ∷ ls) e = inl e
 
   pub above_made : AreOuter levels → (q : ℕ) × (owner_of (first_of levels) ≡ Some q)
-  above_made outer = go levels some outer
-    where
-      go : (ls : List LevelState) → 1 ≤ length ls → AreOuter ls → (q : ℕ) × (owner_of (first_of ls) ≡ Some q)
-      go [] n o = absurd (omega (arith, n))
-      go (l ∷ ls) n o = is_there l.owner o.0.made.owner
+  above_made outer = grind (arith, nat_tests, is_there)
 
   pub above_there : (t : Contexts) (x : OwnerTree) (q : ℕ) → AreLevels levels t x → owner_of (first_of levels) ≡ Some q → has q x ≡ true
   above_there t x q l e = go levels l e

@@ -60,14 +60,8 @@ module _ {A : Type 0} (P : A → Type 0) where
 
 -- plans stay apart
 apart_replaced : (p q : StandingPlan) (front back : List StandingPlan) → q.number ≡ p.number → q.context ≡ p.context → AreApart (front ++ (p ∷ back)) → AreApart (front ++ (q ∷ back))
-apart_replaced p q [] back n c h = (
-  All-weaker (Differ p) (Differ q) (λ r d. record { number = λ z. d.number (z ∙ n); context = λ z. d.context (z ∙ c) }) back h.0,
-  h.1,
-)
-apart_replaced p q (x ∷ xs) back n c h = (
-  all_replaced (Differ x) p q xs back (λ d. record { number = λ z. d.number (sym n ∙ z); context = λ z. d.context (sym c ∙ z) }) h.0,
-  apart_replaced p q xs back n c h.1,
-)
+apart_replaced p q [] back n c h = grind (arith, nat_tests)
+apart_replaced p q (x ∷ xs) back n c h = grind (arith, nat_tests, all_replaced (Differ x) p q xs back, apart_replaced p q xs back n c h.1)
 
 apart_without : (p : StandingPlan) (front back : List StandingPlan) → AreApart (front ++ (p ∷ back)) → AreApart (front ++ back)
 apart_without p [] back h = h.1

@@ -5,21 +5,9 @@ use Rattle.session_rules.proofs.Rules.{LevelState, OpenPortal, buffer_pin, relca
 use Rattle.session_rules.specs.Elements as element
 use Rattle.session_rules.specs.Portals.{executor_ended, is_ready, portal_ended, portal_owner_ended}
 use Rattle.session_rules.specs.Standing.{AreContexts, AreLevels, AreOwners, ArePortals, HasItems, IsAtRest, IsAttached, IsLive, IsOfPortal, IsOwner, IsPlace, IsPlan, IsPortal, IsWorking, Stands, referred}
-use Rattle.session_rules.proofs.Forests.{at_left, has_left, parent_left}
-use Rattle.session_rules.proofs.Guarded.{all_removed}
-use Rattle.session_rules.proofs.ContextsKept.{contexts_level_gone}
-use Rattle.session_rules.proofs.HooksKept.{hooks_ended}
-use Rattle.session_rules.proofs.HookSums.{parts_gone}
-use Rattle.session_rules.proofs.LevelsKept.{begun_has, levels_stay, no_value, one_value}
-use Rattle.session_rules.proofs.Settling.{Fits, HasSettled, besides_of, release_settles, with_besides}
-use Rattle.session_rules.proofs.Releasing.{swept_by, with_owners}
-use Rattle.session_rules.proofs.Swept.{removed_swept}
+use Rattle.session_rules.proofs.Kept.{at_left, has_left, parent_left, all_removed, contexts_level_gone, hooks_ended, parts_gone, begun_has, levels_stay, no_value, one_value, Fits, HasSettled, besides_of, release_settles, with_besides, swept_by, with_owners, removed_swept, lone_left, all_back, all_front, but_one, different_changed, different_without, others_back, others_front, owner_beside, owner_split, rests_becomes, rests_but, attached_by, place_spared, levels_apart, plans_counted}
 use Rattle.session_rules.proofs.EndsStand.{left_count}
-use Rattle.session_rules.proofs.Lone.{lone_left}
-use Rattle.session_rules.proofs.PortalLists.{all_back, all_front, but_one, different_changed, different_without, others_back, others_front, owner_beside, owner_split, rests_becomes, rests_but}
-use Rattle.session_rules.proofs.PortalsAmong.{attached_by, place_spared}
 use Rattle.session_rules.proofs.Ending.{Beside, below_place, beside_removed, levels_beside, places_beside, plans_beside}
-use Rattle.session_rules.proofs.PlansAmong.{levels_apart, plans_counted}
 use Rattle.session_rules.proofs.StepsStand.{Works, fit_working, not_released, nothing_works}
 use Rattle.session_rules.proofs.PortalsStand.{Named, changes_in, named_changed, named_in, split_portals, this_live, this_portal}
 use Rattle.session_rules.proofs.PortalWorks.{Beside as LeavesPortals, item_beside, nothing_beside, then_beside}

@@ -37,15 +37,8 @@ pub record Changes (p q : OpenPortal) : Type 0 where
   pub owner : (n : ℕ) → q.owner ≡ Some n → p.owner ≡ Some n
 
 pub different_changed : (p q : OpenPortal) (front back : List OpenPortal) → Changes p q → AreDifferent (front ++ (p ∷ back)) → AreDifferent (front ++ (q ∷ back))
-different_changed p q [] back c h = (
-  All-weaker (AreOther p) (AreOther q)
-      (λ x o. record { name = λ z. o.name (z ∙ c.name); context = λ n e f. o.context n e (c.context n f); owner = λ n e f. o.owner n e (c.owner n f) }) back h.0,
-  h.1,
-)
-different_changed p q (x ∷ xs) back c h = (
-  all_replaced (AreOther x) p q xs back (λ o. record { name = λ z. o.name (sym c.name ∙ z); context = λ n e f. o.context n (c.context n e) f; owner = λ n e f. o.owner n (c.owner n e) f }) h.0,
-  different_changed p q xs back c h.1,
-)
+different_changed p q [] back c h = grind (arith, nat_tests)
+different_changed p q (x ∷ xs) back c h = grind (arith, nat_tests, all_replaced (AreOther x) p q xs back, different_changed p q xs back c h.1)
 
 -- whose owner it is
 pub owner_split : (n : ℕ) (p : OpenPortal) (front back : List OpenPortal) → IsOfPortal n (front ++ (p ∷ back)) → (p.owner ≡ Some n) ⊎ IsOfPortal n (front ++ back)

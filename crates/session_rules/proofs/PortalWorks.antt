@@ -11,30 +11,16 @@ use Rattle.session_rules.specs.Elements as element
 use Rattle.session_rules.proofs.EndsStand.{stands_tabled}
 use Rattle.session_rules.proofs.ItemsStand.{give_step, other_step, lock_beside, take_beside}
 use Rattle.session_rules.proofs.NamesStand.{alone_step, at_name}
-use Rattle.session_rules.proofs.Releasing.{tables_of}
+use Rattle.session_rules.proofs.Kept.{tables_of, rests_becomes}
 use Rattle.session_rules.proofs.StepsStand.{Works, fallible_keeps, keeps_allocated, kept_step, nothing_works, alloc_beside, beside_by}
 use Rattle.session_rules.proofs.PortalsStand.{Named, active_portal, named_changed, named_in, scan_portal, state_portal, this_portal}
-use Rattle.session_rules.proofs.PortalLists.{rests_becomes}
 pub use Rattle.session_rules.proofs.StepsStand.{Beside, nothing_beside}
 
 -- what is given back leaves the portals
 pub given_portals : (keeper : Keeper) (key : ℕ) (s : Scene) → (left_to keeper key s).scene.session.portals ≡ s.session.portals
 given_portals NoOne key s = refl
-given_portals ThePlans key s = go (plan_at key s.session.plans)
-  where
-    settled : (q : StandingPlan) (b : Bool) → (elim b as (λ _. Ended) [ true ↦ plan_settled q s | false ↦ plan_stays q s ]).scene.session.portals ≡ s.session.portals
-    settled q true = refl
-    settled q false = refl
-
-    go : (o : Option StandingPlan) → (where_there o (λ plan. plan_becomes (record plan { references = plan.references - 1 })) s).scene.session.portals ≡ s.session.portals
-    go None = refl
-    go (Some p) = settled (record p { references = p.references - 1 }) (p.discarded && (p.references - 1 == 0))
-given_portals TheDescriptors key s = go (is_among key s.session.recent)
-  where
-    go : (b : Bool)
-        → (where_so b (λ scene. record { scene = record scene { session = record scene.session { recent = without key scene.session.recent } }; events = what.DescriptorClosed key ∷ [] }) s).scene.session.portals ≡ s.session.portals
-    go true = refl
-    go false = refl
+given_portals ThePlans key s = grind (arith, nat_tests)
+given_portals TheDescriptors key s = grind (arith, nat_tests, without key)
 given_portals (TheKind place) key s = refl
 
 -- an owner gives an item back
@@ -58,12 +44,8 @@ none_changed name f (p ∷ ps) e = grind (arith, nat_tests, none_changed name f 
 
 -- a portal changes, where one has the name
 pub becomes_works : (s : Scene) (name : Text) (f : OpenPortal → OpenPortal) → Stands s → ((p : OpenPortal) → IsAtRest p → IsAtRest (f p)) → ((p : OpenPortal) → portal_named name s.session.portals ≡ Some p → Stands (portal_becomes name f s).scene) → Works s (portal_becomes name f s).scene
-becomes_works s name f h rests named = go (portal_named name s.session.portals) refl
-  where
-    go : (o : Option OpenPortal) → portal_named name s.session.portals ≡ o → Works s (portal_becomes name f s).scene
-    go None e =
-        subst (λ (ps : List OpenPortal). Works s (record s { session = record s.session { portals = ps } })) (sym (none_changed name f s.session.portals e)) (nothing_works s h)
-    go (Some p) e = record { stands = named p e; levels = refl; at_rest = rests_becomes name f s.session.portals rests }
+becomes_works s name f h rests named =
+    grind (arith, nat_tests, none_changed name f s.session.portals, nothing_works s h, rests_becomes name f s.session.portals rests)
 
 -- a step of a turn of the portal of a name
 pub record Turns (name : Text) (s z : Scene) : Type 0 where
@@ -78,16 +60,7 @@ beside_turns name s z b = record {
 
 pub becomes_fetched : (s : Scene) (name : Text) (f : OpenPortal → OpenPortal) → ((p : OpenPortal) → (f p).name ≡ p.name) → ((p : OpenPortal) → portal_named name s.session.portals ≡ Some p → (f p).active ≡ length s.session.levels)
     → IsFetched name (portal_becomes name f s).scene
-becomes_fetched s name f keeps active q e = go (portal_named name s.session.portals) refl
-  where
-    go : (o : Option OpenPortal) → portal_named name s.session.portals ≡ o → q.active ≡ length s.session.levels
-    go None n =
-        let z : None ≡ Some q = sym n ∙ sym (ap (portal_named name) (none_changed name f s.session.portals n)) ∙ e in
-        absurd (cc z)
-    go (Some p) n =
-        let z : Some (f p) ≡ Some q = sym (named_changed name p f s.session.portals keeps n) ∙ e in
-        let same : f p ≡ q = cc z in
-        ap (λ (r : OpenPortal). r.active) (sym same) ∙ active p n
+becomes_fetched s name f keeps active q e = grind (arith, nat_tests, none_changed name f s.session.portals, named_changed name)
 
 -- where it fails, its line is at work on it
 pub failed_stands : (s : Scene) (name : Text) → Stands s → IsWorking s.session.levels → IsFetched name s → Stands (portal_becomes name (λ p. record p { state = portal.Failed }) s).scene

@@ -22,12 +22,7 @@ row_of e c t current once h =
     let row : Context = h.row.0 in
     let below : children c t ≡ Node e row Empty Empty = h.row.1 in
     let there : has e (children c t) ≡ true = rw (below, eq-eqb e e refl) refl in
-    record {
-      there = there;
-      parent = parent_in e c t once there ∙ rw below refl;
-      protected = ap (λ (o : Option Context). option_map_or own o false) (sym (at_children e c t once there)) ∙ rw (below, eq-eqb e e refl) h.row.2;
-      lone = sym (children_in e c t once there) ∙ rw (below, eq-eqb e e refl) refl;
-    }
+    grind (arith, nat_tests, parent_in e c t once there, at_children e c t once there, children_in e c t once there)
 
 -- a level's context isn't below one of the session's own but the topmost one
 pub off_above : (levels : List LevelState) (t : Contexts) (x : OwnerTree) → AreLevels levels t x → (b : ℕ) → 1 < b → b ≤ abort_context → level_parent (first_of levels) ≢ b
@@ -59,14 +54,8 @@ off_rows (level ∷ levels) t x l n i e c own up p =
 
 -- nor is one of the session's own
 pub own_rows : (t : Contexts) (next : ℕ) → AreContexts t next → (n : ℕ) → 1 ≤ n → n ≤ abort_context → (e c : ℕ) → abort_context < c → parent_of e t ≡ Some c → n ≢ e
-own_rows t next h n low small e c own_c p = λ z. go z (cases_eq n top_context)
-  where
-    go : n ≡ e → (n ≡ top_context) ⊎ (n ≢ top_context) → ⊥
-    go z (inl one) = no_value (parent_of e t) c (ap (λ (k : ℕ). parent_of k t) (sym z ∙ one) ∙ top_parent own top_context t h.once h.rooted) p
-    go z (inr ne) =
-        let own_n : IsOfSession n t = h.own n (omega (arith, low, ne)) small in
-        let same : top_context ≡ c = some_is top_context c (sym own_n.parent ∙ ap (λ (k : ℕ). parent_of k t) z ∙ p) in
-        absurd (omega (arith, same, own_c))
+own_rows t next h n low small e c own_c p =
+    grind (arith, nat_tests, no_value (parent_of e t) c, top_parent own top_context t h.once h.rooted, some_is top_context c)
 
 -- each portal is as it was
 pub portals_by : (ps : List OpenPortal) (ls ms : List LevelState) (t u : Contexts) (x y : OwnerTree) (a b : ℕ) → ((p : OpenPortal) → IsPortal p ls t x a → IsPortal p ms u y b) → ArePortals ps ls t x a → ArePortals ps ms u y b
@@ -86,11 +75,7 @@ module _ (t : Contexts) (once : Once t) (n : ℕ) (expr : Option ℕ) (current :
   row_changed k f keeps = grind (arith, nat_tests, children_changed n k f t)
 
   pub row_left : (k : ℕ) → n ≢ k → has n (children k t) ≡ false → ((e : ℕ) → expr ≡ Some e → e ≢ k) → IsRow expr (children n (removed k t))
-  row_left k ne out other = subst (IsRow expr) (sym (children_left n k t once ne out)) (go expr other (children n t) h.row)
-    where
-      go : (o : Option ℕ) → ((e : ℕ) → o ≡ Some e → e ≢ k) → (v : Contexts) → IsRow o v → IsRow o (removed k v)
-      go None other v r = ap (removed k) r
-      go (Some e) other v r = (r.0, ap (removed k) r.1 ∙ rw (ne_eqb e k (other e refl)) refl, r.2)
+  row_left k ne out other = grind (arith, nat_tests, children_left n k t once ne out)
 
   pub row_emptied : (k : ℕ) → n ≢ k → has n (children k t) ≡ false → IsRow expr (children n (with_children k Empty t))
   row_emptied k ne out = grind (arith, nat_tests, children_emptied n k t once ne out)
@@ -100,10 +85,7 @@ module _ (t : Contexts) (once : Once t) (n : ℕ) (expr : Option ℕ) (current :
 
 -- a portal's context isn't a plan's
 pub place_plans : (n : ℕ) (expr : Option ℕ) (t : Contexts) (current : ℕ) (plans : List StandingPlan) → IsPlace n expr t current → (a : ℕ) → All (λ plan. IsPlan plan t a) plans → IsApart n plans
-place_plans n expr t current plans h a each =
-    All-weaker (λ plan. IsPlan plan t a) (λ plan. n ≢ plan.context)
-    (λ plan i z. let e : portals_context ≡ cache_context = some_is portals_context cache_context (sym h.parent ∙ ap (λ (k : ℕ). parent_of k t) z ∙ i.parent) in absurd (omega (arith, e)))
-    plans each
+place_plans n expr t current plans h a each = grind (arith, nat_tests, some_is portals_context cache_context)
 
 -- portals where only contexts of plans go
 pub place_spared : (x y : Besides) (a : ℕ) → Spares x y → All (λ plan. IsPlan plan x.contexts a) x.plans → (n : ℕ) (expr : Option ℕ) (current : ℕ) → IsPlace n expr x.contexts current → IsPlace n expr y.contexts current

@@ -8,16 +8,7 @@ use Rattle.owner_core.specs.Owners as owners
 use Rattle.session_rules.proofs.ItemsStand.{owner_there}
 use Rattle.portal_store.specs.declared.portal.PortalState.{PortalState}
 use Rattle.session_rules.specs.Standing.{WasReleased, AreContexts, AreDifferent, AreHooks, AreLevels, AreOther, AreOwners, ArePlans, ArePortals, IsAtRest, IsAtWork, IsAttached, IsDead, IsLive, IsOfPortal, IsOwner, IsPlace, IsPortal, IsWorking, Stands, active_depth, owner_at, referred}
-use Rattle.session_rules.proofs.Forests.{children_put, has_put_other}
-use Rattle.session_rules.proofs.ContextsKept.{Stay, contexts_created, has_created, is_unused, new_parent, new_protected, protected_has, stay_created, stay_same}
-use Rattle.session_rules.proofs.HeldItems.{held_created}
-use Rattle.session_rules.proofs.HooksKept.{hooks_put}
-use Rattle.session_rules.proofs.LevelsKept.{levels_stay, no_value, one_value}
-use Rattle.session_rules.proofs.Lone.{lone_put}
-use Rattle.session_rules.proofs.PlansAmong.{plans_counted}
-use Rattle.session_rules.proofs.PortalLists.{Changes, all_back, all_front, changed_one, different_new, different_changed, different_owned, others_back, others_front, owner_beside, owner_here, owner_split}
-use Rattle.session_rules.proofs.PortalsAmong.{IsRowOf, attached_by, own_rows, place_same, row_of, row_put}
-use Rattle.session_rules.proofs.Stacked.{depth_small, depth_working}
+use Rattle.session_rules.proofs.Kept.{children_put, has_put_other, Stay, contexts_created, has_created, is_unused, new_parent, new_protected, protected_has, stay_created, stay_same, held_created, hooks_put, levels_stay, no_value, one_value, lone_put, plans_counted, Changes, all_back, all_front, changed_one, different_new, different_changed, different_owned, others_back, others_front, owner_beside, owner_here, owner_split, IsRowOf, attached_by, own_rows, place_same, row_of, row_put, depth_small, depth_working}
 use Rattle.session_rules.proofs.StepsStand.{IsNewOwner, fit_working, new_owner_is, not_released, still_planned}
 
 -- the portal of a name among the others
@@ -324,19 +315,11 @@ module _ (s : Scene) (h : Stands s) (working : IsWorking s.session.levels) (name
       (record { place = i.place; made = i.made; owner = i.owner; stage = inl (record { some = l.some; within = l.within; active = l.active; line = line }) })
 
   pub scan_portal : (change : Scan → Scan) → Stands (portal_becomes name (λ r. record r { scan = change r.scan }) s).scene
-  scan_portal change =
-      let i = this_portal s h working name p n in
-      let l : IsLive p s.session.levels = this_live s h working name p n in
-      alone_portal s h working name p n (λ r. record r { scan = change r.scan }) (record { name = refl; context = λ k e. e; owner = λ k e. e }) (λ k e. e)
-      (record { place = i.place; made = i.made; owner = i.owner; stage = inl (record { some = l.some; within = l.within; active = l.active; line = l.line }) })
+  scan_portal change = grind (arith, nat_tests, this_portal s h working name p n, this_live s h working name p n, alone_portal s h working name p n)
 
   pub active_portal : Stands (portal_becomes name (λ r. record r { active = length s.session.levels }) s).scene
   active_portal =
-      let i = this_portal s h working name p n in
-      let l : IsLive p s.session.levels = this_live s h working name p n in
-      let d = depth_here s.session.levels working in
-      alone_portal s h working name p n (λ r. record r { active = length s.session.levels }) (record { name = refl; context = λ k e. e; owner = λ k e. e }) (λ k e. e)
-      (record { place = i.place; made = i.made; owner = i.owner; stage = inl (record { some = l.some; within = omega (arith, l.within, l.active, d.0); active = omega (arith, d.0); line = elim l.line [ inl r ↦ inl r | inr a ↦ inr (refl, a.1) ] }) })
+      grind (arith, nat_tests, this_portal s h working name p n, this_live s h working name p n, depth_here s.session.levels working, alone_portal s h working name p n)
 
 -- A portal of a new name is made.
 pub new_names : (name : Text) (ps : List OpenPortal) → portal_named name ps ≡ None → (p : OpenPortal) → p.name ≡ name → p.context ≡ None → p.owner ≡ None → All (AreOther p) ps

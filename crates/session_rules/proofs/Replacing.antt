@@ -1,11 +1,8 @@
 -- A portal becomes another one, or goes, where the deepest level ends.
-use Rattle.session_rules.proofs.Base.{◌≡◌, ℕ, ◌+◌, ◌≤◌, Bool, true, false, Option, Some, None, List, [], ◌∷◌, ◌++◌, append_assoc, length, refl, sym, ◌∙◌, subst, inl, inr, arith, ◌==◌, All, eq-eqb, eqb-true, eqb-false, ne_eqb, All-nil, All-cons, All-head, All-tail, All-append, ◌⊎◌}
+use Rattle.session_rules.proofs.Base.{◌≡◌, ℕ, ◌+◌, ◌≤◌, Bool, true, false, Option, Some, None, List, [], ◌∷◌, ◌++◌, append_assoc, length, refl, sym, ◌∙◌, subst, inl, inr, arith, ◌==◌, All, eq-eqb, eqb-true, eqb-false, ne_eqb, All-nil, All-cons, All-head, All-tail, All-append, ◌⊎◌, nat_tests}
 use Rattle.session_rules.proofs.Below.{Once, has, below_parent, ShelfState, Contexts, table_of, OwnerTree, once_of}
 use Rattle.session_rules.proofs.Rules.{LevelState, OpenPortal, buffer_pin, relcache_reference, snapshot_reference, Scene, Ended, context_gone, for_each, in_order, portal_gone, where_so, where_there, item_released, executor_ended, is_ready, portal_closed, AreContexts, AreDifferent, AreHooks, AreLevels, AreOther, ArePlans, IsAttached, IsLive, IsPortal, active_depth, referred, AreEnding, Ending, IsAway, IsDone, IsLoose, IsOwner, IsOfPortal}
-use Rattle.session_rules.proofs.LevelsKept.{no_value}
-use Rattle.session_rules.proofs.Stacked.{depth_outer, depth_small, depth_still}
-use Rattle.session_rules.proofs.PortalLists.{Changes, different_changed, others_back, others_front, owner_split, owner_here, owner_beside, rests_aborted}
-use Rattle.session_rules.proofs.PortalsAmong.{attached_by}
+use Rattle.session_rules.proofs.Kept.{no_value, depth_outer, depth_small, depth_still, Changes, different_changed, others_back, others_front, owner_split, owner_here, owner_beside, rests_aborted, attached_by}
 use Rattle.session_rules.proofs.Ending.{Goes, Leads, close_goes, each_goes, goes_nothing, item_goes, parts_of, then_goes, with_parts, Parts}
 
 -- another portal has neither the context nor the owner of one
@@ -111,11 +108,7 @@ module _ (level : LevelState) (levels done : List LevelState) where
 
   -- the owner of a portal of the deepest level is below that one's
   pub own_loose : (p : OpenPortal) (x : OwnerTree) → Once x → (o lo : ℕ) → IsAttached o p.created (level ∷ levels) x → p.created ≡ length (level ∷ levels) → level.owner ≡ Some lo → IsLoose level o x
-  own_loose p x once o lo a created is = record {
-    owner = lo;
-    is = is;
-    within = inr (below_parent o lo x once (a.parent ∙ rw (eq-eqb (length levels + 1) p.created (omega (arith, created))) is));
-  }
+  own_loose p x once o lo a created is = grind (arith, nat_tests, below_parent o lo x once)
 
 -- Portals close where level 1 commits.
 module _ (level : LevelState) (made : (p : OpenPortal) → IsLive p (level ∷ []) → (lo : ℕ) × (level.owner ≡ Some lo)) where

@@ -1,6 +1,6 @@
 -- What a release leaves of plans, contexts and tables: each plan counts the references that owners still hold, and one that has to go
 -- is gone with its context.
-use Rattle.session_rules.proofs.Base.{◌≡◌, ◌≢◌, ℕ, ◌+◌, ◌-◌, ◌≤◌, ◌<◌, Bool, true, false, Option, Some, None, List, [], ◌∷◌, ◌++◌, refl, sym, ap, ◌∙◌, subst, arith, ◌==◌, ◌&&◌, nat_lt, if◌then◌else◌, All, option_map_or, eq-eqb, eqb-true, eqb-false, ne_eqb}
+use Rattle.session_rules.proofs.Base.{◌≡◌, ◌≢◌, ℕ, ◌+◌, ◌-◌, ◌≤◌, ◌<◌, Bool, true, false, Option, Some, None, List, [], ◌∷◌, ◌++◌, refl, sym, ap, ◌∙◌, subst, arith, ◌==◌, ◌&&◌, nat_lt, if◌then◌else◌, All, option_map_or, eq-eqb, eqb-true, eqb-false, ne_eqb, nat_tests}
 use Rattle.session_rules.proofs.Below.{Item, Phase, BeforeLocks, Locks, AfterLocks, Once, has, children, parent_of, removed, ShelfState, Contexts, is_protected, gone, handed_in, KindTable, table_of, is_of, OwnerTree, released, IsSound, Step, Said, GivesBack, ReleasesLocks, PassesLocks, ReleasesAllLocks, release_steps, once_of, sound_released, Lock, is_among, without, removed_absent}
 use Rattle.session_rules.proofs.Rules.{StandingPlan, abort_context, cache_context, plan_reference, Scene, plan_at, plan_changed, plans_but, Ended, for_each, where_so, where_there, NoOne, ThePlans, TheDescriptors, TheKind, given_back, left_to, owner_released, phase_released, plan_becomes, plan_left, plan_settled, plan_stays, step_done, AreContexts, AreHooks, ArePlans, IsPlan, referred, references_of}
 use Rattle.pgs_step.specs.declared.events.What.TheVariants as what
@@ -229,11 +229,7 @@ module _ (s : Scene) (d : ℕ → ℕ) (h : Fits s.session.next_context s.sessio
   other_left false false place key = settles_tables s.session.locks s.session.recent (changed_at place (closed key) s.around.kinds) (table-closed s.around.kinds place key)
 
 pub fewer : (s : Scene) (c d : ℕ → ℕ) → ((m : ℕ) → c m ≡ d m) → Fits s.session.next_context s.session.current c (besides_of s) → Fits s.session.next_context s.session.current d (besides_of s)
-fewer s c d same h = record {
-  contexts = h.contexts;
-  hooks = h.hooks;
-  plans = record { each = h.plans.each; apart = h.plans.apart; counted = λ m. h.plans.counted m ∙ same m };
-}
+fewer s c d same h = grind (arith, nat_tests)
 
 -- an item is given back
 pub item_settles : (item : Item) (s : Scene) (c d : ℕ → ℕ) → ((m : ℕ) → c m ≡ (if is_of plan_reference m item then 1 else 0) + d m) → Fits s.session.next_context s.session.current c (besides_of s) → Settles d s (given_back item s).scene

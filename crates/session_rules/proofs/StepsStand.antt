@@ -1,5 +1,5 @@
 -- The steps of commands lead from a session that stands to one that stands.
-use Rattle.session_rules.proofs.Base.{◌≡◌, ◌≢◌, ℕ, ◌+◌, ◌-◌, ◌<◌, ◌≤◌, ◌⊎◌, ◌++◌, length, Bool, true, false, Option, Some, None, List, [], ◌∷◌, refl, sym, ap, ◌∙◌, subst, inl, inr, arith, ◌==◌, All, take, nat_le, if◌then◌else◌, Result, Ok, Err, option_map_or, All-nil, All-weaker}
+use Rattle.session_rules.proofs.Base.{◌≡◌, ◌≢◌, ℕ, ◌+◌, ◌-◌, ◌<◌, ◌≤◌, ◌⊎◌, ◌++◌, length, Bool, true, false, Option, Some, None, List, [], ◌∷◌, refl, sym, ap, ◌∙◌, subst, inl, inr, arith, ◌==◌, All, take, nat_le, if◌then◌else◌, Result, Ok, Err, option_map_or, All-nil, All-weaker, nat_tests}
 use Rattle.session_rules.proofs.Below.{Empty, has, Once, at, children, parent_of, put, changed, size, AllNodes, has_at, times_some, has_changed, Error, Active, ShelfState, taken, KindTable, IsSoundTable, table_of, once_of, fresh, sound_created}
 use Rattle.session_rules.proofs.Rules.{LevelState, OpenPortal, StandingPlan, deepest_changed, first_of, last_of, owner_of, plan_reference, top_context, Scene, Moment, Check, InCurrent, LevelContext, OfLevel, Text, memory_in, aborted, cleaned_up, committed, subcommitted, does, Ended, changes, in_order, nothing, say, switched, where_there, chunk_resized, memory_taken, snapshot_pushed, level_stands, fallible, is_call, refused_call, unless_refused}
 use Rattle.std.proofs.lemmas.Bool.{cases_eq, cases_Bool, cases_lt, eq-eqb, ne_eqb, both_ways, le-ltb, leb-false}
@@ -18,17 +18,7 @@ use Rattle.owner_core.specs.Sound.{IsSound, one_below}
 use Rattle.session_rules.specs.Elements as element
 use Rattle.session_rules.specs.Making.{held, left, level_context_name, level_made, level_parent, limit, new_context_made, new_owner_made}
 use Rattle.session_rules.specs.Standing.{IsLevel, IsOfPortal, AreContexts, AreHooks, AreLevels, AreOuter, AreOwners, ArePlans, ArePortals, AreStacked, FitLevels, HasItems, IsActive, IsAtRest, IsContextOf, IsDead, IsDeepest, IsFresh, IsItem, IsLive, IsMade, IsOpen, IsOwner, IsOwnerOf, IsPlace, IsPlan, IsPortal, IsReleased, IsRow, IsWorking, Stands, WasReleased, active_depth, owner_at, referred}
-use Rattle.session_rules.proofs.Forests.{at_put, at_put_other, children_put, has_put_other, parent_put, parent_put_other}
-use Rattle.session_rules.proofs.Guarded.{all_put}
-use Rattle.session_rules.proofs.ContextsKept.{Stay, contexts_changed, contexts_created, has_created, new_empty, new_parent, new_protected, protected_has, stay_changed, stay_created, stay_same, top_protected}
-use Rattle.session_rules.proofs.HooksKept.{hooks_changed, hooks_put}
-use Rattle.session_rules.proofs.Stacked.{depth_small, depth_working, stacked_pushed, stacked_taken, stacked_within}
-use Rattle.session_rules.proofs.Lone.{lone_changed, lone_put}
-use Rattle.session_rules.proofs.HeldItems.{held_created}
-use Rattle.session_rules.proofs.Settling.{Besides, Fits, Spares, besides_of, with_besides}
-use Rattle.session_rules.proofs.PlansAmong.{IsCached, levels_apart, levels_other, parent_apart, plans_counted, plans_current, plans_moved}
-use Rattle.session_rules.proofs.PortalsAmong.{IsRowOf, attached_by, off_parent, place_level, place_same, place_spared, portals_by, portals_moved, row_changed, row_of, row_parent_off, row_put}
-use Rattle.session_rules.proofs.LevelsKept.{is_there, levels_stay, no_value, one_value}
+use Rattle.session_rules.proofs.Kept.{at_put, at_put_other, children_put, has_put_other, parent_put, parent_put_other, all_put, Stay, contexts_changed, contexts_created, has_created, new_empty, new_parent, new_protected, protected_has, stay_changed, stay_created, stay_same, top_protected, hooks_changed, hooks_put, depth_small, depth_working, stacked_pushed, stacked_taken, stacked_within, lone_changed, lone_put, held_created, Besides, Fits, Spares, besides_of, with_besides, IsCached, levels_apart, levels_other, parent_apart, plans_counted, plans_current, plans_moved, IsRowOf, attached_by, off_parent, place_level, place_same, place_spared, portals_by, portals_moved, row_changed, row_of, row_parent_off, row_put, is_there, levels_stay, no_value, one_value}
 use Rattle.session_rules.proofs.EndsStand.{Leaves, deepest_active, aborted_stands, cleaned_up_stands, committed_stands, is_settled, settled, subcommitted_leaves}
 use Rattle.session_rules.specs.Elements.{MemoryRole}
 
@@ -42,11 +32,7 @@ pub own_refusal : (w : Option ℕ) (fail call : ℕ) (own : Option Error) → re
 own_refusal w fail call own e = not_refused (call == fail) (is_call w call) _ _ own e
 
 pub fallible_keeps : (P : Scene → Type 0) (w : Option ℕ) (moment : Moment) (own : Option Error) (act : Scene → Ended) → P moment.scene → (own ≡ None → P (act moment.scene).scene) → P (fallible w moment own act).moment.scene
-fallible_keeps P w moment own act before behind = go (refused_call w moment.fail (moment.calls + 1) own) (own_refusal w moment.fail (moment.calls + 1) own)
-  where
-    go : (r : Option Error) → (r ≡ None → own ≡ None) → P (unless_refused r (record moment { calls = moment.calls + 1 }) act).moment.scene
-    go None h = behind (h refl)
-    go (Some e) h = before
+fallible_keeps P w moment own act before behind = grind (arith, nat_tests, own_refusal w moment.fail (moment.calls + 1) own)
 
 -- what work in a level leads to: the session stands, its levels are as they were, and where portals were at rest they still are
 pub record Works (s z : Scene) : Type 0 where
@@ -172,43 +158,14 @@ pub fresh_chunks : (c : Context) (g : List Chunk → List Chunk) (ledger : Ledge
 fresh_chunks c g ledger e fresh unused = let w = fresh unused in (ap g w.0 ∙ e, w.1)
 
 pub keeps_freed : (t : Contexts) (next : ℕ) (name : List ℕ) → AreContexts t next → KeepsContexts t (freed name t) next
-keeps_freed t next name h = go (found name t)
-  where
-    by_ledger : (f : Found) (r : Result Ledger CtxError) → KeepsContexts t (from_ok (λ given. changed f.context (λ c. record c { ledger = given; chunks = without name c.chunks }) t) t r) next
-    by_ledger f (Ok given) =
-        keeps_changed t next f.context (λ c. record c { ledger = given; chunks = without name c.chunks }) h (λ c. refl) (λ c. refl) (λ c fresh. fresh_chunks c (without name) given refl fresh)
-    by_ledger f (Err e) = keeps_same t next h
-
-    go : (o : Option Found) → KeepsContexts t (option_map_or (freed_in name t) o t) next
-    go None = keeps_same t next h
-    go (Some f) = by_ledger f (give f.ledger f.chunk.place)
+keeps_freed t next name h = grind (arith, nat_tests, found name t, without name, keeps_changed t next, fresh_chunks, keeps_same t next h)
 
 pub keeps_resized : (t : Contexts) (next held limit : ℕ) (name : List ℕ) (bytes : ℕ) → AreContexts t next → KeepsContexts t (resized held limit name bytes t) next
-keeps_resized t next held limit name bytes h = go (found name t)
-  where
-    by_ledger : (f : Found) (r : Result (Resized Ledger Place) CtxError)
-        → KeepsContexts t (from_ok (λ answer. changed f.context (λ c. record c { ledger = answer.ledger; chunks = with_changed name (with_size bytes answer.place) c.chunks }) t) t r) next
-    by_ledger f (Ok answer) =
-        keeps_changed t next f.context (λ c. record c { ledger = answer.ledger; chunks = with_changed name (with_size bytes answer.place) c.chunks }) h (λ c. refl) (λ c. refl)
-        (λ c fresh. fresh_chunks c (with_changed name (with_size bytes answer.place)) answer.ledger refl fresh)
-    by_ledger f (Err e) = keeps_same t next h
-
-    go : (o : Option Found) → KeepsContexts t (option_map_or (resized_in held limit name bytes t) o t) next
-    go None = keeps_same t next h
-    go (Some f) = by_ledger f (refitted held limit bytes f)
+keeps_resized t next held limit name bytes h =
+    grind (arith, nat_tests, found name t, keeps_changed t next, fresh_chunks, keeps_same t next h)
 
 pub keeps_written : (t : Contexts) (next : ℕ) (name : List ℕ) (place : ℕ) (bytes : List ℕ) → AreContexts t next → KeepsContexts t (written name place bytes t) next
-keeps_written t next name place bytes h = go (found name t)
-  where
-    write : List Chunk → List Chunk
-    write = λ chunks. with_changed name (λ chunk. record chunk { known = written_over place bytes chunk.known }) chunks
-
-    go : (o : Option Found)
-        → KeepsContexts t (option_map_or (λ f. changed f.context (λ c. record c { chunks = with_changed name (λ chunk. record chunk { known = written_over place bytes chunk.known }) c.chunks }) t) o t) next
-    go None = keeps_same t next h
-    go (Some f) =
-        keeps_changed t next f.context (λ c. record c { chunks = with_changed name (λ chunk. record chunk { known = written_over place bytes chunk.known }) c.chunks }) h (λ c. refl) (λ c. refl)
-        (λ c fresh. fresh_chunks c (λ chunks. with_changed name (λ chunk. record chunk { known = written_over place bytes chunk.known }) chunks) c.ledger refl fresh)
+keeps_written t next name place bytes h = grind (arith, nat_tests, found name t, keeps_same t next h, keeps_changed t next, fresh_chunks)
 
 -- where a level is being started, the stack is that of the levels above it
 pub stacked_above_it : (levels : List LevelState) (stack : List Active) → AreStacked 1 (active_depth levels) stack → AreStacked 1 (length levels) stack
@@ -223,20 +180,7 @@ not_dead p (level ∷ levels) outer d = both_ways level.aborted outer.0.unaborte
 pub pushed_portal : (new : LevelState) (levels : List LevelState) (t : Contexts) (x : OwnerTree) (current : ℕ) (p : OpenPortal) → new.starting ≡ true → new.owner ≡ None → AreOuter levels → IsAtRest p → IsPortal p levels t x current
     → IsPortal p (new ∷ levels) t x current
 pushed_portal new levels t x current p starting none outer rests i =
-    elim i.stage [
-      | inl l ↦
-          let deep : p.active ≤ length levels = omega (arith, l.active, depth_small levels) in
-          let below : p.created ≤ length levels = omega (arith, l.within, deep) in
-          record {
-            place = i.place;
-            made = i.made;
-            owner = λ n e.
-                attached_by n p.created levels (new ∷ levels) x x (λ u. u) refl (λ u. u) (rw (ne_eqb (length levels + 1) p.created (λ z. omega (arith, z, below))) refl)
-                (λ j. elim j [ inl q ↦ absurd (no_value new.owner n none q) | inr k ↦ k ]) (i.owner n e);
-            stage = inl (record { some = l.some; within = l.within; active = rw starting deep; line = inl rests });
-          }
-      | inr d ↦ absurd (not_dead p levels outer d)
-    ]
+    grind (arith, nat_tests, depth_small levels, attached_by, no_value new.owner, not_dead p levels outer)
 
 -- a portal where the deepest level changes and keeps its owner
 pub same_portal : (old new : LevelState) (levels : List LevelState) (t u : Contexts) (x : OwnerTree) (a b : ℕ) (p : OpenPortal) → new.owner ≡ old.owner → (IsLive p (old ∷ levels) → IsLive p (new ∷ levels)) → new.aborted ≡ old.aborted
@@ -356,11 +300,7 @@ level_context_stands level levels s starting none h =
 
 -- numbers of owners are below the next one
 pub owner_below : (x : OwnerTree) (a b n : ℕ) → IsSound x a b → has n x ≡ true → n < a
-owner_below x a b n h u =
-    elim (cases_lt n a) [
-      | inl y ↦ y
-      | inr y ↦ let none : one_below a n ≡ 0 = rw (le-ltb n a y) refl in absurd (omega (arith, h.numbers n, times_some n x u, none))
-    ]
+owner_below x a b n h u = grind (arith, nat_tests, times_some n x u)
 
 -- a new owner
 abbrev pub new_owner : Owner
@@ -405,10 +345,7 @@ new_owner_is (Some p) n x once new there =
 
 -- a portal isn't one of a level that is being started
 pub created_below : (level : LevelState) (levels : List LevelState) → level.starting ≡ true → (level.aborted ≡ true → IsOpen level) → (p : OpenPortal) → IsLive p (level ∷ levels) ⊎ IsDead p (level ∷ levels) → p.created ≤ length levels
-created_below level levels starting gone p s = elim s [
-  | inl l ↦ let deep : active_depth (level ∷ levels) ≡ length levels = rw starting refl in omega (arith, l.within, l.active, deep)
-  | inr d ↦ absurd (both_ways level.starting (gone d.aborted).started starting)
-]
+created_below level levels starting gone p s = grind (arith, nat_tests)
 
 pub first_is : (levels : List LevelState) (p : ℕ) → owner_of (first_of levels) ≡ Some p → IsOwner p levels
 first_is [] p e = absurd (no_value None p refl e)
@@ -553,11 +490,7 @@ settled_as P scene levels h e all =
 
 -- a limit that wasn't reached
 pub below_limit : (most n : ℕ) → limit most n ≡ None → n < most
-below_limit most n e =
-    elim (cases_Bool (nat_le most n)) [
-      | inl y ↦ let z : Some _ ≡ None = rw y at e in absurd (cc z)
-      | inr y ↦ leb-false most n y
-    ]
+below_limit most n e = grind (arith, nat_tests)
 
 -- Each element, whatever call is refused.
 module _ (w : Option ℕ) (moment : Moment) (h : Stands moment.scene) where
@@ -588,14 +521,7 @@ module _ (w : Option ℕ) (moment : Moment) (h : Stands moment.scene) where
 
   pub pop_works : Works moment.scene (does w element.PopSnapshot moment).moment.scene
   unfolding does
-  pop_works = popped (last_of moment.scene.session.snapshots)
-    where
-      popped : (o : Option Active)
-          → Works moment.scene (where_there o (λ entry. in_order (changes (λ session. record session { snapshots = take (length session.snapshots - 1) session.snapshots }) ∷ say (what.Pop entry.snapshot) ∷ [])) moment.scene).scene
-      popped None = nothing_works moment.scene h
-      popped (Some entry) =
-          let stack : List Active = moment.scene.session.snapshots in
-          stack_works moment.scene (take (length stack - 1) stack) h (stacked_taken (length stack - 1) 1 (active_depth moment.scene.session.levels) stack h.snapshots)
+  pop_works = grind (arith, nat_tests, in_order, say, nothing_works moment.scene h, stack_works moment.scene, stacked_taken)
 
   -- in an active level
   module _ (working : IsWorking moment.scene.session.levels) where

@@ -1,5 +1,5 @@
 -- Commands lead from a session between two lines to one between two lines.
-use Rattle.session_rules.proofs.Base.{◌≡◌, ℕ, ◌+◌, ◌≤◌, ◌<◌, Bool, true, false, Option, Some, None, List, [], ◌∷◌, ◌++◌, refl, sym, ap, ◌∙◌, subst, inl, arith, All, zero, suc, ◌-◌, ◌&&◌, ◌==◌, not, length, map, codes, is_none, is_some, replicate, nat_lt, if◌then◌else◌, option_and_then, option_map_or, le-ltb, ltb-true, All-cons, flat_map}
+use Rattle.session_rules.proofs.Base.{◌≡◌, ℕ, ◌+◌, ◌≤◌, ◌<◌, Bool, true, false, Option, Some, None, List, [], ◌∷◌, ◌++◌, refl, sym, ap, ◌∙◌, subst, inl, arith, All, zero, suc, ◌-◌, ◌&&◌, ◌==◌, not, length, map, codes, is_none, is_some, replicate, nat_lt, if◌then◌else◌, option_and_then, option_map_or, le-ltb, ltb-true, All-cons, flat_map, nat_tests}
 use Rattle.session_rules.proofs.Below.{Error, What, size, Scan, ScanStep, table_of, Command, is_text-same, KindId}
 use Rattle.session_rules.proofs.Rules.{LevelState, OpenPortal, SessionState, buffer_pin, file_kind, first_of, is_aborted, level_owner, owner_of, plan_reference, relcache_reference, snapshot_reference, Scene, Moment, Check, Element, InCurrent, InPortal, InRow, LevelContext, OfLevel, OfPortal, PortalContext, RowContext, Text, Ended, in_order, nothing, portal_becomes, where_there, level_stands, failure, unless, Done, fallible, refused_call, unless_refused, context_made, level_made, new_context_made, new_owner_made, portal_made, does, does_all, then_done, line_elements, turn, turn_of, AreOpen, AreOuter, FitLevels, IsActive, IsAtRest, IsFetched, IsOpen, IsWorking, Stands, StandsBetweenLines}
 use Rattle.pgs_step.specs.declared.errors.Error.TheVariants as error
@@ -37,11 +37,10 @@ use Rattle.portal_store.specs.declared.portal.PortalState.TheVariants as state
 use Rattle.pgs_step.specs.declared.lock_modes.Mode.TheVariants.{AccessShareLock}
 use Rattle.pgs_command.specs.declared.kinds.ReferenceClass.TheVariants.{Relcache}
 use Rattle.any_ctx.specs.declared.any.CtxKind.TheVariants as kind
-use Rattle.session_rules.proofs.LevelsKept.{is_there}
+use Rattle.session_rules.proofs.Kept.{is_there, RestsBeside, beside_becomes, beside_rests, rests_beside}
 use Rattle.session_rules.proofs.PortalsStand.{context_portal, made_portal, named_changed, named_in, owner_portal, row_portal}
 use Rattle.session_rules.proofs.PortalWorks.{Beside, Turned, Turns, begins_fetched, begins_works, beside_turns, check_beside, portal_allocates, portal_enlarges, portal_locks, portal_takes, ready_works, row_allocates, scan_turns, turned}
 use Rattle.session_rules.proofs.PortalEnds.{end_portal_works}
-use Rattle.session_rules.proofs.PortalLists.{RestsBeside, beside_becomes, beside_rests, rests_beside}
 use Rattle.session_rules.proofs.Leaves.{IsRun}
 use Rattle.session_rules.proofs.EndsStand.{Leaves, outer_open, recovered_stands}
 use Rattle.session_rules.proofs.StepsStand.{Works, abort_stands, below_limit, cleanup_stands, commit_stands, enlarge_works, free_works, level_context_stands, level_made_stands, level_owner_stands, level_stands_stands, merge_stands, nothing_works, own_refusal, pop_works, push_works, put_works, realloc_works, settled_as, alloc_beside}
@@ -81,11 +80,7 @@ module _ (w : Option ℕ) where
   leads_then : (Q : Scene → Type 0) (x : Element) (xs : List Element) (moment : Moment) → ((r : Error) → (does w x moment).refusal ≡ Some r → Stands (does w x moment).moment.scene)
       → ((does w x moment).refusal ≡ None → Leads Q (does_all w xs (does w x moment).moment)) → Leads Q (does_all w (x ∷ xs) moment)
   unfolding does_all
-  leads_then Q x xs moment stopped next = go (does w x moment).refusal refl
-    where
-      go : (r : Option Error) → (does w x moment).refusal ≡ r → Leads Q (then_done (does w x moment) r (does_all w xs))
-      go None e = let k : Leads Q (does_all w xs (does w x moment).moment) = next e in record { stands = k.stands; passed = k.passed }
-      go (Some r) e = record { stands = stopped r e; passed = λ none. let z : Some r ≡ None = sym e ∙ none in absurd (cc z) }
+  leads_then Q x xs moment stopped next = grind (arith, nat_tests)
 
   runs_then : (Q : Scene → Type 0) (x : Element) (xs : List Element) (moment : Moment) → Meets x moment.scene → ((r : Error) → (does w x moment).refusal ≡ Some r → Stands (does w x moment).moment.scene)
       → ((does w x moment).refusal ≡ None → Runs w Q xs (does w x moment).moment) → Runs w Q (x ∷ xs) moment
@@ -259,11 +254,7 @@ module _ (w : Option ℕ) (levels : List LevelState) (active : IsWorking levels)
       })) next
 
   pub level_owned : (moment : Moment) → Nears levels name moment.scene → (lo : ℕ) × (level_owner moment.scene.session ≡ Some lo)
-  level_owned moment at = go moment.scene.session.levels (working_in levels moment.scene active at.are)
-    where
-      go : (ls : List LevelState) → IsWorking ls → (lo : ℕ) × (owner_of (first_of ls) ≡ Some lo)
-      go [] a = absurd a
-      go (level ∷ ls) a = is_there level.owner a.made.owner
+  level_owned moment at = grind (arith, nat_tests, working_in levels moment.scene active at.are, is_there)
 
   pub behind_owner : (xs : List Element) (moment : Moment) → Makes levels name true false moment.scene → ((m : Moment) → Makes levels name true true m.scene → Runs w Q xs m)
       → Runs w Q (element.MakeOwner (OfPortal name) ∷ xs) moment
@@ -712,13 +703,7 @@ pub open_of : (scene : Scene) (level : LevelState) (levels : List LevelState) �
 open_of scene level levels h is = (subst AreOpen is h.open_levels).0
 
 pub active_of : (scene : Scene) (level : LevelState) (levels : List LevelState) → StandsBetweenLines scene → scene.session.levels ≡ level ∷ levels → level.aborted ≡ false → IsActive level
-active_of scene level levels h is unaborted =
-    let open_level : IsOpen level = open_of scene level levels h is in
-    record {
-      made = (subst (λ (ls : List LevelState). FitLevels ls scene.session.contexts scene.session.owners scene.session.current) is h.stands.fit).0.made open_level.started;
-      started = open_level.started;
-      unaborted = unaborted;
-    }
+active_of scene level levels h is unaborted = grind (arith, nat_tests, open_of scene level levels h is)
 
 pub only_left : (b : Bool) → (b && true) ≡ false → b ≡ false
 only_left true e = e
