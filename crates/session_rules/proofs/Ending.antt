@@ -1,5 +1,5 @@
 -- A session of which the deepest level ends, on its way through the portals.
-use Rattle.session_rules.proofs.Base.{◌≡◌, All, ◌≢◌, ℕ, ◌+◌, find, true, false, Option, Some, None, List, [], ◌∷◌, ◌++◌, refl, sym, ap, ◌∙◌, subst, inl, inr, arith, if◌then◌else◌, option_map_or, cases_eq, cases_Bool, ne_eqb, All-head, All-tail, All-weaker, nat_tests}
+use Rattle.session_rules.proofs.Base.{◌≡◌, All, ◌≢◌, ℕ, ◌+◌, find, true, false, Option, Some, None, List, [], ◌∷◌, ◌++◌, refl, sym, ap, ◌∙◌, subst, inl, inr, arith, if◌then◌else◌, option_map_or, cases_eq, cases_Bool, All-head, All-tail, All-weaker, nat_tests}
 use Rattle.session_rules.proofs.Below.{Empty, Once, has, at, children, parent_of, changed, removed, at_some, at_absent, has_changed, at_changed, at_changed_other, parent_changed, children_changed, Item, KindId, ShelfState, Contexts, is_protected, gone, handed_in, Kind, KindTable, IsSoundTable, table_of, is_of, without_newest, Owner, OwnerTree, forgotten, has_begun, IsSound, once_of, sound_forgotten, Lock}
 use Rattle.session_rules.proofs.Rules.{LevelState, OpenPortal, StandingPlan, cache_context, plan_reference, portals_context, Scene, newest, portals_but, Ended, changes, context_gone, for_each, in_order, portal_gone, say, where_there, given_back, item_released, AreContexts, AreLevels, ArePlans, HasItems, IsItem, IsPlace, IsPortal, IsRow, referred, AreEnding, Ending, IsDone, IsLoose}
 use Rattle.pgs_step.specs.declared.events.What.TheVariants as what

@@ -1,7 +1,7 @@
 -- Where a node stands in a forest in which others go or come: what is apart from them keeps its data and its parent.
-use Rattle.session_rules.proofs.Base.{◌≡◌, ◌≢◌, ℕ, ◌+◌, true, false, Some, refl, sym, ap, ◌∙◌, inl, inr, arith, ◌==◌, ◌||◌, cases_Bool, eq-eqb, ne_eqb, eqb-true, both_ways, or_parts, Option, None, option_map_or, nat_tests}
-use Rattle.session_rules.proofs.Below.{Forest, Empty, Node, has, times, Once, at, children, is_root, parent_of, put, removed, with_children, either, subtree, changed, sum_of, children_absent}
-use Rattle.forest.proofs.Trees.{Apart, apart_of, Here, Below, Beside, where_is, times_none, times_some, has_none, has_some, at_absent, at_some, has_at, put_absent, removed_absent, has_children, times_removed, changed_absent}
+use Rattle.session_rules.proofs.Base.{◌≡◌, ◌≢◌, ℕ, ◌+◌, true, false, Some, refl, sym, ap, ◌∙◌, inl, inr, arith, ◌==◌, cases_Bool, ne_eqb, both_ways, nat_tests}
+use Rattle.session_rules.proofs.Below.{Forest, Empty, Node, has, times, Once, at, children, is_root, parent_of, put, removed, with_children, subtree, changed, sum_of, children_absent}
+use Rattle.forest.proofs.Trees.{Apart, apart_of, times_none, times_some, has_none, has_some, at_absent, at_some, has_at, put_absent, removed_absent, has_children, times_removed, changed_absent}
 use Rattle.forest.proofs.Neighbours.{root_absent}
 
 module _ {A : Type 0} where

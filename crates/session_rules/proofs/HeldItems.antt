@@ -1,8 +1,8 @@
 -- How often owners hold a kind and key, behind each change of them, and what a phase of a release gives back of it.
-use Rattle.session_rules.proofs.Base.{◌≡◌, ℕ, ◌+◌, find, Bool, true, false, Option, Some, None, List, [], ◌∷◌, ◌++◌, refl, ap, ◌∙◌, arith, inl, inr, ◌==◌, ◌||◌, if◌then◌else◌, cases_Bool, eqb-true, or_parts, nat_tests}
-use Rattle.session_rules.proofs.Below.{Item, KindId, Phase, BeforeLocks, Locks, AfterLocks, Empty, Node, Once, either, has, at, children, moved, parent_of, put, removed, AllNodes, all_changed, swept, Apart, Moves, apart_of, at_some, at_absent, removed_absent, KindTable, release_order, Step, GivesBack, lock_step, own_steps, release_steps, releases_of, steps_below, top_locks}
+use Rattle.session_rules.proofs.Base.{◌≡◌, ℕ, ◌+◌, find, Bool, true, false, Option, Some, None, List, [], ◌∷◌, ◌++◌, refl, ap, arith, inl, inr, ◌==◌, ◌||◌, if◌then◌else◌, cases_Bool, or_parts, nat_tests}
+use Rattle.session_rules.proofs.Below.{Item, KindId, Phase, BeforeLocks, Locks, AfterLocks, Empty, Node, Once, has, at, children, moved, parent_of, put, removed, AllNodes, all_changed, swept, Apart, Moves, apart_of, at_some, at_absent, removed_absent, KindTable, release_order, Step, GivesBack, lock_step, own_steps, release_steps, releases_of, steps_below, top_locks}
 use Rattle.std.proofs.lemmas.Grind.{common_steps}
-use Rattle.owner_items.specs.ItemList.{is_of, uses, without_newest}
+use Rattle.owner_items.specs.ItemList.{is_of, uses}
 use Rattle.owner_items.proofs.Uses.{count-without}
 use Rattle.owner_core.specs.Owners.{Owner, OwnerTree, AllAt, HoldsNothing, created, forgotten, held, remembered}
 use Rattle.owner_core.specs.Released.{left_of, own_released, released}

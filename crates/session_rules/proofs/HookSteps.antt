@@ -1,5 +1,5 @@
 -- What became of a scene's hooks is counted: where contexts end, come and move, where a hook is registered, and where nothing becomes of them.
-use Rattle.session_rules.proofs.Base.{◌≡◌, ℕ, ◌+◌, ◌<◌, Bool, true, false, cond, if◌then◌else◌, Option, Some, None, List, [], ◌∷◌, ◌++◌, length, map, drop, refl, sym, ap, ◌∙◌, inl, inr, arith, ◌≤◌, ◌==◌, option_map_or, sum_by, cases_Bool, cases_eq, eq-eqb, both_ways, false_from_ne_true, or_parts, sum_by-append, sum_by-cons, nat_tests}
+use Rattle.session_rules.proofs.Base.{◌≡◌, ℕ, ◌+◌, ◌<◌, Bool, true, false, cond, if◌then◌else◌, Some, List, [], ◌∷◌, ◌++◌, length, map, drop, refl, sym, ap, ◌∙◌, inl, inr, arith, ◌≤◌, ◌==◌, sum_by, cases_Bool, eq-eqb, both_ways, false_from_ne_true, or_parts, sum_by-append, sum_by-cons, nat_tests}
 use Rattle.session_rules.proofs.Below.{What, Empty, has, times, Once, at, changed, is_above, moved, put, with_children, Moves, at_some, has_changed, has_of_removed, has_some, once_changed, once_put, put_absent, times_moved, times_some, sum_moved, Hook, ran, ShelfState, held, taken, Context, Contexts, is_child, placed_under, move_events, cleared, cleared_alone, emptied, gone, handed_in, waiting, is_within}
 use Rattle.session_rules.proofs.Rules.{first_of, Scene, context_moved, hook_waits}
 use Rattle.pgs_step.specs.declared.events.What.TheVariants as what

@@ -1,5 +1,5 @@
 -- Hooks that wait are counted, and so are those of the shelf.
-use Rattle.session_rules.proofs.Base.{◌≡◌, ◌≢◌, ℕ, ◌+◌, ◌≤◌, List, [], ◌∷◌, ◌++◌, Some, cond, ap, sym, ◌∙◌, refl, inl, inr, arith, ◌==◌, if◌then◌else◌, All-nil, All-cons, All-head, All-tail, cases_eq, eq-eqb, ne_eqb, sum_by-cons, nat_tests}
+use Rattle.session_rules.proofs.Base.{◌≡◌, ◌≢◌, ℕ, ◌+◌, ◌≤◌, List, [], ◌∷◌, ◌++◌, Some, cond, refl, arith, ◌==◌, if◌then◌else◌, All-nil, All-head, All-tail, eq-eqb, ne_eqb, sum_by-cons, nat_tests}
 use Rattle.session_rules.proofs.Below.{What, Empty, Once, at, put, changed, moved, Moves, sum_moved, ShelfState, held, taken, Context, Contexts, reparented, Ended, waiting, handed_in}
 use Rattle.session_rules.proofs.Rules.{first_of, AreHooks}
 use Rattle.reset_callbacks.specs.Hook.{Hook, Lacks, AreDistinct}

@@ -1,5 +1,5 @@
 -- What levels and their owners keep where the deepest level goes, is released or is made.
-use Rattle.session_rules.proofs.Base.{◌≡◌, ◌≢◌, ◌⊎◌, ℕ, ◌<◌, true, false, Option, Some, None, List, [], ◌∷◌, refl, sym, ap, ◌∙◌, subst, inl, inr, arith, is_some, option_map_or, cases_eq, cases_Bool, both_ways, nat_tests}
+use Rattle.session_rules.proofs.Base.{◌≡◌, ◌≢◌, ◌⊎◌, ℕ, ◌<◌, true, false, Option, Some, None, List, [], ◌∷◌, refl, sym, ap, ◌∙◌, subst, inl, inr, arith, is_some, option_map_or, cases_eq, cases_Bool, nat_tests}
 use Rattle.session_rules.proofs.Below.{has, Once, children, parent_of, is_above, removed, AllNodes, swept, at_absent, has_of_removed, left_apart, above_by_parent, above_none, Contexts, is_protected, KindTable, IsSoundTable, Owner, OwnerTree, AllAt, HoldsNothing, has_begun, once_of, sound_removed}
 use Rattle.session_rules.proofs.Rules.{LevelState, OpenPortal, abort_context, first_of, owner_of, top_context, level_parent, AreContexts, AreLevels, AreOuter, AreOwners, HasItems, IsContextOf, IsOwner, IsOwnerOf, IsReleased, AreEnding, IsLoose}
 use Rattle.session_rules.proofs.Forests.{at_left}

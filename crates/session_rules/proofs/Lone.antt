@@ -1,5 +1,5 @@
 -- What is below a node behind a change elsewhere.
-use Rattle.session_rules.proofs.Base.{◌≡◌, ◌≢◌, ℕ, false, refl, sym, ap, ◌∙◌, inl, inr, ◌==◌, cases_Bool, both_ways, eqb-true, false_from_ne_true, ne_eqb, arith, nat_tests}
+use Rattle.session_rules.proofs.Base.{◌≡◌, ◌≢◌, ℕ, false, refl, ap, ◌∙◌, inl, inr, cases_Bool, both_ways, false_from_ne_true, arith, nat_tests}
 use Rattle.session_rules.proofs.Below.{Forest, Empty, Node, has, Once, children, put, removed, changed, moved, with_children, all_changed, swept, Apart, Moves, apart_of, at_some, children_absent, first_child_other, has_children, put_absent, children_changed}
 use Rattle.session_rules.proofs.Forests.{emptied_absent, has_emptied, has_left, has_put_other}
 use Rattle.session_rules.proofs.Swept.{has_all, has_swept}

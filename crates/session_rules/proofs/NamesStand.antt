@@ -1,9 +1,8 @@
 -- The steps on contexts of a name lead from a session that stands to one that stands.
-use Rattle.session_rules.proofs.Base.{◌≡◌, ◌≢◌, ◌⊎◌, ℕ, ◌+◌, Bool, true, false, Option, Some, None, List, [], ◌∷◌, ◌++◌, refl, sym, ap, ◌∙◌, subst, inl, inr, arith, ◌==◌, ◌&&◌, ◌||◌, not, reverse, if◌then◌else◌, codes, option_map, option_map_or, option_and_then, eq-eqb, ne_eqb, both_ways, or_parts, nat_tests}
-use Rattle.session_rules.proofs.Below.{Empty, Node, Once, at, children, either, has, is_above, moved, removed, with_children, Moves, apart_of, at_absent, at_some, has_changed, Hook, taken, CtxKind, Context, Contexts, created, is_protected, new_context, reparented, OwnerTree, is_text, Apart}
+use Rattle.session_rules.proofs.Base.{◌≡◌, ◌≢◌, ◌⊎◌, ℕ, ◌+◌, Bool, true, false, Option, Some, None, List, [], ◌∷◌, ◌++◌, refl, sym, ap, ◌∙◌, subst, inl, inr, arith, ◌==◌, reverse, if◌then◌else◌, codes, option_map, option_and_then, eq-eqb, both_ways, or_parts, nat_tests}
+use Rattle.session_rules.proofs.Below.{Empty, Node, Once, children, has, is_above, moved, removed, with_children, Moves, apart_of, at_absent, at_some, has_changed, Hook, taken, CtxKind, Context, Contexts, created, is_protected, new_context, reparented, OwnerTree, is_text, Apart}
 use Rattle.session_rules.proofs.Rules.{LevelState, SessionState, cache_context, context_of, first_of, last_of, level_context, top_context, Scene, Moment, Text, context_named, context_made, new_context_made, at_context, context_moved, hook_registered, hook_waits, does, AreContexts, AreHooks, AreLevels, IsPlace, IsRow, IsWorking, Stands, referred}
 use Rattle.std.proofs.lemmas.List.{reverse-append}
-use Rattle.context_rules.specs.Names.{same_name}
 use Rattle.context_rules.specs.Contexts as rules
 use Rattle.context_rules.specs.Chunks.{registered}
 use Rattle.context_rules.specs.Ends as ends

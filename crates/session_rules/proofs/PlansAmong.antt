@@ -1,5 +1,5 @@
 -- The contexts of plans among those of levels, and what plans keep where other contexts change.
-use Rattle.session_rules.proofs.Base.{◌≡◌, ◌≢◌, ℕ, ◌≤◌, ◌<◌, true, false, Option, Some, None, List, [], ◌∷◌, refl, sym, ap, ◌∙◌, inl, inr, arith, unwrap_or, All, option_map_or, All-weaker, nat_tests}
+use Rattle.session_rules.proofs.Base.{◌≡◌, ◌≢◌, ℕ, ◌≤◌, ◌<◌, true, false, Option, Some, List, [], ◌∷◌, sym, ap, ◌∙◌, inl, arith, unwrap_or, All, option_map_or, All-weaker, nat_tests}
 use Rattle.session_rules.proofs.Below.{Empty, has, children, parent_of, removed, above_by_parent, Contexts, is_protected, OwnerTree}
 use Rattle.session_rules.proofs.Rules.{LevelState, StandingPlan, abort_context, cache_context, context_of, first_of, top_context, level_parent, AreContexts, AreLevels, AreOuter, ArePlans, IsPlan}
 use Rattle.session_rules.proofs.ContextsKept.{IsSame, own_outside, same_removed}

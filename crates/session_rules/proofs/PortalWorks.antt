@@ -1,18 +1,16 @@
 -- The elements of portals lead from a session that stands to one that stands, with its levels as they were.
-use Rattle.session_rules.proofs.Base.{◌≡◌, ◌≢◌, ℕ, ◌-◌, Bool, true, false, Option, Some, None, List, [], ◌∷◌, length, refl, sym, ap, ◌∙◌, subst, inl, inr, ◌==◌, ◌&&◌, option_and_then, cases_Bool, arith, nat_tests}
-use Rattle.session_rules.proofs.Below.{has, Error, Item, KindId, Mode, ScanStep, table_of, is_among, without, forgotten, is_text}
-use Rattle.session_rules.proofs.Rules.{OpenPortal, StandingPlan, buffer_pin, Scene, Moment, Check, Element, InPortal, InRow, OfPortal, Text, newest, plan_at, portal_changed, portal_named, Ended, changes, context_cleared_alone, in_order, nothing, portal_becomes, say, where_so, where_there, failure, Done, unless_refused, Keeper, NoOne, TheDescriptors, TheKind, ThePlans, given_back, item_released, keeper_of, left_to, plan_becomes, plan_settled, plan_stays, left, item_taken, lock_taken, memory_taken, remembers, taken_by, at_owner, scan_part, scanned, does, failing_turn, IsAtRest, IsFetched, IsItem, IsWorking, Stands}
+use Rattle.session_rules.proofs.Base.{◌≡◌, ◌≢◌, ℕ, true, false, Option, Some, None, List, [], ◌∷◌, length, refl, sym, ap, ◌∙◌, subst, inl, inr, option_and_then, arith, nat_tests}
+use Rattle.session_rules.proofs.Below.{has, Error, Item, KindId, Mode, ScanStep, table_of, without, forgotten}
+use Rattle.session_rules.proofs.Rules.{OpenPortal, buffer_pin, Scene, Moment, Check, Element, InPortal, InRow, OfPortal, Text, newest, portal_changed, portal_named, changes, context_cleared_alone, in_order, nothing, portal_becomes, say, where_there, Done, Keeper, NoOne, TheDescriptors, TheKind, ThePlans, given_back, item_released, keeper_of, left_to, scan_part, scanned, does, failing_turn, IsAtRest, IsFetched, IsItem, IsWorking, Stands}
 use Rattle.pgs_step.specs.declared.events.What.TheVariants as what
 use Rattle.portal_store.specs.declared.portal.PortalState.TheVariants as portal
 use Rattle.exec_core.specs.declared.steps.ScanStep.TheVariants as step
 use Rattle.exec_core.specs.Turn.{taken}
-use Rattle.lock_local.specs.Changes.{acquired}
 use Rattle.session_rules.specs.Elements as element
-use Rattle.session_rules.proofs.EndsStand.{stands_tabled}
-use Rattle.session_rules.proofs.ItemsStand.{give_step, other_step, lock_beside, take_beside}
-use Rattle.session_rules.proofs.NamesStand.{alone_step, at_name}
-use Rattle.session_rules.proofs.Kept.{tables_of, rests_becomes}
-use Rattle.session_rules.proofs.StepsStand.{Works, fallible_keeps, keeps_allocated, kept_step, nothing_works, alloc_beside, beside_by}
+use Rattle.session_rules.proofs.ItemsStand.{give_step, lock_beside, take_beside}
+use Rattle.session_rules.proofs.NamesStand.{alone_step}
+use Rattle.session_rules.proofs.Kept.{rests_becomes}
+use Rattle.session_rules.proofs.StepsStand.{Works, fallible_keeps, nothing_works, alloc_beside, beside_by}
 use Rattle.session_rules.proofs.PortalsStand.{Named, active_portal, named_changed, named_in, scan_portal, state_portal, this_portal}
 pub use Rattle.session_rules.proofs.StepsStand.{Beside, nothing_beside}
 

@@ -1,5 +1,5 @@
 -- A portal becomes another one, or goes, where the deepest level ends.
-use Rattle.session_rules.proofs.Base.{◌≡◌, ℕ, ◌+◌, ◌≤◌, Bool, true, false, Option, Some, None, List, [], ◌∷◌, ◌++◌, append_assoc, length, refl, sym, ◌∙◌, subst, inl, inr, arith, ◌==◌, All, eq-eqb, eqb-true, eqb-false, ne_eqb, All-nil, All-cons, All-head, All-tail, All-append, ◌⊎◌, nat_tests}
+use Rattle.session_rules.proofs.Base.{◌≡◌, ℕ, ◌+◌, ◌≤◌, Bool, true, false, Option, Some, None, List, [], ◌∷◌, ◌++◌, append_assoc, length, refl, sym, ◌∙◌, subst, inl, inr, arith, ◌==◌, All, eqb-true, eqb-false, ne_eqb, All-nil, All-cons, All-head, All-tail, All-append, ◌⊎◌, nat_tests}
 use Rattle.session_rules.proofs.Below.{Once, has, below_parent, ShelfState, Contexts, table_of, OwnerTree, once_of}
 use Rattle.session_rules.proofs.Rules.{LevelState, OpenPortal, buffer_pin, relcache_reference, snapshot_reference, Scene, Ended, context_gone, for_each, in_order, portal_gone, where_so, where_there, item_released, executor_ended, is_ready, portal_closed, AreContexts, AreDifferent, AreHooks, AreLevels, AreOther, ArePlans, IsAttached, IsLive, IsPortal, active_depth, referred, AreEnding, Ending, IsAway, IsDone, IsLoose, IsOwner, IsOfPortal}
 use Rattle.session_rules.proofs.Kept.{no_value, depth_outer, depth_small, depth_still, Changes, different_changed, others_back, others_front, owner_split, owner_here, owner_beside, rests_aborted, attached_by}

@@ -1,5 +1,5 @@
 -- What the stack of active snapshots keeps: its levels never fall, and each of them is a level.
-use Rattle.session_rules.proofs.Base.{◌≡◌, ℕ, ◌+◌, ◌≤◌, ◌<◌, Bool, true, false, List, [], ◌∷◌, ◌++◌, refl, ◌∙◌, inl, inr, arith, zero, suc, ◌-◌, ◌==◌, ◌||◌, nat_lt, if◌then◌else◌, length, map, take, cases_Bool, ltb-true, eqb-true, eqb-false, nat_tests}
+use Rattle.session_rules.proofs.Base.{◌≡◌, ℕ, ◌+◌, ◌≤◌, Bool, true, false, List, [], ◌∷◌, ◌++◌, refl, ◌∙◌, arith, zero, suc, ◌-◌, ◌||◌, length, map, take, nat_tests}
 use Rattle.session_rules.proofs.Below.{Active, kept_below, lowered}
 use Rattle.session_rules.proofs.Rules.{LevelState, AreOuter, AreStacked, IsActive, active_depth}
 

@@ -1,6 +1,6 @@
 -- A node of a forest, and all below it, with other data.
-use Rattle.session_rules.proofs.Base.{◌≡◌, ◌≢◌, ℕ, Bool, true, false, Option, Some, None, refl, sym, ◌∙◌, inl, inr, ◌==◌, ◌||◌, option_map, option_map_or, cases_Bool, ne_eqb, eqb-true, arith, nat_tests}
-use Rattle.session_rules.proofs.Below.{Forest, Empty, Node, either, has, Once, at, children, is_root, parent_of, removed, subtree, AllNodes, all_changed, swept, Apart, apart_of, at_absent}
+use Rattle.session_rules.proofs.Base.{◌≡◌, ◌≢◌, ℕ, false, refl, option_map, arith, nat_tests}
+use Rattle.session_rules.proofs.Below.{Forest, Empty, Node, has, Once, at, children, is_root, parent_of, removed, subtree, AllNodes, all_changed, swept, Apart, apart_of, at_absent}
 use Rattle.session_rules.proofs.Guarded.{all_children, all_at}
 
 module _ {A : Type 0} (f : A → A) where

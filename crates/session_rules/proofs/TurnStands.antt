@@ -1,7 +1,7 @@
 -- Commands lead from a session between two lines to one between two lines.
 use Rattle.session_rules.proofs.Base.{◌≡◌, ℕ, ◌+◌, ◌≤◌, ◌<◌, Bool, true, false, Option, Some, None, List, [], ◌∷◌, ◌++◌, refl, sym, ap, ◌∙◌, subst, inl, arith, All, zero, suc, ◌-◌, ◌&&◌, ◌==◌, not, length, map, codes, is_none, is_some, replicate, nat_lt, if◌then◌else◌, option_and_then, option_map_or, le-ltb, ltb-true, All-cons, flat_map, nat_tests}
 use Rattle.session_rules.proofs.Below.{Error, What, size, Scan, ScanStep, table_of, Command, is_text-same, KindId}
-use Rattle.session_rules.proofs.Rules.{LevelState, OpenPortal, SessionState, buffer_pin, file_kind, first_of, is_aborted, level_owner, owner_of, plan_reference, relcache_reference, snapshot_reference, Scene, Moment, Check, Element, InCurrent, InPortal, InRow, LevelContext, OfLevel, OfPortal, PortalContext, RowContext, Text, Ended, in_order, nothing, portal_becomes, where_there, level_stands, failure, unless, Done, fallible, refused_call, unless_refused, context_made, level_made, new_context_made, new_owner_made, portal_made, does, does_all, then_done, line_elements, turn, turn_of, AreOpen, AreOuter, FitLevels, IsActive, IsAtRest, IsFetched, IsOpen, IsWorking, Stands, StandsBetweenLines}
+use Rattle.session_rules.proofs.Rules.{LevelState, OpenPortal, SessionState, buffer_pin, file_kind, is_aborted, level_owner, plan_reference, relcache_reference, snapshot_reference, Scene, Moment, Check, Element, InCurrent, InPortal, InRow, LevelContext, OfLevel, OfPortal, PortalContext, RowContext, Text, Ended, in_order, nothing, portal_becomes, where_there, level_stands, failure, unless, Done, fallible, refused_call, unless_refused, context_made, level_made, new_context_made, new_owner_made, portal_made, does, does_all, then_done, line_elements, turn, turn_of, AreOpen, AreOuter, FitLevels, IsActive, IsAtRest, IsFetched, IsOpen, IsWorking, Stands, StandsBetweenLines}
 use Rattle.pgs_step.specs.declared.errors.Error.TheVariants as error
 use Rattle.pgs_step.specs.declared.events.What.TheVariants as what
 use Rattle.pgs_command.specs.declared.commands.Command.TheVariants as command
