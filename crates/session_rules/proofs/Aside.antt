@@ -1,10 +1,8 @@
 -- A law that speaks of contexts and hooks alone: what it owes for contexts gives it all leaves.
-use Rattle.std.proofs.Common.{◌≡◌, ℕ, Bool, true, false, refl}
-use Rattle.pgs_step.specs.declared.events.What.{What}
+use Rattle.session_rules.proofs.Base.{◌≡◌, ℕ, Bool, true, false, refl}
+use Rattle.session_rules.proofs.Below.{What, CtxKind}
+use Rattle.session_rules.proofs.Rules.{Text, context_made}
 use Rattle.pgs_step.specs.declared.events.What.TheVariants as what
-use Rattle.any_ctx.specs.declared.any.CtxKind.{CtxKind}
-use Rattle.session_rules.specs.Elements.{Text}
-use Rattle.session_rules.specs.Making.{context_made}
 use Rattle.session_rules.proofs.Leaves.{EndLeaves, Keeps, Law, MakeLeaves, is_level_word, is_word}
 use Rattle.session_rules.proofs.Sight.{ContextLeaves, FileLeaves, Part, Sight, end_leaves_of, item_comes, item_goes, locks_one, of_contexts, of_next_context, of_shelf, owner_goes, owner_makes, owner_moves, places, plans_one, pushes, unlocks, unseen_files, unseen_keys, unseen_locks, unseen_owners, unseen_stack}
 

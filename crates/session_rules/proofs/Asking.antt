@@ -1,14 +1,8 @@
 -- What elements ask together, and a script with a line more.
-use Rattle.std.proofs.Common.{◌≡◌, ◌≢◌, ℕ, ◌+◌, ◌==◌, Bool, true, false, if◌then◌else◌, List, [], ◌∷◌, ◌++◌, Option, Some, None, refl, sym, ap, arith, zero-add}
-use Rattle.std.proofs.lemmas.Bool.Decides.{nat_tests}
-use Rattle.pgs_step.specs.declared.errors.Error.{Error}
-use Rattle.pgs_command.specs.declared.commands.Command.{Command}
-use Rattle.owner_kinds.specs.Kind.{Kind}
-use Rattle.reset_callbacks.specs.ShelfState.{ShelfState}
-use Rattle.session_rules.specs.State.{SessionState}
+use Rattle.session_rules.proofs.Base.{◌≡◌, ◌≢◌, ℕ, ◌+◌, ◌==◌, Bool, true, false, if◌then◌else◌, List, [], ◌∷◌, ◌++◌, Option, Some, None, refl, sym, ap, arith, zero-add, nat_tests}
+use Rattle.session_rules.proofs.Below.{Error, Kind, ShelfState, Command}
+use Rattle.session_rules.proofs.Rules.{SessionState, Element, does, does_all}
 use Rattle.session_rules.specs.World.{Options, Moment, moment}
-use Rattle.session_rules.specs.Elements.{Element}
-use Rattle.session_rules.specs.Does.{does, does_all, then_done}
 use Rattle.session_rules.specs.Transcript.{Course, Reading, after_line, course_by, goes_on}
 use Rattle.session_rules.specs.Asked.{asked, asked_all, asked_by, asked_by_command, asked_by_line, asked_by_read, asked_by_turn, asked_in_all, asked_on, asks_in, then_asked, where_done}
 
@@ -20,28 +14,14 @@ asked_so w x m r is = ap (λ (o : Option Error). where_done o (asks_in x m.scene
 -- one element
 pub asked_one : (w : Option ℕ) (x : Element) (m : Moment) → asked_all w (x ∷ []) m ≡ asked w x m
 unfolding asked_all
-asked_one w x m = go (does w x m).refusal
-  where
-    go : (r : Option Error) → asked w x m + then_asked (does w x m) r (asked_all w []) ≡ asked w x m
-    go None = omega arith
-    go (Some error) = omega arith
+asked_one w x m = grind (arith, nat_tests)
 
 -- elements, and others behind them
 pub asked_both : (w : Option ℕ) (xs ys : List Element) (m : Moment)
     → asked_all w (xs ++ ys) m ≡ asked_all w xs m + then_asked (does_all w xs m) (does_all w xs m).refusal (asked_all w ys)
 unfolding asked_all does_all
 asked_both w [] ys m = sym (zero-add (asked_all w ys m))
-asked_both w (x ∷ xs) ys m = go (does w x m).refusal refl (asked_both w xs ys (does w x m).moment)
-  where
-    go : (r : Option Error) → (does w x m).refusal ≡ r
-        → asked_all w (xs ++ ys) (does w x m).moment
-        ≡ asked_all w xs (does w x m).moment + then_asked (does_all w xs (does w x m).moment) (does_all w xs (does w x m).moment).refusal (asked_all w ys)
-        → asked w x m + then_asked (does w x m) r (asked_all w (xs ++ ys))
-        ≡ (asked w x m + then_asked (does w x m) r (asked_all w xs)) + then_asked (then_done (does w x m) r (does_all w xs)) (then_done (does w x m) r (does_all w xs)).refusal (asked_all w ys)
-    go (Some error) is rest =
-        let none : then_asked (does w x m) (does w x m).refusal (asked_all w ys) ≡ 0 = ap (λ (r : Option Error). then_asked (does w x m) r (asked_all w ys)) is in
-        omega (arith, none)
-    go None is rest = omega (arith, rest)
+asked_both w (x ∷ xs) ys m = grind (arith, nat_tests, asked_both w xs ys (does w x m).moment)
 
 -- A line more asks what its turn asks in the course by then.
 asked_more : (reads : Reading) (w : Option ℕ) (n : ℕ) (lines : List (List ℕ)) (line : List ℕ) (course : Course)

@@ -1,16 +1,8 @@
 -- How many ERROR events there are: a line says at most one, and the end of a session none.
-use Rattle.std.proofs.Common.{◌≡◌, ℕ, ◌+◌, ◌≤◌, Bool, true, false, not, cond, List, [], ◌∷◌, ◌++◌, count_by, Option, Some, None, refl, ◌∙◌, ap, arith}
-use Rattle.std.proofs.lemmas.List.Sums.{sum_by-append, sum_by-cons}
-use Rattle.pgs_step.specs.declared.errors.Error.{Error}
-use Rattle.pgs_step.specs.declared.events.What.{What}
+use Rattle.session_rules.proofs.Base.{◌≡◌, ℕ, ◌+◌, ◌≤◌, Bool, true, false, not, cond, List, [], ◌∷◌, ◌++◌, count_by, Option, Some, None, refl, ◌∙◌, ap, arith, sum_by-append, sum_by-cons}
+use Rattle.session_rules.proofs.Below.{Error, What, Command}
+use Rattle.session_rules.proofs.Rules.{is_aborted, top_context, Moment, Scene, Ended, context_gone, for_each, in_order, switched, where_so, Done, does_all, exited, given_up, level_rolled_back, recovered}
 use Rattle.pgs_step.specs.declared.events.What.TheVariants as what
-use Rattle.pgs_command.specs.declared.commands.Command.{Command}
-use Rattle.session_rules.specs.State.{is_aborted, top_context}
-use Rattle.session_rules.specs.World.{Moment, Scene}
-use Rattle.session_rules.specs.Acts.{Ended, context_gone, for_each, in_order, switched, where_so}
-use Rattle.session_rules.specs.Calls.{Done}
-use Rattle.session_rules.specs.Does.{does_all}
-use Rattle.session_rules.specs.Ends.{exited, given_up, level_rolled_back, recovered}
 use Rattle.session_rules.specs.Transcript.{is_error, line_elements, turn, turn_of}
 use Rattle.session_rules.proofs.Ordinary.{elements_ordinary, gone_ordinary, is_ordinary, recovery_ordinary, rollback_ordinary}
 use Rattle.session_rules.proofs.Said.{AreSaid, said_more, said_none}

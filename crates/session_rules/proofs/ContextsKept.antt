@@ -1,20 +1,9 @@
 -- What the calls on contexts keep of them.
-use Rattle.std.proofs.Common.{◌≡◌, ◌≢◌, ℕ, ◌+◌, ◌≤◌, ◌<◌, Bool, true, false, Option, Some, None, List, refl, sym, ap, ◌∙◌, inl, inr, arith}
-use Rattle.std.specs.Prelude.{◌==◌}
-use Rattle.std.specs.Option.{option_map_or}
-use Rattle.std.proofs.lemmas.Bool.{cases_eq, eq-eqb, both_ways, false_from_ne_true, or_parts}
-use Rattle.forest.specs.Forest.{Empty, has, times, Once, at, children, parent_of, is_above, removed, changed, moved, with_children}
-use Rattle.forest.proofs.Trees.{times_some, has_some, at_some, has_of_removed, Moves, once_put, once_changed, times_moved, has_changed}
-use Rattle.forest.proofs.Moved.{above_by_parent, above_none, at_moved}
-use Rattle.forest.proofs.Mapped.{parent_changed, at_changed, at_changed_other}
-use Rattle.any_ctx.specs.declared.any.CtxKind.{CtxKind}
-use Rattle.context_rules.specs.Contexts.{Context, Contexts, new_context, is_protected, is_empty, is_child, created, placed_under, reparented}
+use Rattle.session_rules.proofs.Base.{◌≡◌, ◌≢◌, ℕ, ◌+◌, ◌≤◌, ◌<◌, Bool, true, false, Option, Some, None, List, refl, sym, ap, ◌∙◌, inl, inr, arith, ◌==◌, option_map_or, cases_eq, both_ways, false_from_ne_true, or_parts, nat_tests}
+use Rattle.session_rules.proofs.Below.{Empty, has, times, Once, at, children, parent_of, is_above, removed, changed, moved, with_children, times_some, has_some, at_some, has_of_removed, Moves, once_put, once_changed, times_moved, has_changed, above_by_parent, above_none, at_moved, parent_changed, at_changed, at_changed_other, CtxKind, Context, Contexts, new_context, is_protected, is_empty, created, reparented, emptied, is_within}
+use Rattle.session_rules.proofs.Rules.{abort_context, top_context, IsFresh, IsOfSession, AreContexts}
 use Rattle.context_rules.specs.Ends as ends
-use Rattle.context_rules.specs.Ends.{emptied}
-use Rattle.context_rules.specs.Refusals.{is_within}
-use Rattle.session_rules.specs.State.{abort_context, top_context}
 use Rattle.session_rules.specs.Guarded.{AreGuarded}
-use Rattle.session_rules.specs.Standing.{IsFresh, IsOfSession, AreContexts}
 use Rattle.session_rules.proofs.Forests.{parent_left, at_left, once_left, times_emptied, once_emptied, at_emptied, parent_emptied, has_put_other, at_put_other, parent_put_other, at_put, children_put, parent_put}
 use Rattle.session_rules.proofs.Guarded.{all_removed, all_emptied, all_put, all_changed, all_moved, guarded_removed, guarded_emptied, guarded_put, guarded_put_own, guarded_changed, guarded_moved, own_apart, own_has, rooted_removed, rooted_emptied, rooted_put, rooted_changed, rooted_moved, top_own, top_parent, all_gone}
 
@@ -42,10 +31,7 @@ stay_on t u v a b m prot =
 
 -- the session's own contexts do
 pub own_stay : (t u : Contexts) → ((m : ℕ) → 1 < m → m ≤ abort_context → IsOfSession m t) → Stay t u → (m : ℕ) → 1 < m → m ≤ abort_context → IsOfSession m u
-own_stay t u h stay m l b =
-    let x : IsOfSession m t = h m l b in
-    let y : IsSame m t u = stay m x.protected in
-    record { protected = y.protected; parent = y.parent ∙ x.parent }
+own_stay t u h stay m l b = grind (arith, nat_tests)
 
 -- two forests that have the same at a number
 pub same_own : (m : ℕ) (t u : Contexts) → at m u ≡ at m t → is_protected m t ≡ true → is_protected m u ≡ true
@@ -53,6 +39,22 @@ same_own m t u e prot = ap (λ (o : Option Context). option_map_or own o false) 
 
 pub protected_has : (m : ℕ) (t : Contexts) → is_protected m t ≡ true → has m t ≡ true
 protected_has m t prot = own_has own m t prot
+
+-- what holds of contexts, and of them with one emptied, holds where that is reset alone
+pub by_alone : (P : Contexts → Type 0) (n : ℕ) (t : Contexts) → P t → P (changed n emptied t) → P (ends.cleared_alone n t).contexts
+by_alone P n t same reset = go (at n t)
+  where
+    by_use : (c : Context) (b : Bool) → c.used ≡ b → P (ends.reset_of n t c).contexts
+    by_use c true e = rw e reset
+    by_use c false e = rw e same
+
+    go : (o : Option Context) → P (option_map_or (ends.reset_of n t) o (ends.unchanged t)).contexts
+    go None = same
+    go (Some c) = by_use c c.used refl
+
+-- so with one moved
+pub by_reparented : (P : Contexts → Type 0) (n p : ℕ) (t : Contexts) → P t → P (moved n p t) → P (reparented n p t)
+by_reparented P n p t same moves = grind (arith, nat_tests)
 
 module _ (t : Contexts) (next : ℕ) (h : AreContexts t next) where
   pub top_protected : is_protected top_context t ≡ true
@@ -79,10 +81,8 @@ module _ (t : Contexts) (next : ℕ) (h : AreContexts t next) where
       above_by_parent m b n t h.once p out.0 ∙ out.1
 
   pub same_removed : (m n : ℕ) → (m ≢ n) × (has m (children n t) ≡ false) → is_protected m t ≡ true → IsSame m t (removed n t)
-  same_removed m n w prot = record {
-    protected = same_own m t (removed n t) (at_left m n t h.once w.0 w.1) prot;
-    parent = parent_left m n t h.once w.0 w.1;
-  }
+  same_removed m n w prot =
+      grind (arith, nat_tests, same_own m t (removed n t) (at_left m n t h.once w.0 w.1) prot, at_left m n t h.once w.0 w.1, parent_left m n t h.once w.0 w.1)
 
   pub contexts_removed : (n : ℕ) → n ≢ top_context → ((m : ℕ) → 1 < m → m ≤ abort_context → (m ≢ n) × (has m (children n t) ≡ false)) → AreContexts (removed n t) next
   contexts_removed n ne out = record {
@@ -118,8 +118,8 @@ module _ (t : Contexts) (next : ℕ) (h : AreContexts t next) where
     parent = parent_emptied m n t h.once out;
   }
 
-  pub contexts_emptied : (n : ℕ) → abort_context < n → AreContexts (with_children n Empty t) next
-  contexts_emptied n g = record {
+  contexts_below_gone : (n : ℕ) → ((m : ℕ) → 1 < m → m ≤ abort_context → has m (children n t) ≡ false) → AreContexts (with_children n Empty t) next
+  contexts_below_gone n out = record {
     rooted = rooted_emptied own top_context n t h.rooted;
     guarded = guarded_emptied own n t h.guarded;
     once = once_emptied n t h.once;
@@ -127,29 +127,20 @@ module _ (t : Contexts) (next : ℕ) (h : AreContexts t next) where
     room = h.room;
     own = λ m l b.
         let x : IsOfSession m t = h.own m l b in
-        let y : IsSame m t (with_children n Empty t) = same_emptied m n (own_outside m n l b g).1 x.protected in
+        let y : IsSame m t (with_children n Empty t) = same_emptied m n (out m l b) x.protected in
         record { protected = y.protected; parent = y.parent ∙ x.parent };
     fresh = all_emptied IsFresh n t h.fresh;
   }
 
+  pub contexts_emptied : (n : ℕ) → abort_context < n → AreContexts (with_children n Empty t) next
+  contexts_emptied n g = contexts_below_gone n (λ m l b. (own_outside m n l b g).1)
+
   -- all below an unprotected context goes
   pub stay_children_gone : (n : ℕ) → is_protected n t ≡ false → Stay t (with_children n Empty t)
-  stay_children_gone n free m prot =
-      let w = apart m n free prot in record {
-        protected = same_own m t (with_children n Empty t) (at_emptied m n t h.once w.1) prot;
-        parent = parent_emptied m n t h.once w.1;
-      }
+  stay_children_gone n free m prot = same_emptied m n (apart m n free prot).1 prot
 
   pub contexts_children_gone : (n : ℕ) → is_protected n t ≡ false → AreContexts (with_children n Empty t) next
-  contexts_children_gone n free = record {
-    rooted = rooted_emptied own top_context n t h.rooted;
-    guarded = guarded_emptied own n t h.guarded;
-    once = once_emptied n t h.once;
-    below = λ m u. h.below m (has_some m t (omega (arith, times_emptied m n t h.once, times_some m (with_children n Empty t) u)));
-    room = h.room;
-    own = own_stay t (with_children n Empty t) h.own (stay_children_gone n free);
-    fresh = all_emptied IsFresh n t h.fresh;
-  }
+  contexts_children_gone n free = contexts_below_gone n (λ m l b. (apart m n free (h.own m l b).protected).1)
 
   -- the data of a context changes
   pub stay_changed : (n : ℕ) (f : Context → Context) → ((c : Context) → (f c).protected ≡ c.protected) → Stay t (changed n f t)
@@ -166,58 +157,24 @@ module _ (t : Contexts) (next : ℕ) (h : AreContexts t next) where
   }
 
   pub contexts_changed : (n : ℕ) (f : Context → Context) → ((c : Context) → (f c).protected ≡ c.protected) → ((c : Context) → IsFresh c → IsFresh (f c)) → AreContexts (changed n f t) next
-  contexts_changed n f keeps fresh = record {
-    rooted = rooted_changed own top_context n f t keeps h.rooted;
-    guarded = guarded_changed own n f t keeps h.guarded;
-    once = once_changed n f t h.once;
-    below = λ m u. h.below m (sym (has_changed m n f t) ∙ u);
-    room = h.room;
-    own = own_stay t (changed n f t) h.own (stay_changed n f keeps);
-    fresh = all_changed IsFresh n f t fresh h.fresh;
-  }
+  contexts_changed n f keeps fresh =
+      grind (arith, nat_tests, rooted_changed own top_context n f t keeps h.rooted, guarded_changed own n f t keeps h.guarded, once_changed n f t h.once, has_changed, own_stay t (changed n f t) h.own (stay_changed n f keeps), stay_changed n f keeps, all_changed IsFresh n f t fresh h.fresh)
 
   -- a context is reset alone
   pub stay_alone : (n : ℕ) → Stay t (ends.cleared_alone n t).contexts
-  stay_alone n = go (at n t)
-    where
-      by_use : (c : Context) (b : Bool) → c.used ≡ b → Stay t (ends.reset_of n t c).contexts
-      by_use c true e = rw e (stay_changed n emptied (λ c. refl))
-      by_use c false e = rw e (stay_same t)
-
-      go : (o : Option Context) → Stay t (option_map_or (ends.reset_of n t) o (ends.unchanged t)).contexts
-      go None = stay_same t
-      go (Some c) = by_use c c.used refl
+  stay_alone n = by_alone (Stay t) n t (stay_same t) (stay_changed n emptied (λ c. refl))
 
   pub contexts_alone : (n : ℕ) → AreContexts (ends.cleared_alone n t).contexts next
-  contexts_alone n = go (at n t)
-    where
-      by_use : (c : Context) (b : Bool) → c.used ≡ b → AreContexts (ends.reset_of n t c).contexts next
-      by_use c true e = rw e (contexts_changed n emptied (λ c. refl) (λ c _ _. (refl, refl)))
-      by_use c false e = rw e h
-
-      go : (o : Option Context) → AreContexts (option_map_or (ends.reset_of n t) o (ends.unchanged t)).contexts next
-      go None = h
-      go (Some c) = by_use c c.used refl
+  contexts_alone n = by_alone (λ u. AreContexts u next) n t h (contexts_changed n emptied (λ c. refl) (λ c _ _. (refl, refl)))
 
   pub has_alone : (m n : ℕ) → has m (ends.cleared_alone n t).contexts ≡ has m t
-  has_alone m n = go (at n t)
-    where
-      by_use : (c : Context) (b : Bool) → c.used ≡ b → has m (ends.reset_of n t c).contexts ≡ has m t
-      by_use c true e = rw e (has_changed m n emptied t)
-      by_use c false e = rw e refl
-
-      go : (o : Option Context) → has m (option_map_or (ends.reset_of n t) o (ends.unchanged t)).contexts ≡ has m t
-      go None = refl
-      go (Some c) = by_use c c.used refl
+  has_alone m n = by_alone (λ u. has m u ≡ has m t) n t refl (has_changed m n emptied t)
 
   -- a context is made
   pub stay_created : (p : ℕ) (name : List ℕ) (kind : CtxKind) (b : Bool) → Stay t (created p next name kind b t)
   stay_created p name kind b m prot =
       let ne : m ≢ next = λ e. omega (arith, e, h.below m (protected_has m t prot)) in
-      record {
-        protected = same_own m t (created p next name kind b t) (at_put_other m p next (new_context name kind b) Empty t ne refl) prot;
-        parent = parent_put_other m p next (new_context name kind b) Empty t ne refl;
-      }
+      grind (arith, nat_tests, protected_has m t prot, same_own m t (created p next name kind b t) (at_put_other m p next (new_context name kind b) Empty t ne refl) prot, at_put_other m p next (new_context name kind b) Empty t ne refl, parent_put_other m p next (new_context name kind b) Empty t ne refl)
 
   pub guarded_created : (p : ℕ) (name : List ℕ) (kind : CtxKind) (b : Bool) → (b ≡ true → is_protected p t ≡ true) → AreGuarded own (created p next name kind b t)
   guarded_created p name kind true needs = guarded_put_own own p next (new_context name kind true) t h.once (needs refl) h.guarded
@@ -254,14 +211,7 @@ module _ (t : Contexts) (next : ℕ) (h : AreContexts t next) where
 
   -- an unprotected context moves
   pub moves_by : (n p : ℕ) → has n t ≡ true → has p t ≡ true → is_within n p t ≡ false → Moves n p t
-  moves_by n p node there out =
-      let w = or_parts (p == n) (is_above n p t) out in
-      record {
-        node = node;
-        parent = there;
-        other = λ e. both_ways (p == n) w.0 (eq-eqb p n e);
-        apart = w.1;
-      }
+  moves_by n p node there out = grind (arith, nat_tests, or_parts (p == n) (is_above n p t) out, is_above n p t, apart)
 
   pub stay_swapped : (n p : ℕ) → Moves n p t → is_protected n t ≡ false → Stay t (moved n p t)
   stay_swapped n p w free m prot =
@@ -279,36 +229,18 @@ module _ (t : Contexts) (next : ℕ) (h : AreContexts t next) where
   once_swapped n p w = record { once = λ m. omega (arith, has_swapped m n p w, h.once.once m) }
 
   pub contexts_swapped : (n p : ℕ) → Moves n p t → is_protected n t ≡ false → AreContexts (moved n p t) next
-  contexts_swapped n p w free = record {
-    rooted = rooted_moved own top_context n p t (λ e. both_ways (is_protected n t) free (ap (λ (x : ℕ). is_protected x t) e ∙ top_protected)) h.rooted;
-    guarded = guarded_moved own n p t h.guarded free;
-    once = once_swapped n p w;
-    below = λ m u. h.below m (has_some m t (omega (arith, has_swapped m n p w, times_some m (moved n p t) u)));
-    room = h.room;
-    own = own_stay t (moved n p t) h.own (stay_swapped n p w free);
-    fresh = all_moved IsFresh n p t h.fresh;
-  }
+  contexts_swapped n p w free =
+      grind (arith, nat_tests, rooted_moved own top_context n p t, top_protected, guarded_moved own n p t h.guarded free, once_swapped n p w, has_some, has_swapped, times_some, moved n p t, own_stay t (moved n p t) h.own (stay_swapped n p w free), stay_swapped n p w free, all_moved IsFresh n p t h.fresh)
 
   pub stay_reparented : (n p : ℕ) → has n t ≡ true → has p t ≡ true → is_protected n t ≡ false → is_within n p t ≡ false → Stay t (reparented n p t)
-  stay_reparented n p node there free out = go (is_child n p t)
-    where
-      go : (b : Bool) → Stay t (placed_under b n p t)
-      go true = stay_same t
-      go false = stay_swapped n p (moves_by n p node there out) free
+  stay_reparented n p node there free out = by_reparented (Stay t) n p t (stay_same t) (stay_swapped n p (moves_by n p node there out) free)
 
   pub contexts_reparented : (n p : ℕ) → has n t ≡ true → has p t ≡ true → is_protected n t ≡ false → is_within n p t ≡ false → AreContexts (reparented n p t) next
-  contexts_reparented n p node there free out = go (is_child n p t)
-    where
-      go : (b : Bool) → AreContexts (placed_under b n p t) next
-      go true = h
-      go false = contexts_swapped n p (moves_by n p node there out) free
+  contexts_reparented n p node there free out = by_reparented (λ u. AreContexts u next) n p t h (contexts_swapped n p (moves_by n p node there out) free)
 
   pub has_reparented : (m n p : ℕ) → has n t ≡ true → has p t ≡ true → is_within n p t ≡ false → has m t ≡ true → has m (reparented n p t) ≡ true
-  has_reparented m n p node there out prot = go (is_child n p t)
-    where
-      go : (b : Bool) → has m (placed_under b n p t) ≡ true
-      go true = prot
-      go false = has_some m (moved n p t) (omega (arith, has_swapped m n p (moves_by n p node there out), times_some m t prot))
+  has_reparented m n p node there out prot =
+      by_reparented (λ u. has m u ≡ true) n p t prot (has_some m (moved n p t) (omega (arith, has_swapped m n p (moves_by n p node there out), times_some m t prot)))
 
   -- nothing is left without the topmost context
   pub nothing_left : removed top_context t ≡ Empty

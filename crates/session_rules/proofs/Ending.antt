@@ -1,45 +1,10 @@
 -- A session of which the deepest level ends, on its way through the portals.
-use Rattle.std.proofs.Common.{◌≡◌, ◌≢◌, ℕ, ◌+◌, find, true, false, Option, Some, None, List, [], ◌∷◌, ◌++◌, refl, sym, ap, ◌∙◌, subst, inl, inr, arith}
-use Rattle.std.specs.Prelude.{if◌then◌else◌}
-use Rattle.std.specs.Option.{option_map_or}
-use Rattle.std.proofs.lemmas.Bool.{cases_eq, cases_Bool, ne_eqb}
-use Rattle.std.proofs.lemmas.List.Elements.{All-head, All-tail, All-weaker}
-use Rattle.forest.specs.Forest.{Empty, Once, has, at, children, parent_of, changed, removed}
-use Rattle.forest.proofs.Trees.{at_some, at_absent, has_changed}
-use Rattle.forest.proofs.Mapped.{at_changed, at_changed_other, parent_changed}
-use Rattle.forest.proofs.Walks.{children_changed}
+use Rattle.session_rules.proofs.Base.{◌≡◌, All, ◌≢◌, ℕ, ◌+◌, find, true, false, Option, Some, None, List, [], ◌∷◌, ◌++◌, refl, sym, ap, ◌∙◌, subst, inl, inr, arith, if◌then◌else◌, option_map_or, cases_eq, cases_Bool, All-head, All-tail, All-weaker, nat_tests}
+use Rattle.session_rules.proofs.Below.{Empty, Once, has, at, children, parent_of, changed, removed, at_some, at_absent, has_changed, at_changed, at_changed_other, parent_changed, children_changed, Item, KindId, ShelfState, Contexts, is_protected, gone, handed_in, Kind, KindTable, IsSoundTable, table_of, is_of, without_newest, Owner, OwnerTree, forgotten, has_begun, IsSound, once_of, sound_forgotten, Lock}
+use Rattle.session_rules.proofs.Rules.{LevelState, OpenPortal, StandingPlan, cache_context, plan_reference, portals_context, Scene, newest, portals_but, Ended, changes, context_gone, for_each, in_order, portal_gone, say, where_there, given_back, item_released, AreContexts, AreLevels, ArePlans, HasItems, IsItem, IsPlace, IsPortal, IsRow, referred, AreEnding, Ending, IsDone, IsLoose}
 use Rattle.pgs_step.specs.declared.events.What.TheVariants as what
-use Rattle.pgs_step.specs.declared.ids.Item.{Item}
-use Rattle.pgs_step.specs.declared.ids.KindId.{KindId}
-use Rattle.reset_callbacks.specs.ShelfState.{ShelfState}
-use Rattle.context_rules.specs.Contexts.{Contexts, is_protected}
-use Rattle.context_rules.specs.Ends.{gone, handed_in}
-use Rattle.owner_kinds.specs.Kind.{Kind}
-use Rattle.owner_kinds.specs.KindTable.{KindTable, IsSound as IsSoundTable}
-use Rattle.owner_kinds.specs.KindShelf.{table_of}
-use Rattle.owner_items.specs.ItemList.{is_of, without_newest}
 use Rattle.owner_items.proofs.Order.{All-without}
-use Rattle.owner_core.specs.Owners.{Owner, OwnerTree, forgotten, has_begun}
-use Rattle.owner_core.specs.Sound.{IsSound}
-use Rattle.owner_core.proofs.Sounds.{once_of, sound_forgotten}
-use Rattle.lock_local.specs.Locks.{Lock}
-use Rattle.session_rules.specs.State.{LevelState, OpenPortal, StandingPlan, cache_context, plan_reference, portals_context}
-use Rattle.session_rules.specs.World.{Scene}
-use Rattle.session_rules.specs.Lookup.{newest, portals_but}
-use Rattle.session_rules.specs.Acts.{Ended, changes, context_gone, for_each, in_order, portal_gone, say, where_there}
-use Rattle.session_rules.specs.Releases.{given_back, item_released}
-use Rattle.session_rules.specs.Standing.{AreContexts, AreLevels, ArePlans, HasItems, IsItem, IsPlace, IsPortal, IsRow, referred}
-use Rattle.session_rules.specs.Ending.{AreEnding, Ending, IsDone, IsLoose}
-use Rattle.session_rules.proofs.Guarded.{all_changed}
-use Rattle.session_rules.proofs.ContextsKept.{IsSame, contexts_level_gone, off_outside, same_removed}
-use Rattle.session_rules.proofs.HooksKept.{conserves_gone, hooks_ended}
-use Rattle.session_rules.proofs.HeldItems.{held_forgotten}
-use Rattle.session_rules.proofs.LevelsKept.{levels_stay}
-use Rattle.session_rules.proofs.Lone.{lone_changed, lone_left}
-use Rattle.session_rules.proofs.PlansAmong.{levels_apart, plans_moved}
-use Rattle.session_rules.proofs.PortalLists.{but_one, different_without, others_back, others_front, owner_split}
-use Rattle.session_rules.proofs.PortalsAmong.{IsRowOf, attached_by, off_levels, off_rows, place_same, place_spared, row_left, row_of}
-use Rattle.session_rules.proofs.Settling.{Fits, Settles, besides_of, item_settles}
+use Rattle.session_rules.proofs.Kept.{all_changed, IsSame, contexts_level_gone, off_outside, same_removed, hooks_ended, parts_gone, held_forgotten, levels_stay, lone_changed, lone_left, levels_apart, plans_moved, but_one, different_without, others_back, others_front, owner_split, IsRowOf, attached_by, off_levels, off_rows, place_same, place_spared, row_left, row_of, Fits, Settles, besides_of, item_settles}
 
 -- what an end changes on this way
 pub record Parts : Type 0 where
@@ -129,16 +94,8 @@ loose_changed level m n f x l = record {
 
 pub ending_changed : (kinds : KindTable) (level : LevelState) (levels : List LevelState) (portals : List OpenPortal) (x : OwnerTree) (a b n : ℕ) (f : Owner → Owner) → ((o : Owner) → (f o).begun ≡ o.begun) → ((o : Owner) → HasItems kinds o → HasItems kinds (f o))
     → IsSound (changed n f x) a b → AreEnding kinds x a b level levels portals → AreEnding kinds (changed n f x) a b level levels portals
-ending_changed kinds level levels portals x a b n f begun known sound h = record {
-  sound = sound;
-  each = λ m u. elim (h.each m (sym (has_changed m n f x) ∙ u)) [
-    | inl i ↦ inl i
-    | inr k ↦ elim k [ inl p ↦ inr (inl p) | inr l ↦ inr (inr (loose_changed level m n f x l)) ]
-  ];
-  begun = λ m u. loose_changed level m n f x (h.begun m (sym (begun_changed m n f x begun) ∙ u));
-  fresh = λ active m u. h.fresh active m (sym (begun_changed m n f x begun) ∙ u);
-  items = all_changed (HasItems kinds) n f x known h.items;
-}
+ending_changed kinds level levels portals x a b n f begun known sound h =
+    grind (arith, nat_tests, has_changed, loose_changed level, begun_changed, all_changed (HasItems kinds) n f x known h.items)
 
 -- An owner gives its newest item of a kind and key back.
 module _ (level : LevelState) (levels done : List LevelState) where
@@ -160,12 +117,10 @@ module _ (level : LevelState) (levels done : List LevelState) where
           let fits : Fits s.session.next_context s.session.current (referred x) (besides_of t) = record { contexts = h.contexts; hooks = h.hooks; plans = h.plans } in
           let g : Settles (referred y) t (given_back item t).scene = item_settles item t (referred x) (referred y) one fits in
           let u : Contexts = g.besides.contexts in
-          let still : (ls : List LevelState) (p : OpenPortal) → IsPortal p ls s.session.contexts x s.session.current → IsPortal p ls u y s.session.current = λ ls p i. record {
-            place = λ m q. place_spared (besides_of s) g.besides s.session.current g.spares h.plans.each m p.expr s.session.current (i.place m q);
-            made = i.made;
-            owner = λ m q. attached_by m p.created ls ls x y (λ w. has_changed m o f x ∙ w) (parent_changed m o f x) (lone_changed m o f x) refl (λ j. j) (i.owner m q);
-            stage = i.stage;
-          } in
+          let still : (ls : List LevelState) (p : OpenPortal) → IsPortal p ls s.session.contexts x s.session.current → IsPortal p ls u y s.session.current = λ ls p i. search (
+            λ (m : ℕ) (q : _). place_spared (besides_of s) g.besides s.session.current g.spares h.plans.each m p.expr s.session.current (i.place m q),
+            λ (m : ℕ) (q : _). attached_by m p.created ls ls x y (λ w. has_changed m o f x ∙ w) (parent_changed m o f x) (lone_changed m o f x) refl (λ j. j) (i.owner m q),
+          ) in
           let kinds : KindTable = table_of s.around.kinds in
           let owners : AreEnding kinds y s.session.next_owner s.session.next_serial level levels (front ++ back) =
           ending_changed kinds level levels (front ++ back) x s.session.next_owner s.session.next_serial o f (λ z. refl) (λ z k. All-without (IsItem kinds) (is_of kind key) z.items k)
@@ -174,21 +129,15 @@ module _ (level : LevelState) (levels done : List LevelState) where
             parts = record { locks = g.besides.locks; recent = g.besides.recent; kinds = g.besides.kinds; plans = g.besides.plans; contexts = u; shelf = g.besides.shelf; owners = y; portals = s.session.portals };
             same = g.same;
             is = g.is;
-            ending = record {
-              contexts = g.fits.contexts;
-              hooks = g.fits.hooks;
-              all = levels_stay (level ∷ levels) s.session.contexts u x y
+            ending = search (
+              levels_stay (level ∷ levels) s.session.contexts u x y
                   (λ m i prot. g.spares.same m (levels_apart (level ∷ levels) s.session.contexts x s.session.plans s.session.current h.all h.plans.each m i) prot)
-                  (λ m i w. record { there = has_changed m o f x ∙ w; parent = parent_changed m o f x }) h.all;
-              outer = h.outer;
-              kinds = subst (λ (k : KindTable). IsSoundTable k) (sym g.same) h.kinds;
-              owners = subst (λ (k : KindTable). AreEnding k y s.session.next_owner s.session.next_serial level levels (front ++ back)) (sym g.same) owners;
-              plans = g.fits.plans;
-              ended = All-weaker (IsDone level done s.session.contexts x s.session.current) (IsDone level done u y s.session.current) (λ p d. record { portal = still done p d.portal; away = d.away }) front h.ended;
-              rest = All-weaker (λ p. IsPortal p (level ∷ levels) s.session.contexts x s.session.current) (λ p. IsPortal p (level ∷ levels) u y s.session.current) (still (level ∷ levels)) back h.rest;
-              different = h.different;
-              are = h.are;
-            };
+                  (λ m i w. record { there = has_changed m o f x ∙ w; parent = parent_changed m o f x }) h.all,
+              subst (λ (k : KindTable). IsSoundTable k) (sym g.same) h.kinds,
+              subst (λ (k : KindTable). AreEnding k y s.session.next_owner s.session.next_serial level levels (front ++ back)) (sym g.same) owners,
+              All-weaker (IsDone level done s.session.contexts x s.session.current) (IsDone level done u y s.session.current) (λ p d. record { portal = still done p d.portal; away = d.away }) front h.ended,
+              All-weaker (λ p. IsPortal p (level ∷ levels) s.session.contexts x s.session.current) (λ p. IsPortal p (level ∷ levels) u y s.session.current) (still (level ∷ levels)) back h.rest,
+            );
           }
 
 -- what stays where a context of a portal goes, or all below it
@@ -200,21 +149,14 @@ pub record Beside (c : ℕ) (t u : Contexts) (current : ℕ) : Type 0 where
 module _ (t : Contexts) (next : ℕ) (h : AreContexts t next) (c : ℕ) (expr : Option ℕ) (current : ℕ) (place : IsPlace c expr t current) where
   -- what isn't its row isn't below a portal's context
   pub below_place : (m : ℕ) → ((e : ℕ) → expr ≡ Some e → m ≢ e) → has m (children c t) ≡ false
-  below_place m off = go expr off place.row
-    where
-      go : (o : Option ℕ) → ((e : ℕ) → o ≡ Some e → m ≢ e) → IsRow o (children c t) → has m (children c t) ≡ false
-      go None off r = ap (has m) r
-      go (Some e) off r = ap (has m) r.1 ∙ rw (ne_eqb e m (λ z. off e refl (sym z))) refl
+  below_place m off = grind (arith, nat_tests)
 
   pub row_here : (e : ℕ) → expr ≡ Some e → IsRowOf e c t
   row_here e q = row_of e c t current h.once (subst (λ (o : Option ℕ). IsPlace c o t current) q place)
 
   -- a row of another portal isn't its context
   pub row_other : (m : ℕ) (o : Option ℕ) → IsPlace m o t current → (e : ℕ) → o ≡ Some e → e ≢ c
-  row_other m o k e q z =
-      let r : IsRowOf e m t = row_of e m t current h.once (subst (λ (x : Option ℕ). IsPlace m x t current) q k) in
-      let same : m ≡ portals_context = let w : Some m ≡ Some portals_context = sym r.parent ∙ ap (λ (j : ℕ). parent_of j t) z ∙ place.parent in cc w in
-      absurd (omega (arith, same, k.own))
+  row_other m o k e q z = grind (arith, nat_tests, row_of e m t current h.once)
 
   pub beside_removed : Beside c t (removed c t) current
   beside_removed = record {
@@ -282,19 +224,7 @@ module _ (level : LevelState) (levels done : List LevelState) where
         parts = record (parts_of s) { portals = portals_but p.name s.session.portals };
         same = refl;
         is = refl;
-        ending = record {
-          contexts = h.contexts;
-          hooks = h.hooks;
-          all = h.all;
-          outer = h.outer;
-          kinds = h.kinds;
-          owners = owners;
-          plans = h.plans;
-          ended = h.ended;
-          rest = All-tail (λ q. IsPortal q (level ∷ levels) s.session.contexts s.session.owners s.session.current) p back h.rest;
-          different = different_without p front back h.different;
-          are = left;
-        };
+        ending = search (owners, left, All-tail (λ q. IsPortal q (level ∷ levels) s.session.contexts s.session.owners s.session.current) p back h.rest, different_without p front back h.different);
       }
       go (Some c) e =
           let t : Contexts = s.session.contexts in
@@ -304,30 +234,24 @@ module _ (level : LevelState) (levels done : List LevelState) where
           let place : IsPlace c p.expr t cur = first.place c e in
           let u : Contexts = removed c t in
           let b : Beside c t u cur = beside_removed t next h.contexts c p.expr cur place in
-          let still : (ls : List LevelState) (q : OpenPortal) → ((n : ℕ) → q.context ≡ Some n → n ≢ c) → IsPortal q ls t x cur → IsPortal q ls u x cur = λ ls q ne i. record {
-            place = λ n f. places_beside t next h.contexts c p.expr cur place u b n q.expr (ne n f) (i.place n f);
-            made = i.made;
-            owner = i.owner;
-            stage = i.stage;
-          } in
+          let still : (ls : List LevelState) (q : OpenPortal) → ((n : ℕ) → q.context ≡ Some n → n ≢ c) → IsPortal q ls t x cur → IsPortal q ls u x cur = λ ls q ne i.
+          search (λ (n : ℕ) (f : _). places_beside t next h.contexts c p.expr cur place u b n q.expr (ne n f) (i.place n f)) in
           let fronts = others_front p front back h.different in
           let backs = others_back p front back h.different in
           let tail = All-tail (λ q. IsPortal q (level ∷ levels) t x cur) p back h.rest in
+          let ended : All (IsDone level done u x cur) front = λ k q below. let o = fronts k q below in let d = h.ended k q below in record { portal = still done _ (λ n f z. o.context n (e ∙ ap Some (sym z)) f) d.portal; away = d.away } in
+          let rest : All (λ q. IsPortal q (level ∷ levels) u x cur) back = λ k q below. let o = backs k q below in still (level ∷ levels) _ (λ n f z. o.context n f (e ∙ ap Some (sym z))) (tail k q below) in
           record {
             parts = record (parts_of s) { contexts = u; shelf = handed_in (gone c t).hooks s.around.shelf; portals = portals_but p.name s.session.portals };
             same = refl;
             is = refl;
-            ending = record {
-              contexts = contexts_level_gone t next h.contexts c place.own;
-              hooks = hooks_ended t (gone c t) s.around.shelf (conserves_gone c t h.contexts.once) h.hooks;
-              all = levels_beside t next h.contexts c p.expr cur place level levels u x b h.all;
-              outer = h.outer;
-              kinds = h.kinds;
-              owners = owners;
-              plans = plans_beside t next h.contexts c p.expr cur place s.session.plans u (referred x) b h.plans;
-              ended = λ k q below. let o = fronts k q below in let d = h.ended k q below in record { portal = still done _ (λ n f z. o.context n (e ∙ ap Some (sym z)) f) d.portal; away = d.away };
-              rest = λ k q below. let o = backs k q below in still (level ∷ levels) _ (λ n f z. o.context n f (e ∙ ap Some (sym z))) (tail k q below);
-              different = different_without p front back h.different;
-              are = left;
-            };
+            ending = search (
+              contexts_level_gone t next h.contexts c place.own,
+              hooks_ended t (gone c t) s.around.shelf (parts_gone c t h.contexts.once) h.hooks,
+              levels_beside t next h.contexts c p.expr cur place level levels u x b h.all,
+              owners,
+              plans_beside t next h.contexts c p.expr cur place s.session.plans u (referred x) b h.plans,
+              different_without p front back h.different,
+              left,
+            );
           }

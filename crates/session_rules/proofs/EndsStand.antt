@@ -1,47 +1,14 @@
 -- The ends of levels and of sessions lead from a session that stands to one that stands.
-use Rattle.std.proofs.Common.{◌≡◌, ◌≢◌, ℕ, ◌<◌, ◌≤◌, ◌-◌, Bool, true, false, Option, Some, None, List, [], ◌∷◌, refl, sym, ap, ◌∙◌, subst, inl, inr, arith}
-use Rattle.std.specs.Prelude.{◌==◌, ◌+◌, ◌⊎◌, not, unwrap_or, length, map, All}
-use Rattle.std.proofs.lemmas.List.Elements.{All-nil, All-append, All-head, All-weaker}
-use Rattle.std.proofs.lemmas.Bool.{cases_Bool, eq-eqb, eqb-false, both_ways}
-use Rattle.forest.specs.Forest.{Forest, Empty, Node, has, Once, children, removed, AllNodes}
-use Rattle.forest.proofs.Moved.{above_by_parent}
-use Rattle.pgs_step.specs.declared.errors.Error.{Error}
-use Rattle.reset_callbacks.specs.ShelfState.{ShelfState}
-use Rattle.context_rules.specs.Contexts.{Contexts, is_empty, is_protected}
-use Rattle.context_rules.specs.Ends.{gone, handed_in}
-use Rattle.owner_kinds.specs.KindTable.{KindTable, IsSound as IsSoundTable}
-use Rattle.owner_kinds.specs.KindShelf.{table_of}
-use Rattle.owner_core.specs.Owners.{OwnerTree, AllAt, HoldsNothing}
-use Rattle.owner_core.specs.Sound.{IsSound}
-use Rattle.owner_core.proofs.Sounds.{once_of}
-use Rattle.portal_store.specs.Portal.{lowered as level_lowered}
-use Rattle.snap_table.specs.declared.active.Active.{Active}
-use Rattle.snap_table.specs.Snapshots.{kept_below, lowered}
-use Rattle.session_rules.specs.State.{LevelState, OpenPortal, abort_context, context_of, first_of, deepest_changed, is_aborted, owner_of, plan_reference, portals_context, top_context}
-use Rattle.session_rules.specs.World.{Scene}
-use Rattle.session_rules.specs.Acts.{Ended, changes, context_gone, for_each, in_order, portal_becomes, portal_gone, switched, where_so, where_there}
-use Rattle.session_rules.specs.Portals.{portal_aborted, portal_closed, portal_passed}
-use Rattle.session_rules.specs.Releases.{owner_moved, owner_released}
+use Rattle.session_rules.proofs.Base.{◌≡◌, ◌≢◌, ℕ, ◌<◌, ◌≤◌, ◌-◌, Bool, true, false, Option, Some, None, List, [], ◌∷◌, refl, sym, ap, ◌∙◌, subst, inl, inr, arith, ◌==◌, ◌+◌, ◌⊎◌, not, unwrap_or, length, map, All, All-nil, All-append, All-head, All-weaker, cases_Bool, eq-eqb, eqb-false, both_ways, nat_tests}
+use Rattle.session_rules.proofs.Below.{Forest, Empty, Node, has, Once, children, removed, AllNodes, above_by_parent, Error, ShelfState, Contexts, is_empty, is_protected, gone, handed_in, KindTable, IsSoundTable, table_of, OwnerTree, AllAt, HoldsNothing, IsSound, once_of, Active, kept_below, lowered}
+use Rattle.session_rules.proofs.Rules.{LevelState, OpenPortal, abort_context, context_of, first_of, deepest_changed, owner_of, plan_reference, portals_context, top_context, Scene, Ended, changes, context_gone, for_each, in_order, switched, where_so, where_there, portal_aborted, portal_closed, portal_passed, owner_released, AreEnding, Ending, IsAway, IsDone, gone_levels}
 use Rattle.session_rules.specs.Ends.{aborted, cleaned_up, committed, empty_context_gone, exited, given_up, level_context_gone, level_owner_gone, level_popped, level_released, level_rolled_back, recovered, stack_lowered, stack_popped, subcommitted, switched_up}
-use Rattle.session_rules.specs.Standing.{AreContexts, AreHooks, AreLevels, AreOpen, AreDifferent, AreOwners, AreOuter, ArePlans, ArePortals, AreStacked, FitLevels, HasExited, HasItems, IsAtRest, IsAttached, IsDead, IsLevel, IsLive, IsOfPortal, IsOwner, IsPlace, IsPortal, IsMade, IsOpen, Stands, StandsBetweenLines, active_depth, owner_at, referred}
-use Rattle.session_rules.specs.Ending.{AreEnding, Ending, IsAway, IsDone, gone_levels}
-use Rattle.session_rules.proofs.Forests.{has_left, parent_left}
-use Rattle.session_rules.proofs.ContextsKept.{IsSame, contexts_level_gone, nothing_left, off_outside, protected_has, same_removed, stay_same, top_protected}
-use Rattle.session_rules.proofs.HooksKept.{conserves_gone, hooks_ended}
-use Rattle.session_rules.proofs.Swept.{removed_swept}
-use Rattle.session_rules.proofs.HeldItems.{held_removed}
-use Rattle.session_rules.proofs.Releasing.{Tables, still_sound, swept_by, tabled, with_owners}
-use Rattle.session_rules.proofs.Settling.{Besides, Fits, HasSettled, Spares, besides_of, release_settles, spares_same, with_besides}
-use Rattle.session_rules.proofs.Stacked.{depth_small, depth_still, none_stacked, stacked_above, stacked_below, stacked_lowered, stacked_within}
-use Rattle.session_rules.proofs.LevelsKept.{HasLeft, IsStill, is_there, left_nothing, left_still, levels_stay, one_value, outer_contexts, outer_owners, owners_aborted, owners_end, owners_without, without_owner}
-use Rattle.session_rules.proofs.Lone.{lone_left, lone_swept}
-use Rattle.session_rules.proofs.PortalsAmong.{IsRowOf, attached_by, off_levels, off_rows, place_level, place_own, place_same, place_spared, row_left, row_of}
-use Rattle.session_rules.proofs.Resting.{all_rest_aborted, all_rest_outside, rests_becomes, rests_but}
+use Rattle.session_rules.specs.Standing.{IsActive, IsDeepest, AreContexts, AreHooks, AreLevels, AreOpen, AreDifferent, AreOwners, AreOuter, ArePlans, ArePortals, AreStacked, FitLevels, HasExited, HasItems, IsAtRest, IsAttached, IsDead, IsLevel, IsLive, IsOfPortal, IsOwner, IsPlace, IsPortal, IsMade, IsOpen, Stands, StandsBetweenLines, active_depth, owner_at, referred}
+use Rattle.session_rules.proofs.Kept.{has_left, parent_left, IsSame, contexts_level_gone, nothing_left, off_outside, protected_has, same_removed, stay_same, top_protected, hooks_ended, parts_gone, removed_swept, held_removed, Tables, still_sound, swept_by, tabled, with_owners, Besides, Fits, HasSettled, Spares, besides_of, release_settles, spares_same, with_besides, depth_small, depth_still, none_stacked, stacked_above, stacked_below, stacked_lowered, stacked_within, HasLeft, IsStill, is_there, left_nothing, left_still, levels_stay, one_value, outer_contexts, outer_owners, owners_aborted, owners_end, owners_without, without_owner, lone_left, lone_swept, IsRowOf, attached_by, off_levels, off_rows, place_level, place_own, place_same, place_spared, row_left, row_of, all_rest_aborted, all_rest_outside, rests_becomes, rests_but, above_apart, cached_left, levels_apart, own_other, plan_outside, plans_counted, plans_current, plans_moved}
 use Rattle.session_rules.proofs.Ending.{Leads, Parts, with_parts}
 use Rattle.session_rules.proofs.Replacing.{all_closed, all_swept_away, swept_away}
 use Rattle.session_rules.proofs.Passing.{all_passed}
 use Rattle.session_rules.proofs.Failing.{all_aborted}
-use Rattle.session_rules.proofs.PlansAmong.{above_apart, cached_left, levels_apart, own_other, plan_outside, plans_counted, plans_current, plans_moved}
 
 -- A scene with these levels. Each scene is of this form.
 abbrev pub settled : List LevelState → Scene → Scene
@@ -67,18 +34,11 @@ is_left levels scene h = is_settled scene h.between.stands ∙ ap (λ (ls : List
 
 -- tables don't matter, as far as what never changes of kinds is the same
 pub stands_tabled : (x : Tables) (s : Scene) → table_of x.kinds ≡ table_of s.around.kinds → Stands s → Stands (tabled x s)
-stands_tabled x s same h = record {
-  contexts = h.contexts;
-  current = h.current;
-  hooks = h.hooks;
-  levels = h.levels;
-  fit = h.fit;
-  owners = subst (λ (kinds : KindTable). AreOwners kinds s.session.owners s.session.next_owner s.session.next_serial s.session.levels s.session.portals) (sym same) h.owners;
-  kinds = subst (λ (kinds : KindTable). IsSoundTable kinds) (sym same) h.kinds;
-  portals = h.portals;
-  plans = h.plans;
-  snapshots = h.snapshots;
-}
+stands_tabled x s same h =
+    search (
+      subst (λ (kinds : KindTable). AreOwners kinds s.session.owners s.session.next_owner s.session.next_serial s.session.levels s.session.portals) (sym same) h.owners,
+      subst (λ (kinds : KindTable). IsSoundTable kinds) (sym same) h.kinds,
+    )
 
 -- without the context of a level, and the shelf then
 abbrev pub without_context : Option ℕ → Contexts → Contexts
@@ -109,7 +69,7 @@ level_of name c o implicit aborted starting =
 pub contexts_without : (c : Option ℕ) (t : Contexts) (next : ℕ) (x : ShelfState) → AreContexts t next → AreHooks t x → ((n : ℕ) → c ≡ Some n → abort_context < n)
     → AreContexts (without_context c t) next × AreHooks (without_context c t) (handed_back c t x)
 contexts_without None t next x h k own = (h, k)
-contexts_without (Some n) t next x h k own = (contexts_level_gone t next h n (own n refl), hooks_ended t (gone n t) x (conserves_gone n t h.once) k)
+contexts_without (Some n) t next x h k own = (contexts_level_gone t next h n (own n refl), hooks_ended t (gone n t) x (parts_gone n t h.once) k)
 
 pub same_without : (c : Option ℕ) (t : Contexts) (next : ℕ) → AreContexts t next → (m : ℕ) → ((n : ℕ) → c ≡ Some n → (m ≢ n) × (has m (children n t) ≡ false)) → is_protected m t ≡ true
     → IsSame m t (without_context c t)
@@ -118,25 +78,24 @@ same_without (Some n) t next h m out prot = same_removed t next h m n (out n ref
 
 pub still_without : (o : Option ℕ) (x : OwnerTree) → Once x → (m : ℕ) → ((p : ℕ) → o ≡ Some p → (m ≢ p) × (has m (children p x) ≡ false)) → has m x ≡ true → IsStill m x (without_owner o x)
 still_without None x once m out there = record { there = there; parent = refl }
-still_without (Some p) x once m out there =
-    let w = out p refl in
-    record { there = has_left m p x once w.0 w.1 ∙ there; parent = parent_left m p x once w.0 w.1 }
+still_without (Some p) x once m out there = grind (arith, nat_tests, has_left m p x once, parent_left m p x once)
+
+-- a level in which steps can be taken is deepest
+pub deepest_active : (level : LevelState) (t : Contexts) (x : OwnerTree) (current : ℕ) → IsActive level → IsDeepest level t x current
+deepest_active level t x current h = record {
+  made = λ _. h.made;
+  empty = λ n s e. absurd (both_ways level.starting h.started s);
+  alone = λ n s e. absurd (both_ways level.starting h.started s);
+  idle = λ n s e. absurd (both_ways level.starting h.started s);
+  released = λ n a e. absurd (both_ways level.aborted h.unaborted a);
+  at_abort = λ a. absurd (both_ways level.aborted h.unaborted a);
+  open_level = λ a. absurd (both_ways level.aborted h.unaborted a);
+}
 
 -- the levels that are left
 pub fits_outer : (levels : List LevelState) (t : Contexts) (x : OwnerTree) → AreOuter levels → FitLevels levels t x (unwrap_or (context_of (first_of levels)) top_context)
 fits_outer [] t x h = refl
-fits_outer (level ∷ levels) t x h = (
-  record {
-    made = λ _. h.0.made;
-    empty = λ n s e. absurd (both_ways level.starting h.0.started s);
-    alone = λ n s e. absurd (both_ways level.starting h.0.started s);
-    idle = λ n s e. absurd (both_ways level.starting h.0.started s);
-    released = λ n a e. absurd (both_ways level.aborted h.0.unaborted a);
-    at_abort = λ a. absurd (both_ways level.aborted h.0.unaborted a);
-    open_level = λ a. absurd (both_ways level.aborted h.0.unaborted a);
-  },
-  h.2,
-)
+fits_outer (level ∷ levels) t x h = (deepest_active level t x (unwrap_or level.context top_context) h.0, h.2)
 
 -- the context of the level above, or the topmost one, is there
 pub current_above : (levels : List LevelState) (t : Contexts) (x : OwnerTree) (next : ℕ) → AreContexts t next → AreLevels levels t x → AreOuter levels
@@ -168,78 +127,32 @@ same_count (Some n) x once idle m = sym (held_removed plan_reference m n x once 
 
 -- the way through the portals begins, and has ended
 pub begins : (level : LevelState) (levels done : List LevelState) (s : Scene) → Stands (settled (level ∷ levels) s) → Ending level levels done [] s.session.portals s
-begins level levels done s h = record {
-  contexts = h.contexts;
-  hooks = h.hooks;
-  all = h.levels;
-  outer = h.fit.1;
-  kinds = h.kinds;
-  owners = owners_end (table_of s.around.kinds) s.session.owners s.session.next_owner s.session.next_serial level levels s.session.portals h.owners;
-  plans = h.plans;
-  ended = All-nil (IsDone level done s.session.contexts s.session.owners s.session.current);
-  rest = h.portals.each;
-  different = h.portals.different;
-  are = refl;
-}
+begins level levels done s h =
+    search (
+      owners_end (table_of s.around.kinds) s.session.owners s.session.next_owner s.session.next_serial level levels s.session.portals h.owners,
+      All-nil (IsDone level done s.session.contexts s.session.owners s.session.current),
+    )
 
 -- the levels of the scene don't matter
 pub resettled : (level : LevelState) (levels done : List LevelState) (front back : List OpenPortal) (s : Scene) → Ending level levels done front back s → Ending level levels done front back (settled (level ∷ levels) s)
-resettled level levels done front back s h = record {
-  contexts = h.contexts;
-  hooks = h.hooks;
-  all = h.all;
-  outer = h.outer;
-  kinds = h.kinds;
-  owners = h.owners;
-  plans = h.plans;
-  ended = h.ended;
-  rest = h.rest;
-  different = h.different;
-  are = h.are;
-}
+resettled level levels done front back s h = search
 
 pub unsettled : (level : LevelState) (levels done : List LevelState) (front back : List OpenPortal) (ls : List LevelState) (s : Scene) → Ending level levels done front back (settled ls s) → Ending level levels done front back s
-unsettled level levels done front back ls s h = record {
-  contexts = h.contexts;
-  hooks = h.hooks;
-  all = h.all;
-  outer = h.outer;
-  kinds = h.kinds;
-  owners = h.owners;
-  plans = h.plans;
-  ended = h.ended;
-  rest = h.rest;
-  different = h.different;
-  are = h.are;
-}
+unsettled level levels done front back ls s h = search
 
 pub may_end : (level : LevelState) (levels done : List LevelState) (ps : List OpenPortal) (s : Scene) → Ending level levels done ps [] s → MayEnd (referred s.session.owners) level levels done s
-may_end level levels done ps s h = record {
-  contexts = h.contexts;
-  hooks = h.hooks;
-  all = h.all;
-  outer = h.outer;
-  kinds = h.kinds;
-  owners = subst (λ (qs : List OpenPortal). AreEnding (table_of s.around.kinds) s.session.owners s.session.next_owner s.session.next_serial level levels qs) (sym h.are) h.owners;
-  plans = h.plans;
-  portals = subst (λ (qs : List OpenPortal). All (IsDone level done s.session.contexts s.session.owners s.session.current) qs) (sym h.are)
-      (All-append (IsDone level done s.session.contexts s.session.owners s.session.current) ps [] h.ended (All-nil (IsDone level done s.session.contexts s.session.owners s.session.current)));
-  different = subst AreDifferent (sym h.are) h.different;
-}
+may_end level levels done ps s h =
+    let IsNow : OpenPortal → Type 0 = IsDone level done s.session.contexts s.session.owners s.session.current in
+    search (
+      subst (λ (qs : List OpenPortal). AreEnding (table_of s.around.kinds) s.session.owners s.session.next_owner s.session.next_serial level levels qs) (sym h.are) h.owners,
+      subst (All IsNow) (sym h.are) (All-append IsNow ps [] h.ended (All-nil IsNow)),
+      subst AreDifferent (sym h.are) h.different,
+    )
 
 pub idle_ends : (level : LevelState) (levels done : List LevelState) (s : Scene) → ((n : ℕ) → level.owner ≡ Some n → AllAt HoldsNothing n s.session.owners) → MayEnd (referred s.session.owners) level levels done s → MayEnd (left_to_refer level s) level levels done s
-idle_ends level levels done s idle h = record {
-  contexts = h.contexts;
-  hooks = h.hooks;
-  all = h.all;
-  outer = h.outer;
-  kinds = h.kinds;
-  owners = h.owners;
-  plans = plans_counted s.session.plans s.session.contexts s.session.current (referred s.session.owners) (left_to_refer level s)
-      (same_count level.owner s.session.owners (once_of s.session.owners s.session.next_owner s.session.next_serial h.owners.sound) idle) h.plans;
-  portals = h.portals;
-  different = h.different;
-}
+idle_ends level levels done s idle h =
+    search (plans_counted s.session.plans s.session.contexts s.session.current (referred s.session.owners) (left_to_refer level s)
+    (same_count level.owner s.session.owners (once_of s.session.owners s.session.next_owner s.session.next_serial h.owners.sound) idle) h.plans)
 
 pub plans_popped : (level : LevelState) (levels done : List LevelState) (s : Scene) (times : ℕ → ℕ) (c : Option ℕ) → ((n : ℕ) → c ≡ Some n → level.context ≡ Some n) → MayEnd times level levels done s
     → ArePlans s.session.plans (without_context c s.session.contexts) s.session.current times
@@ -284,11 +197,7 @@ owner_made (level ∷ levels) outer k low high = elim (cases_Bool (length levels
 ]
 
 pub outer_live : (p : OpenPortal) (levels : List LevelState) → AreOuter levels → IsLive p levels ⊎ IsDead p levels → IsLive p levels
-outer_live p levels outer s = elim s [ inl l ↦ l | inr d ↦ absurd (none levels outer d.aborted) ]
-  where
-    none : (ls : List LevelState) → AreOuter ls → is_aborted ls ≡ true → ⊥
-    none [] o e = cc e
-    none (l ∷ ls) o e = both_ways l.aborted o.0.unaborted e
+outer_live p levels outer s = grind (arith, nat_tests)
 
 -- a portal's owner where the level's goes
 pub attached_popped : (level : LevelState) (levels : List LevelState) (t : Contexts) (x : OwnerTree) → Once x → AreLevels (level ∷ levels) t x → AreOuter levels → (p : OpenPortal) → IsLive p levels → IsAway level p → (o : Option ℕ) → level.owner ≡ o
@@ -327,30 +236,20 @@ popped_stands level levels s c stack is stacked h =
     (λ z. omega (arith, z, out.0), out.1))
     there)
     h.all.1 in
-    record {
-      contexts = both.0;
-      current = current_above levels u y next both.0 left h.outer;
-      hooks = both.1;
-      levels = left;
-      fit = fits_outer levels u y h.outer;
-      owners = owners_without (table_of s.around.kinds) level levels s.session.portals x s.session.next_owner s.session.next_serial level.owner refl (λ p e. (own.owner p e).there) h.owners;
-      kinds = h.kinds;
-      portals = record {
-        each = All-weaker (IsDone level levels t x cur) (λ p. IsPortal p levels u y (unwrap_or (context_of (first_of levels)) top_context))
-            (λ p d. record {
-              place = λ n e. place_above levels u y next both.0 left h.outer n p.expr cur (place_popped level levels t x next cur c is h.contexts h.all n p.expr (d.portal.place n e));
-              made = d.portal.made;
-              owner = λ n e. attached_popped level levels t x once h.all h.outer p (outer_live p levels h.outer d.portal.stage) d.away level.owner refl n e (d.portal.owner n e);
-              stage = d.portal.stage;
-            }) s.session.portals h.portals;
-        different = h.different;
-      };
-      plans =
-          plans_current s.session.plans u cur (unwrap_or (context_of (first_of levels)) top_context) (left_to_refer level s)
+    search (
+      both,
+      current_above levels u y next both.0 left h.outer,
+      fits_outer levels u y h.outer,
+      owners_without (table_of s.around.kinds) level levels s.session.portals x s.session.next_owner s.session.next_serial level.owner refl (λ p e. (own.owner p e).there) h.owners,
+      All-weaker (IsDone level levels t x cur) (λ p. IsPortal p levels u y (unwrap_or (context_of (first_of levels)) top_context))
+          (λ p d. search (
+            λ (n : ℕ) (e : _). place_above levels u y next both.0 left h.outer n p.expr cur (place_popped level levels t x next cur c is h.contexts h.all n p.expr (d.portal.place n e)),
+            λ (n : ℕ) (e : _). attached_popped level levels t x once h.all h.outer p (outer_live p levels h.outer d.portal.stage) d.away level.owner refl n e (d.portal.owner n e),
+          )) s.session.portals h.portals,
+      plans_current s.session.plans u cur (unwrap_or (context_of (first_of levels)) top_context) (left_to_refer level s)
           (above_apart levels u y left h.outer)
-          (plans_popped level levels levels s (left_to_refer level s) c is h);
-      snapshots = stacked;
-    }
+          (plans_popped level levels levels s (left_to_refer level s) c is h),
+    )
 
 -- the levels above another one are open
 pub outer_open : (levels : List LevelState) → AreOuter levels → AreOpen levels
@@ -370,22 +269,13 @@ sweep_is name (Some n) (Some p) i a b levels z = refl
 -- a cleanup leaves owners alone until then
 pub sweep_owners : (level : LevelState) (levels : List LevelState) (gone : level.aborted ≡ true) (ps : List OpenPortal) (s : Scene) → (for_each (swept_away level levels gone) ps s).scene.session.owners ≡ s.session.owners
 sweep_owners level levels gone [] s = refl
-sweep_owners level levels gone (p ∷ ps) s = sweep_owners level levels gone ps (swept_away level levels gone p s).scene ∙ one (p.created == length (level ∷ levels)) p.context
-  where
-    one : (b : Bool) (c : Option ℕ) → (where_so b (in_order (where_there c context_gone ∷ portal_gone p.name ∷ [])) s).scene.session.owners ≡ s.session.owners
-    one true None = refl
-    one true (Some n) = refl
-    one false c = refl
+sweep_owners level levels gone (p ∷ ps) s = grind (arith, nat_tests, sweep_owners level levels gone ps, in_order)
 
 -- and leaves portals at rest
 pub sweep_rests : (level : LevelState) (levels : List LevelState) (gone : level.aborted ≡ true) (ps : List OpenPortal) (s : Scene) → All IsAtRest s.session.portals → All IsAtRest (for_each (swept_away level levels gone) ps s).scene.session.portals
 sweep_rests level levels gone [] s h = h
-sweep_rests level levels gone (p ∷ ps) s h = sweep_rests level levels gone ps (swept_away level levels gone p s).scene (one (p.created == length (level ∷ levels)) p.context)
-  where
-    one : (b : Bool) (c : Option ℕ) → All IsAtRest (where_so b (in_order (where_there c context_gone ∷ portal_gone p.name ∷ [])) s).scene.session.portals
-    one true None = rests_but p.name s.session.portals h
-    one true (Some n) = rests_but p.name s.session.portals h
-    one false c = h
+sweep_rests level levels gone (p ∷ ps) s h =
+    grind (arith, nat_tests, sweep_rests level levels gone ps, in_order, rests_but p.name s.session.portals h)
 
 pub clean_from : (level : LevelState) (levels : List LevelState) (s : Scene) → level.aborted ≡ true → Ending level levels levels [] s.session.portals s → ((n : ℕ) → level.owner ≡ Some n → AllAt HoldsNothing n s.session.owners)
     → AreStacked 1 (active_depth levels) s.session.snapshots → Leaves levels (cleaned_up (settled (level ∷ levels) s)).scene
@@ -466,40 +356,24 @@ released_ends level levels done s x now h same left fits spares =
     let t : Contexts = s.session.contexts in
     let owners : OwnerTree = s.session.owners in
     let cur : ℕ = s.session.current in
-    record {
-      contexts = fits.contexts;
-      hooks = fits.hooks;
-      all = levels_stay (level ∷ levels) t x.contexts owners owners
+    search (
+      levels_stay (level ∷ levels) t x.contexts owners owners
           (λ m i prot. spares.same m (levels_apart (level ∷ levels) t owners s.session.plans cur h.all h.plans.each m i) prot)
-          (λ m i there. record { there = there; parent = refl }) h.all;
-      outer = h.outer;
-      kinds = subst (λ (kinds : KindTable). IsSoundTable kinds) (sym same) h.kinds;
-      owners = subst (λ (kinds : KindTable). AreEnding kinds owners s.session.next_owner s.session.next_serial level levels s.session.portals) (sym same) h.owners;
-      plans =
-          plans_counted x.plans x.contexts cur (referred now) (left_to_refer level s)
-          (left_count (table_of s.around.kinds) level.owner owners now s.session.next_owner s.session.next_serial h.kinds left h.owners.items h.owners.sound) fits.plans;
-      portals = All-weaker (IsDone level done t owners cur) (IsDone level done x.contexts owners cur)
-          (λ p d. record {
-            portal = record {
-              place = λ n e. place_spared (besides_of s) x cur spares h.plans.each n p.expr cur (d.portal.place n e);
-              made = d.portal.made;
-              owner = d.portal.owner;
-              stage = d.portal.stage;
-            };
-            away = d.away;
-          }) s.session.portals h.portals;
-      different = h.different;
-    }
+          (λ m i there. record { there = there; parent = refl }) h.all,
+      subst (λ (kinds : KindTable). IsSoundTable kinds) (sym same) h.kinds,
+      subst (λ (kinds : KindTable). AreEnding kinds owners s.session.next_owner s.session.next_serial level levels s.session.portals) (sym same) h.owners,
+      plans_counted x.plans x.contexts cur (referred now) (left_to_refer level s)
+          (left_count (table_of s.around.kinds) level.owner owners now s.session.next_owner s.session.next_serial h.kinds left h.owners.items h.owners.sound) fits.plans,
+      All-weaker (IsDone level done t owners cur) (IsDone level done x.contexts owners cur)
+          (λ p d. search (λ (n : ℕ) (e : _). place_spared (besides_of s) x cur spares h.plans.each n p.expr cur (d.portal.place n e))) s.session.portals h.portals,
+    )
 
 pub gives_now : (commit top : Bool) (level : LevelState) (levels done : List LevelState) (s : Scene) → MayEnd (referred s.session.owners) level levels done s → HasGiven level.owner (settled (level ∷ levels) s) (where_there level.owner (owner_released commit top) (settled (level ∷ levels) s)).scene
 gives_now commit top level levels done s h = gives commit top level.owner (settled (level ∷ levels) s) h.owners.sound (record { contexts = h.contexts; hooks = h.hooks; plans = h.plans })
 
 -- the deepest level has its owner where something is active there
 pub owner_when_active : (level : LevelState) (levels : List LevelState) → (level.starting ≡ false → IsMade level) → length levels + 1 ≤ active_depth (level ∷ levels) → (lo : ℕ) × (level.owner ≡ Some lo)
-owner_when_active level levels made low = elim (cases_Bool level.starting) [
-  | inl y ↦ let few : active_depth (level ∷ levels) ≡ length levels = rw y refl in absurd (omega (arith, low, few))
-  | inr y ↦ is_there level.owner (made y).owner
-]
+owner_when_active level levels made low = grind (arith, nat_tests, is_there level.owner)
 
 -- what a commit does behind the release
 abbrev pub behind_commit : Scene → Scene
@@ -583,11 +457,7 @@ merge_is level name (Some n) (Some p) i a st levels z = merge_context (is_empty 
 
 pub context_to_go_is : (c : Option ℕ) (t : Contexts) (n : ℕ) → context_to_go c t ≡ Some n → c ≡ Some n
 context_to_go_is None t n e = absurd (cc e)
-context_to_go_is (Some m) t n e = go (is_empty m t) e
-  where
-    go : (b : Bool) → gone_if b m ≡ Some n → Some m ≡ Some n
-    go true e = e
-    go false e = absurd (cc e)
+context_to_go_is (Some m) t n e = grind (arith, nat_tests)
 
 -- what a merge leads to: the session stands with the levels above, and where portals were at rest they still are
 pub record Merges (levels : List LevelState) (s z : Scene) : Type 0 where
@@ -617,16 +487,7 @@ merge_from level levels s h stacked =
 -- portals that pass stay at rest
 pub passes_rest : (n : ℕ) (above : Option ℕ) (ps : List OpenPortal) (s : Scene) → All IsAtRest s.session.portals → All IsAtRest (for_each (portal_passed n above) ps s).scene.session.portals
 passes_rest n above [] s h = h
-passes_rest n above (p ∷ ps) s h = passes_rest n above ps (portal_passed n above p s).scene (one (p.created == n) p.owner above)
-  where
-    passes : OpenPortal → OpenPortal
-    passes = λ old. record old { created = level_lowered n old.created; active = level_lowered n old.active }
-
-    one : (b : Bool) (o up : Option ℕ) → All IsAtRest (in_order (where_so b (where_there o (λ owner. where_there up (owner_moved owner))) ∷ portal_becomes p.name passes ∷ []) s).scene.session.portals
-    one false o up = rests_becomes p.name passes s.session.portals (λ q r. r) h
-    one true None up = rests_becomes p.name passes s.session.portals (λ q r. r) h
-    one true (Some k) None = rests_becomes p.name passes s.session.portals (λ q r. r) h
-    one true (Some k) (Some q) = rests_becomes p.name passes s.session.portals (λ q r. r) h
+passes_rest n above (p ∷ ps) s h = grind (arith, nat_tests, passes_rest n above ps, in_order, rests_becomes p.name)
 
 -- A level that isn't level 1 is merged into the one above it.
 pub subcommitted_stands : (level : LevelState) (levels : List LevelState) (s : Scene) → 1 ≤ length levels → Stands (settled (level ∷ levels) s) → Merges levels s (subcommitted (settled (level ∷ levels) s)).scene
@@ -680,25 +541,13 @@ pub off_begins : (level : LevelState) (levels done : List LevelState) (s : Scene
 off_begins level levels done s h =
     let e : Ending level levels done [] s.session.portals s = begins level levels done s h in
     let t : Contexts = s.session.contexts in
-    record {
-      contexts = e.contexts;
-      hooks = e.hooks;
-      all = e.all;
-      outer = e.outer;
-      kinds = e.kinds;
-      owners = e.owners;
-      plans = plans_current s.session.plans t s.session.current abort_context (referred s.session.owners) (own_other abort_context (omega arith) t) e.plans;
-      ended = All-nil (IsDone level done t s.session.owners abort_context);
-      rest = All-weaker (λ p. IsPortal p (level ∷ levels) t s.session.owners s.session.current) (λ p. IsPortal p (level ∷ levels) t s.session.owners abort_context)
-          (λ p i. record {
-            place = λ n f. place_own t s.session.next_context e.contexts abort_context (omega arith) (omega arith) n p.expr s.session.current (i.place n f);
-            made = i.made;
-            owner = i.owner;
-            stage = i.stage;
-          }) s.session.portals e.rest;
-      different = e.different;
-      are = refl;
-    }
+    search (
+      plans_current s.session.plans t s.session.current abort_context (referred s.session.owners) (own_other abort_context (omega arith) t) e.plans,
+      All-nil (IsDone level done t s.session.owners abort_context),
+      All-weaker (λ p. IsPortal p (level ∷ levels) t s.session.owners s.session.current) (λ p. IsPortal p (level ∷ levels) t s.session.owners abort_context)
+          (λ p i. search (λ (n : ℕ) (f : _). place_own t s.session.next_context e.contexts abort_context (omega arith) (omega arith) n p.expr s.session.current (i.place n f)))
+          s.session.portals e.rest,
+    )
 
 pub left_lone : (kinds : KindTable) (o : Option ℕ) (owners now : OwnerTree) → HasLeft kinds o owners now → (n : ℕ) → children n owners ≡ Empty → children n now ≡ Empty
 left_lone kinds None owners now left n e = ap (children n) left ∙ e
@@ -729,32 +578,23 @@ shut_from level levels s x now h same left fits spares =
     let u : Contexts = x.contexts in
     let old : OwnerTree = s.session.owners in
     let kinds : KindTable = table_of s.around.kinds in
-    record {
-      contexts = fits.contexts;
-      hooks = fits.hooks;
-      all = levels_stay (level ∷ levels) t u old now
+    search (
+      levels_stay (level ∷ levels) t u old now
           (λ m i prot. spares.same m (levels_apart (level ∷ levels) t old s.session.plans abort_context h.all h.plans.each m i) prot)
-          (λ m i there. left_still kinds level.owner old now left m there) h.all;
-      outer = h.outer;
-      kinds = subst (λ (k : KindTable). IsSoundTable k) (sym same) h.kinds;
-      owners = subst (λ (k : KindTable). AreOwners k now s.session.next_owner s.session.next_serial (gone_levels level levels) s.session.portals) (sym same)
-          (owners_aborted kinds level levels s.session.portals old now s.session.next_owner s.session.next_serial level.owner h.kinds refl left h.owners);
-      plans = fits.plans;
-      portals = record {
-        each = All-weaker (IsDone level (gone_levels level levels) t old abort_context) (λ p. IsPortal p (gone_levels level levels) u now abort_context)
-            (λ p d. record {
-              place = λ n e. place_spared (besides_of s) x abort_context spares h.plans.each n p.expr abort_context (d.portal.place n e);
-              made = d.portal.made;
-              owner = λ n e.
-                  let a = d.portal.owner n e in
-                  let st = left_still kinds level.owner old now left n a.there in
-                  attached_by n p.created (gone_levels level levels) (gone_levels level levels) old now (λ _. st.there) st.parent (left_lone kinds level.owner old now left n) refl (λ j. j) a;
-              stage = d.portal.stage;
-            }) s.session.portals h.portals;
-        different = h.different;
-      };
-      idle = left_idle kinds level.owner old now h.kinds left h.owners.items;
-    }
+          (λ m i there. left_still kinds level.owner old now left m there) h.all,
+      subst (λ (k : KindTable). IsSoundTable k) (sym same) h.kinds,
+      subst (λ (k : KindTable). AreOwners k now s.session.next_owner s.session.next_serial (gone_levels level levels) s.session.portals) (sym same)
+          (owners_aborted kinds level levels s.session.portals old now s.session.next_owner s.session.next_serial level.owner h.kinds refl left h.owners),
+      All-weaker (IsDone level (gone_levels level levels) t old abort_context) (λ p. IsPortal p (gone_levels level levels) u now abort_context)
+          (λ p d. search (
+            λ (n : ℕ) (e : _). place_spared (besides_of s) x abort_context spares h.plans.each n p.expr abort_context (d.portal.place n e),
+            λ (n : ℕ) (e : _).
+                let a = d.portal.owner n e in
+                let st = left_still kinds level.owner old now left n a.there in
+                attached_by n p.created (gone_levels level levels) (gone_levels level levels) old now (λ _. st.there) st.parent (left_lone kinds level.owner old now left n) refl (λ j. j) a,
+          )) s.session.portals h.portals,
+      left_idle kinds level.owner old now h.kinds left h.owners.items,
+    )
 
 pub aborted_is : (level : LevelState) (levels : List LevelState) (s : Scene) → Stands (settled (level ∷ levels) s) → HasShut level levels s (aborted (settled (level ∷ levels) s)).scene
 aborted_is level levels s h =
@@ -777,29 +617,21 @@ pub shut_stands : (level : LevelState) (levels : List LevelState) (s z : Scene) 
     → Stands (shut level levels a.parts.owners (with_parts a.parts s))
 shut_stands level levels s z open_level a h =
     let c : Shut level levels (with_parts a.parts s) = a.shut_is in
-    record {
-      contexts = c.contexts;
-      current = protected_has abort_context a.parts.contexts (c.contexts.own abort_context (omega arith) (omega arith)).protected;
-      hooks = c.hooks;
-      levels = (record { context = c.all.0.context; owner = c.all.0.owner; implicit = c.all.0.implicit }, c.all.1);
-      fit = (
-        record {
-          made = λ e. let m : IsMade level = h.fit.0.made e in record { context = m.context; owner = m.owner };
-          empty = λ n e. absurd (both_ways level.starting open_level.started e);
-          alone = λ n e. absurd (both_ways level.starting open_level.started e);
-          idle = λ n e. absurd (both_ways level.starting open_level.started e);
-          released = λ n _ e. c.idle n e;
-          at_abort = λ _. refl;
-          open_level = λ _. record { started = open_level.started; block = open_level.block };
-        },
-        c.outer,
-      );
-      owners = c.owners;
-      kinds = c.kinds;
-      portals = c.portals;
-      plans = c.plans;
-      snapshots = shut_stacked level levels (active_depth (level ∷ levels)) s.session.snapshots h.snapshots;
-    }
+    let mine : IsLevel (record level { aborted = true }) levels a.parts.contexts a.parts.owners = search (c.all.0) in
+    let deepest : IsDeepest (record level { aborted = true }) a.parts.contexts a.parts.owners abort_context = record {
+      made = λ e. let m : IsMade level = h.fit.0.made e in record { context = m.context; owner = m.owner };
+      empty = λ n e. absurd (both_ways level.starting open_level.started e);
+      alone = λ n e. absurd (both_ways level.starting open_level.started e);
+      idle = λ n e. absurd (both_ways level.starting open_level.started e);
+      released = λ n _ e. c.idle n e;
+      at_abort = λ _. refl;
+      open_level = λ _. record { started = open_level.started; block = open_level.block };
+    } in
+    search (
+      protected_has abort_context a.parts.contexts (c.contexts.own abort_context (omega arith) (omega arith)).protected,
+      c.all.1,
+      shut_stacked level levels (active_depth (level ∷ levels)) s.session.snapshots h.snapshots,
+    )
 
 -- The deepest level aborts.
 pub aborted_stands : (level : LevelState) (levels : List LevelState) (s : Scene) → level.aborted ≡ false → IsOpen level → Stands (settled (level ∷ levels) s)
@@ -830,19 +662,12 @@ away_stands level levels s h =
     let c : Shut level levels (with_parts a.parts s) = a.shut_is in
     let old : LevelState = record level { aborted = true } in
     let z : Scene = record (with_parts a.parts s) { session = record (with_parts a.parts s).session { current = abort_context; snapshots = kept_below (length (level ∷ levels)) s.session.snapshots } } in
-    let e : Ending old levels levels [] a.parts.portals z = record {
-      contexts = c.contexts;
-      hooks = c.hooks;
-      all = (record { context = c.all.0.context; owner = c.all.0.owner; implicit = c.all.0.implicit }, c.all.1);
-      outer = c.outer;
-      kinds = c.kinds;
-      owners = owners_end (table_of a.parts.kinds) a.parts.owners s.session.next_owner s.session.next_serial old levels a.parts.portals c.owners;
-      plans = c.plans;
-      ended = All-nil (IsDone old levels a.parts.contexts a.parts.owners abort_context);
-      rest = c.portals.each;
-      different = c.portals.different;
-      are = refl;
-    } in
+    let mine : IsLevel old levels a.parts.contexts a.parts.owners = search (c.all.0) in
+    let e : Ending old levels levels [] a.parts.portals z = search (
+      c.all.1,
+      owners_end (table_of a.parts.kinds) a.parts.owners s.session.next_owner s.session.next_serial old levels a.parts.portals c.owners,
+      All-nil (IsDone old levels a.parts.contexts a.parts.owners abort_context),
+    ) in
     subst (Leaves levels) (sym (ap (λ (y : Scene). (cleaned_up y).scene) a.is))
     (clean_from old levels z refl e c.idle (away_stacked level levels (active_depth (level ∷ levels)) s.session.snapshots h.fit.1 h.snapshots))
 
@@ -932,7 +757,7 @@ exited_left left h = record {
   snapshots = none_stacked left.session.snapshots h.snapshots;
   hooks = subst (λ (z : Contexts). AreHooks z (handed_in (gone top_context left.session.contexts).hooks left.around.shelf))
       (nothing_left left.session.contexts left.session.next_context h.contexts)
-      (hooks_ended left.session.contexts (gone top_context left.session.contexts) left.around.shelf (conserves_gone top_context left.session.contexts h.contexts.once) h.hooks);
+      (hooks_ended left.session.contexts (gone top_context left.session.contexts) left.around.shelf (parts_gone top_context left.session.contexts h.contexts.once) h.hooks);
 }
 
 pub exited_settled : (levels : List LevelState) (s : Scene) → Stands (settled levels s) → HasExited (exited (settled levels s)).scene

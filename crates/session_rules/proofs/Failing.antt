@@ -1,41 +1,13 @@
 -- Portals of a level that aborts fail, and those from further out that are active there belong to the level above.
-use Rattle.std.proofs.Common.{◌≡◌, ◌≢◌, ℕ, ◌-◌, ◌≤◌, Bool, true, false, Option, Some, None, List, [], ◌∷◌, ◌++◌, length, refl, sym, ap, ◌∙◌, subst, inl, inr, arith}
-use Rattle.std.specs.Prelude.{◌==◌, if◌then◌else◌}
-use Rattle.std.specs.Option.{option_map_or}
-use Rattle.std.proofs.lemmas.Bool.{cases_eq, cases_Bool, eqb-true, eqb-false}
-use Rattle.forest.specs.Forest.{Empty, Once, has, at, children, moved, with_children}
-use Rattle.forest.proofs.Trees.{Moves, first_child_other}
-use Rattle.forest.proofs.Moved.{below_parent}
-use Rattle.portal_store.specs.declared.portal.PortalState.{PortalState}
+use Rattle.session_rules.proofs.Base.{◌≡◌, ◌≢◌, ℕ, ◌-◌, ◌≤◌, Bool, true, false, Option, Some, None, List, [], ◌∷◌, ◌++◌, length, refl, sym, ap, ◌∙◌, subst, inl, inr, arith, ◌==◌, if◌then◌else◌, option_map_or, cases_eq, cases_Bool, eqb-true, eqb-false, nat_tests}
+use Rattle.session_rules.proofs.Below.{Empty, Once, has, at, children, moved, with_children, Moves, first_child_other, below_parent, ShelfState, Contexts, handed_in, table_of, Owner, OwnerTree, once_of, sound_moved}
+use Rattle.session_rules.proofs.Rules.{LevelState, OpenPortal, Scene, portal_changed, Ended, children_gone, for_each, in_order, portal_becomes, where_so, where_there, owner_moved, has_failed, portal_aborted, portal_failed, portal_withdrawn, HasItems, IsAtRest, IsAttached, IsDead, IsLive, IsOwner, IsPlace, IsPortal, active_depth, referred, AreEnding, Ending, IsLoose, gone_levels}
 use Rattle.portal_store.specs.declared.portal.PortalState.TheVariants as portal
-use Rattle.reset_callbacks.specs.ShelfState.{ShelfState}
-use Rattle.context_rules.specs.Contexts.{Contexts}
 use Rattle.context_rules.specs.Ends as ends
-use Rattle.context_rules.specs.Ends.{handed_in}
-use Rattle.owner_kinds.specs.KindShelf.{table_of}
-use Rattle.owner_core.specs.Owners.{Owner, OwnerTree}
-use Rattle.owner_core.proofs.Sounds.{once_of, sound_moved}
-use Rattle.session_rules.specs.State.{LevelState, OpenPortal}
-use Rattle.session_rules.specs.World.{Scene}
-use Rattle.session_rules.specs.Lookup.{portal_changed}
-use Rattle.session_rules.specs.Acts.{Ended, children_gone, for_each, in_order, portal_becomes, where_so, where_there}
-use Rattle.session_rules.specs.Releases.{owner_moved}
-use Rattle.session_rules.specs.Checks.{has_failed}
-use Rattle.session_rules.specs.Portals.{is_ready, portal_aborted, portal_failed, portal_withdrawn}
-use Rattle.session_rules.specs.Standing.{HasItems, IsAtRest, IsAttached, IsDead, IsLive, IsOwner, IsPlace, IsPortal, active_depth, referred}
-use Rattle.session_rules.specs.Ending.{AreEnding, Ending, IsLoose, gone_levels}
-use Rattle.session_rules.proofs.Guarded.{all_moved}
-use Rattle.session_rules.proofs.ContextsKept.{contexts_emptied, protected_has, same_emptied}
-use Rattle.session_rules.proofs.HooksKept.{conserves_children, hooks_ended}
-use Rattle.session_rules.proofs.LevelsKept.{no_value, one_value}
-use Rattle.session_rules.proofs.Lone.{lone_emptied, own_emptied}
-use Rattle.session_rules.proofs.Stacked.{depth_small, depth_still}
-use Rattle.session_rules.proofs.PortalLists.{Changes, changed_one, owner_beside, owner_here, owner_split}
-use Rattle.session_rules.proofs.PortalsAmong.{attached_by, row_emptied}
+use Rattle.session_rules.proofs.Kept.{all_moved, contexts_emptied, protected_has, same_emptied, hooks_ended, parts_children, no_value, one_value, lone_emptied, own_emptied, depth_small, depth_still, Changes, changed_one, owner_beside, owner_split, attached_by, row_emptied}
 use Rattle.session_rules.proofs.Ending.{Beside, Leads, each_goes, goes_nothing, levels_beside, parts_of, places_beside, plans_beside, with_parts}
-use Rattle.session_rules.proofs.Replacing.{IsBeside, first_of_rest, kept, own_loose, replaced}
-use Rattle.session_rules.proofs.Moving.{HasMoved, has_moved, loose_moved}
-use Rattle.session_rules.proofs.Passing.{IsBounded, bounded, levels_moved, plans_owner_moved, portal_moved}
+use Rattle.session_rules.proofs.Replacing.{IsBeside, first_of_rest, kept, own_loose, replaced, replaced_leads, kept_owners}
+use Rattle.session_rules.proofs.Passing.{IsBounded, bounded, levels_moved, plans_owner_moved, portal_moved, HasMoved, has_moved, loose_moved}
 
 module _ (level : LevelState) (levels : List LevelState) where
   abbrev pub deep : ℕ
@@ -112,15 +84,7 @@ module _ (level : LevelState) (levels : List LevelState) where
             let r : Ending level levels (gone_levels level levels) (front ++ (failed p ∷ [])) back (with_parts (record (parts_of s) { portals = front ++ (failed p ∷ back) }) s) =
             replaced level levels (gone_levels level levels) p (failed p) front back s s.session.contexts s.session.owners s.around.shelf h (changes_failed p) h.contexts h.hooks h.all (failed_owners p front back s h e) h.plans (λ r b d. d.portal) (λ r b k. k) own
             (λ n f z. absurd (cc f)) in
-            record {
-              front = front ++ (failed p ∷ []);
-              goes = record {
-                parts = record (parts_of s) { portals = portal_changed p.name failed s.session.portals };
-                same = refl;
-                is = refl;
-                ending = subst (λ (ps : List OpenPortal). Ending level levels (gone_levels level levels) (front ++ (failed p ∷ [])) back (with_parts (record (parts_of s) { portals = ps }) s)) (sym is) r;
-              };
-            }
+            replaced_leads level levels (gone_levels level levels) front back (failed p) s (record (parts_of s) { portals = portal_changed p.name failed s.session.portals }) is refl r
         go (Some c) q =
             let i = first_of_rest level levels (gone_levels level levels) p front back s h in
             let t : Contexts = s.session.contexts in
@@ -150,28 +114,16 @@ module _ (level : LevelState) (levels : List LevelState) where
               owner = λ n f. absurd (cc f);
               stage = inr (failed_stage p e (bounded p (level ∷ levels) i.stage));
             } in
-            let still : (ls : List LevelState) (r : OpenPortal) → IsBeside p r → IsPortal r ls t x cur → IsPortal r ls u x cur = λ ls r d k. record {
-              place = λ n f. places_beside t next h.contexts c p.expr cur place u b n r.expr (λ z. d.context n f (q ∙ ap Some (sym z))) (k.place n f);
-              made = k.made;
-              owner = k.owner;
-              stage = k.stage;
-            } in
+            let still : (ls : List LevelState) (r : OpenPortal) → IsBeside p r → IsPortal r ls t x cur → IsPortal r ls u x cur = λ ls r d k.
+            search (λ (n : ℕ) (f : _). places_beside t next h.contexts c p.expr cur place u b n r.expr (λ z. d.context n f (q ∙ ap Some (sym z))) (k.place n f)) in
             let r : Ending level levels (gone_levels level levels) (front ++ (failed p ∷ [])) back (with_parts (record (parts_of s) { contexts = u; shelf = shelf; portals = front ++ (failed p ∷ back) }) s) =
             replaced level levels (gone_levels level levels) p (failed p) front back s u x shelf h (changes_failed p) (contexts_emptied t next h.contexts c place.own)
-            (hooks_ended t (ends.children_gone c t) s.around.shelf (conserves_children c t h.contexts.once) h.hooks)
+            (hooks_ended t (ends.children_gone c t) s.around.shelf (parts_children c t h.contexts.once) h.hooks)
             (levels_beside t next h.contexts c p.expr cur place level levels u x b h.all)
             (failed_owners p front back s h e)
             (plans_beside t next h.contexts c p.expr cur place s.session.plans u (referred x) b h.plans)
             (λ r d k. still (gone_levels level levels) r d k.portal) (λ r d k. still (level ∷ levels) r d k) own (λ n f z. absurd (cc f)) in
-            record {
-              front = front ++ (failed p ∷ []);
-              goes = record {
-                parts = record (parts_of s) { contexts = u; shelf = shelf; portals = portal_changed p.name failed s.session.portals };
-                same = refl;
-                is = refl;
-                ending = subst (λ (ps : List OpenPortal). Ending level levels (gone_levels level levels) (front ++ (failed p ∷ [])) back (with_parts (record (parts_of s) { contexts = u; shelf = shelf; portals = ps }) s)) (sym is) r;
-              };
-            }
+            replaced_leads level levels (gone_levels level levels) front back (failed p) s (record (parts_of s) { contexts = u; shelf = shelf; portals = portal_changed p.name failed s.session.portals }) is refl r
 
     -- A portal from further out is withdrawn from the level.
     abbrev pub drawn : Bool → OpenPortal → OpenPortal
@@ -187,17 +139,10 @@ module _ (level : LevelState) (levels : List LevelState) where
     -- it is at rest then: where it has failed it has no owner, and it isn't new
     pub drawn_rests : (b : Bool) (p : OpenPortal) → has_failed p.state ≡ b → IsLive p (level ∷ levels) → p.created ≢ deep → IsAtRest (drawn b p)
     drawn_rests true p e l ne = λ _. refl
-    drawn_rests false p e l ne = elim l.line [ inl r ↦ r | inr a ↦ λ unready. absurd (ne (a.1 (is_new p.state e unready))) ]
-      where
-        is_new : (state : PortalState) → has_failed state ≡ false → is_ready state ≡ false → state ≡ portal.New
-        is_new portal.New e unready = refl
-        is_new portal.Ready e unready = absurd (cc unready)
-        is_new portal.Failed e unready = absurd (cc e)
+    drawn_rests false p e l ne = grind (arith, nat_tests)
 
     pub drawn_live : (b : Bool) (p : OpenPortal) → has_failed p.state ≡ b → IsLive p (level ∷ levels) → p.created ≢ deep → IsLive (drawn b p) (gone_levels level levels)
-    drawn_live b p e l ne =
-        let few : active_depth (level ∷ levels) ≤ deep = depth_small (level ∷ levels) in
-        record { some = l.some; within = omega (arith, l.within, l.active, few, ne); active = omega (arith, gone_depth); line = inl (drawn_rests b p e l ne) }
+    drawn_live b p e l ne = grind (arith, nat_tests, deep, depth_small (level ∷ levels), gone_depth, drawn_rests b p e l ne)
 
     pub live : (p : OpenPortal) (t : Contexts) (x : OwnerTree) (current : ℕ) → IsPortal p (level ∷ levels) t x current → p.created ≢ deep → IsLive p (level ∷ levels)
     live p t x current i ne = elim i.stage [ inl l ↦ l | inr d ↦ absurd (ne d.created) ]
@@ -224,31 +169,11 @@ module _ (level : LevelState) (levels : List LevelState) where
           stage = inl (drawn_live b p e l ne);
         } in
         let keeps : (n : ℕ) → p.owner ≡ Some n → (if b then None else p.owner) ≡ Some n = keep b none in
-        let owners : AreEnding (table_of s.around.kinds) s.session.owners s.session.next_owner s.session.next_serial level levels (front ++ (q ∷ back)) = record {
-          sound = h.owners.sound;
-          each = λ n u. elim (h.owners.each n u) [
-            | inl j ↦ inl j
-            | inr k ↦ inr (elim k [
-              | inl j ↦ inl (elim (owner_split n p front back j) [ inl f ↦ owner_here n q front back (keeps n f) | inr r ↦ owner_beside n q front back r ])
-              | inr l ↦ inr l
-            ])
-          ];
-          begun = h.owners.begun;
-          fresh = h.owners.fresh;
-          items = h.owners.items;
-        } in
+        let owners : AreEnding (table_of s.around.kinds) s.session.owners s.session.next_owner s.session.next_serial level levels (front ++ (q ∷ back)) = kept_owners level levels _ p q front back s h keeps in
         let r : Ending level levels (gone_levels level levels) (front ++ (q ∷ [])) back (with_parts (record (parts_of s) { portals = front ++ (q ∷ back) }) s) =
         replaced level levels (gone_levels level levels) p q front back s s.session.contexts s.session.owners s.around.shelf h (changes_drawn b p) h.contexts h.hooks h.all owners h.plans (λ r d k. k.portal) (λ r d k. k) own
         (λ n f z. (i.owner n (drawn_owner b p n f)).other (inl z)) in
-        record {
-          front = front ++ (q ∷ []);
-          goes = record {
-            parts = record (parts_of s) { portals = portal_changed p.name withdraws s.session.portals };
-            same = refl;
-            is = refl;
-            ending = subst (λ (ps : List OpenPortal). Ending level levels (gone_levels level levels) (front ++ (q ∷ [])) back (with_parts (record (parts_of s) { portals = ps }) s)) (sym (drawn_in p b e front back s h)) r;
-          };
-        }
+        replaced_leads level levels (gone_levels level levels) front back q s (record (parts_of s) { portals = portal_changed p.name withdraws s.session.portals }) (drawn_in p b e front back s h) refl r
       where
         keep : (b : Bool) → (b ≡ true → p.owner ≡ None) → (n : ℕ) → p.owner ≡ Some n → (if b then None else p.owner) ≡ Some n
         keep true none n f = absurd (no_value p.owner n (none refl) f)
@@ -305,15 +230,7 @@ module _ (level : LevelState) (levels : List LevelState) where
         replaced level levels (gone_levels level levels) p q front back s t y s.around.shelf h (changes_drawn true p) h.contexts h.hooks (levels_moved (level ∷ levels) o lo t x s.session.current m a.other h.all) owners (plans_owner_moved s o lo once w h.plans)
         (λ r b d. portal_moved (gone_levels level levels) o lo t x s.session.current m p r owned b (inl is_lo) d.portal) (λ r b k. portal_moved (level ∷ levels) o lo t x s.session.current m p r owned b (inl is_lo) k) own
         (λ n f z. absurd (cc f)) in
-        record {
-          front = front ++ (q ∷ []);
-          goes = record {
-            parts = record (parts_of s) { owners = y; portals = portal_changed p.name withdraws s.session.portals };
-            same = refl;
-            is = refl;
-            ending = subst (λ (ps : List OpenPortal). Ending level levels (gone_levels level levels) (front ++ (q ∷ [])) back (with_parts (record (parts_of s) { owners = y; portals = ps }) s)) (sym (drawn_in p true e front back s h)) r;
-          };
-        }
+        replaced_leads level levels (gone_levels level levels) front back q s (record (parts_of s) { owners = y; portals = portal_changed p.name withdraws s.session.portals }) (drawn_in p true e front back s h) refl r
 
     pub aborted_leads : (p : OpenPortal) (front back : List OpenPortal) (s : Scene) → Ending level levels (gone_levels level levels) front (p ∷ back) s → Leads level levels (gone_levels level levels) back s (portal_aborted deep level.owner p s).scene
     aborted_leads p front back s h = by_created (p.created == deep) refl

@@ -1,9 +1,7 @@
 -- Where a node stands in a forest in which others go or come: what is apart from them keeps its data and its parent.
-use Rattle.std.proofs.Common.{◌≡◌, ◌≢◌, ℕ, ◌+◌, true, false, Some, refl, sym, ap, ◌∙◌, inl, inr, arith}
-use Rattle.std.specs.Prelude.{◌==◌, ◌||◌}
-use Rattle.std.proofs.lemmas.Bool.{cases_Bool, eq-eqb, ne_eqb, eqb-true, both_ways, or_parts}
-use Rattle.forest.specs.Forest.{Forest, Empty, Node, has, times, Once, at, children, is_root, parent_of, put, removed, with_children}
-use Rattle.forest.proofs.Trees.{Apart, apart_of, Here, Below, Beside, where_is, times_none, times_some, has_none, has_some, at_absent, at_some, has_at, put_absent, removed_absent, has_children, times_removed}
+use Rattle.session_rules.proofs.Base.{◌≡◌, ◌≢◌, ℕ, ◌+◌, true, false, Some, refl, sym, ap, ◌∙◌, inl, inr, arith, ◌==◌, cases_Bool, ne_eqb, both_ways, nat_tests}
+use Rattle.session_rules.proofs.Below.{Forest, Empty, Node, has, times, Once, at, children, is_root, parent_of, put, removed, with_children, subtree, changed, sum_of, children_absent}
+use Rattle.forest.proofs.Trees.{Apart, apart_of, times_none, times_some, has_none, has_some, at_absent, at_some, has_at, put_absent, removed_absent, has_children, times_removed, changed_absent}
 use Rattle.forest.proofs.Neighbours.{root_absent}
 
 module _ {A : Type 0} where
@@ -13,70 +11,27 @@ module _ {A : Type 0} where
   -- a node goes with all below it
   pub root_left : (m n : ℕ) (t : Forest A) → m ≢ n → is_root m (removed n t) ≡ is_root m t
   root_left m n Empty ne = refl
-  root_left m n (Node k a below beside) ne =
-      elim (cases_Bool (k == n)) [
-        | inl y ↦ rw (y, ne_eqb k m (λ e. ne (sym e ∙ eqb-true k n y))) (root_left m n beside ne)
-        | inr y ↦ rw (y, root_left m n beside ne) refl
-      ]
+  root_left m n (Node k a below beside) ne = grind (arith, nat_tests, root_left m n beside ne)
 
   pub has_left : (m n : ℕ) (t : Forest A) → Once t → m ≢ n → has m (children n t) ≡ false → has m (removed n t) ≡ has m t
   has_left m n Empty o ne u = refl
   has_left m n (Node k a below beside) o ne u =
       let apart : Apart k below beside = apart_of k a below beside o in
-      elim (cases_Bool (k == n)) [
-        | inl y ↦
-            let w : has n beside ≡ false = rw (eqb-true k n y) at apart.not_beside in
-            let v : has m below ≡ false = rw y at u in
-            rw (y, ne_eqb k m (λ e. ne (sym e ∙ eqb-true k n y)), v, removed_absent n beside w) refl
-        | inr y ↦ elim (cases_Bool (has n below)) [
-          | inl w ↦
-              let v : has m (children n below) ≡ false = rw (y, w) at u in
-              rw (y, removed_absent n beside (apart.apart n w), has_left m n below apart.once_below ne v) refl
-          | inr w ↦
-              let v : has m (children n beside) ≡ false = rw (y, w) at u in
-              rw (y, removed_absent n below w, has_left m n beside apart.once_beside ne v) refl
-        ]
-      ]
+      grind (arith, nat_tests, removed_absent n below, removed_absent n beside, apart.apart n, has_left m n below apart.once_below ne, has_left m n beside apart.once_beside ne)
 
   pub parent_left : (m n : ℕ) (t : Forest A) → Once t → m ≢ n → has m (children n t) ≡ false → parent_of m (removed n t) ≡ parent_of m t
   parent_left m n Empty o ne u = refl
   parent_left m n (Node k a below beside) o ne u =
       let apart : Apart k below beside = apart_of k a below beside o in
-      elim (cases_Bool (k == n)) [
-        | inl y ↦
-            let w : has n beside ≡ false = rw (eqb-true k n y) at apart.not_beside in
-            let v : has m below ≡ false = rw y at u in
-            rw (y, root_absent m below v, v, removed_absent n beside w) refl
-        | inr y ↦ elim (cases_Bool (has n below)) [
-          | inl w ↦
-              let v : has m (children n below) ≡ false = rw (y, w) at u in
-              rw (
-                y,
-                removed_absent n beside (apart.apart n w),
-                root_left m n below ne,
-                has_left m n below apart.once_below ne v,
-                parent_left m n below apart.once_below ne v,
-              ) refl
-          | inr w ↦
-              let v : has m (children n beside) ≡ false = rw (y, w) at u in
-              rw (y, removed_absent n below w, parent_left m n beside apart.once_beside ne v) refl
-        ]
-      ]
+      grind (arith, nat_tests, root_absent m below, root_left m n below ne, removed_absent n below, removed_absent n beside, apart.apart n, has_left m n below apart.once_below ne, parent_left m n below apart.once_below ne, parent_left m n beside apart.once_beside ne)
 
   pub once_left : (n : ℕ) (t : Forest A) → Once t → Once (removed n t)
-  once_left n t o =
-      elim (cases_Bool (has n t)) [
-        | inl h ↦ record { once = λ m. omega (arith, o.once m, times_removed m n t o h) }
-        | inr h ↦ rw (removed_absent n t h) o
-      ]
+  once_left n t o = grind (arith, nat_tests, times_removed, removed_absent n t)
 
   -- all below a node goes
   pub emptied_absent : (n : ℕ) (new t : Forest A) → has n t ≡ false → with_children n new t ≡ t
   emptied_absent n new Empty h = refl
-  emptied_absent n new (Node k a below beside) h =
-      let p = or_parts (k == n) (has n below || has n beside) h in
-      let q = or_parts (has n below) (has n beside) p.1 in
-      rw (p.0, emptied_absent n new below q.0, emptied_absent n new beside q.1) refl
+  emptied_absent n new (Node k a below beside) h = grind (arith, emptied_absent n new below, emptied_absent n new beside)
 
   pub root_emptied : (m n : ℕ) (t : Forest A) → is_root m (with_children n Empty t) ≡ is_root m t
   root_emptied m n Empty = refl
@@ -86,15 +41,7 @@ module _ {A : Type 0} where
   times_emptied m n Empty o = refl
   times_emptied m n (Node k a below beside) o =
       let apart : Apart k below beside = apart_of k a below beside o in
-      elim (cases_Bool (k == n)) [
-        | inl y ↦
-            let w : has n beside ≡ false = rw (eqb-true k n y) at apart.not_beside in
-            rw (y, emptied_absent n Empty beside w) (omega arith)
-        | inr y ↦ elim (cases_Bool (has n below)) [
-          | inl w ↦ rw (y, w, emptied_absent n Empty beside (apart.apart n w)) (omega (arith, times_emptied m n below apart.once_below))
-          | inr w ↦ rw (y, w, emptied_absent n Empty below w) (omega (arith, times_emptied m n beside apart.once_beside))
-        ]
-      ]
+      grind (arith, nat_tests, emptied_absent n Empty below, emptied_absent n Empty beside, apart.apart n, times_emptied m n below apart.once_below, times_emptied m n beside apart.once_beside)
 
   pub once_emptied : (n : ℕ) (t : Forest A) → Once t → Once (with_children n Empty t)
   once_emptied n t o = record { once = λ m. omega (arith, o.once m, times_emptied m n t o) }
@@ -110,45 +57,13 @@ module _ {A : Type 0} where
   at_emptied m n Empty o u = refl
   at_emptied m n (Node k a below beside) o u =
       let apart : Apart k below beside = apart_of k a below beside o in
-      elim (cases_Bool (k == n)) [
-        | inl y ↦
-            let w : has n beside ≡ false = rw (eqb-true k n y) at apart.not_beside in
-            let v : has m below ≡ false = rw y at u in
-            rw (y, at_absent m below v, emptied_absent n Empty beside w) refl
-        | inr y ↦ elim (cases_Bool (has n below)) [
-          | inl w ↦
-              let v : has m (children n below) ≡ false = rw (y, w) at u in
-              rw (y, emptied_absent n Empty beside (apart.apart n w), at_emptied m n below apart.once_below v) refl
-          | inr w ↦
-              let v : has m (children n beside) ≡ false = rw (y, w) at u in
-              rw (y, emptied_absent n Empty below w, at_emptied m n beside apart.once_beside v) refl
-        ]
-      ]
+      grind (arith, nat_tests, at_absent m below, emptied_absent n Empty below, emptied_absent n Empty beside, apart.apart n, at_emptied m n below apart.once_below, at_emptied m n beside apart.once_beside)
 
   pub parent_emptied : (m n : ℕ) (t : Forest A) → Once t → has m (children n t) ≡ false → parent_of m (with_children n Empty t) ≡ parent_of m t
   parent_emptied m n Empty o u = refl
   parent_emptied m n (Node k a below beside) o u =
       let apart : Apart k below beside = apart_of k a below beside o in
-      elim (cases_Bool (k == n)) [
-        | inl y ↦
-            let w : has n beside ≡ false = rw (eqb-true k n y) at apart.not_beside in
-            let v : has m below ≡ false = rw y at u in
-            rw (y, root_absent m below v, v, emptied_absent n Empty beside w) refl
-        | inr y ↦ elim (cases_Bool (has n below)) [
-          | inl w ↦
-              let v : has m (children n below) ≡ false = rw (y, w) at u in
-              rw (
-                y,
-                emptied_absent n Empty beside (apart.apart n w),
-                root_emptied m n below,
-                has_emptied m n below apart.once_below v,
-                parent_emptied m n below apart.once_below v,
-              ) refl
-          | inr w ↦
-              let v : has m (children n beside) ≡ false = rw (y, w) at u in
-              rw (y, emptied_absent n Empty below w, parent_emptied m n beside apart.once_beside v) refl
-        ]
-      ]
+      grind (arith, nat_tests, root_absent m below, emptied_absent n Empty below, emptied_absent n Empty beside, apart.apart n, root_emptied m n below, has_emptied m n below apart.once_below, parent_emptied m n below apart.once_below, parent_emptied m n beside apart.once_beside)
 
   -- a node comes, with what is below it
   pub root_put : (m p n : ℕ) (a : A) (sub t : Forest A) → is_root m (put p n a sub t) ≡ is_root m t
@@ -157,122 +72,80 @@ module _ {A : Type 0} where
 
   pub has_put_other : (m p n : ℕ) (a : A) (sub t : Forest A) → m ≢ n → has m sub ≡ false → has m (put p n a sub t) ≡ has m t
   has_put_other m p n a sub Empty ne u = refl
-  has_put_other m p n a sub (Node k b below beside) ne u =
-      elim (cases_Bool (k == p)) [
-        | inl y ↦ rw (y, ne_eqb n m (λ e. ne (sym e)), u, has_put_other m p n a sub beside ne u) refl
-        | inr y ↦ rw (y, has_put_other m p n a sub below ne u, has_put_other m p n a sub beside ne u) refl
-      ]
+  has_put_other m p n a sub (Node k b below beside) ne u = grind (arith, nat_tests, has_put_other m p n a sub below ne u, has_put_other m p n a sub beside ne u)
 
   pub at_put_other : (m p n : ℕ) (a : A) (sub t : Forest A) → m ≢ n → has m sub ≡ false → at m (put p n a sub t) ≡ at m t
   at_put_other m p n a sub Empty ne u = refl
-  at_put_other m p n a sub (Node k b below beside) ne u =
-      elim (cases_Bool (k == p)) [
-        | inl y ↦ rw (y, ne_eqb n m (λ e. ne (sym e)), at_absent m sub u, at_put_other m p n a sub beside ne u) refl
-        | inr y ↦ rw (y, at_put_other m p n a sub below ne u, at_put_other m p n a sub beside ne u) refl
-      ]
+  at_put_other m p n a sub (Node k b below beside) ne u = grind (arith, nat_tests, at_absent m sub u, at_put_other m p n a sub below ne u, at_put_other m p n a sub beside ne u)
 
   pub parent_put_other : (m p n : ℕ) (a : A) (sub t : Forest A) → m ≢ n → has m sub ≡ false → parent_of m (put p n a sub t) ≡ parent_of m t
   parent_put_other m p n a sub Empty ne u = refl
   parent_put_other m p n a sub (Node k b below beside) ne u =
-      elim (cases_Bool (k == p)) [
-        | inl y ↦
-            rw (
-              y,
-              ne_eqb n m (λ e. ne (sym e)),
-              root_absent m sub u,
-              u,
-              parent_put_other m p n a sub beside ne u,
-            ) refl
-        | inr y ↦
-            rw (
-              y,
-              root_put m p n a sub below,
-              has_put_other m p n a sub below ne u,
-              parent_put_other m p n a sub below ne u,
-              parent_put_other m p n a sub beside ne u,
-            ) refl
-      ]
+      grind (arith, nat_tests, root_absent m sub u, root_put m p n a sub below, has_put_other m p n a sub below ne u, parent_put_other m p n a sub below ne u, parent_put_other m p n a sub beside ne u)
 
   -- the node that comes, and what is below it
   pub at_put : (p n : ℕ) (a : A) (sub t : Forest A) → Once t → has p t ≡ true → has n t ≡ false → at n (put p n a sub t) ≡ Some a
   at_put p n a sub Empty o h u = absurd (cc h)
   at_put p n a sub (Node k b below beside) o h u =
       let apart : Apart k below beside = apart_of k b below beside o in
-      let out = or_parts (k == n) (has n below || has n beside) u in
-      let rest = or_parts (has n below) (has n beside) out.1 in
-      elim (where_is p k b below beside o h) [
-        | Here same y v w ↦ rw (out.0, y, eq-eqb n n refl) refl
-        | Below apart2 y v w ↦ rw (out.0, y, at_put p n a sub below apart.once_below v rest.0) refl
-        | Beside apart2 y v w ↦
-            rw (out.0, y, put_absent p n a sub below v, at_absent n below rest.0, at_put p n a sub beside apart.once_beside w rest.1) refl
-      ]
+      grind (arith, nat_tests, apart.apart p, put_absent p n a sub below, at_absent n below, at_put p n a sub below apart.once_below, at_put p n a sub beside apart.once_beside)
 
   pub children_put : (p n : ℕ) (a : A) (sub t : Forest A) → Once t → has p t ≡ true → has n t ≡ false → children n (put p n a sub t) ≡ sub
   children_put p n a sub Empty o h u = absurd (cc h)
   children_put p n a sub (Node k b below beside) o h u =
       let apart : Apart k below beside = apart_of k b below beside o in
-      let out = or_parts (k == n) (has n below || has n beside) u in
-      let rest = or_parts (has n below) (has n beside) out.1 in
-      elim (where_is p k b below beside o h) [
-        | Here same y v w ↦ rw (out.0, y, eq-eqb n n refl) refl
-        | Below apart2 y v w ↦
-            let there : has n (put p n a sub below) ≡ true = has_at n (put p n a sub below) a (at_put p n a sub below apart.once_below v rest.0) in
-            rw (out.0, y, there) (children_put p n a sub below apart.once_below v rest.0)
-        | Beside apart2 y v w ↦
-            rw (out.0, y, put_absent p n a sub below v, rest.0) (children_put p n a sub beside apart.once_beside w rest.1)
-      ]
+      grind (arith, nat_tests, apart.apart p, put_absent p n a sub below, has_at n (put p n a sub below) a, at_put p n a sub below apart.once_below, children_put p n a sub below apart.once_below, children_put p n a sub beside apart.once_beside)
 
   pub parent_put : (p n : ℕ) (a : A) (sub t : Forest A) → Once t → has p t ≡ true → has n t ≡ false → parent_of n (put p n a sub t) ≡ Some p
   parent_put p n a sub Empty o h u = absurd (cc h)
   parent_put p n a sub (Node k b below beside) o h u =
       let apart : Apart k below beside = apart_of k b below beside o in
-      let out = or_parts (k == n) (has n below || has n beside) u in
-      let rest = or_parts (has n below) (has n beside) out.1 in
-      elim (where_is p k b below beside o h) [
-        | Here same y v w ↦ rw (y, eq-eqb n n refl) (ap Some same)
-        | Below apart2 y v w ↦
-            let there : has n (put p n a sub below) ≡ true = has_at n (put p n a sub below) a (at_put p n a sub below apart.once_below v rest.0) in
-            rw (y, root_put n p n a sub below, root_absent n below rest.0, there) (parent_put p n a sub below apart.once_below v rest.0)
-        | Beside apart2 y v w ↦
-            rw (y, put_absent p n a sub below v, root_absent n below rest.0, rest.0) (parent_put p n a sub beside apart.once_beside w rest.1)
-      ]
+      grind (arith, nat_tests, apart.apart p, put_absent p n a sub below, root_put n p n a sub below, root_absent n below, has_at n (put p n a sub below) a, at_put p n a sub below apart.once_below, parent_put p n a sub below apart.once_below, parent_put p n a sub beside apart.once_beside)
 
   -- what isn't below a node stays where that one goes
   pub at_left : (m n : ℕ) (t : Forest A) → Once t → m ≢ n → has m (children n t) ≡ false → at m (removed n t) ≡ at m t
   at_left m n Empty o ne u = refl
   at_left m n (Node k a below beside) o ne u =
       let apart : Apart k below beside = apart_of k a below beside o in
-      elim (cases_Bool (k == n)) [
-        | inl y ↦
-            let w : has n beside ≡ false = rw (eqb-true k n y) at apart.not_beside in
-            let v : has m below ≡ false = rw y at u in
-            rw (y, ne_eqb k m (λ e. ne (sym e ∙ eqb-true k n y)), at_absent m below v, removed_absent n beside w) refl
-        | inr y ↦ elim (cases_Bool (has n below)) [
-          | inl w ↦
-              let v : has m (children n below) ≡ false = rw (y, w) at u in
-              rw (y, removed_absent n beside (apart.apart n w), at_left m n below apart.once_below ne v) refl
-          | inr w ↦
-              let v : has m (children n beside) ≡ false = rw (y, w) at u in
-              rw (y, removed_absent n below w, at_left m n beside apart.once_beside ne v) refl
-        ]
-      ]
+      grind (arith, nat_tests, at_absent m below, removed_absent n below, removed_absent n beside, apart.apart n, at_left m n below apart.once_below ne, at_left m n beside apart.once_beside ne)
 
   -- the data of what is below a node
   pub at_children : (m n : ℕ) (t : Forest A) → Once t → has m (children n t) ≡ true → at m (children n t) ≡ at m t
   at_children m n Empty o h = refl
   at_children m n (Node k a below beside) o h =
       let apart : Apart k below beside = apart_of k a below beside o in
-      let low : has m below ≡ true → at m below ≡ at m (Node k a below beside) =
-      λ u. let s = at_some m below u in rw (other k m below u apart.not_below, s.1) refl in
-      elim (cases_Bool (k == n)) [
-        | inl y ↦ let u : has m below ≡ true = rw y at h in rw y (low u)
-        | inr y ↦ elim (cases_Bool (has n below)) [
-          | inl w ↦
-              let u : has m (children n below) ≡ true = rw (y, w) at h in
-              rw (y, w) (at_children m n below apart.once_below u ∙ low (has_children m n below apart.once_below u))
-          | inr w ↦
-              let u : has m (children n beside) ≡ true = rw (y, w) at h in
-              let v : has m beside ≡ true = has_children m n beside apart.once_beside u in
-              rw (y, w, other k m beside v apart.not_beside, at_absent m below (apart.apart_back m v)) (at_children m n beside apart.once_beside u)
-        ]
-      ]
+      grind (arith, nat_tests, apart.apart_back m, at_absent m below, at_some m below, has_children m n below apart.once_below, has_children m n beside apart.once_beside, at_children m n below apart.once_below, at_children m n beside apart.once_beside)
+
+module _ {A : Type 0} (g : A → ℕ) where
+  sum_removed : (n : ℕ) (a : A) (t : Forest A) → Once t → at n t ≡ Some a → sum_of g (removed n t) + (g a + sum_of g (children n t)) ≡ sum_of g t
+  sum_removed n a Empty o q = absurd (cc q)
+  sum_removed n a (Node k b below beside) o q =
+      let apart : Apart k below beside = apart_of k b below beside o in
+      grind (arith, nat_tests, apart.apart n, removed_absent n below, removed_absent n beside, at_some n below, at_absent n below, sum_removed n a below apart.once_below, sum_removed n a beside apart.once_beside)
+
+  -- what goes and what is left make up the whole
+  pub sum_left : (n : ℕ) (t : Forest A) → Once t → sum_of g (removed n t) + sum_of g (subtree n t) ≡ sum_of g t
+  sum_left n t o = grind (arith, at_some n t, removed_absent n t, children_absent n t, λ (a : A). sum_removed n a t o)
+
+  pub sum_emptied : (n : ℕ) (t : Forest A) → Once t → sum_of g (with_children n Empty t) + sum_of g (children n t) ≡ sum_of g t
+  sum_emptied n Empty o = refl
+  sum_emptied n (Node k a below beside) o =
+      let apart : Apart k below beside = apart_of k a below beside o in
+      grind (arith, nat_tests, emptied_absent n Empty below, emptied_absent n Empty beside, apart.apart n, sum_emptied n below apart.once_below, sum_emptied n beside apart.once_beside)
+
+  pub sum_put : (p n : ℕ) (a : A) (sub t : Forest A) → Once t → has p t ≡ true → sum_of g (put p n a sub t) ≡ sum_of g t + (g a + sum_of g sub)
+  sum_put p n a sub Empty o h = absurd (cc h)
+  sum_put p n a sub (Node k b below beside) o h =
+      let apart : Apart k below beside = apart_of k b below beside o in
+      grind (arith, nat_tests, apart.apart p, put_absent p n a sub below, put_absent p n a sub beside, sum_put p n a sub below apart.once_below, sum_put p n a sub beside apart.once_beside)
+
+  pub sum_changed : (n : ℕ) (f : A → A) (a : A) (t : Forest A) → Once t → at n t ≡ Some a → sum_of g (changed n f t) + g a ≡ sum_of g t + g (f a)
+  sum_changed n f a Empty o h = absurd (cc h)
+  sum_changed n f a (Node k b below beside) o h =
+      let apart : Apart k below beside = apart_of k b below beside o in
+      grind (arith, nat_tests, apart.apart n, at_some n below, at_absent n below, changed_absent n f below, changed_absent n f beside, sum_changed n f a below apart.once_below, sum_changed n f a beside apart.once_beside)
+
+  -- a change that leaves the summand
+  pub sum_same : (n : ℕ) (f : A → A) (t : Forest A) → ((a : A) → g (f a) ≡ g a) → sum_of g (changed n f t) ≡ sum_of g t
+  sum_same n f Empty same = refl
+  sum_same n f (Node k a below beside) same = grind (arith, same a, sum_same n f below same, sum_same n f beside same)

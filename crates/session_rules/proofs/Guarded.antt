@@ -1,10 +1,7 @@
 -- What guarded forests with one root keep, and what stays in them where an unprotected node goes.
-use Rattle.std.proofs.Common.{◌≡◌, ◌≢◌, ℕ, Bool, true, false, Option, Some, None, refl, sym, ◌∙◌, inl, inr}
-use Rattle.std.specs.Prelude.{◌==◌}
-use Rattle.std.specs.Option.{option_map_or}
-use Rattle.std.proofs.lemmas.Bool.{cases_Bool, eq-eqb, ne_eqb, both_ways, false_from_ne_true}
-use Rattle.forest.specs.Forest.{Forest, Empty, Node, either, has, Once, at, children, is_root, parent_of, put, removed, changed, moved, with_children, AllNodes}
-use Rattle.forest.proofs.Trees.{Apart, apart_of, Here, Below, Beside, where_is, at_absent, at_some, has_at, put_absent, children_absent}
+use Rattle.session_rules.proofs.Base.{◌≡◌, ◌≢◌, ℕ, Bool, true, false, Some, None, refl, sym, ◌∙◌, inl, inr, option_map_or, cases_Bool, eq-eqb, ne_eqb, both_ways, false_from_ne_true, arith}
+use Rattle.session_rules.proofs.Below.{Apart, apart_of, at_absent, at_some, has_at, put_absent, children_absent}
+use Rattle.forest.specs.Forest.{Forest, Empty, Node, has, Once, at, children, is_root, parent_of, put, removed, changed, moved, with_children, AllNodes}
 use Rattle.forest.proofs.Neighbours.{parent_root}
 use Rattle.session_rules.specs.Guarded.{AreGuarded, IsRooted}
 use Rattle.session_rules.proofs.Forests.{at_children}
@@ -12,69 +9,30 @@ use Rattle.session_rules.proofs.Forests.{at_children}
 module _ {A : Type 0} (P : A → Type 0) where
   pub all_removed : (n : ℕ) (t : Forest A) → AllNodes P t → AllNodes P (removed n t)
   all_removed n Empty h = tt
-  all_removed n (Node k a below beside) h =
-      elim (cases_Bool (k == n)) [
-        | inl y ↦ rw y (all_removed n beside h.2)
-        | inr y ↦ rw y (h.0, all_removed n below h.1, all_removed n beside h.2)
-      ]
+  all_removed n (Node k a below beside) h = grind (arith, all_removed n below h.1, all_removed n beside h.2)
 
   pub all_emptied : (n : ℕ) (t : Forest A) → AllNodes P t → AllNodes P (with_children n Empty t)
   all_emptied n Empty h = tt
-  all_emptied n (Node k a below beside) h =
-      elim (cases_Bool (k == n)) [
-        | inl y ↦ rw y (h.0, tt, all_emptied n beside h.2)
-        | inr y ↦ rw y (h.0, all_emptied n below h.1, all_emptied n beside h.2)
-      ]
+  all_emptied n (Node k a below beside) h = grind (arith, all_emptied n below h.1, all_emptied n beside h.2)
 
   pub all_put : (p n : ℕ) (a : A) (sub t : Forest A) → P a → AllNodes P sub → AllNodes P t → AllNodes P (put p n a sub t)
   all_put p n a sub Empty x s h = tt
-  all_put p n a sub (Node k b below beside) x s h =
-      elim (cases_Bool (k == p)) [
-        | inl y ↦ rw y (h.0, (x, s, h.1), all_put p n a sub beside x s h.2)
-        | inr y ↦ rw y (h.0, all_put p n a sub below x s h.1, all_put p n a sub beside x s h.2)
-      ]
+  all_put p n a sub (Node k b below beside) x s h = grind (arith, all_put p n a sub below x s h.1, all_put p n a sub beside x s h.2)
 
   pub all_changed : (n : ℕ) (f : A → A) (t : Forest A) → ((a : A) → P a → P (f a)) → AllNodes P t → AllNodes P (changed n f t)
   all_changed n f Empty keeps h = tt
-  all_changed n f (Node k a below beside) keeps h =
-      elim (cases_Bool (k == n)) [
-        | inl y ↦ rw y (keeps a h.0, all_changed n f below keeps h.1, all_changed n f beside keeps h.2)
-        | inr y ↦ rw y (h.0, all_changed n f below keeps h.1, all_changed n f beside keeps h.2)
-      ]
+  all_changed n f (Node k a below beside) keeps h = grind (arith, keeps a h.0, all_changed n f below keeps h.1, all_changed n f beside keeps h.2)
 
   pub all_children : (n : ℕ) (t : Forest A) → AllNodes P t → AllNodes P (children n t)
   all_children n Empty h = tt
-  all_children n (Node k a below beside) h =
-      elim (cases_Bool (k == n)) [
-        | inl y ↦ rw y h.1
-        | inr y ↦ elim (cases_Bool (has n below)) [
-          | inl u ↦ rw (y, u) (all_children n below h.1)
-          | inr u ↦ rw (y, u) (all_children n beside h.2)
-        ]
-      ]
+  all_children n (Node k a below beside) h = grind (arith, all_children n below h.1, all_children n beside h.2)
 
   pub all_at : (n : ℕ) (t : Forest A) (a : A) → AllNodes P t → at n t ≡ Some a → P a
   all_at n Empty a h e = absurd (cc e)
-  all_at n (Node k b below beside) a h e =
-      elim (cases_Bool (k == n)) [
-        | inl y ↦ let same : b ≡ a = let w : Some b ≡ Some a = rw y at e in cc w in rw (← same) h.0
-        | inr y ↦ elim (cases_Bool (has n below)) [
-          | inl u ↦
-              let w = at_some n below u in
-              let r : at n below ≡ Some a = let z : either (at n below) (at n beside) ≡ Some a = rw y at e in w.1 ∙ (rw w.1 at z) in
-              all_at n below a h.1 r
-          | inr u ↦
-              let r : at n beside ≡ Some a = rw (y, at_absent n below u) at e in
-              all_at n beside a h.2 r
-        ]
-      ]
+  all_at n (Node k b below beside) a h e = grind (arith, at_some n below, at_absent n below, all_at n below a h.1, all_at n beside a h.2)
 
   pub all_moved : (n p : ℕ) (t : Forest A) → AllNodes P t → AllNodes P (moved n p t)
-  all_moved n p t h = go (at n t) refl
-    where
-      go : (o : Option A) → at n t ≡ o → AllNodes P (option_map_or (λ a. put p n a (children n t) (removed n t)) o t)
-      go None e = h
-      go (Some a) e = all_put p n a (children n t) (removed n t) (all_at n t a h e) (all_children n t h) (all_removed n t h)
+  all_moved n p t h = grind (arith, all_put p n, all_at n t, all_children n t h, all_removed n t h)
 
 module _ {A : Type 0} (own : A → Bool) where
   abbrev pub Free : A → Type 0
@@ -90,97 +48,39 @@ module _ {A : Type 0} (own : A → Bool) where
 
   pub guarded_removed : (n : ℕ) (t : Forest A) → AreGuarded own t → AreGuarded own (removed n t)
   guarded_removed n Empty h = tt
-  guarded_removed n (Node k a below beside) h =
-      elim (cases_Bool (k == n)) [
-        | inl y ↦ rw y (guarded_removed n beside h.2)
-        | inr y ↦ rw y (λ f. all_removed Free n below (h.0 f), guarded_removed n below h.1, guarded_removed n beside h.2)
-      ]
+  guarded_removed n (Node k a below beside) h = grind (arith, all_removed Free n below, guarded_removed n below h.1, guarded_removed n beside h.2)
 
   pub guarded_emptied : (n : ℕ) (t : Forest A) → AreGuarded own t → AreGuarded own (with_children n Empty t)
   guarded_emptied n Empty h = tt
-  guarded_emptied n (Node k a below beside) h =
-      elim (cases_Bool (k == n)) [
-        | inl y ↦ rw y (λ _. tt, tt, guarded_emptied n beside h.2)
-        | inr y ↦ rw y (λ f. all_emptied Free n below (h.0 f), guarded_emptied n below h.1, guarded_emptied n beside h.2)
-      ]
+  guarded_emptied n (Node k a below beside) h = grind (arith, all_emptied Free n below, guarded_emptied n below h.1, guarded_emptied n beside h.2)
 
   pub guarded_put : (p n : ℕ) (a : A) (sub t : Forest A) → own a ≡ false → AllNodes Free sub → AreGuarded own t → AreGuarded own (put p n a sub t)
   guarded_put p n a sub Empty x s h = tt
-  guarded_put p n a sub (Node k b below beside) x s h =
-      elim (cases_Bool (k == p)) [
-        | inl y ↦ rw y (λ f. (x, s, h.0 f), (λ _. s, free_guarded sub s, h.1), guarded_put p n a sub beside x s h.2)
-        | inr y ↦ rw y (λ f. all_put Free p n a sub below x s (h.0 f), guarded_put p n a sub below x s h.1, guarded_put p n a sub beside x s h.2)
-      ]
+  guarded_put p n a sub (Node k b below beside) x s h = grind (arith, free_guarded sub s, all_put Free p n a sub below x s, guarded_put p n a sub below x s h.1, guarded_put p n a sub beside x s h.2)
 
   pub guarded_changed : (n : ℕ) (f : A → A) (t : Forest A) → ((a : A) → own (f a) ≡ own a) → AreGuarded own t → AreGuarded own (changed n f t)
   guarded_changed n f Empty keeps h = tt
   guarded_changed n f (Node k a below beside) keeps h =
-      elim (cases_Bool (k == n)) [
-        | inl y ↦ rw y (
-          λ e. all_changed Free n f below (λ b r. keeps b ∙ r) (h.0 (sym (keeps a) ∙ e)),
-          guarded_changed n f below keeps h.1,
-          guarded_changed n f beside keeps h.2,
-        )
-        | inr y ↦ rw y (λ e. all_changed Free n f below (λ b r. keeps b ∙ r) (h.0 e), guarded_changed n f below keeps h.1, guarded_changed n f beside keeps h.2)
-      ]
+      grind (arith, keeps a, all_changed Free n f below (λ b r. keeps b ∙ r), guarded_changed n f below keeps h.1, guarded_changed n f beside keeps h.2)
 
   -- where no node of a forest is protected, none that is protected stands in it
   pub free_lacks : (m : ℕ) (t : Forest A) → AllNodes Free t → is_own m t ≡ true → ⊥
-  free_lacks m t h e = go (at m t) refl e
-    where
-      go : (o : Option A) → at m t ≡ o → option_map_or own o false ≡ true → ⊥
-      go None q r = cc r
-      go (Some a) q r = both_ways (own a) (all_at Free m t a h q) r
+  free_lacks m t h e = grind (arith, all_at Free m t)
 
   pub own_has : (m : ℕ) (t : Forest A) → is_own m t ≡ true → has m t ≡ true
-  own_has m t e = elim (cases_Bool (has m t)) [
-    | inl y ↦ y
-    | inr y ↦ let none : option_map_or own None false ≡ true = rw (at_absent m t y) at e in absurd (cc none)
-  ]
+  own_has m t e = grind (arith, at_absent m t)
 
   -- A protected node comes below a protected one.
   pub guarded_put_own : (p n : ℕ) (a : A) (t : Forest A) → Once t → is_own p t ≡ true → AreGuarded own t → AreGuarded own (put p n a Empty t)
   guarded_put_own p n a Empty o e h = tt
   guarded_put_own p n a (Node k b below beside) o e h =
       let apart : Apart k below beside = apart_of k b below beside o in
-      elim (where_is p k b below beside o (own_has p (Node k b below beside) e)) [
-        | Here same y u v ↦
-            let r : own b ≡ true = rw y at e in
-            rw (y, put_absent p n a Empty beside v) (λ f. absurd (both_ways (own b) f r), (λ _. tt, tt, h.1), h.2)
-        | Below ne y u v ↦
-            let r : is_own p below ≡ true = own_below below beside y u e in
-            rw (y, put_absent p n a Empty beside v) (λ f. absurd (free_lacks p below (h.0 f) r), guarded_put_own p n a below apart.once_below r h.1, h.2)
-        | Beside ne y u v ↦
-            let r : is_own p beside ≡ true = rw (y, at_absent p below u) at e in
-            rw (y, put_absent p n a Empty below u) (h.0, h.1, guarded_put_own p n a beside apart.once_beside r h.2)
-      ]
-    where
-      own_below : (below beside : Forest A) → (k == p) ≡ false → has p below ≡ true → is_own p (Node k b below beside) ≡ true → is_own p below ≡ true
-      own_below below beside y u e =
-          let w = at_some p below u in
-          let r : option_map_or own (either (at p below) (at p beside)) false ≡ true = rw y at e in
-          let s : own w.0 ≡ true = rw w.1 at r in
-          rw w.1 s
+      grind (arith, apart.apart p, at_some p below, at_absent p below, own_has p (Node k b below beside) e, put_absent p n a Empty below, put_absent p n a Empty beside, free_lacks p below, guarded_put_own p n a below apart.once_below, guarded_put_own p n a beside apart.once_beside)
 
   -- all below an unprotected node is unprotected
   pub below_free : (n : ℕ) (t : Forest A) → AreGuarded own t → has n t ≡ true → is_own n t ≡ false → AllNodes Free (children n t)
   below_free n Empty h u e = tt
-  below_free n (Node k a below beside) h u e =
-      elim (cases_Bool (k == n)) [
-        | inl y ↦ let r : own a ≡ false = rw y at e in rw y (h.0 r)
-        | inr y ↦ elim (cases_Bool (has n below)) [
-          | inl w ↦
-              let s = at_some n below w in
-              let r : option_map_or own (either (at n below) (at n beside)) false ≡ false = rw y at e in
-              let q : own s.0 ≡ false = rw s.1 at r in
-              let x : is_own n below ≡ false = rw s.1 q in
-              rw (y, w) (below_free n below h.1 w x)
-          | inr w ↦
-              let x : is_own n beside ≡ false = rw (y, at_absent n below w) at e in
-              let v : has n beside ≡ true = rw (y, w) at u in
-              rw (y, w) (below_free n beside h.2 v x)
-        ]
-      ]
+  below_free n (Node k a below beside) h u e = grind (arith, at_some n below, at_absent n below, below_free n below h.1, below_free n beside h.2)
 
   -- A protected node isn't an unprotected one, nor below it.
   pub own_apart : (m n : ℕ) (t : Forest A) → Once t → AreGuarded own t → is_own n t ≡ false → is_own m t ≡ true → (m ≢ n) × (has m (children n t) ≡ false)
@@ -211,27 +111,13 @@ module _ {A : Type 0} (own : A → Bool) where
 
   pub rooted_changed : (top n : ℕ) (f : A → A) (t : Forest A) → ((a : A) → own (f a) ≡ own a) → IsRooted own top t → IsRooted own top (changed n f t)
   rooted_changed top n f Empty keeps h = h
-  rooted_changed top n f (Node k a below beside) keeps h =
-      elim (cases_Bool (k == n)) [
-        | inl y ↦ rw (y, h.2) (h.0, keeps a ∙ h.1, refl)
-        | inr y ↦ rw (y, h.2) (h.0, h.1, refl)
-      ]
+  rooted_changed top n f (Node k a below beside) keeps h = grind (arith, keeps a)
 
   pub rooted_moved : (top n p : ℕ) (t : Forest A) → n ≢ top → IsRooted own top t → IsRooted own top (moved n p t)
-  rooted_moved top n p t ne h = go (at n t) refl
-    where
-      go : (o : Option A) → at n t ≡ o → IsRooted own top (option_map_or (λ a. put p n a (children n t) (removed n t)) o t)
-      go None e = h
-      go (Some a) e = rooted_put top p n a (children n t) (removed n t) (rooted_removed top n t ne h)
+  rooted_moved top n p t ne h = grind (arith, rooted_put top p n, rooted_removed top n t ne h)
 
   pub guarded_moved : (n p : ℕ) (t : Forest A) → AreGuarded own t → is_own n t ≡ false → AreGuarded own (moved n p t)
-  guarded_moved n p t h e = go (at n t) refl
-    where
-      go : (o : Option A) → at n t ≡ o → AreGuarded own (option_map_or (λ a. put p n a (children n t) (removed n t)) o t)
-      go None q = h
-      go (Some a) q =
-          let x : own a ≡ false = rw q at e in
-          guarded_put p n a (children n t) (removed n t) x (below_free n t h (has_at n t a q) e) (guarded_removed n t h)
+  guarded_moved n p t h e = grind (arith, guarded_put p n, below_free n t h, has_at n t, guarded_removed n t h)
 
   -- what is known of that root
   pub top_own : (top : ℕ) (t : Forest A) → IsRooted own top t → is_own top t ≡ true

@@ -1,23 +1,12 @@
 -- How often owners hold a kind and key, behind each change of them, and what a phase of a release gives back of it.
-use Rattle.std.proofs.Common.{◌≡◌, ℕ, ◌+◌, find, Bool, true, false, Option, Some, None, List, [], ◌∷◌, ◌++◌, refl, ap, ◌∙◌, arith, inl, inr}
-use Rattle.std.specs.Prelude.{◌==◌, ◌||◌, if◌then◌else◌}
+use Rattle.session_rules.proofs.Base.{◌≡◌, ℕ, ◌+◌, find, Bool, true, false, Option, Some, None, List, [], ◌∷◌, ◌++◌, refl, ap, arith, inl, inr, ◌==◌, ◌||◌, if◌then◌else◌, cases_Bool, or_parts, nat_tests}
+use Rattle.session_rules.proofs.Below.{Item, KindId, Phase, BeforeLocks, Locks, AfterLocks, Empty, Node, Once, has, at, children, moved, parent_of, put, removed, AllNodes, all_changed, swept, Apart, Moves, apart_of, at_some, at_absent, removed_absent, KindTable, release_order, Step, GivesBack, lock_step, own_steps, release_steps, releases_of, steps_below, top_locks}
 use Rattle.std.proofs.lemmas.Grind.{common_steps}
-use Rattle.std.proofs.lemmas.Bool.{cases_Bool, eqb-true, or_parts}
-use Rattle.pgs_step.specs.declared.ids.Item.{Item}
-use Rattle.pgs_step.specs.declared.ids.KindId.{KindId}
-use Rattle.pgs_step.specs.declared.ids.Phase.{Phase}
-use Rattle.pgs_step.specs.declared.ids.Phase.TheVariants.{BeforeLocks, Locks, AfterLocks}
-use Rattle.forest.specs.Forest.{Empty, Node, Once, either, has, at, children, moved, parent_of, put, removed, AllNodes}
-use Rattle.forest.specs.Walk.{all_changed, swept}
-use Rattle.forest.proofs.Trees.{Apart, Moves, apart_of, at_some, at_absent, removed_absent}
-use Rattle.owner_kinds.specs.KindTable.{KindTable}
-use Rattle.owner_items.specs.ItemList.{is_of, uses, without_newest}
-use Rattle.owner_items.specs.Next.{release_order}
+use Rattle.owner_items.specs.ItemList.{is_of, uses}
 use Rattle.owner_items.proofs.Uses.{count-without}
 use Rattle.owner_core.specs.Owners.{Owner, OwnerTree, AllAt, HoldsNothing, created, forgotten, held, remembered}
 use Rattle.owner_core.specs.Released.{left_of, own_released, released}
 use Rattle.owner_core.specs.Sound.{total}
-use Rattle.owner_core.specs.Steps.{Step, GivesBack, lock_step, own_steps, release_steps, releases_of, steps_below, top_locks}
 use Rattle.owner_core.proofs.ItemLemmas.{uses_phase}
 use Rattle.owner_core.proofs.Releasing.{held_changed}
 use Rattle.owner_core.proofs.Sounds.{total_moved, total_removed}
@@ -33,11 +22,7 @@ module _ (kind : KindId) (key : ℕ) where
 
   held_put : (p n : ℕ) (t : OwnerTree) → held kind key (put p n (record { begun = false; items = [] }) Empty t) ≡ held kind key t
   held_put p n Empty = refl
-  held_put p n (Node k b below beside) =
-      elim (cases_Bool (k == p)) [
-        | inl y ↦ rw y (omega (arith, held_put p n beside))
-        | inr y ↦ rw y (omega (arith, held_put p n below, held_put p n beside))
-      ]
+  held_put p n (Node k b below beside) = grind (arith, nat_tests, held_put p n beside, held_put p n below)
 
   -- a new owner holds nothing
   pub held_created : (parent : Option ℕ) (n : ℕ) (t : OwnerTree) → held kind key (created parent n t) ≡ held kind key t
@@ -82,22 +67,13 @@ module _ (kind : KindId) (key : ℕ) where
   -- one item more
   pub held_remembered : (n : ℕ) (item : Item) (a : Owner) (t : OwnerTree) → Once t → at n t ≡ Some a
       → held kind key (remembered n item t) ≡ held kind key t + (if is_of kind key item then 1 else 0)
-  held_remembered n item a t o h =
-      omega (
-        arith,
-        held_changed kind key n (λ (x : Owner). record x { items = item ∷ x.items }) a t o h,
-        uses_one item a.items,
-      )
+  held_remembered n item a t o h = grind (arith, nat_tests, held_changed kind key n, uses_one item a.items)
 
   -- one item fewer
   pub held_forgotten : (n : ℕ) (of : KindId) (at_key : ℕ) (item : Item) (a : Owner) (t : OwnerTree) → Once t → at n t ≡ Some a → find (is_of of at_key) a.items ≡ Some item
       → held kind key (forgotten n of at_key t) + (if is_of kind key item then 1 else 0) ≡ held kind key t
   held_forgotten n of at_key item a t o h found =
-      omega (
-        arith,
-        held_changed kind key n (λ (x : Owner). record x { items = without_newest (is_of of at_key) x.items }) a t o h,
-        count-without (is_of kind key) (is_of of at_key) a.items item found,
-      )
+      grind (arith, nat_tests, held_changed kind key n, count-without (is_of kind key) (is_of of at_key) a.items item found)
 
   -- how often steps give it back
   abbrev pub given : Step → ℕ
@@ -144,43 +120,20 @@ module _ (kind : KindId) (key : ℕ) where
   gives_below kinds phase commit top parent (Node n owner below beside) =
       let locks : List Step = if top then [] else lock_step commit n parent ∷ [] in
       let own : List Step = own_steps kinds phase commit n owner locks in
-      omega (
-        arith,
-        gives_both (steps_below kinds phase commit top n below) (own ++ steps_below kinds phase commit top parent beside),
-        gives_both own (steps_below kinds phase commit top parent beside),
-        gives_own kinds phase commit n owner locks (locks_give top commit n parent),
-        gives_below kinds phase commit top n below,
-        gives_below kinds phase commit top parent beside,
-      )
+      grind (arith, nat_tests, gives_both (steps_below kinds phase commit top n below) (own ++ steps_below kinds phase commit top parent beside), gives_both own (steps_below kinds phase commit top parent beside), gives_own kinds phase commit n owner locks (locks_give top commit n parent), locks_give top commit n parent, gives_below kinds phase commit top n below, gives_below kinds phase commit top parent beside)
 
   -- what a change of an owner and of all below it does to the sum
   unswept : (f : Owner → Owner) (n : ℕ) (t : OwnerTree) → has n t ≡ false → swept f n t ≡ t
   unswept f n Empty h = refl
   unswept f n (Node k a below beside) h =
-      let p = or_parts (k == n) (has n below || has n beside) h in
-      let q = or_parts (has n below) (has n beside) p.1 in
-      rw (p.0, unswept f n below q.0, unswept f n beside q.1) refl
+      grind (arith, nat_tests, or_parts (k == n) (has n below || has n beside) h, or_parts (has n below) (has n beside), unswept f n below, unswept f n beside)
 
   held_swept : (f : Owner → Owner) (n : ℕ) (a : Owner) (t : OwnerTree) → Once t → at n t ≡ Some a
       → held kind key (swept f n t) + (uses kind key a.items + held kind key (children n t)) ≡ held kind key t + (uses kind key (f a).items + held kind key (all_changed f (children n t)))
   held_swept f n a Empty o h = absurd (cc h)
   held_swept f n a (Node k b below beside) o h =
       let apart : Apart k below beside = apart_of k b below beside o in
-      elim (cases_Bool (k == n)) [
-        | inl y ↦
-            let v : has n beside ≡ false = rw (eqb-true k n y) at apart.not_beside in
-            let e : b ≡ a = let w : Some b ≡ Some a = rw y at h in cc w in
-            rw (y, unswept f n beside v, e) (omega arith)
-        | inr y ↦ elim (cases_Bool (has n below)) [
-          | inl u ↦
-              let w = at_some n below u in
-              let r : at n below ≡ Some a = let z : either (at n below) (at n beside) ≡ Some a = rw y at h in w.1 ∙ (rw w.1 at z) in
-              rw (y, u, unswept f n beside (apart.apart n u)) (omega (arith, held_swept f n a below apart.once_below r))
-          | inr u ↦
-              let r : at n beside ≡ Some a = rw (y, at_absent n below u) at h in
-              rw (y, u, unswept f n below u) (omega (arith, held_swept f n a beside apart.once_beside r))
-        ]
-      ]
+      grind (arith, nat_tests, apart_of k b below beside o, unswept f n beside, at_some n below, held_swept f n a below apart.once_below, at_absent n below, unswept f n below, held_swept f n a beside apart.once_beside)
 
   -- A phase gives back what it takes off the owners.
   pub gives_phase : (kinds : KindTable) (phase : Phase) (commit top : Bool) (n : ℕ) (t : OwnerTree) → Once t

@@ -1,25 +1,10 @@
 -- Each line counts hooks: each has run as often more as callbacks of its word are said, and as many leave the fresh ones as are said to be registered.
-use Rattle.std.proofs.Common.{◌≡◌, ℕ, Bool, true, false, not, Option, Some, None, List, [], ◌∷◌, refl}
-use Rattle.pgs_step.specs.declared.errors.Error.{Error}
-use Rattle.pgs_step.specs.declared.events.What.{What}
+use Rattle.session_rules.proofs.Base.{◌≡◌, ℕ, Bool, true, false, not, Option, Some, None, List, [], ◌∷◌, refl, codes}
+use Rattle.session_rules.proofs.Below.{Error, What, CtxKind, changed, Context, new_context, Command}
+use Rattle.session_rules.proofs.Rules.{is_aborted, Moment, Scene, Element, Text, in_order, where_so, context_made, Done, does_all, exited, given_up, recovered, line_elements, turn, turn_of, Stands, StandsBetweenLines, CountsHooks, opening, elements_of, does}
 use Rattle.pgs_step.specs.declared.events.What.TheVariants as what
-use Rattle.pgs_command.specs.declared.commands.Command.{Command}
-use Rattle.any_ctx.specs.declared.any.CtxKind.{CtxKind}
-use Rattle.forest.specs.Forest.{changed}
-use Rattle.context_rules.specs.Contexts.{Context, new_context}
-use Rattle.session_rules.specs.State.{is_aborted}
-use Rattle.session_rules.specs.World.{Moment, Scene}
 use Rattle.session_rules.specs.Elements as e
-use Rattle.session_rules.specs.Elements.{Element, Text}
-use Rattle.session_rules.specs.Acts.{in_order, where_so}
-use Rattle.session_rules.specs.Making.{context_made}
-use Rattle.session_rules.specs.Calls.{Done}
-use Rattle.session_rules.specs.Does.{does_all}
-use Rattle.session_rules.specs.Ends.{exited, given_up, recovered}
-use Rattle.session_rules.specs.Transcript.{line_elements, turn, turn_of}
-use Rattle.session_rules.specs.Standing.{Stands, StandsBetweenLines}
-use Rattle.session_rules.specs.HookCounts.{CountsHooks}
-use Rattle.session_rules.proofs.HookSums.{Runs, is_of_hooks, more_runs, none_run}
+use Rattle.session_rules.proofs.Kept.{Runs, is_of_hooks, more_runs, none_run}
 use Rattle.session_rules.proofs.HookSteps.{Counted, IsNumbered, counted_alone, counted_both, counted_children, counted_cleared, counted_gone, counted_hook, counted_kept, counted_moved, counted_on, counted_put, counted_same, numbered_changed, numbered_put, waiting_changed}
 use Rattle.session_rules.proofs.Chunked.{LeavesHooks}
 use Rattle.session_rules.proofs.NamesStand.{named_there}
@@ -32,6 +17,12 @@ use Rattle.session_rules.proofs.Sight.{ContextLeaves, of_contexts, of_next_conte
 use Rattle.session_rules.proofs.Aside.{ContextLaw, context_ends, context_makes, is_apart}
 use Rattle.session_rules.proofs.Spoken.{IsUsualLine, line_spoken}
 use Rattle.session_rules.proofs.TurnStands.{Meets, line_runs}
+use Rattle.pgs_command.specs.declared.commands.Command.TheVariants as command
+use Rattle.pgs_command.specs.declared.commands.Work.TheVariants as work
+use Rattle.pgs_command.specs.declared.commands.ContextCommand.TheVariants as context
+use Rattle.any_ctx.specs.SetLedger.{created, stats}
+use Rattle.session_rules.specs.Transcript.{Turn}
+use Rattle.session_rules.specs.HookCounts.{all_hooks, callbacks_of, hooks_of, registered_of, runs_of, used_hooks}
 
 -- The law: where each context's number stands once and is below the next one, that is so behind, and the hooks are counted.
 pub record KeepsCount (s t : Scene) (events : List What) : Type 0 where
@@ -151,3 +142,44 @@ pub exited_counts_hooks : (scene : Scene) → IsNumbered scene → CountsHooks s
 exited_counts_hooks scene k =
     let all : KeepsCount scene (exited scene).scene (exited scene).events = exit_follows KeepsCount all_counts (record { so = λ s. record { counts = λ k. record { numbered = k; hooks = counted_same (more_runs what.Exit refl none_run) } } }) scene in
     (all.counts k).hooks
+
+-- a session as it opens, where a shelf has two hooks: one of word 7 that has never run, and one of word 9 that ran 4 times
+at_first : Moment
+unfolding opening
+at_first = record {
+  scene = record {
+    session = opening;
+    around = record {
+      kinds = [];
+      shelf = record { fresh = record { word = 7; runs = 0 } ∷ record { word = 9; runs = 4 } ∷ []; spent = []; out = 0 };
+      pinned = [];
+      locked = [];
+      space = 1000000;
+      descriptors = 10;
+    };
+  };
+  calls = 0;
+  fail = 0;
+}
+
+-- A hook of the context of a command of its own runs when the command ends.
+alone : Turn
+unfolding opening at_first turn elements_of does does_all recovered created stats
+alone = turn None (Some (command.Work (work.Contexts (context.OnReset (codes "CurTransactionContext"))))) at_first
+
+alone_counts : (callbacks_of 7 alone.events ≡ 1) × (registered_of 7 alone.events ≡ 1) × (runs_of 7 (all_hooks alone.moment.scene) ≡ 1) × (hooks_of 7 (used_hooks alone.moment.scene) ≡ 1)
+unfolding opening at_first turn elements_of does does_all recovered alone created stats
+alone_counts = (refl, refl, refl, refl)
+
+-- A hook of the topmost context waits, and runs when the session ends.
+waits : Turn
+unfolding opening at_first turn elements_of does does_all recovered alone created stats
+waits = turn None (Some (command.Work (work.Contexts (context.OnReset (codes "TopMemoryContext"))))) alone.moment
+
+waits_counts : (callbacks_of 9 waits.events ≡ 0) × (registered_of 9 waits.events ≡ 1) × (runs_of 9 (all_hooks waits.moment.scene) ≡ 4) × (hooks_of 9 (used_hooks waits.moment.scene) ≡ 1)
+unfolding opening at_first turn elements_of does does_all recovered alone waits created stats
+waits_counts = (refl, refl, refl, refl)
+
+ends_counts : (callbacks_of 9 (exited waits.moment.scene).events ≡ 1) × (runs_of 9 (all_hooks (exited waits.moment.scene).scene) ≡ 5) × (runs_of 7 (all_hooks (exited waits.moment.scene).scene) ≡ 1)
+unfolding opening at_first turn elements_of does does_all recovered alone waits exited created stats
+ends_counts = (refl, refl, refl)

@@ -1,30 +1,14 @@
 -- What became of a scene's hooks is counted: where contexts end, come and move, where a hook is registered, and where nothing becomes of them.
-use Rattle.std.proofs.Common.{◌≡◌, ℕ, ◌+◌, ◌<◌, Bool, true, false, cond, if◌then◌else◌, Option, Some, None, List, [], ◌∷◌, ◌++◌, length, map, drop, refl, sym, ap, ◌∙◌, inl, inr, arith}
-use Rattle.std.specs.Prelude.{◌≤◌, ◌==◌}
-use Rattle.std.specs.Option.{option_map_or}
-use Rattle.std.specs.List.{sum_by}
-use Rattle.std.proofs.lemmas.Bool.{cases_Bool, cases_eq, eq-eqb, both_ways, false_from_ne_true, or_parts}
-use Rattle.std.proofs.lemmas.List.Sums.{sum_by-append, sum_by-cons}
-use Rattle.pgs_step.specs.declared.events.What.{What}
+use Rattle.session_rules.proofs.Base.{◌≡◌, ℕ, ◌+◌, ◌<◌, Bool, true, false, cond, if◌then◌else◌, Some, List, [], ◌∷◌, ◌++◌, length, map, drop, refl, sym, ap, ◌∙◌, inl, inr, arith, ◌≤◌, ◌==◌, sum_by, cases_Bool, eq-eqb, both_ways, false_from_ne_true, or_parts, sum_by-append, sum_by-cons, nat_tests}
+use Rattle.session_rules.proofs.Below.{What, Empty, has, times, Once, at, changed, is_above, moved, put, with_children, Moves, at_some, has_changed, has_of_removed, has_some, once_changed, once_put, put_absent, times_moved, times_some, sum_moved, Hook, ran, ShelfState, held, taken, Context, Contexts, is_child, placed_under, move_events, cleared, cleared_alone, emptied, gone, handed_in, waiting, is_within}
+use Rattle.session_rules.proofs.Rules.{first_of, Scene, context_moved, hook_waits}
 use Rattle.pgs_step.specs.declared.events.What.TheVariants as what
-use Rattle.forest.specs.Forest.{Empty, has, times, Once, at, changed, is_above, moved, put, with_children}
-use Rattle.forest.proofs.Trees.{Moves, at_some, has_changed, has_of_removed, has_some, once_changed, once_put, put_absent, times_moved, times_some}
-use Rattle.forest.proofs.Moved.{sum_moved}
-use Rattle.reset_callbacks.specs.Hook.{Hook, ran}
-use Rattle.reset_callbacks.specs.ShelfState.{ShelfState, held, taken}
-use Rattle.context_rules.specs.Contexts.{Context, Contexts, is_child, placed_under, move_events}
 use Rattle.context_rules.specs.Ends as ends
-use Rattle.context_rules.specs.Ends.{cleared, cleared_alone, emptied, gone, handed_in, waiting}
-use Rattle.context_rules.specs.Refusals.{is_within}
-use Rattle.session_rules.specs.State.{first_of}
-use Rattle.session_rules.specs.World.{Scene}
 use Rattle.session_rules.specs.Acts.{Ended, behind, children_gone, context_cleared, context_cleared_alone, context_gone}
-use Rattle.session_rules.specs.Parts.{context_moved}
-use Rattle.session_rules.specs.Taking.{hook_waits}
 use Rattle.session_rules.specs.HookCounts.{HookCount, HooksCounted, CountsHooks, runs_of}
-use Rattle.session_rules.proofs.Forests.{has_put_other, once_emptied, once_left, times_emptied}
-use Rattle.session_rules.proofs.Sums.{sum_changed, sum_put, sum_same}
+use Rattle.session_rules.proofs.Forests.{has_put_other, once_emptied, once_left, times_emptied, sum_changed, sum_put, sum_same}
 use Rattle.session_rules.proofs.HookSums.{Parts, Runs, callbacks_both, hooks_ran, more_runs, none_run, of_context, parts_alone, parts_children, parts_cleared, parts_gone, registered_both, runs_ran, sum_waiting}
+use Rattle.session_rules.proofs.ContextsKept.{by_alone}
 
 -- each number of a context stands once, and is below the next one
 pub record AreNumbered (contexts : Contexts) (next : ℕ) : Type 0 where
@@ -78,40 +62,13 @@ ended_count t x e h =
     record {
       runs = λ n.
           let g : Hook → ℕ = λ hook. if hook.word == n then hook.runs else 0 in
-          omega (
-            arith,
-            h.said.callbacks n,
-            h.sums g,
-            runs_ran n (runs_of n (waiting e.contexts) + (runs_of n x.fresh + runs_of n x.spent)) e.hooks,
-            sum_by-append g (waiting t) (held x),
-            sum_by-append g x.fresh x.spent,
-            sum_by-append g (waiting e.contexts) (held (handed_in e.hooks x)),
-            sum_by-append g x.fresh (x.spent ++ ran_hooks),
-            sum_by-append g x.spent ran_hooks,
-          );
+          omega (arith, h.said.callbacks n, h.sums g, runs_ran n (runs_of n (waiting e.contexts) + (runs_of n x.fresh + runs_of n x.spent)) e.hooks, sum_by-append g);
       taken = λ n.
           let g : Hook → ℕ = λ hook. cond (hook.word == n) 1 0 in
-          omega (
-            arith,
-            h.said.others n,
-            h.sums g,
-            hooks_ran n e.hooks,
-            sum_by-append g (waiting t) x.spent,
-            sum_by-append g (waiting e.contexts) (x.spent ++ ran_hooks),
-            sum_by-append g x.spent ran_hooks,
-          );
+          omega (arith, h.said.others n, h.sums g, hooks_ran n e.hooks, sum_by-append g);
       whole = λ n.
           let g : Hook → ℕ = λ hook. cond (hook.word == n) 1 0 in
-          omega (
-            arith,
-            h.sums g,
-            hooks_ran n e.hooks,
-            sum_by-append g (waiting t) (held x),
-            sum_by-append g x.fresh x.spent,
-            sum_by-append g (waiting e.contexts) (held (handed_in e.hooks x)),
-            sum_by-append g x.fresh (x.spent ++ ran_hooks),
-            sum_by-append g x.spent ran_hooks,
-          );
+          omega (arith, h.sums g, hooks_ran n e.hooks, sum_by-append g);
     }
 
 -- a sum of ones
@@ -119,7 +76,7 @@ ones : (hooks : List Hook) → sum_by (λ _. 1) hooks ≡ length hooks
 ones [] = refl
 ones (hook ∷ hooks) = omega (arith, sum_by-cons (λ (_ : Hook). 1) hook hooks, ones hooks)
 
-counted_ended : (t : Contexts) (x : ShelfState) (e : ends.Ended) → Parts t e → HooksCounted t x e.contexts (handed_in e.hooks x) e.events
+pub counted_ended : (t : Contexts) (x : ShelfState) (e : ends.Ended) → Parts t e → HooksCounted t x e.contexts (handed_in e.hooks x) e.events
 counted_ended t x e h = record {
   counts = ended_count t x e h;
   out = λ fit. omega (arith, fit, h.sums (λ _. 1), ones (waiting t), ones (waiting e.contexts), ones e.hooks);
@@ -130,24 +87,13 @@ numbered_gone : (n : ℕ) (t : Contexts) (next : ℕ) → AreNumbered t next →
 numbered_gone n t next k = record { once = once_left n t k.once; below = λ m u. k.below m (has_of_removed m n t u) }
 
 numbered_children : (n : ℕ) (t : Contexts) (next : ℕ) → AreNumbered t next → AreNumbered (with_children n Empty t) next
-numbered_children n t next k = record {
-  once = once_emptied n t k.once;
-  below = λ m u. k.below m (has_some m t (omega (arith, times_emptied m n t k.once, times_some m (with_children n Empty t) u)));
-}
+numbered_children n t next k = grind (arith, nat_tests, once_emptied n t k.once, has_some, times_emptied, times_some)
 
 pub numbered_changed : (n : ℕ) (f : Context → Context) (t : Contexts) (next : ℕ) → AreNumbered t next → AreNumbered (changed n f t) next
 numbered_changed n f t next k = record { once = once_changed n f t k.once; below = λ m u. k.below m (sym (has_changed m n f t) ∙ u) }
 
 numbered_alone : (n : ℕ) (t : Contexts) (next : ℕ) → AreNumbered t next → AreNumbered (cleared_alone n t).contexts next
-numbered_alone n t next k = go (at n t)
-  where
-    by_use : (c : Context) (b : Bool) → c.used ≡ b → AreNumbered (ends.reset_of n t c).contexts next
-    by_use c true u = rw u (numbered_changed n emptied t next k)
-    by_use c false u = rw u k
-
-    go : (x : Option Context) → AreNumbered (option_map_or (ends.reset_of n t) x (ends.unchanged t)).contexts next
-    go None = k
-    go (Some c) = by_use c c.used refl
+numbered_alone n t next k = by_alone (λ u. AreNumbered u next) n t k (numbered_changed n emptied t next k)
 
 -- contexts that go or are reset
 pub counted_gone : (n : ℕ) (s : Scene) → IsNumbered s → Counted s (context_gone n s)
@@ -180,13 +126,13 @@ kept_count : (t u : Contexts) (x : ShelfState) {events : List What} → Runs [] 
 kept_count t u x h same = record {
   runs = λ n.
       let g : Hook → ℕ = λ hook. if hook.word == n then hook.runs else 0 in
-      omega (arith, h.callbacks n, same g, sum_by-append g (waiting t) (held x), sum_by-append g (waiting u) (held x));
+      omega (arith, h.callbacks n, same g, sum_by-append g);
   taken = λ n.
       let g : Hook → ℕ = λ hook. cond (hook.word == n) 1 0 in
-      omega (arith, h.others n, same g, sum_by-append g (waiting t) x.spent, sum_by-append g (waiting u) x.spent);
+      omega (arith, h.others n, same g, sum_by-append g);
   whole = λ n.
       let g : Hook → ℕ = λ hook. cond (hook.word == n) 1 0 in
-      omega (arith, same g, sum_by-append g (waiting t) (held x), sum_by-append g (waiting u) (held x));
+      omega (arith, same g, sum_by-append g);
 }
 
 pub counted_kept : (t u : Contexts) (x : ShelfState) {events : List What} → Runs [] events → ((g : Hook → ℕ) → sum_by g (waiting u) ≡ sum_by g (waiting t)) → HooksCounted t x u x events
@@ -197,29 +143,14 @@ waiting_changed g n f t same =
     omega (arith, sum_waiting g t, sum_waiting g (changed n f t), sum_same (of_context g) n f t (λ c. ap (sum_by g) (same c)))
 
 -- a context is made
-waiting_put : (g : Hook → ℕ) (p n : ℕ) (c : Context) (t : Contexts) → Once t → c.hooks ≡ [] → sum_by g (waiting (put p n c Empty t)) ≡ sum_by g (waiting t)
+pub waiting_put : (g : Hook → ℕ) (p n : ℕ) (c : Context) (t : Contexts) → Once t → c.hooks ≡ [] → sum_by g (waiting (put p n c Empty t)) ≡ sum_by g (waiting t)
 waiting_put g p n c t o none = elim (cases_Bool (has p t)) [
-  | inl y ↦ omega (
-    arith,
-    sum_waiting g t,
-    sum_waiting g (put p n c Empty t),
-    sum_put (of_context g) p n c Empty t o y,
-    ap (sum_by g) none,
-  )
+  | inl y ↦ omega (arith, sum_waiting g, sum_put (of_context g) p n c Empty t o y, ap (sum_by g) none)
   | inr y ↦ rw (put_absent p n c Empty t y) refl
 ]
 
 pub numbered_put : (p n : ℕ) (c : Context) (t : Contexts) → AreNumbered t n → AreNumbered (put p n c Empty t) (n + 1)
-numbered_put p n c t k = elim (cases_Bool (has p t)) [
-  | inl y ↦ record {
-    once = once_put p n c t k.once y (false_from_ne_true (has n t) (λ e. omega (arith, k.below n e)));
-    below = λ m u. elim (cases_eq m n) [
-      | inl e ↦ omega (arith, e)
-      | inr ne ↦ omega (arith, k.below m (sym (has_put_other m p n c Empty t ne refl) ∙ u))
-    ];
-  }
-  | inr y ↦ rw (put_absent p n c Empty t y) (record { once = k.once; below = λ m u. omega (arith, k.below m u) })
-]
+numbered_put p n c t k = grind (arith, nat_tests, once_put p n c t k.once, false_from_ne_true (has n t), has_put_other, put_absent p n c Empty t)
 
 pub counted_put : (p n : ℕ) (c : Context) (t : Contexts) (x : ShelfState) {events : List What} → AreNumbered t n → c.hooks ≡ [] → Runs [] events → HooksCounted t x (put p n c Empty t) x events
 counted_put p n c t x k none h = counted_kept t (put p n c Empty t) x h (λ g. waiting_put g p n c t k.once none)
@@ -257,14 +188,7 @@ counted_moved n p s k node there out = go (is_child n p s.session.contexts)
 -- a hook of the shelf is registered with a context that is there
 one_waits : (g : Hook → ℕ) (n : ℕ) (f : Context → Context) (hook : Hook) (c : Context) (t : Contexts) → Once t → at n t ≡ Some c → (f c).hooks ≡ hook ∷ c.hooks → sum_by g (waiting (changed n f t)) ≡ sum_by g (waiting t) + g hook
 one_waits g n f hook c t o there more =
-    omega (
-      arith,
-      sum_waiting g t,
-      sum_waiting g (changed n f t),
-      sum_changed (of_context g) n f c t o there,
-      ap (sum_by g) more,
-      sum_by-cons g hook c.hooks,
-    )
+    omega (arith, sum_waiting g, sum_changed (of_context g) n f c t o there, ap (sum_by g) more, sum_by-cons g hook c.hooks)
 
 waits_count : (n : ℕ) (f : Context → Context) (hook : Hook) (c : Context) (t : Contexts) (x : ShelfState) (fresh : List Hook) → Once t → at n t ≡ Some c → (f c).hooks ≡ hook ∷ c.hooks → x.fresh ≡ hook ∷ fresh
     → HookCount (waiting t ++ held x) (waiting t ++ x.spent) (waiting (changed n f t) ++ (drop 1 x.fresh ++ x.spent)) (waiting (changed n f t) ++ x.spent) (what.Hook hook.word n ∷ [])
@@ -276,51 +200,33 @@ waits_count n f hook c t x fresh o there more is =
     record {
       runs = λ n.
           let g : Hook → ℕ = λ hook. if hook.word == n then hook.runs else 0 in
-          omega (
-            arith,
-            sums g,
-            had g,
-            left g,
-            sum_by-append g (waiting t) (held x),
-            sum_by-append g x.fresh x.spent,
-            sum_by-append g (waiting u) (drop 1 x.fresh ++ x.spent),
-            sum_by-append g (drop 1 x.fresh) x.spent,
-          );
+          omega (arith, sums g, had g, left g, sum_by-append g);
       taken = λ n.
           let g : Hook → ℕ = λ hook. cond (hook.word == n) 1 0 in
-          omega (arith, sums g, sum_by-append g (waiting t) x.spent, sum_by-append g (waiting u) x.spent);
+          omega (arith, sums g, sum_by-append g);
       whole = λ n.
           let g : Hook → ℕ = λ hook. cond (hook.word == n) 1 0 in
-          omega (
-            arith,
-            sums g,
-            had g,
-            left g,
-            sum_by-append g (waiting t) (held x),
-            sum_by-append g x.fresh x.spent,
-            sum_by-append g (waiting u) (drop 1 x.fresh ++ x.spent),
-            sum_by-append g (drop 1 x.fresh) x.spent,
-          );
+          omega (arith, sums g, had g, left g, sum_by-append g);
     }
 
-counted_waits : (n : ℕ) (f : Context → Context) (hook : Hook) (c : Context) (t : Contexts) (x : ShelfState) (fresh : List Hook) → Once t → at n t ≡ Some c → (f c).hooks ≡ hook ∷ c.hooks → x.fresh ≡ hook ∷ fresh
+pub counted_waits : (n : ℕ) (f : Context → Context) (hook : Hook) (c : Context) (t : Contexts) (x : ShelfState) (fresh : List Hook) → Once t → at n t ≡ Some c → (f c).hooks ≡ hook ∷ c.hooks → x.fresh ≡ hook ∷ fresh
     → HooksCounted t x (changed n f t) (taken x) (what.Hook hook.word n ∷ [])
 counted_waits n f hook c t x fresh o there more is = record {
   counts = waits_count n f hook c t x fresh o there more is;
   out = λ _. omega (arith, one_waits (λ _. 1) n f hook c t o there more, ones (waiting t), ones (waiting (changed n f t)));
 }
 
+-- the first of the fresh ones
+pub first_fresh : (xs : List Hook) (hook : Hook) → first_of xs ≡ Some hook → (ys : List Hook) × (xs ≡ hook ∷ ys)
+first_fresh [] hook e = absurd (cc e)
+first_fresh (y ∷ ys) hook e = let same : y ≡ hook = cc e in (ys, ap (λ (h : Hook). h ∷ ys) same)
+
 pub counted_hook : (n : ℕ) (hook : Hook) (s : Scene) → IsNumbered s → has n s.session.contexts ≡ true → first_of s.around.shelf.fresh ≡ Some hook → Counted s (hook_waits n hook s)
-counted_hook n hook s k there first = go s.around.shelf.fresh refl
-  where
-    go : (fresh : List Hook) → s.around.shelf.fresh ≡ fresh → Counted s (hook_waits n hook s)
-    go [] e = let z : None ≡ Some hook = ap first_of (sym e) ∙ first in absurd (cc z)
-    go (y ∷ ys) e =
-        let z : Some y ≡ Some hook = ap first_of (sym e) ∙ first in
-        let same : y ≡ hook = cc z in
-        let f : Context → Context = λ c. record c { used = true; hooks = hook ∷ c.hooks } in
-        let a = at_some n s.session.contexts there in
-        record {
-          numbered = numbered_changed n f s.session.contexts s.session.next_context k;
-          hooks = counted_waits n f hook a.0 s.session.contexts s.around.shelf ys k.once a.1 refl (e ∙ ap (λ (h : Hook). h ∷ ys) same);
-        }
+counted_hook n hook s k there first =
+    let fresh = first_fresh s.around.shelf.fresh hook first in
+    let f : Context → Context = λ c. record c { used = true; hooks = hook ∷ c.hooks } in
+    let a = at_some n s.session.contexts there in
+    record {
+      numbered = numbered_changed n f s.session.contexts s.session.next_context k;
+      hooks = counted_waits n f hook a.0 s.session.contexts s.around.shelf fresh.0 k.once a.1 refl fresh.1;
+    }

@@ -1,21 +1,10 @@
 -- Sums over hooks that wait, where contexts go, come, change and move, and the callbacks that are said then.
-use Rattle.std.proofs.Common.{◌≡◌, ℕ, ◌+◌, ◌-◌, ◌^◌, min, Bool, true, false, cond, if◌then◌else◌, Option, Some, None, List, [], ◌∷◌, ◌++◌, map, refl, ap, inl, inr, arith}
-use Rattle.std.specs.Prelude.{◌==◌}
-use Rattle.std.specs.Option.{option_map_or}
-use Rattle.std.specs.List.{sum_by}
-use Rattle.std.proofs.lemmas.Bool.{cases_Bool}
-use Rattle.std.proofs.lemmas.List.Sums.{sum_by-append, sum_by-cons}
-use Rattle.pgs_step.specs.declared.events.What.{What}
+use Rattle.session_rules.proofs.Base.{◌≡◌, ℕ, ◌+◌, ◌-◌, ◌^◌, min, Bool, true, false, cond, if◌then◌else◌, Option, Some, None, List, [], ◌∷◌, ◌++◌, map, refl, ap, arith, ◌==◌, option_map_or, sum_by, sum_by-append, sum_by-cons, nat_tests}
+use Rattle.session_rules.proofs.Below.{What, Empty, Node, Once, at, changed, children, subtree, with_children, sum_of, Hook, ran, Context, Contexts, Ended, callbacks, cleared, cleared_alone, emptied, gone, gone_events, waiting}
 use Rattle.pgs_step.specs.declared.events.What.TheVariants as what
-use Rattle.forest.specs.Forest.{Empty, Node, Once, at, changed, children, subtree, with_children}
-use Rattle.forest.proofs.Moved.{sum_of}
-use Rattle.reset_callbacks.specs.Hook.{Hook, ran}
-use Rattle.context_rules.specs.Contexts.{Context, Contexts}
 use Rattle.context_rules.specs.Ends as ends
-use Rattle.context_rules.specs.Ends.{Ended, callbacks, cleared, cleared_alone, emptied, gone, gone_events, waiting}
 use Rattle.session_rules.specs.HookCounts.{callbacks_of, hooks_of, is_callback, is_registered, registered_of, runs_of}
-use Rattle.session_rules.proofs.Forests.{once_emptied}
-use Rattle.session_rules.proofs.Sums.{sum_changed, sum_emptied, sum_left}
+use Rattle.session_rules.proofs.Forests.{once_emptied, sum_changed, sum_emptied, sum_left}
 
 -- a hook that runs counts one more
 pub runs_ran : (n k : ℕ) (hooks : List Hook) → min (k + runs_of n (map ran hooks)) (2 ^ 64 - 1) ≡ min (k + (runs_of n hooks + hooks_of n hooks)) (2 ^ 64 - 1)
@@ -23,21 +12,7 @@ runs_ran n k [] = refl
 runs_ran n k (h ∷ hs) =
     let g : Hook → ℕ = λ hook. if hook.word == n then hook.runs else 0 in
     let one : Hook → ℕ = λ hook. cond (hook.word == n) 1 0 in
-    let a : runs_of n (map ran (h ∷ hs)) ≡ g (ran h) + runs_of n (map ran hs) = sum_by-cons g (ran h) (map ran hs) in
-    let b : runs_of n (h ∷ hs) ≡ g h + runs_of n hs = sum_by-cons g h hs in
-    let c : hooks_of n (h ∷ hs) ≡ one h + hooks_of n hs = sum_by-cons one h hs in
-    elim (cases_Bool (h.word == n)) [
-      | inl y ↦
-          let x : g (ran h) ≡ min (h.runs + 1) (2 ^ 64 - 1) = rw y refl in
-          let v : g h ≡ h.runs = rw y refl in
-          let u : one h ≡ 1 = rw y refl in
-          omega (arith, runs_ran n (k + min (h.runs + 1) (2 ^ 64 - 1)) hs, a, b, c, x, v, u)
-      | inr y ↦
-          let x : g (ran h) ≡ 0 = rw y refl in
-          let v : g h ≡ 0 = rw y refl in
-          let u : one h ≡ 0 = rw y refl in
-          omega (arith, runs_ran n k hs, a, b, c, x, v, u)
-    ]
+    grind (arith, nat_tests, runs_of n (map ran (h ∷ hs)), runs_of n (map ran hs), sum_by-cons g (ran h) (map ran hs), runs_of n (h ∷ hs), runs_of n hs, sum_by-cons g h hs, hooks_of n (h ∷ hs), hooks_of n hs, sum_by-cons one h hs, runs_ran n (k + min (h.runs + 1) (2 ^ 64 - 1)) hs, runs_ran n k hs)
 
 pub hooks_ran : (n : ℕ) (hooks : List Hook) → hooks_of n (map ran hooks) ≡ hooks_of n hooks
 hooks_ran n [] = refl
@@ -101,12 +76,7 @@ callbacks_run : (m : ℕ) (hooks : List Hook) → Runs hooks (callbacks m hooks)
 callbacks_run m [] = none_run
 callbacks_run m (h ∷ hs) =
     let k : Runs hs (callbacks m hs) = callbacks_run m hs in record {
-      callbacks = λ n. omega (
-        arith,
-        callbacks_cons n (what.Callback h.word m) (callbacks m hs),
-        sum_by-cons (λ (hook : Hook). cond (hook.word == n) 1 0) h hs,
-        k.callbacks n,
-      );
+      callbacks = λ n. omega (arith, callbacks_cons n (what.Callback h.word m) (callbacks m hs), sum_by-cons (λ (hook : Hook). cond (hook.word == n) 1 0) h hs, k.callbacks n);
       others = λ n. omega (arith, registered_cons n (what.Callback h.word m) (callbacks m hs), k.others n);
     }
 
@@ -123,13 +93,7 @@ module _ (g : Hook → ℕ) where
   pub sum_waiting : (t : Contexts) → sum_by g (waiting t) ≡ sum_of of_context t
   sum_waiting Empty = refl
   sum_waiting (Node n c below beside) =
-      omega (
-        arith,
-        sum_by-append g (waiting below) (c.hooks ++ waiting beside),
-        sum_by-append g c.hooks (waiting beside),
-        sum_waiting below,
-        sum_waiting beside,
-      )
+      omega (arith, sum_by-append g, sum_waiting below, sum_waiting beside)
 
 pub record Parts (t : Contexts) (e : Ended) : Type 0 where
   pub said : Runs e.hooks e.events

@@ -1,58 +1,29 @@
 -- The steps by which the deepest level's owner takes an item and gives one back lead from a session that stands to one that stands.
-use Rattle.std.proofs.Common.{◌≡◌, ◌≢◌, ℕ, ◌+◌, ◌-◌, ◌<◌, ◌≤◌, ◌++◌, find, length, Bool, true, Option, Some, None, List, [], ◌∷◌, refl, sym, ap, ◌∙◌, subst, inl, inr, arith}
-use Rattle.std.specs.Prelude.{◌==◌, if◌then◌else◌}
-use Rattle.std.specs.Option.{option_map_or, option_and_then}
-use Rattle.std.proofs.lemmas.Bool.{cases_Bool, eq-eqb, ne_eqb}
-use Rattle.std.proofs.lemmas.Bool.Decides.{nat_tests}
+use Rattle.session_rules.proofs.Base.{◌≡◌, ◌≢◌, ℕ, ◌+◌, ◌-◌, ◌<◌, ◌≤◌, ◌++◌, find, length, Bool, true, Option, Some, None, List, [], ◌∷◌, refl, sym, ap, ◌∙◌, subst, inl, inr, arith, ◌==◌, if◌then◌else◌, option_map_or, option_and_then, eq-eqb, ne_eqb, nat_tests, All-cons, All-weaker, false, All, codes, is_none, not}
+use Rattle.session_rules.proofs.Below.{Once, has, changed, at_some, has_changed, parent_changed, Item, KindId, Mode, Contexts, table_of, is_of, without_newest, Owner, OwnerTree, forgotten, remembered, IsSound, Empty, Error, created, is_protected, new_context}
+use Rattle.session_rules.proofs.Rules.{LevelState, StandingPlan, buffer_pin, file_kind, first_of, level_owner, plan_reference, snapshot_reference, Scene, Moment, OfLevel, Text, changes, in_order, say, where_there, Keeper, NoOne, TheKind, given_back, item_released, keeper_of, descriptor_given, item_taken, lock_taken, remembers, taken_by, at_kind, at_owner, lock_given_back, does, AreLevels, AreOwners, ArePlans, HasItems, IsItem, IsPlan, IsWorking, Stands, references_of, referred, cache_context, plan_at, unless, plan_becomes, plan_made, AreApart, Differ, IsPlace}
 use Rattle.std.proofs.lemmas.List.{length-map}
-use Rattle.std.proofs.lemmas.List.Elements.{All-cons, All-weaker}
-use Rattle.forest.specs.Forest.{Once, has, changed}
-use Rattle.forest.proofs.Trees.{at_some, has_changed}
-use Rattle.forest.proofs.Mapped.{parent_changed}
-use Rattle.pgs_step.specs.declared.ids.Item.{Item}
-use Rattle.pgs_step.specs.declared.ids.KindId.{KindId}
-use Rattle.pgs_step.specs.declared.lock_modes.Mode.{Mode}
 use Rattle.pgs_step.specs.declared.events.What.TheVariants as what
 use Rattle.pgs_command.specs.declared.kinds.ReferenceClass.{ReferenceClass}
 use Rattle.pgs_command.specs.declared.kinds.ReferenceClass.TheVariants.{Relcache}
 use Rattle.pgs_command.specs.Kinds.{class_kind}
-use Rattle.pgs_command.specs.Words.{is_text}
-use Rattle.context_rules.specs.Contexts.{Contexts}
 use Rattle.owner_kinds.specs.Kind.{Kind, changed_at, opened}
 use Rattle.owner_kinds.specs.KindTable.{KindTable, IsExtension, row, IsSound as IsSoundTable}
-use Rattle.owner_kinds.specs.KindShelf.{table_of}
 use Rattle.owner_kinds.proofs.Places.{table-opened}
-use Rattle.owner_items.specs.ItemList.{is_of, without_newest}
 use Rattle.owner_items.proofs.Order.{All-without}
-use Rattle.owner_core.specs.Owners.{Owner, OwnerTree, forgotten, remembered}
-use Rattle.owner_core.specs.Sound.{IsSound}
 use Rattle.owner_core.proofs.Sounds.{once_of, sound_forgotten, sound_remembered}
 use Rattle.lock_local.specs.Changes as locks
 use Rattle.lock_local.specs.Changes.{acquired}
-use Rattle.session_rules.specs.State.{LevelState, StandingPlan, buffer_pin, file_kind, first_of, level_owner, plan_reference, snapshot_reference}
-use Rattle.session_rules.specs.World.{Scene, Moment}
 use Rattle.session_rules.specs.Elements as element
-use Rattle.session_rules.specs.Elements.{OfLevel, Text}
-use Rattle.session_rules.specs.Lookup.{kind_from, kind_named, newest, plan_at, plan_changed}
-use Rattle.session_rules.specs.Acts.{changes, in_order, say, where_there}
-use Rattle.session_rules.specs.Releases.{Keeper, NoOne, TheKind, given_back, item_released, keeper_of}
-use Rattle.session_rules.specs.Taking.{descriptor_given, item_taken, lock_taken, remembers, taken_by}
-use Rattle.session_rules.specs.Parts.{at_kind, at_owner, lock_given_back}
-use Rattle.session_rules.specs.Does.{does}
-use Rattle.session_rules.specs.Standing.{AreLevels, AreOwners, ArePlans, HasItems, IsItem, IsPlan, IsWorking, Stands, references_of, referred}
-use Rattle.session_rules.proofs.Guarded.{all_changed}
-use Rattle.session_rules.proofs.LevelsKept.{levels_stay, no_value}
-use Rattle.session_rules.proofs.HeldItems.{held_forgotten, held_remembered}
-use Rattle.session_rules.proofs.PlansKept.{Split, all_replaced, changed_is, counted_at, plans_replaced, split}
-use Rattle.session_rules.proofs.PlansAmong.{levels_apart, plans_counted}
-use Rattle.session_rules.proofs.PortalsAmong.{attached_by, place_spared, portals_by}
-use Rattle.session_rules.proofs.Lone.{lone_changed}
+use Rattle.session_rules.specs.Lookup.{kind_from, kind_named, newest, plan_changed, owner_in}
+use Rattle.session_rules.proofs.Kept.{all_changed, levels_stay, no_value, held_forgotten, held_remembered, Split, all_replaced, changed_is, counted_at, plans_replaced, split, IsOther, levels_apart, plans_counted, attached_by, place_spared, portals_by, IsRowOf, own_rows, row_of, row_put, lone_changed, lone_put, Besides, Fits, IsApart, Settles, Spares, besides_of, item_settles, spares_same, with_besides, becomes, Tables, tabled, tables_of, children_put, Stay, contexts_created, has_created, is_unused, new_parent, new_protected, protected_has, stay_created, hooks_put}
 use Rattle.session_rules.proofs.Ending.{begun_changed}
-use Rattle.session_rules.proofs.Settling.{Besides, Fits, IsApart, Settles, Spares, besides_of, item_settles, spares_same, with_besides}
-use Rattle.session_rules.proofs.Releasing.{Tables, tabled, tables_of}
 use Rattle.session_rules.proofs.EndsStand.{stands_tabled}
-use Rattle.session_rules.proofs.StepsStand.{Works, fallible_keeps, fit_working, not_released, nothing_works}
+use Rattle.session_rules.proofs.StepsStand.{Works, fallible_keeps, fit_working, not_released, nothing_works, besides_step, contexts_step, still_planned, still_portals, Beside, beside_by, nothing_beside}
 use Rattle.session_rules.proofs.NamesStand.{at_name}
+use Rattle.std.proofs.lemmas.List.Elements.{All-nil, All-head, All-tail, All-push}
+use Rattle.any_ctx.specs.declared.any.CtxKind.TheVariants as kind
+use Rattle.session_rules.specs.Elements.{OwnerRole}
 
 -- The items of one owner change, and each is of a known kind; plans, their contexts and tables change with them.
 pub items_step : (s : Scene) (n serial : ℕ) (f : Owner → Owner) (x : Besides) → Stands s → IsWorking s.session.levels → ((o : Owner) → (f o).begun ≡ o.begun) → ((o : Owner) → HasItems (table_of s.around.kinds) o → HasItems (table_of s.around.kinds) (f o))
@@ -211,20 +182,7 @@ file_item kinds file serial = record { kind = inl (record { from = omega arith; 
 -- the kind of a name is one of the extension kinds
 pub kind_from_is : (n : ℕ) (name : Text) (kinds : List Kind) (kind : KindId) → kind_from n name kinds ≡ Some kind → (n ≤ kind.0) × (kind.0 < n + length kinds)
 kind_from_is n name [] kind e = absurd (cc e)
-kind_from_is n name (k ∷ ks) kind e =
-    elim (cases_Bool (is_text k.name name)) [
-      | inl y ↦
-          let same : Some (record { 0 = n }) ≡ Some kind = rw y at e in
-          let is : n ≡ kind.0 = ap (λ (z : KindId). z.0) (some_is same) in
-          (omega arith, omega arith)
-      | inr y ↦
-          let rest : kind_from (n + 1) name ks ≡ Some kind = rw y at e in
-          let below = kind_from_is (n + 1) name ks kind rest in
-          (omega arith, omega arith)
-    ]
-  where
-    some_is : {a b : KindId} → Some a ≡ Some b → a ≡ b
-    some_is e = cc e
+kind_from_is n name (k ∷ ks) kind e = grind (arith, nat_tests, kind_from_is (n + 1) name ks kind)
 
 pub named_extension : (name : Text) (kinds : List Kind) (kind : KindId) → kind_named name kinds ≡ Some kind → IsExtension (table_of kinds) kind
 named_extension name kinds kind e =
@@ -244,15 +202,27 @@ module _ (w : Option ℕ) (moment : Moment) (h : Stands moment.scene) (working :
   pub there : (n : ℕ) → level_owner moment.scene.session ≡ Some n → has n moment.scene.session.owners ≡ true
   there n e = owner_there moment.scene.session.levels moment.scene.session.contexts moment.scene.session.owners n h.levels e
 
-  -- an item that nothing but owners keeps count of
+  -- an item that nothing but owners keeps count of, and a lock
+  module _ (role : OwnerRole) (held : (n : ℕ) → owner_in role moment.scene.session ≡ Some n → has n moment.scene.session.owners ≡ true) where
+    pub take_beside : (kind : KindId) (key : ℕ) → keeper_of kind ≡ NoOne → kind.0 ≢ 5 → ((serial : ℕ) → IsItem (table_of moment.scene.around.kinds) (record { kind = kind; key = key; serial = serial }))
+        → Beside moment.scene (does w (element.Take role kind key) moment).moment.scene
+    unfolding does
+    take_beside kind key unkept ne is =
+        fallible_keeps (Beside moment.scene) w moment _ (at_owner role (λ owner. item_taken owner kind key)) (nothing_beside moment.scene h)
+        (λ _. at_name (Beside moment.scene) (owner_in role moment.scene.session) (λ owner. item_taken owner kind key) moment.scene (nothing_beside moment.scene h)
+        (λ n e. subst (Beside moment.scene) (sym (ap (λ (k : Keeper). (in_order (taken_by k key ∷ remembers n kind key ∷ []) moment.scene).scene) unkept))
+        (beside_by moment.scene _ refl refl (other_step moment.scene n kind key (tables_of moment.scene) h working (held n e) ne is refl))))
+
+    pub lock_beside : (object : ℕ) (mode : Mode) → Beside moment.scene (does w (element.TakeLock role object mode) moment).moment.scene
+    unfolding does
+    lock_beside object mode =
+        fallible_keeps (Beside moment.scene) w moment _ (at_owner role (lock_taken object mode)) (nothing_beside moment.scene h)
+        (λ _. at_name (Beside moment.scene) (owner_in role moment.scene.session) (lock_taken object mode) moment.scene (nothing_beside moment.scene h)
+        (λ n e. beside_by moment.scene _ refl refl (stands_tabled (record (tables_of moment.scene) { locks = acquired n object mode moment.scene.session.locks }) moment.scene refl h)))
+
   pub take_works : (kind : KindId) (key : ℕ) → keeper_of kind ≡ NoOne → kind.0 ≢ 5 → ((serial : ℕ) → IsItem (table_of moment.scene.around.kinds) (record { kind = kind; key = key; serial = serial }))
       → Works moment.scene (does w (element.Take OfLevel kind key) moment).moment.scene
-  unfolding does
-  take_works kind key unkept ne is =
-      fallible_keeps (Works moment.scene) w moment _ (at_owner OfLevel (λ owner. item_taken owner kind key)) (nothing_works moment.scene h)
-      (λ _. at_name (Works moment.scene) (level_owner moment.scene.session) (λ owner. item_taken owner kind key) moment.scene (nothing_works moment.scene h)
-      (λ n e. subst (Works moment.scene) (sym (ap (λ (k : Keeper). (in_order (taken_by k key ∷ remembers n kind key ∷ []) moment.scene).scene) unkept))
-      (record { stands = other_step moment.scene n kind key (tables_of moment.scene) h working (there n e) ne is refl; levels = refl; at_rest = λ r. r })))
+  take_works kind key unkept ne is = (take_beside OfLevel there kind key unkept ne is).works
 
   pub pin_works : (key : ℕ) → key < 1024 → Works moment.scene (does w (element.Take OfLevel buffer_pin key) moment).moment.scene
   pin_works key small = take_works buffer_pin key refl (λ z. absurd (omega (arith, z))) (λ serial. record { kind = inl (record { from = omega arith; to = omega arith }); buffer = λ _. small })
@@ -317,16 +287,104 @@ module _ (w : Option ℕ) (moment : Moment) (h : Stands moment.scene) (working :
       (λ kind named. at_name (Works moment.scene) (level_owner moment.scene.session) (λ owner. item_released owner kind key) moment.scene (nothing_works moment.scene h)
       (λ n e. give_step moment.scene n kind key h working (there n e) (newest n kind key moment.scene.session) refl))
 
-  -- the owner takes a lock, and gives one back
-  pub lock_works : (object : ℕ) (mode : Mode) → Works moment.scene (does w (element.TakeLock OfLevel object mode) moment).moment.scene
-  unfolding does
-  lock_works object mode =
-      fallible_keeps (Works moment.scene) w moment _ (at_owner OfLevel (lock_taken object mode)) (nothing_works moment.scene h)
-      (λ _. at_name (Works moment.scene) (level_owner moment.scene.session) (lock_taken object mode) moment.scene (nothing_works moment.scene h)
-      (λ n e. record { stands = stands_tabled (record (tables_of moment.scene) { locks = acquired n object mode moment.scene.session.locks }) moment.scene refl h; levels = refl; at_rest = λ r. r }))
-
+  -- the owner gives a lock back
   pub unlock_works : (object : ℕ) (mode : Mode) → Works moment.scene (does w (element.Unlock object mode) moment).moment.scene
   unfolding does
   unlock_works object mode =
       at_name (Works moment.scene) (level_owner moment.scene.session) (lock_given_back object mode) moment.scene (nothing_works moment.scene h)
       (λ n e. record { stands = stands_tabled (record (tables_of moment.scene) { locks = locks.given_back n object mode moment.scene.session.locks }) moment.scene refl h; levels = refl; at_rest = λ r. r })
+
+-- a plan more
+pub pushed_apart : (plans : List StandingPlan) (new : StandingPlan) → All (λ plan. Differ plan new) plans → AreApart plans → AreApart (plans ++ (new ∷ []))
+pushed_apart [] new d h = (All-nil (Differ new), tt)
+pushed_apart (plan ∷ plans) new d h = (
+  All-push (Differ plan) plans new h.0 (All-head (λ plan. Differ plan new) plan plans d),
+  pushed_apart plans new (All-tail (λ plan. Differ plan new) plan plans d) h.1,
+)
+
+pub pushed_counted : (plans : List StandingPlan) (new : StandingPlan) (m : ℕ) → new.references ≡ 0 → references_of m (plans ++ (new ∷ [])) ≡ references_of m plans
+pushed_counted [] new m none = grind (arith, nat_tests)
+pushed_counted (plan ∷ plans) new m none = grind (arith, nat_tests, pushed_counted plans new m none)
+
+-- no plan has a number that isn't found
+pub none_found : (n : ℕ) (plans : List StandingPlan) → plan_at n plans ≡ None → All (IsOther n) plans
+none_found n [] e = All-nil (IsOther n)
+none_found n (plan ∷ plans) e = grind (arith, nat_tests, none_found n plans)
+
+-- A plan of a new number is made.
+pub made_step : (s : Scene) (n : ℕ) → Stands s → IsWorking s.session.levels → plan_at n s.session.plans ≡ None → Stands (plan_made n s).scene
+made_step s n h working free =
+    let t : Contexts = s.session.contexts in
+    let next : ℕ = s.session.next_context in
+    let name : Text = codes "CachedPlan" in
+    let new : StandingPlan = record { number = n; context = next; discarded = false; references = 0 } in
+    let guarded : is_protected cache_context t ≡ true = (h.contexts.own cache_context (omega arith) (omega arith)).protected in
+    let there : has cache_context t ≡ true = protected_has cache_context t guarded in
+    let u : Contexts = created cache_context next name kind.Small true t in
+    let stay : Stay t u = stay_created t next h.contexts cache_context name kind.Small true in
+    let newer : (m : ℕ) → has m t ≡ true → m ≢ next = λ m have z. omega (arith, z, h.contexts.below m have) in
+    let still : ArePlans s.session.plans u s.session.current (referred s.session.owners) =
+    still_planned s u h stay
+    (λ m k. lone_put m cache_context next (new_context name kind.Small true) Empty t (λ z. omega (arith, z, k.own)) (newer m (protected_has m t k.protected)) refl k.lone) in
+    let own : IsPlan new u s.session.current = record {
+      protected = new_protected t next h.contexts cache_context name kind.Small there;
+      parent = new_parent t next h.contexts cache_context name kind.Small true there;
+      own = h.contexts.room;
+      lone = children_put cache_context next (new_context name kind.Small true) Empty t h.contexts.once there (is_unused t next h.contexts);
+      other = newer s.session.current h.current;
+      kept = λ e. absurd (cc e);
+    } in
+    let numbers : All (IsOther n) s.session.plans = none_found n s.session.plans free in
+    let differ : All (λ plan. Differ plan new) s.session.plans =
+    λ k d below.
+    let i = h.plans.each k d below in
+    let ne = numbers k d below in
+    record { number = λ z. ne (sym z); context = λ z. newer _ (protected_has _ t i.protected) (sym z) } in
+    contexts_step s h working u (next + 1) s.session.current s.around.shelf (s.session.plans ++ (new ∷ []))
+    (contexts_created t next h.contexts cache_context name kind.Small true there (λ _. guarded))
+    stay
+    (has_created t next h.contexts s.session.current cache_context name kind.Small true h.current)
+    (hooks_put cache_context next (new_context name kind.Small true) t s.around.shelf h.contexts.once refl h.hooks)
+    (record {
+      each = All-push (λ plan. IsPlan plan u s.session.current) s.session.plans new still.each own;
+      apart = pushed_apart s.session.plans new differ still.apart;
+      counted = λ m. pushed_counted s.session.plans new m refl ∙ still.counted m;
+    })
+    (still_portals s u h stay
+    (λ m expr k. row_put t h.contexts.once m expr s.session.current k cache_context next (new_context name kind.Small true) Empty (λ z. omega (arith, z, k.own)) (newer m (protected_has m t k.protected)) refl
+    (λ e q z.
+    let r : IsRowOf e m t = row_of e m t s.session.current h.contexts.once (subst (λ (o : Option ℕ). IsPlace m o t s.session.current) q k) in
+    own_rows t next h.contexts cache_context (omega arith) (omega arith) e m k.own r.parent (sym z))))
+
+-- A plan is discarded.
+pub dropped_step : (s : Scene) (n : ℕ) (p : StandingPlan) → Stands s → IsWorking s.session.levels → plan_at n s.session.plans ≡ Some p → Works s (plan_becomes (record p { discarded = true }) s).scene
+dropped_step s n p h working stands =
+    let times : ℕ → ℕ = referred s.session.owners in
+    let fits : Fits s.session.next_context s.session.current times (besides_of s) = record { contexts = h.contexts; hooks = h.hooks; plans = h.plans } in
+    let have : references_of n s.session.plans ≡ p.references = ap (λ (o : Option StandingPlan). option_map_or (λ plan. plan.references) o 0) stands in
+    let g : Settles times s (plan_becomes (record p { discarded = true }) s).scene =
+    becomes s times times fits n p (record p { discarded = true }) stands refl refl (sym (h.plans.counted n) ∙ have) (λ m ne. refl) in
+    subst (Works s) (sym g.is) (record { stands = besides_step s g.besides h working g.same g.fits g.spares; levels = refl; at_rest = λ r. r })
+
+-- what the checks say
+pub is_new : (o : Option StandingPlan) (error : Error) → unless (is_none o) error ≡ None → o ≡ None
+is_new None error e = refl
+is_new (Some p) error e = absurd (cc e)
+
+pub is_standing : (o : Option StandingPlan) (error : Error) → unless (option_map_or (λ p. not p.discarded) o false) error ≡ None → (p : StandingPlan) × (o ≡ Some p)
+is_standing None error e = absurd (cc e)
+is_standing (Some p) error e = (p, refl)
+
+module _ (w : Option ℕ) (moment : Moment) (h : Stands moment.scene) (working : IsWorking moment.scene.session.levels) where
+  pub make_plan_works : (n : ℕ) → plan_at n moment.scene.session.plans ≡ None → Works moment.scene (does w (element.MakePlan n) moment).moment.scene
+  unfolding does
+  make_plan_works n free =
+      fallible_keeps (Works moment.scene) w moment _ (plan_made n) (nothing_works moment.scene h) (λ _. record { stands = made_step moment.scene n h working free; levels = refl; at_rest = λ r. r })
+
+  pub drop_plan_works : (n : ℕ) → Works moment.scene (does w (element.DropPlan n) moment).moment.scene
+  unfolding does
+  drop_plan_works n = go (plan_at n moment.scene.session.plans) refl
+    where
+      go : (o : Option StandingPlan) → plan_at n moment.scene.session.plans ≡ o → Works moment.scene (where_there o (λ p. plan_becomes (record p { discarded = true })) moment.scene).scene
+      go None e = nothing_works moment.scene h
+      go (Some p) e = dropped_step moment.scene n p h working e

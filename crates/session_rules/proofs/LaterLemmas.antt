@@ -1,16 +1,9 @@
 -- A call that is refused for want of memory changes nothing of what was done before it.
-use Rattle.std.proofs.Common.{◌≡◌, ℕ, ◌+◌, ◌≤◌, false, List, [], ◌∷◌, ◌++◌, Option, Some, None, refl, ◌∙◌, ap, subst, arith}
-use Rattle.std.proofs.lemmas.Bool.Decides.{nat_tests}
-use Rattle.pgs_step.specs.declared.errors.Error.{Error}
-use Rattle.pgs_command.specs.declared.commands.Command.{Command}
-use Rattle.session_rules.specs.World.{Scene, Moment}
-use Rattle.session_rules.specs.Elements.{Element, Text}
+use Rattle.session_rules.proofs.Base.{◌≡◌, ℕ, ◌+◌, ◌≤◌, false, List, [], ◌∷◌, ◌++◌, Option, Some, None, refl, ◌∙◌, ap, subst, arith, nat_tests}
+use Rattle.session_rules.proofs.Below.{Error, Command}
+use Rattle.session_rules.proofs.Rules.{Scene, Moment, Element, Text, Ended, failure, does, does_all, failing_turn, then_done, turn, turn_of, line_elements}
 use Rattle.session_rules.specs.Elements as e
-use Rattle.session_rules.specs.Acts.{Ended}
 use Rattle.session_rules.specs.Calls.{Done, IsLater, is_call, fallible, unless_refused, refused_call}
-use Rattle.session_rules.specs.Checks.{failure}
-use Rattle.session_rules.specs.Does.{does, does_all, failing_turn, then_done}
-use Rattle.session_rules.specs.Transcript.{turn, turn_of, line_elements}
 
 -- a later call is none of those that were made
 later_is_no_call : (w : Option ℕ) (call : ℕ) → IsLater call w → is_call w call ≡ false

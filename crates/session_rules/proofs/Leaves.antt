@@ -1,27 +1,11 @@
 -- Laws over events: what one owes for the least parts of what a session does.
-use Rattle.std.proofs.Common.{◌≡◌, ℕ, ◌≤◌, Bool, true, false, List, [], ◌∷◌, ◌++◌, Option, Some, None}
-use Rattle.pgs_step.specs.declared.events.What.{What}
+use Rattle.session_rules.proofs.Base.{◌≡◌, ℕ, ◌≤◌, Bool, true, false, List, [], ◌∷◌, ◌++◌, Option, Some, None}
+use Rattle.session_rules.proofs.Below.{What, KindId, Phase, Mode, Hook, CtxKind, freed, written}
+use Rattle.session_rules.proofs.Rules.{LevelState, OpenPortal, StandingPlan, Moment, Scene, Element, Text, plan_at, Ended, children_gone, context_cleared, context_cleared_alone, context_gone, portal_becomes, portal_gone, say, switched, item_released, owner_gone, owner_moved, phase_released, plan_becomes, context_made, owner_made, plan_made, portal_made, chunk_resized, descriptor_given, hook_waits, item_taken, lock_taken, memory_taken, snapshot_pushed, stack_lowered, stack_popped, Done, does}
 use Rattle.pgs_step.specs.declared.events.What.TheVariants as what
-use Rattle.pgs_step.specs.declared.ids.KindId.{KindId}
-use Rattle.pgs_step.specs.declared.ids.Phase.{Phase}
-use Rattle.pgs_step.specs.declared.lock_modes.Mode.{Mode}
-use Rattle.reset_callbacks.specs.Hook.{Hook}
-use Rattle.any_ctx.specs.declared.any.CtxKind.{CtxKind}
-use Rattle.context_rules.specs.Chunks.{freed, written}
 use Rattle.context_rules.specs.Reports.{report}
-use Rattle.session_rules.specs.State.{LevelState, OpenPortal, StandingPlan}
-use Rattle.session_rules.specs.World.{Moment, Scene}
 use Rattle.session_rules.specs.Elements as e
-use Rattle.session_rules.specs.Elements.{Element, Text}
-use Rattle.session_rules.specs.Lookup.{plan_at}
-use Rattle.session_rules.specs.Acts.{Ended, children_gone, context_cleared, context_cleared_alone, context_gone, portal_becomes, portal_gone, say, switched}
-use Rattle.session_rules.specs.Releases.{item_released, owner_gone, owner_moved, phase_released, plan_becomes}
 use Rattle.session_rules.specs.Parts.{context_moved, contexts_become, lock_given_back, snapshot_popped, tells}
-use Rattle.session_rules.specs.Making.{context_made, owner_made, plan_made, portal_made}
-use Rattle.session_rules.specs.Taking.{chunk_resized, descriptor_given, hook_waits, item_taken, lock_taken, memory_taken, snapshot_pushed}
-use Rattle.session_rules.specs.Ends.{stack_lowered, stack_popped}
-use Rattle.session_rules.specs.Calls.{Done}
-use Rattle.session_rules.specs.Does.{does}
 
 -- what a law says of a scene, the scene behind it, and the events between the two
 abbrev pub Law : Type 1

@@ -1,20 +1,7 @@
 -- What levels and their owners keep where the deepest level goes, is released or is made.
-use Rattle.std.proofs.Common.{◌≡◌, ◌≢◌, ◌⊎◌, ℕ, ◌<◌, true, false, Option, Some, None, List, [], ◌∷◌, refl, sym, ap, ◌∙◌, subst, inl, inr, arith}
-use Rattle.std.specs.Prelude.{is_some}
-use Rattle.std.specs.Option.{option_map_or}
-use Rattle.std.proofs.lemmas.Bool.{cases_eq, cases_Bool, both_ways}
-use Rattle.forest.specs.Forest.{has, Once, children, parent_of, is_above, removed, AllNodes}
-use Rattle.forest.specs.Walk.{swept}
-use Rattle.forest.proofs.Trees.{at_absent, has_of_removed, left_apart}
-use Rattle.forest.proofs.Moved.{above_by_parent, above_none}
-use Rattle.context_rules.specs.Contexts.{Contexts, is_protected}
-use Rattle.owner_kinds.specs.KindTable.{KindTable, IsSound as IsSoundTable}
-use Rattle.owner_core.specs.Owners.{Owner, OwnerTree, AllAt, HoldsNothing, has_begun}
-use Rattle.owner_core.proofs.Sounds.{once_of, sound_removed}
-use Rattle.session_rules.specs.State.{LevelState, OpenPortal, abort_context, first_of, owner_of, top_context}
-use Rattle.session_rules.specs.Making.{level_parent}
-use Rattle.session_rules.specs.Standing.{AreContexts, AreLevels, AreOuter, AreOwners, HasItems, IsContextOf, IsOwner, IsOwnerOf, IsReleased}
-use Rattle.session_rules.specs.Ending.{AreEnding, IsLoose}
+use Rattle.session_rules.proofs.Base.{◌≡◌, ◌≢◌, ◌⊎◌, ℕ, ◌<◌, true, false, Option, Some, None, List, [], ◌∷◌, refl, sym, ap, ◌∙◌, subst, inl, inr, arith, is_some, option_map_or, cases_eq, cases_Bool, nat_tests}
+use Rattle.session_rules.proofs.Below.{has, Once, children, parent_of, is_above, removed, AllNodes, swept, at_absent, has_of_removed, left_apart, above_by_parent, above_none, Contexts, is_protected, KindTable, IsSoundTable, Owner, OwnerTree, AllAt, HoldsNothing, has_begun, once_of, sound_removed}
+use Rattle.session_rules.proofs.Rules.{LevelState, OpenPortal, abort_context, first_of, owner_of, top_context, level_parent, AreContexts, AreLevels, AreOuter, AreOwners, HasItems, IsContextOf, IsOwner, IsOwnerOf, IsReleased, AreEnding, IsLoose}
 use Rattle.session_rules.proofs.Forests.{at_left}
 use Rattle.session_rules.proofs.Guarded.{all_removed, top_parent}
 use Rattle.session_rules.proofs.ContextsKept.{IsSame, own as own_context}
@@ -118,10 +105,7 @@ outer_owners (level ∷ levels) t x p once l o above m i =
     go n own (Some q) e up rest = above_by_parent n q p x once (own.parent ∙ e) (λ z. omega (arith, z, up q e)) ∙ rest q (first_owner levels q e)
 
 pub begun_has : (n : ℕ) (owners : OwnerTree) → has_begun n owners ≡ true → has n owners ≡ true
-begun_has n owners u = elim (cases_Bool (has n owners)) [
-  | inl y ↦ y
-  | inr y ↦ let z : option_map_or (λ (owner : Owner). owner.begun) None false ≡ true = rw (at_absent n owners y) at u in absurd (cc z)
-]
+begun_has n owners u = grind (arith, nat_tests, at_absent n owners)
 
 -- without the deepest level's owner
 abbrev pub without_owner : Option ℕ → OwnerTree → OwnerTree
@@ -129,55 +113,13 @@ without_owner None owners = owners
 without_owner (Some p) owners = removed p owners
 
 pub owners_end : (kinds : KindTable) (owners : OwnerTree) (a b : ℕ) (level : LevelState) (levels : List LevelState) (portals : List OpenPortal) → AreOwners kinds owners a b (level ∷ levels) portals → AreEnding kinds owners a b level levels portals
-owners_end kinds owners a b level levels portals h = record {
-  sound = h.sound;
-  each = λ n u. elim (h.each n u) [
-    | inl i ↦ inl i
-    | inr j ↦ elim j [ inl p ↦ inr (inl p) | inr r ↦ inr (inr (record { owner = r.owner; is = r.is; within = r.within })) ]
-  ];
-  begun = λ n u. let r : IsReleased level n owners = h.begun n u in record { owner = r.owner; is = r.is; within = r.within };
-  fresh = λ active n u. let r : IsReleased level n owners = h.begun n u in both_ways level.aborted active r.aborted;
-  items = h.items;
-}
+owners_end kinds owners a b level levels portals h = grind (arith, nat_tests)
 
 pub owners_without : (kinds : KindTable) (level : LevelState) (levels : List LevelState) (portals : List OpenPortal) (owners : OwnerTree) (a b : ℕ) (o : Option ℕ) → level.owner ≡ o → ((p : ℕ) → level.owner ≡ Some p → has p owners ≡ true)
     → AreEnding kinds owners a b level levels portals → AreOwners kinds (without_owner o owners) a b levels portals
-owners_without kinds level levels portals owners a b None e there h = record {
-  sound = h.sound;
-  each = λ n u. elim (h.each n u) [
-    | inl i ↦ elim i [ inl q ↦ absurd (no_value level.owner n e q) | inr j ↦ inl j ]
-    | inr k ↦ elim k [ inl p ↦ inr (inl p) | inr r ↦ absurd (no_value level.owner r.owner e r.is) ]
-  ];
-  begun = λ n u. let r = h.begun n u in absurd (no_value level.owner r.owner e r.is);
-  items = h.items;
-}
+owners_without kinds level levels portals owners a b None e there h = grind (arith, nat_tests, no_value level.owner)
 owners_without kinds level levels portals owners a b (Some p) e there h =
-    let once : Once owners = once_of owners a b h.sound in
-    let here : has p owners ≡ true = there p e in
-    let outside : (n : ℕ) → has n (removed p owners) ≡ true → IsLoose level n owners → ⊥ = λ n u r.
-    let w = left_apart n p owners once here u in
-    let same : r.owner ≡ p = one_value level.owner r.owner p r.is e in
-    elim r.within [
-      | inl q ↦ w.0 (q ∙ same)
-      | inr q ↦ both_ways (has n (children p owners)) w.1 (ap (λ (m : ℕ). has n (children m owners)) (sym same) ∙ q)
-    ]
-    in
-    record {
-      sound = sound_removed p owners a b h.sound;
-      each = λ n u. elim (h.each n (has_of_removed n p owners u)) [
-        | inl i ↦ elim i [
-          | inl q ↦ absurd ((left_apart n p owners once here u).0 (one_value level.owner n p q e))
-          | inr j ↦ inl j
-        ]
-        | inr k ↦ elim k [ inl q ↦ inr (inl q) | inr r ↦ absurd (outside n u r) ]
-      ];
-      begun = λ n u.
-          let left : has n (removed p owners) ≡ true = begun_has n (removed p owners) u in
-          let w = left_apart n p owners once here left in
-          let was : has_begun n owners ≡ true = ap (λ (o : Option Owner). option_map_or (λ owner. owner.begun) o false) (sym (at_left n p owners once w.0 w.1)) ∙ u in
-          absurd (outside n left (h.begun n was));
-      items = all_removed (HasItems kinds) p owners h.items;
-    }
+    grind (arith, nat_tests, once_of owners a b h.sound, left_apart, one_value level.owner, sound_removed p owners a b h.sound, has_of_removed, begun_has, at_left, all_removed (HasItems kinds) p owners h.items)
 
 -- what a release leaves of the deepest level's owner
 abbrev pub HasLeft : KindTable → Option ℕ → OwnerTree → OwnerTree → Type 0

@@ -1,3 +1,6 @@
+pub mod Base
+pub mod Below
+pub mod Rules
 pub mod LaterLemmas
 pub mod Setting
 pub mod RowsOfLevels
@@ -9,7 +12,6 @@ pub mod RowsOfAsking
 pub mod LawfulRows
 pub mod Forests
 pub mod Guarded
-pub mod Sums
 pub mod Lone
 pub mod HeldItems
 pub mod ContextsKept
@@ -23,17 +25,15 @@ pub mod PlansAmong
 pub mod PortalLists
 pub mod PortalsAmong
 pub mod Stacked
-pub mod Resting
+pub mod Kept
 pub mod Ending
 pub mod Replacing
-pub mod Moving
 pub mod Passing
 pub mod Failing
 pub mod EndsStand
 pub mod StepsStand
 pub mod NamesStand
 pub mod ItemsStand
-pub mod PlansStand
 pub mod PortalsStand
 pub mod PortalWorks
 pub mod PortalEnds
@@ -56,6 +56,5 @@ pub mod HookSums
 pub mod HookSteps
 pub mod Meeting
 pub mod HookLaws
-pub mod HookExamples
 pub mod Locked
 pub mod Pinned

@@ -1,11 +1,6 @@
 -- What is below a node behind a change elsewhere.
-use Rattle.std.proofs.Common.{◌≡◌, ◌≢◌, ℕ, false, refl, sym, ap, ◌∙◌, inl, inr}
-use Rattle.std.specs.Prelude.{◌==◌}
-use Rattle.std.proofs.lemmas.Bool.{cases_Bool, both_ways, eqb-true, false_from_ne_true, ne_eqb}
-use Rattle.forest.specs.Forest.{Forest, Empty, Node, has, Once, children, put, removed, changed, moved, with_children}
-use Rattle.forest.specs.Walk.{all_changed, swept}
-use Rattle.forest.proofs.Trees.{Apart, Moves, apart_of, at_some, children_absent, first_child_other, has_children, put_absent}
-use Rattle.forest.proofs.Walks.{children_changed}
+use Rattle.session_rules.proofs.Base.{◌≡◌, ◌≢◌, ℕ, false, refl, ap, ◌∙◌, inl, inr, cases_Bool, both_ways, false_from_ne_true, arith, nat_tests}
+use Rattle.session_rules.proofs.Below.{Forest, Empty, Node, has, Once, children, put, removed, changed, moved, with_children, all_changed, swept, Apart, Moves, apart_of, at_some, children_absent, first_child_other, has_children, put_absent, children_changed}
 use Rattle.session_rules.proofs.Forests.{emptied_absent, has_emptied, has_left, has_put_other}
 use Rattle.session_rules.proofs.Swept.{has_all, has_swept}
 
@@ -27,93 +22,28 @@ module _ {A : Type 0} where
   children_left p n Empty o ne u = refl
   children_left p n (Node k a below beside) o ne u =
       let apart : Apart k below beside = apart_of k a below beside o in
-      elim (cases_Bool (k == n)) [
-        | inl y ↦
-            let w : has n beside ≡ false = rw (eqb-true k n y) at apart.not_beside in
-            let v : has p below ≡ false = rw y at u in
-            rw (y, ne_eqb k p (λ z. ne (sym z ∙ eqb-true k n y)), v) (children_left p n beside apart.once_beside ne (outside p n beside w))
-        | inr y ↦ elim (cases_Bool (k == p)) [
-          | inl z ↦ rw (y, z) refl
-          | inr z ↦ elim (cases_Bool (has n below)) [
-            | inl w ↦
-                let v : has p (children n below) ≡ false = rw (y, w) at u in
-                elim (cases_Bool (has p below)) [
-                  | inl s ↦ rw (y, z, has_left p n below apart.once_below ne v, s) (children_left p n below apart.once_below ne v)
-                  | inr s ↦ rw (y, z, has_left p n below apart.once_below ne v, s) (children_left p n beside apart.once_beside ne (outside p n beside (apart.apart n w)))
-                ]
-            | inr w ↦
-                let v : has p (children n beside) ≡ false = rw (y, w) at u in
-                elim (cases_Bool (has p below)) [
-                  | inl s ↦ rw (y, z, has_left p n below apart.once_below ne (outside p n below w), s) (children_left p n below apart.once_below ne (outside p n below w))
-                  | inr s ↦ rw (y, z, has_left p n below apart.once_below ne (outside p n below w), s) (children_left p n beside apart.once_beside ne v)
-                ]
-          ]
-        ]
-      ]
+      grind (arith, nat_tests, apart.apart n, outside p n below, outside p n beside, has_left p n below apart.once_below ne, children_left p n below apart.once_below ne, children_left p n beside apart.once_beside ne)
 
   -- all below another node goes
   pub children_emptied : (p n : ℕ) (t : Forest A) → Once t → p ≢ n → has p (children n t) ≡ false → children p (with_children n Empty t) ≡ with_children n Empty (children p t)
   children_emptied p n Empty o ne u = refl
   children_emptied p n (Node k a below beside) o ne u =
       let apart : Apart k below beside = apart_of k a below beside o in
-      elim (cases_Bool (k == n)) [
-        | inl y ↦
-            let w : has n beside ≡ false = rw (eqb-true k n y) at apart.not_beside in
-            let v : has p below ≡ false = rw y at u in
-            rw (y, ne_eqb k p (λ z. ne (sym z ∙ eqb-true k n y)), v) (children_emptied p n beside apart.once_beside ne (outside p n beside w))
-        | inr y ↦ elim (cases_Bool (k == p)) [
-          | inl z ↦ rw (y, z) refl
-          | inr z ↦ elim (cases_Bool (has n below)) [
-            | inl w ↦
-                let v : has p (children n below) ≡ false = rw (y, w) at u in
-                elim (cases_Bool (has p below)) [
-                  | inl s ↦ rw (y, z, has_emptied p n below apart.once_below v, s) (children_emptied p n below apart.once_below ne v)
-                  | inr s ↦ rw (y, z, has_emptied p n below apart.once_below v, s) (children_emptied p n beside apart.once_beside ne (outside p n beside (apart.apart n w)))
-                ]
-            | inr w ↦
-                let v : has p (children n beside) ≡ false = rw (y, w) at u in
-                elim (cases_Bool (has p below)) [
-                  | inl s ↦ rw (y, z, has_emptied p n below apart.once_below (outside p n below w), s) (children_emptied p n below apart.once_below ne (outside p n below w))
-                  | inr s ↦ rw (y, z, has_emptied p n below apart.once_below (outside p n below w), s) (children_emptied p n beside apart.once_beside ne v)
-                ]
-          ]
-        ]
-      ]
+      grind (arith, nat_tests, apart.apart n, outside p n below, outside p n beside, has_emptied p n below apart.once_below, children_emptied p n below apart.once_below ne, children_emptied p n beside apart.once_beside ne)
 
   -- below the node itself nothing is left
   pub own_emptied : (n : ℕ) (t : Forest A) → Once t → children n (with_children n Empty t) ≡ Empty
   own_emptied n Empty o = refl
   own_emptied n (Node k a below beside) o =
       let apart : Apart k below beside = apart_of k a below beside o in
-      elim (cases_Bool (k == n)) [
-        | inl y ↦ rw y refl
-        | inr y ↦ elim (cases_Bool (has n below)) [
-          | inl w ↦ rw (y, has_emptied n n below apart.once_below (own_apart n below apart.once_below), w) (own_emptied n below apart.once_below)
-          | inr w ↦ rw (y, has_emptied n n below apart.once_below (own_apart n below apart.once_below), w) (own_emptied n beside apart.once_beside)
-        ]
-      ]
+      grind (arith, nat_tests, first_child_other n below apart.once_below, outside n n below, has_emptied n n below apart.once_below, own_emptied n below apart.once_below, own_emptied n beside apart.once_beside)
 
   -- a node comes with what is below it
   pub children_put_other : (p q m : ℕ) (a : A) (sub t : Forest A) → Once t → p ≢ q → p ≢ m → has p sub ≡ false → children p (put q m a sub t) ≡ put q m a sub (children p t)
   children_put_other p q m a sub Empty o ne other u = refl
   children_put_other p q m a sub (Node k b below beside) o ne other u =
       let apart : Apart k below beside = apart_of k b below beside o in
-      elim (cases_Bool (k == q)) [
-        | inl y ↦
-            let z : k ≢ p = λ same. ne (sym same ∙ eqb-true k q y) in
-            let w : has q below ≡ false = rw (eqb-true k q y) at apart.not_below in
-            elim (cases_Bool (has p below)) [
-              | inl s ↦ rw (y, ne_eqb k p z, ne_eqb m p (λ same. other (sym same)), u, s) (sym (put_absent q m a sub (children p below) (not_in q p below apart.once_below w)))
-              | inr s ↦ rw (y, ne_eqb k p z, ne_eqb m p (λ same. other (sym same)), u, s) (children_put_other p q m a sub beside apart.once_beside ne other u)
-            ]
-        | inr y ↦ elim (cases_Bool (k == p)) [
-          | inl z ↦ rw (y, z) refl
-          | inr z ↦ elim (cases_Bool (has p below)) [
-            | inl s ↦ rw (y, z, has_put_other p q m a sub below other u, s) (children_put_other p q m a sub below apart.once_below ne other u)
-            | inr s ↦ rw (y, z, has_put_other p q m a sub below other u, s) (children_put_other p q m a sub beside apart.once_beside ne other u)
-          ]
-        ]
-      ]
+      grind (arith, nat_tests, put_absent q m a sub (children p below), not_in q p below apart.once_below, has_put_other p q m a sub below other u, children_put_other p q m a sub below apart.once_below ne other u, children_put_other p q m a sub beside apart.once_beside ne other u)
 
   -- a node without children has none still
   pub lone_changed : (p n : ℕ) (f : A → A) (t : Forest A) → children p t ≡ Empty → children p (changed n f t) ≡ Empty
@@ -126,56 +56,12 @@ module _ {A : Type 0} where
   lone_emptied p n Empty o u e = refl
   lone_emptied p n (Node k a below beside) o u e =
       let apart : Apart k below beside = apart_of k a below beside o in
-      elim (cases_Bool (k == n)) [
-        | inl y ↦
-            let w : has n beside ≡ false = rw (eqb-true k n y) at apart.not_beside in
-            let v : has p below ≡ false = rw y at u in
-            elim (cases_Bool (k == p)) [
-              | inl z ↦ rw (y, z) refl
-              | inr z ↦ let q : children p beside ≡ Empty = rw (z, v) at e in rw (y, z, emptied_absent n Empty beside w) q
-            ]
-        | inr y ↦ elim (cases_Bool (has n below)) [
-          | inl w ↦
-              let v : has p (children n below) ≡ false = rw (y, w) at u in
-              elim (cases_Bool (k == p)) [
-                | inl z ↦ let q : below ≡ Empty = rw z at e in rw (y, z) (ap (with_children n Empty) q)
-                | inr z ↦ elim (cases_Bool (has p below)) [
-                  | inl s ↦ let q : children p below ≡ Empty = rw (z, s) at e in rw (y, z, has_emptied p n below apart.once_below v, s) (lone_emptied p n below apart.once_below v q)
-                  | inr s ↦ let q : children p beside ≡ Empty = rw (z, s) at e in rw (y, z, has_emptied p n below apart.once_below v, s, emptied_absent n Empty beside (apart.apart n w)) q
-                ]
-              ]
-          | inr w ↦
-              let v : has p (children n beside) ≡ false = rw (y, w) at u in
-              elim (cases_Bool (k == p)) [
-                | inl z ↦ let q : below ≡ Empty = rw z at e in rw (y, z) (ap (with_children n Empty) q)
-                | inr z ↦ elim (cases_Bool (has p below)) [
-                  | inl s ↦ let q : children p below ≡ Empty = rw (z, s) at e in rw (y, z, emptied_absent n Empty below w, s) q
-                  | inr s ↦ let q : children p beside ≡ Empty = rw (z, s) at e in rw (y, z, emptied_absent n Empty below w, s) (lone_emptied p n beside apart.once_beside v q)
-                ]
-              ]
-        ]
-      ]
+      grind (arith, nat_tests, emptied_absent n Empty below, emptied_absent n Empty beside, apart.apart n, has_emptied p n below apart.once_below, lone_emptied p n below apart.once_below, lone_emptied p n beside apart.once_beside)
 
   pub lone_put : (p q m : ℕ) (a : A) (sub t : Forest A) → p ≢ q → p ≢ m → has p sub ≡ false → children p t ≡ Empty → children p (put q m a sub t) ≡ Empty
   lone_put p q m a sub Empty ne other u e = refl
   lone_put p q m a sub (Node k b below beside) ne other u e =
-      elim (cases_Bool (k == q)) [
-        | inl y ↦
-            let z : k ≢ p = λ same. ne (sym same ∙ eqb-true k q y) in
-            elim (cases_Bool (has p below)) [
-              | inl s ↦ let r : children p below ≡ Empty = rw (ne_eqb k p z, s) at e in rw (y, ne_eqb k p z, ne_eqb m p (λ same. other (sym same)), u, s) r
-              | inr s ↦
-                  let r : children p beside ≡ Empty = rw (ne_eqb k p z, s) at e in
-                  rw (y, ne_eqb k p z, ne_eqb m p (λ same. other (sym same)), u, s) (lone_put p q m a sub beside ne other u r)
-            ]
-        | inr y ↦ elim (cases_Bool (k == p)) [
-          | inl z ↦ let r : below ≡ Empty = rw z at e in rw (y, z) (ap (put q m a sub) r)
-          | inr z ↦ elim (cases_Bool (has p below)) [
-            | inl s ↦ let r : children p below ≡ Empty = rw (z, s) at e in rw (y, z, has_put_other p q m a sub below other u, s) (lone_put p q m a sub below ne other u r)
-            | inr s ↦ let r : children p beside ≡ Empty = rw (z, s) at e in rw (y, z, has_put_other p q m a sub below other u, s) (lone_put p q m a sub beside ne other u r)
-          ]
-        ]
-      ]
+      grind (arith, nat_tests, has_put_other p q m a sub below other u, lone_put p q m a sub below ne other u, lone_put p q m a sub beside ne other u)
 
   pub lone_moved : (p n q : ℕ) (t : Forest A) → Once t → Moves n q t → p ≢ q → p ≢ n → has p (children n t) ≡ false → children p t ≡ Empty → children p (moved n q t) ≡ Empty
   lone_moved p n q t o w ne other u e =
@@ -184,31 +70,8 @@ module _ {A : Type 0} where
 
   pub lone_all : (p : ℕ) (f : A → A) (t : Forest A) → children p t ≡ Empty → children p (all_changed f t) ≡ Empty
   lone_all p f Empty e = refl
-  lone_all p f (Node k a below beside) e =
-      elim (cases_Bool (k == p)) [
-        | inl z ↦ let q : below ≡ Empty = rw z at e in rw z (ap (all_changed f) q)
-        | inr z ↦ elim (cases_Bool (has p below)) [
-          | inl s ↦ let q : children p below ≡ Empty = rw (z, s) at e in rw (z, has_all f p below, s) (lone_all p f below q)
-          | inr s ↦ let q : children p beside ≡ Empty = rw (z, s) at e in rw (z, has_all f p below, s) (lone_all p f beside q)
-        ]
-      ]
+  lone_all p f (Node k a below beside) e = grind (arith, has_all f p below, lone_all p f below, lone_all p f beside)
 
   pub lone_swept : (p n : ℕ) (f : A → A) (t : Forest A) → children p t ≡ Empty → children p (swept f n t) ≡ Empty
   lone_swept p n f Empty e = refl
-  lone_swept p n f (Node k a below beside) e =
-      elim (cases_Bool (k == n)) [
-        | inl y ↦ elim (cases_Bool (k == p)) [
-          | inl z ↦ let q : below ≡ Empty = rw z at e in rw (y, z) (ap (all_changed f) q)
-          | inr z ↦ elim (cases_Bool (has p below)) [
-            | inl s ↦ let q : children p below ≡ Empty = rw (z, s) at e in rw (y, z, has_all f p below, s) (lone_all p f below q)
-            | inr s ↦ let q : children p beside ≡ Empty = rw (z, s) at e in rw (y, z, has_all f p below, s) (lone_swept p n f beside q)
-          ]
-        ]
-        | inr y ↦ elim (cases_Bool (k == p)) [
-          | inl z ↦ let q : below ≡ Empty = rw z at e in rw (y, z) (ap (swept f n) q)
-          | inr z ↦ elim (cases_Bool (has p below)) [
-            | inl s ↦ let q : children p below ≡ Empty = rw (z, s) at e in rw (y, z, has_swept f p n below, s) (lone_swept p n f below q)
-            | inr s ↦ let q : children p beside ≡ Empty = rw (z, s) at e in rw (y, z, has_swept f p n below, s) (lone_swept p n f beside q)
-          ]
-        ]
-      ]
+  lone_swept p n f (Node k a below beside) e = grind (arith, has_all f p below, has_swept f p n below, lone_all p f below, lone_swept p n f below, lone_swept p n f beside)

@@ -1,22 +1,9 @@
 -- What a law owes for a hook that waits and a context that moves, where it is kept in a scene that stands.
-use Rattle.std.proofs.Common.{◌≡◌, ℕ, true, false, Option, Some, None, refl, sym, ap, ◌∙◌}
-use Rattle.std.specs.Option.{option_and_then}
-use Rattle.forest.specs.Forest.{has}
-use Rattle.reset_callbacks.specs.Hook.{Hook}
-use Rattle.context_rules.specs.Contexts.{is_protected}
-use Rattle.context_rules.specs.Refusals.{is_within, set_parent_refusal}
+use Rattle.session_rules.proofs.Base.{◌≡◌, ℕ, true, false, Option, Some, None, refl, sym, ap, ◌∙◌, option_and_then}
+use Rattle.session_rules.proofs.Below.{has, Hook, is_protected, is_within, set_parent_refusal}
+use Rattle.session_rules.proofs.Rules.{first_of, Moment, Scene, Element, Text, context_named, Ended, where_there, failure, at_context, context_moved, Stands, hook_registered, hook_waits, does}
 use Rattle.context_rules.specs.declared.errors.TreeError.TheVariants.{Protected, Cycle}
-use Rattle.session_rules.specs.State.{first_of}
-use Rattle.session_rules.specs.World.{Moment, Scene}
 use Rattle.session_rules.specs.Elements as e
-use Rattle.session_rules.specs.Elements.{Element, Text}
-use Rattle.session_rules.specs.Lookup.{context_named}
-use Rattle.session_rules.specs.Acts.{Ended, where_there}
-use Rattle.session_rules.specs.Checks.{failure}
-use Rattle.session_rules.specs.Parts.{at_context, context_moved}
-use Rattle.session_rules.specs.Standing.{Stands}
-use Rattle.session_rules.specs.Taking.{hook_registered, hook_waits}
-use Rattle.session_rules.specs.Does.{does}
 use Rattle.session_rules.proofs.Leaves.{Acts, Law, OwesMoves}
 use Rattle.session_rules.proofs.NamesStand.{both_none, checked, named_there}
 use Rattle.session_rules.proofs.TurnStands.{Meets}

@@ -1,45 +1,21 @@
 -- The steps on contexts of a name lead from a session that stands to one that stands.
-use Rattle.std.proofs.Common.{◌≡◌, ◌≢◌, ◌⊎◌, ℕ, ◌+◌, Bool, true, false, Option, Some, None, List, [], ◌∷◌, ◌++◌, refl, sym, ap, ◌∙◌, subst, inl, inr, arith}
-use Rattle.std.specs.Prelude.{◌==◌, ◌&&◌, ◌||◌, not, reverse, if◌then◌else◌, codes}
-use Rattle.std.specs.Option.{option_map, option_map_or, option_and_then}
-use Rattle.std.proofs.lemmas.Bool.{eq-eqb, ne_eqb, both_ways, or_parts}
+use Rattle.session_rules.proofs.Base.{◌≡◌, ◌≢◌, ◌⊎◌, ℕ, ◌+◌, Bool, true, false, Option, Some, None, List, [], ◌∷◌, ◌++◌, refl, sym, ap, ◌∙◌, subst, inl, inr, arith, ◌==◌, reverse, if◌then◌else◌, codes, option_map, option_and_then, eq-eqb, both_ways, or_parts, nat_tests}
+use Rattle.session_rules.proofs.Below.{Empty, Node, Once, children, has, is_above, moved, removed, with_children, Moves, apart_of, at_absent, at_some, has_changed, Hook, taken, CtxKind, Context, Contexts, created, is_protected, new_context, reparented, OwnerTree, is_text, Apart}
+use Rattle.session_rules.proofs.Rules.{LevelState, SessionState, cache_context, context_of, first_of, last_of, level_context, top_context, Scene, Moment, Text, context_named, context_made, new_context_made, at_context, context_moved, hook_registered, hook_waits, does, AreContexts, AreHooks, AreLevels, IsPlace, IsRow, IsWorking, Stands, referred}
 use Rattle.std.proofs.lemmas.List.{reverse-append}
-use Rattle.forest.specs.Forest.{Empty, Node, Once, at, children, either, has, is_above, moved, removed, with_children}
-use Rattle.forest.proofs.Trees.{Moves, apart_of, at_absent, at_some, has_changed}
-use Rattle.pgs_command.specs.Words.{is_text}
-use Rattle.reset_callbacks.specs.Hook.{Hook}
-use Rattle.reset_callbacks.specs.ShelfState.{taken}
-use Rattle.any_ctx.specs.declared.any.CtxKind.{CtxKind}
-use Rattle.context_rules.specs.Names.{same_name}
 use Rattle.context_rules.specs.Contexts as rules
-use Rattle.context_rules.specs.Contexts.{Context, Contexts, created, is_protected, new_context, reparented}
 use Rattle.context_rules.specs.Chunks.{registered}
 use Rattle.context_rules.specs.Ends as ends
 use Rattle.context_rules.specs.Refusals.{delete_refusal, is_within, reset_refusal, set_parent_refusal}
 use Rattle.context_rules.specs.Refusals as refusals
 use Rattle.context_rules.specs.declared.errors.TreeError.{TreeError}
 use Rattle.context_rules.specs.declared.errors.TreeError.TheVariants.{Protected, InUse, Cycle}
-use Rattle.owner_core.specs.Owners.{OwnerTree}
-use Rattle.session_rules.specs.State.{LevelState, SessionState, cache_context, context_of, first_of, last_of, level_context, top_context}
-use Rattle.session_rules.specs.World.{Scene, Moment}
 use Rattle.session_rules.specs.Elements as element
-use Rattle.session_rules.specs.Elements.{Text}
-use Rattle.session_rules.specs.Lookup.{context_named}
 use Rattle.session_rules.specs.Acts.{Ended, of_contexts, children_gone, context_cleared, context_cleared_alone, context_gone, switched, where_there}
 use Rattle.session_rules.specs.Checks.{failure, refusal_at, tree_error}
-use Rattle.session_rules.specs.Making.{context_made, new_context_made}
-use Rattle.session_rules.specs.Parts.{at_context, context_moved}
-use Rattle.session_rules.specs.Taking.{hook_registered, hook_waits}
-use Rattle.session_rules.specs.Does.{does}
-use Rattle.session_rules.specs.Standing.{AreContexts, AreHooks, AreLevels, IsPlace, IsRow, IsWorking, Stands, referred}
-use Rattle.session_rules.proofs.Forests.{has_emptied, has_left, once_left}
-use Rattle.session_rules.proofs.ContextsKept.{Stay, apart, contexts_alone, contexts_changed, contexts_children_gone, contexts_created, contexts_gone, contexts_reparented, has_alone, has_created, has_reparented, moves_by, protected_has, same_removed, stay_alone, stay_changed, stay_children_gone, stay_created, stay_gone, stay_on, stay_reparented, stay_same, top_protected}
-use Rattle.session_rules.proofs.HooksKept.{conserves_alone, conserves_children, conserves_cleared, conserves_gone, hooks_ended, hooks_put, hooks_taken, hooks_reparented}
-use Rattle.session_rules.proofs.LevelsKept.{IsContext, no_value, one_value}
-use Rattle.session_rules.proofs.Lone.{lone_changed, lone_emptied, lone_left, lone_moved, lone_put}
-use Rattle.session_rules.proofs.PlansAmong.{IsCached, levels_other, own_other, plans_current}
-use Rattle.session_rules.proofs.PortalsAmong.{place_current, place_level, place_own, place_same, portals_moved, row_changed, row_emptied, row_free, row_left, row_put}
-use Rattle.session_rules.proofs.StepsStand.{Works, contexts_step, fallible_keeps, nothing_works, still_planned, still_portals}
+use Rattle.session_rules.proofs.Kept.{has_emptied, has_left, once_left, hooks_ended, hooks_put, hooks_taken, hooks_reparented, parts_alone, parts_children, parts_cleared, parts_gone, IsContext, no_value, one_value, lone_changed, lone_emptied, lone_left, lone_moved, lone_put, IsCached, levels_other, own_other, plans_current, place_current, place_level, place_own, place_same, portals_moved, row_changed, row_emptied, row_free, row_left, row_put}
+use Rattle.session_rules.proofs.ContextsKept.{Stay, apart, contexts_alone, contexts_changed, contexts_children_gone, contexts_created, contexts_gone, contexts_reparented, has_alone, has_created, has_reparented, moves_by, protected_has, same_removed, stay_alone, stay_changed, stay_children_gone, stay_created, stay_gone, stay_on, stay_reparented, stay_same, top_protected, by_alone, by_reparented}
+use Rattle.session_rules.proofs.StepsStand.{Works, contexts_step, fallible_keeps, nothing_works, still_planned, still_portals, beside_by}
 
 -- the context of the first level of a list that is put together
 first_context : (levels : List LevelState) (n : ℕ) → context_of (first_of levels) ≡ Some n → IsContext n levels
@@ -48,10 +24,7 @@ first_context (level ∷ levels) n e = inl e
 
 in_both : (xs ys : List LevelState) (n : ℕ) → IsContext n (xs ++ ys) → IsContext n xs ⊎ IsContext n ys
 in_both [] ys n i = inr i
-in_both (x ∷ xs) ys n i = elim i [
-  | inl e ↦ inl (inl e)
-  | inr j ↦ elim (in_both xs ys n j) [ inl k ↦ inl (inr k) | inr k ↦ inr k ]
-]
+in_both (x ∷ xs) ys n i = grind (arith, nat_tests, in_both xs ys n)
 
 in_reverse : (levels : List LevelState) (n : ℕ) → IsContext n (reverse levels) → IsContext n levels
 in_reverse [] n i = i
@@ -63,165 +36,79 @@ in_reverse (level ∷ levels) n i = elim (in_both (reverse levels) (level ∷ []
 -- a level's context is there
 level_there : (levels : List LevelState) (t : Contexts) (x : OwnerTree) (n : ℕ) → AreLevels levels t x → IsContext n levels → has n t ≡ true
 level_there [] t x n l i = absurd i
-level_there (level ∷ levels) t x n l i = elim i [
-  | inl e ↦ protected_has n t (l.0.context n e).protected
-  | inr j ↦ level_there levels t x n l.1 j
-]
+level_there (level ∷ levels) t x n l i = grind (arith, nat_tests, protected_has n t, level_there levels t x n l.1)
 
 -- so is a context of the script that a name leads to
 script_there : (name : Text) (t : Contexts) (n : ℕ) → rules.context_named name t ≡ Some n → has n t ≡ true
 script_there name Empty n e = absurd (no_value None n refl e)
-script_there name (Node k c below beside) n e =
-    by_name (not c.protected && same_name c.name name) (rules.context_named name below) refl e (λ q. script_there name below n q) (λ q. script_there name beside n q)
-  where
-    by_name : (b : Bool) (o : Option ℕ) → rules.context_named name below ≡ o → (if b then Some k else either o (rules.context_named name beside)) ≡ Some n
-        → (rules.context_named name below ≡ Some n → has n below ≡ true) → (rules.context_named name beside ≡ Some n → has n beside ≡ true) → has n (Node k c below beside) ≡ true
-    by_name true o q e low high = rw (eq-eqb k n (one_value (Some k) k n refl e)) refl
-    by_name false None q e low high = let u : has n beside ≡ true = high e in some_third (k == n) (has n below) (has n beside) u
-      where
-        some_third : (x y z : Bool) → z ≡ true → (x || (y || z)) ≡ true
-        some_third true y z h = refl
-        some_third false true z h = refl
-        some_third false false z h = h
-    by_name false (Some m) q e low high = let u : has n below ≡ true = low (q ∙ e) in some_second (k == n) (has n below) (has n beside) u
-      where
-        some_second : (x y z : Bool) → y ≡ true → (x || (y || z)) ≡ true
-        some_second true y z h = refl
-        some_second false true z h = refl
-        some_second false false z h = absurd (cc h)
+script_there name (Node k c below beside) n e = grind (arith, nat_tests, script_there name below n, script_there name beside n)
 
--- A context that a name leads to is there.
-pub named_there : (name : Text) (s : Scene) (n : ℕ) → Stands s → context_named name s.session ≡ Some n → has n s.session.contexts ≡ true
-named_there name s n h e =
+-- A name leads to the topmost context, to the one for caches, to that of a level or to one of the script.
+leads_to : (P : Type 0) (name : Text) (s : SessionState) (n : ℕ) → context_named name s ≡ Some n
+    → (top_context ≡ n → P) → (cache_context ≡ n → P) → (IsContext n s.levels → P) → (rules.context_named name s.contexts ≡ Some n → P) → P
+leads_to P name s n e top cache level script =
     go (is_text name (codes "TopMemoryContext")) (is_text name (codes "CacheMemoryContext")) (is_text name (codes "TopTransactionContext")) (is_text name (codes "CurTransactionContext")) e
   where
     go : (a b c d : Bool)
-        → (if a then Some top_context else (if b then Some cache_context else (if c then context_of (last_of s.session.levels) else (if d then level_context s.session else rules.context_named name s.session.contexts)))) ≡ Some n
-        → has n s.session.contexts ≡ true
-    go true b c d e =
-        ap (λ (m : ℕ). has m s.session.contexts) (sym (one_value (Some top_context) top_context n refl e))
-        ∙ protected_has top_context s.session.contexts (top_protected s.session.contexts s.session.next_context h.contexts)
-    go false true c d e =
-        ap (λ (m : ℕ). has m s.session.contexts) (sym (one_value (Some cache_context) cache_context n refl e))
-        ∙ protected_has cache_context s.session.contexts (h.contexts.own cache_context (omega arith) (omega arith)).protected
-    go false false true d e =
-        level_there s.session.levels s.session.contexts s.session.owners n h.levels
-        (in_reverse s.session.levels n (first_context (reverse s.session.levels) n e))
-    go false false false true e = level_there s.session.levels s.session.contexts s.session.owners n h.levels (first_context s.session.levels n e)
-    go false false false false e = script_there name s.session.contexts n e
+        → (if a then Some top_context else (if b then Some cache_context else (if c then context_of (last_of s.levels) else (if d then level_context s else rules.context_named name s.contexts)))) ≡ Some n → P
+    go true b c d e = top (one_value (Some top_context) top_context n refl e)
+    go false true c d e = cache (one_value (Some cache_context) cache_context n refl e)
+    go false false true d e = level (in_reverse s.levels n (first_context (reverse s.levels) n e))
+    go false false false true e = level (first_context s.levels n e)
+    go false false false false e = script e
+
+-- It is there.
+pub named_there : (name : Text) (s : Scene) (n : ℕ) → Stands s → context_named name s.session ≡ Some n → has n s.session.contexts ≡ true
+named_there name s n h e =
+    leads_to (has n s.session.contexts ≡ true) name s.session n e
+    (λ z. ap (λ (m : ℕ). has m s.session.contexts) (sym z) ∙ protected_has top_context s.session.contexts (top_protected s.session.contexts s.session.next_context h.contexts))
+    (λ z. ap (λ (m : ℕ). has m s.session.contexts) (sym z) ∙ protected_has cache_context s.session.contexts (h.contexts.own cache_context (omega arith) (omega arith)).protected)
+    (λ i. level_there s.session.levels s.session.contexts s.session.owners n h.levels i)
+    (λ q. script_there name s.session.contexts n q)
 
 -- a context of the script is none of the session's own
 script_free : (name : Text) (t : Contexts) (n : ℕ) → Once t → rules.context_named name t ≡ Some n → is_protected n t ≡ false
 script_free name Empty n o e = refl
 script_free name (Node k c below beside) n o e =
-    by_name (not c.protected && same_name c.name name) refl (rules.context_named name below) refl e
-    (λ once q. script_free name below n once q) (λ once q. script_free name beside n once q)
-  where
-    free : (a b : Bool) → (not a && b) ≡ true → a ≡ false
-    free true b q = absurd (cc q)
-    free false b q = refl
-
-    by_name : (b : Bool) → (not c.protected && same_name c.name name) ≡ b → (o : Option ℕ) → rules.context_named name below ≡ o → (if b then Some k else either o (rules.context_named name beside)) ≡ Some n
-        → (Once below → rules.context_named name below ≡ Some n → is_protected n below ≡ false) → (Once beside → rules.context_named name beside ≡ Some n → is_protected n beside ≡ false)
-        → is_protected n (Node k c below beside) ≡ false
-    by_name true y o q e low high = rw (eq-eqb k n (one_value (Some k) k n refl e)) (free c.protected (same_name c.name name) y)
-    by_name false y None q e low high =
-        let u : has n beside ≡ true = script_there name beside n e in
-        let ne : k ≢ n = λ z. both_ways (has n beside) (ap (λ (j : ℕ). has j beside) (sym z) ∙ (apart_of k c below beside o).not_beside) u in
-        rw (ne_eqb k n ne, at_absent n below ((apart_of k c below beside o).apart_back n u)) (high (apart_of k c below beside o).once_beside e)
-    by_name false y (Some m) q e low high =
-        let there : rules.context_named name below ≡ Some n = q ∙ e in
-        let u : has n below ≡ true = script_there name below n there in
-        let ne : k ≢ n = λ z. both_ways (has n below) (ap (λ (j : ℕ). has j below) (sym z) ∙ (apart_of k c below beside o).not_below) u in
-        let w = at_some n below u in
-        let known : w.0.protected ≡ false = rw w.1 at (low (apart_of k c below beside o).once_below there) in
-        rw (ne_eqb k n ne, w.1) known
+    let apart : Apart k below beside = apart_of k c below beside o in
+    grind (arith, nat_tests, script_there name below n, script_there name beside n, apart.apart_back n, at_absent n below, at_some n below, script_free name below n apart.once_below, script_free name beside n apart.once_beside)
 
 -- A context that a name leads to isn't that of a plan.
 pub named_other : (name : Text) (s : Scene) (n : ℕ) → Stands s → context_named name s.session ≡ Some n → (m : ℕ) → IsCached m s.session.contexts → n ≢ m
 named_other name s n h e m k =
-    go (is_text name (codes "TopMemoryContext")) (is_text name (codes "CacheMemoryContext")) (is_text name (codes "TopTransactionContext")) (is_text name (codes "CurTransactionContext")) e
-  where
-    go : (a b c d : Bool)
-        → (if a then Some top_context else (if b then Some cache_context else (if c then context_of (last_of s.session.levels) else (if d then level_context s.session else rules.context_named name s.session.contexts)))) ≡ Some n
-        → n ≢ m
-    go true b c d e = let z = one_value (Some top_context) top_context n refl e in own_other n (omega (arith, z)) s.session.contexts m k
-    go false true c d e = let z = one_value (Some cache_context) cache_context n refl e in own_other n (omega (arith, z)) s.session.contexts m k
-    go false false true d e =
-        levels_other s.session.levels s.session.contexts s.session.owners h.levels n
-        (in_reverse s.session.levels n (first_context (reverse s.session.levels) n e)) m k
-    go false false false true e = levels_other s.session.levels s.session.contexts s.session.owners h.levels n (first_context s.session.levels n e) m k
-    go false false false false e = λ z.
-        both_ways (is_protected n s.session.contexts) (script_free name s.session.contexts n h.contexts.once e) (ap (λ (j : ℕ). is_protected j s.session.contexts) z ∙ k.protected)
+    leads_to (n ≢ m) name s.session n e
+    (λ z. own_other n (omega (arith, z)) s.session.contexts m k) (λ z. own_other n (omega (arith, z)) s.session.contexts m k)
+    (λ i. levels_other s.session.levels s.session.contexts s.session.owners h.levels n i m k)
+    (λ q z. both_ways (is_protected n s.session.contexts) (script_free name s.session.contexts n h.contexts.once q) (ap (λ (j : ℕ). is_protected j s.session.contexts) z ∙ k.protected))
 
 -- nor is it that of a portal or of one row
 pub named_place : (name : Text) (s : Scene) (n : ℕ) → Stands s → context_named name s.session ≡ Some n → (m : ℕ) (expr : Option ℕ) → IsPlace m expr s.session.contexts s.session.current → IsPlace m expr s.session.contexts n
 named_place name s n h e m expr k =
-    go (is_text name (codes "TopMemoryContext")) (is_text name (codes "CacheMemoryContext")) (is_text name (codes "TopTransactionContext")) (is_text name (codes "CurTransactionContext")) e
-  where
-    go : (a b c d : Bool)
-        → (if a then Some top_context else (if b then Some cache_context else (if c then context_of (last_of s.session.levels) else (if d then level_context s.session else rules.context_named name s.session.contexts)))) ≡ Some n
-        → IsPlace m expr s.session.contexts n
-    go true b c d e = let z = one_value (Some top_context) top_context n refl e in place_own s.session.contexts s.session.next_context h.contexts n (omega (arith, z)) (omega (arith, z)) m expr s.session.current k
-    go false true c d e = let z = one_value (Some cache_context) cache_context n refl e in place_own s.session.contexts s.session.next_context h.contexts n (omega (arith, z)) (omega (arith, z)) m expr s.session.current k
-    go false false true d e =
-        place_level s.session.levels s.session.contexts s.session.owners h.contexts.once h.levels n
-        (in_reverse s.session.levels n (first_context (reverse s.session.levels) n e)) m expr s.session.current k
-    go false false false true e = place_level s.session.levels s.session.contexts s.session.owners h.contexts.once h.levels n (first_context s.session.levels n e) m expr s.session.current k
-    go false false false false e =
-        let free : is_protected n s.session.contexts ≡ false = script_free name s.session.contexts n h.contexts.once e in
-        place_current m expr s.session.contexts s.session.current n
-        (λ z. both_ways (is_protected n s.session.contexts) free (ap (λ (j : ℕ). is_protected j s.session.contexts) z ∙ k.protected))
-        (λ e q z. row_free s.session.contexts h.contexts.once n free m expr s.session.current k e q (sym z)) k
+    leads_to (IsPlace m expr s.session.contexts n) name s.session n e
+    (λ z. place_own s.session.contexts s.session.next_context h.contexts n (omega (arith, z)) (omega (arith, z)) m expr s.session.current k)
+    (λ z. place_own s.session.contexts s.session.next_context h.contexts n (omega (arith, z)) (omega (arith, z)) m expr s.session.current k)
+    (λ i. place_level s.session.levels s.session.contexts s.session.owners h.contexts.once h.levels n i m expr s.session.current k)
+    (λ q.
+    let free : is_protected n s.session.contexts ≡ false = script_free name s.session.contexts n h.contexts.once q in
+    place_current m expr s.session.contexts s.session.current n
+    (λ z. both_ways (is_protected n s.session.contexts) free (ap (λ (j : ℕ). is_protected j s.session.contexts) z ∙ k.protected))
+    (λ e q z. row_free s.session.contexts h.contexts.once n free m expr s.session.current k e q (sym z)) k)
 
 -- rows behind a reset, and where another context moves
 row_alone : (t : Contexts) → Once t → (k m : ℕ) (expr : Option ℕ) (current : ℕ) → IsPlace m expr t current → IsRow expr (children m (ends.cleared_alone k t).contexts)
-row_alone t once k m expr current h = go (at k t)
-  where
-    by_use : (c : Context) (b : Bool) → c.used ≡ b → IsRow expr (children m (ends.reset_of k t c).contexts)
-    by_use c true u = rw u (row_changed t once m expr current h k ends.emptied (λ c. refl))
-    by_use c false u = rw u h.row
-
-    go : (o : Option Context) → IsRow expr (children m (option_map_or (ends.reset_of k t) o (ends.unchanged t)).contexts)
-    go None = h.row
-    go (Some c) = by_use c c.used refl
+row_alone t once k m expr current h = by_alone (λ u. IsRow expr (children m u)) k t h.row (row_changed t once m expr current h k ends.emptied (λ c. refl))
 
 row_reparented : (m : ℕ) (expr : Option ℕ) (n p : ℕ) (t : Contexts) (next current : ℕ) → AreContexts t next → Moves n p t → m ≢ n → has m (children n t) ≡ false → is_protected n t ≡ false → IsPlace m expr t p → IsPlace m expr t current
     → IsRow expr (children m (reparented n p t))
-row_reparented m expr n p t next current contexts moves ne out free named k = go (rules.is_child n p t)
-  where
-    a : (c : Context) × (at n t ≡ Some c)
-    a = at_some n t moves.node
-
-    left : IsPlace m expr (removed n t) current
-    left = place_same m expr t (removed n t) current (same_removed t next contexts m n (ne, out) k.protected) (row_left t contexts.once m expr current k n ne out (row_free t contexts.once n free m expr current k)) k
-
-    swapped : (c : Context) → at n t ≡ Some c → IsPlace m expr (removed n t) current → IsRow expr (children m (moved n p t))
-    swapped c e l =
-        rw e (row_put (removed n t) (once_left n t contexts.once) m expr current l p n c (children n t) (λ z. named.other (sym z)) ne out (λ e q z. named.apart (q ∙ ap Some z)))
-
-    go : (b : Bool) → IsRow expr (children m (rules.placed_under b n p t))
-    go true = k.row
-    go false = swapped a.0 a.1 left
+row_reparented m expr n p t next current contexts moves ne out free named k =
+    grind (arith, nat_tests, at_some n t moves.node, place_same m expr t (removed n t) current (same_removed t next contexts m n (ne, out) k.protected) (row_left t contexts.once m expr current k n ne out (row_free t contexts.once n free m expr current k)) k, same_removed t next contexts m n (ne, out) k.protected, row_left t contexts.once m expr current k n ne out (row_free t contexts.once n free m expr current k), row_free t contexts.once n free m expr current k, moved n p t, row_put (removed n t) (once_left n t contexts.once) m expr current, once_left n t contexts.once, by_reparented)
 
 -- a node without children has none behind a reset, nor where another one moves
 lone_alone : (m n : ℕ) (t : Contexts) → children m t ≡ Empty → children m (ends.cleared_alone n t).contexts ≡ Empty
-lone_alone m n t e = go (at n t)
-  where
-    by_use : (c : Context) (b : Bool) → c.used ≡ b → children m (ends.reset_of n t c).contexts ≡ Empty
-    by_use c true u = rw u (lone_changed m n ends.emptied t e)
-    by_use c false u = rw u e
-
-    go : (o : Option Context) → children m (option_map_or (ends.reset_of n t) o (ends.unchanged t)).contexts ≡ Empty
-    go None = e
-    go (Some c) = by_use c c.used refl
+lone_alone m n t e = by_alone (λ u. children m u ≡ Empty) n t e (lone_changed m n ends.emptied t e)
 
 lone_reparented : (m n p : ℕ) (t : Contexts) → Once t → Moves n p t → m ≢ p → m ≢ n → has m (children n t) ≡ false → children m t ≡ Empty → children m (reparented n p t) ≡ Empty
-lone_reparented m n p t once moves other ne out e = go (rules.is_child n p t)
-  where
-    go : (b : Bool) → children m (rules.placed_under b n p t) ≡ Empty
-    go true = e
-    go false = lone_moved m n p t once moves other ne out e
+lone_reparented m n p t once moves other ne out e = by_reparented (λ u. children m u ≡ Empty) n p t e (lone_moved m n p t once moves other ne out e)
 
 -- what the checks say
 no_error : (o : Option TreeError) → option_map tree_error o ≡ None → o ≡ None
@@ -256,7 +143,7 @@ gone_step s n h working free out =
     let w = or_parts (s.session.current == n) (is_above n s.session.current t) out in
     ended_step s h working (ends.gone n t) (contexts_gone t next h.contexts n free) (stay_gone t next h.contexts n free)
     (has_left s.session.current n t h.contexts.once (λ e. both_ways (s.session.current == n) w.0 (eq-eqb s.session.current n e)) w.1 ∙ h.current)
-    (hooks_ended t (ends.gone n t) s.around.shelf (conserves_gone n t h.contexts.once) h.hooks)
+    (hooks_ended t (ends.gone n t) s.around.shelf (parts_gone n t h.contexts.once) h.hooks)
     (λ m k. let out = apart t next h.contexts m n free k.protected in lone_left m n t h.contexts.once out.0 out.1 k.lone)
     (λ m expr k.
     let w = apart t next h.contexts m n free k.protected in row_left t h.contexts.once m expr s.session.current k n w.0 w.1 (row_free t h.contexts.once n free m expr s.session.current k))
@@ -267,7 +154,7 @@ children_step s n h working free out =
     let next : ℕ = s.session.next_context in
     ended_step s h working (ends.children_gone n t) (contexts_children_gone t next h.contexts n free) (stay_children_gone t next h.contexts n free)
     (has_emptied s.session.current n t h.contexts.once out ∙ h.current)
-    (hooks_ended t (ends.children_gone n t) s.around.shelf (conserves_children n t h.contexts.once) h.hooks)
+    (hooks_ended t (ends.children_gone n t) s.around.shelf (parts_children n t h.contexts.once) h.hooks)
     (λ m k. lone_emptied m n t h.contexts.once (apart t next h.contexts m n free k.protected).1 k.lone)
     (λ m expr k. let w = apart t next h.contexts m n free k.protected in row_emptied t h.contexts.once m expr s.session.current k n w.0 w.1)
 
@@ -277,7 +164,7 @@ alone_step s n h working =
     let next : ℕ = s.session.next_context in
     ended_step s h working (ends.cleared_alone n t) (contexts_alone t next h.contexts n) (stay_alone t next h.contexts n)
     (has_alone t next h.contexts s.session.current n ∙ h.current)
-    (hooks_ended t (ends.cleared_alone n t) s.around.shelf (conserves_alone n t h.contexts.once) h.hooks)
+    (hooks_ended t (ends.cleared_alone n t) s.around.shelf (parts_alone n t h.contexts.once) h.hooks)
     (λ m k. lone_alone m n t k.lone)
     (λ m expr k. row_alone t h.contexts.once n m expr s.session.current k)
 
@@ -290,7 +177,7 @@ cleared_step s n h working free out =
     ended_step s h working (ends.cleared n t) (contexts_alone u next c n)
     (stay_on t u (ends.cleared_alone n u).contexts (stay_children_gone t next h.contexts n free) (stay_alone u next c n))
     (has_alone u next c s.session.current n ∙ has_emptied s.session.current n t h.contexts.once out ∙ h.current)
-    (hooks_ended t (ends.cleared n t) s.around.shelf (conserves_cleared n t h.contexts.once) h.hooks)
+    (hooks_ended t (ends.cleared n t) s.around.shelf (parts_cleared n t h.contexts.once) h.hooks)
     (λ m k. lone_alone m n u (lone_emptied m n t h.contexts.once (apart t next h.contexts m n free k.protected).1 k.lone))
     (λ m expr k.
     let w = apart t next h.contexts m n free k.protected in
@@ -305,7 +192,7 @@ moved_step s n p h working node there free out other named =
     let stay : Stay t (reparented n p t) = stay_reparented t next h.contexts n p node there free out in
     contexts_step s h working (reparented n p t) next s.session.current s.around.shelf s.session.plans (contexts_reparented t next h.contexts n p node there free out)
     stay (has_reparented t next h.contexts s.session.current n p node there out h.current)
-    (hooks_reparented n p t s.around.shelf h.contexts.once node there out h.hooks)
+    (hooks_reparented n p t s.around.shelf h.contexts.once (moves_by t next h.contexts n p node there out) h.hooks)
     (still_planned s (reparented n p t) h stay (λ m k.
     let w = apart t next h.contexts m n free k.protected in lone_reparented m n p t h.contexts.once (moves_by t next h.contexts n p node there out) (λ z. other m k (sym z)) w.0 w.1 k.lone))
     (still_portals s (reparented n p t) h stay (λ m expr k.
@@ -333,15 +220,12 @@ module _ (w : Option ℕ) (moment : Moment) (h : Stands moment.scene) (working :
   unfolding does
   switch_works name =
       at_name (Works moment.scene) (context_named name moment.scene.session) switched moment.scene (nothing_works moment.scene h)
-      (λ n e. record {
-        stands = contexts_step moment.scene h working moment.scene.session.contexts moment.scene.session.next_context n moment.scene.around.shelf moment.scene.session.plans h.contexts (stay_same moment.scene.session.contexts)
-            (named_there name moment.scene n h e) h.hooks
-            (plans_current moment.scene.session.plans moment.scene.session.contexts moment.scene.session.current n (referred moment.scene.session.owners) (named_other name moment.scene n h e) h.plans)
-            (portals_moved moment.scene.session.portals moment.scene.session.levels moment.scene.session.contexts moment.scene.session.contexts moment.scene.session.owners moment.scene.session.current n
-            (λ m expr k. named_place name moment.scene n h e m expr k) h.portals);
-        levels = refl;
-        at_rest = λ r. r;
-      })
+      (λ n e. (beside_by moment.scene _ refl refl
+      (contexts_step moment.scene h working moment.scene.session.contexts moment.scene.session.next_context n moment.scene.around.shelf moment.scene.session.plans h.contexts (stay_same moment.scene.session.contexts)
+      (named_there name moment.scene n h e) h.hooks
+      (plans_current moment.scene.session.plans moment.scene.session.contexts moment.scene.session.current n (referred moment.scene.session.owners) (named_other name moment.scene n h e) h.plans)
+      (portals_moved moment.scene.session.portals moment.scene.session.levels moment.scene.session.contexts moment.scene.session.contexts moment.scene.session.owners moment.scene.session.current n
+      (λ m expr k. named_place name moment.scene n h e m expr k) h.portals))).works)
 
   pub delete_works : (name : Text) → failure (element.MayDelete name) moment.scene ≡ None → Works moment.scene (does w (element.Delete name) moment).moment.scene
   unfolding does
@@ -402,7 +286,7 @@ module _ (w : Option ℕ) (moment : Moment) (h : Stands moment.scene) (working :
             (contexts_created t next h.contexts p name kind false there (λ z. absurd (cc z)))
             (stay_created t next h.contexts p name kind false)
             (has_created t next h.contexts moment.scene.session.current p name kind false h.current)
-            (hooks_put p next (new_context name kind false) t moment.scene.around.shelf h.contexts.once there refl h.hooks)
+            (hooks_put p next (new_context name kind false) t moment.scene.around.shelf h.contexts.once refl h.hooks)
             (still_planned moment.scene (created p next name kind false t) h (stay_created t next h.contexts p name kind false)
             (λ m k. lone_put m p next (new_context name kind false) Empty t (λ z. named_other parent moment.scene p h e m k (sym z)) (λ z. omega (arith, z, h.contexts.below m (protected_has m t k.protected))) refl k.lone))
             (still_portals moment.scene (created p next name kind false t) h (stay_created t next h.contexts p name kind false)

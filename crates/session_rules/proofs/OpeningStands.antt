@@ -1,16 +1,10 @@
 -- A session that opens stands.
-use Rattle.std.proofs.Common.{◌≡◌, ℕ, zero, suc, ◌≤◌, ◌<◌, true, [], refl, arith}
-use Rattle.std.proofs.lemmas.Bool.Decides.{nat_tests}
-use Rattle.std.proofs.lemmas.List.Elements.{All-nil}
-use Rattle.forest.specs.Forest.{Empty, Once, has}
-use Rattle.reset_callbacks.specs.Hook.{AreDistinct}
+use Rattle.session_rules.proofs.Base.{◌≡◌, ℕ, zero, suc, ◌≤◌, ◌<◌, true, [], refl, arith, nat_tests, All-nil}
+use Rattle.session_rules.proofs.Below.{Empty, Once, has, AreDistinct, table_of}
+use Rattle.session_rules.proofs.Rules.{abort_context, opening, Around, AreContexts, IsAtRest, IsOfSession, IsPlan, IsPortal, StandsBetweenLines}
 use Rattle.reset_callbacks.specs.ShelfState as shelf
 use Rattle.context_rules.specs.Opening as contexts
 use Rattle.owner_kinds.specs.KindTable.{IsSound}
-use Rattle.owner_kinds.specs.KindShelf.{table_of}
-use Rattle.session_rules.specs.State.{abort_context, opening}
-use Rattle.session_rules.specs.World.{Around}
-use Rattle.session_rules.specs.Standing.{AreContexts, IsAtRest, IsOfSession, IsPlan, IsPortal, StandsBetweenLines}
 
 first_once : Once contexts.opening
 first_once = record { once = λ n. grind (arith, nat_tests) }
@@ -28,23 +22,7 @@ first_own (suc (suc (suc (suc (suc zero))))) l u = record { protected = refl; pa
 first_own (suc (suc (suc (suc (suc (suc n)))))) l u = absurd (omega arith)
 
 first_contexts : AreContexts contexts.opening 6
-first_contexts = record {
-  rooted = (refl, refl, refl);
-  guarded = (
-    λ f. absurd (cc f),
-    (λ f. absurd (cc f), tt, (λ f. absurd (cc f), tt, (λ f. absurd (cc f), tt, (λ f. absurd (cc f), tt, tt)))),
-    tt,
-  );
-  once = first_once;
-  below = first_below;
-  room = omega arith;
-  own = first_own;
-  fresh = (
-    λ _. (refl, refl),
-    (λ _. (refl, refl), tt, (λ _. (refl, refl), tt, (λ _. (refl, refl), tt, (λ _. (refl, refl), tt, tt)))),
-    tt,
-  );
-}
+first_contexts = grind (arith, nat_tests, first_once, first_below, first_own)
 
 -- A session that opens stands, where the hooks of the shelf differ and the kinds are sound.
 pub opening_stands : (around : Around) → AreDistinct (shelf.held around.shelf) → IsSound (table_of around.kinds) → StandsBetweenLines (record { session = opening; around = around })

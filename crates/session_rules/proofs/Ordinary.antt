@@ -1,13 +1,8 @@
 -- Elements, recoveries and ends say no ERROR event of themselves, nor that the session ends.
-use Rattle.std.proofs.Common.{◌≡◌, ℕ, Bool, true, false, not, List, [], ◌∷◌, Option, refl}
-use Rattle.pgs_step.specs.declared.events.What.{What}
+use Rattle.session_rules.proofs.Base.{◌≡◌, ℕ, Bool, true, false, not, List, [], ◌∷◌, Option, refl}
+use Rattle.session_rules.proofs.Below.{What}
+use Rattle.session_rules.proofs.Rules.{is_aborted, Moment, Scene, Element, context_gone, for_each, in_order, where_so, given_up, level_rolled_back, does_all}
 use Rattle.pgs_step.specs.declared.events.What.TheVariants as what
-use Rattle.session_rules.specs.State.{is_aborted}
-use Rattle.session_rules.specs.World.{Moment, Scene}
-use Rattle.session_rules.specs.Elements.{Element}
-use Rattle.session_rules.specs.Acts.{context_gone, for_each, in_order, where_so}
-use Rattle.session_rules.specs.Ends.{given_up, level_rolled_back}
-use Rattle.session_rules.specs.Does.{does_all}
 use Rattle.session_rules.proofs.Leaves.{AreSpoken, EndLeaves, Follows, MakeLeaves, MoveLeaves, is_level_word, is_word, runs_anyhow}
 use Rattle.session_rules.proofs.Walk.{moves_owed, run_follows}
 use Rattle.session_rules.proofs.WalkEnds.{all_owed, levels_follow, recovery_follows}

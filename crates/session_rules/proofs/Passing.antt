@@ -1,34 +1,61 @@
 -- Portals pass to the level above where the deepest one is merged into it.
-use Rattle.std.proofs.Common.{◌≡◌, ◌≢◌, ◌⊎◌, ℕ, ◌+◌, ◌-◌, ◌≤◌, Bool, true, false, Option, Some, None, List, [], ◌∷◌, ◌++◌, length, refl, sym, ap, ◌∙◌, subst, inl, inr, arith}
-use Rattle.std.specs.Prelude.{◌==◌}
-use Rattle.std.specs.Option.{option_map_or}
-use Rattle.std.proofs.lemmas.Bool.{cases_eq, cases_Bool, eq-eqb, eqb-true, eqb-false, ne_eqb}
-use Rattle.forest.specs.Forest.{Once, has, moved}
-use Rattle.forest.proofs.Trees.{Moves}
-use Rattle.context_rules.specs.Contexts.{Contexts}
-use Rattle.owner_kinds.specs.KindShelf.{table_of}
-use Rattle.owner_core.specs.Owners.{Owner, OwnerTree}
-use Rattle.owner_core.proofs.Sounds.{once_of, sound_moved}
+use Rattle.session_rules.proofs.Base.{◌≡◌, ◌≢◌, ◌⊎◌, ℕ, ◌+◌, ◌-◌, ◌≤◌, Bool, true, false, Option, Some, None, List, [], ◌∷◌, ◌++◌, length, refl, sym, ap, ◌∙◌, subst, inl, inr, arith, ◌==◌, option_map_or, cases_eq, cases_Bool, eq-eqb, eqb-true, eqb-false, ne_eqb, nat_tests}
+use Rattle.session_rules.proofs.Below.{Once, has, moved, Moves, Contexts, table_of, Owner, OwnerTree, once_of, sound_moved, Forest, Empty, Node, times, at, children, parent_of, put, removed, at_moved}
+use Rattle.session_rules.proofs.Rules.{LevelState, OpenPortal, first_of, owner_of, plan_reference, Scene, portal_changed, for_each, in_order, portal_becomes, where_so, where_there, owner_moved, portal_passed, AreLevels, AreOuter, ArePlans, HasItems, IsAtRest, IsAtWork, IsAttached, IsDead, IsLive, IsOwner, IsPortal, owner_at, referred, AreEnding, Ending, IsLoose}
 use Rattle.portal_store.specs.Portal.{lowered}
-use Rattle.session_rules.specs.State.{LevelState, OpenPortal, first_of, owner_of, plan_reference}
-use Rattle.session_rules.specs.World.{Scene}
-use Rattle.session_rules.specs.Lookup.{portal_changed}
-use Rattle.session_rules.specs.Acts.{for_each, in_order, portal_becomes, where_so, where_there}
-use Rattle.session_rules.specs.Releases.{owner_moved}
-use Rattle.session_rules.specs.Portals.{portal_passed}
-use Rattle.session_rules.specs.Standing.{AreLevels, AreOuter, ArePlans, HasItems, IsAtRest, IsAtWork, IsAttached, IsDead, IsLive, IsOwner, IsPortal, owner_at, referred}
-use Rattle.session_rules.specs.Ending.{AreEnding, Ending}
-use Rattle.session_rules.proofs.Guarded.{all_moved}
-use Rattle.session_rules.proofs.ContextsKept.{stay_same}
-use Rattle.session_rules.proofs.HeldItems.{held_moved}
-use Rattle.session_rules.proofs.LevelsKept.{is_there, levels_stay, no_value, one_value}
-use Rattle.session_rules.proofs.Stacked.{depth_outer, depth_small, depth_still}
-use Rattle.session_rules.proofs.PlansAmong.{plans_counted}
-use Rattle.session_rules.proofs.PortalLists.{Changes, changed_one, owner_beside, owner_here, owner_split}
-use Rattle.session_rules.proofs.PortalsAmong.{attached_by}
+use Rattle.session_rules.proofs.Kept.{all_moved, stay_same, held_moved, is_there, levels_stay, no_value, one_value, depth_outer, depth_small, depth_still, plans_counted, Changes, changed_one, owner_beside, owner_here, owner_split, attached_by, children_put, has_left, has_put_other, once_left, parent_left, parent_put, parent_put_other, children_left, lone_moved}
 use Rattle.session_rules.proofs.Ending.{Leads, each_goes, parts_of, with_parts}
-use Rattle.session_rules.proofs.Replacing.{IsBeside, first_of_rest, replaced}
-use Rattle.session_rules.proofs.Moving.{HasMoved, has_moved, loose_moved}
+use Rattle.session_rules.proofs.Replacing.{IsBeside, first_of_rest, replaced, replaced_leads, kept_owners}
+use Rattle.forest.proofs.Trees.{at_some, children_absent, has_none, has_some, parent_stays, removed_has, times_moved, times_none, times_some}
+use Rattle.forest.proofs.Walks.{children_in, once_children}
+
+module _ {A : Type 0} where
+  same_has : (m : ℕ) (t u : Forest A) → times m u ≡ times m t → has m u ≡ has m t
+  same_has m t u e = grind (arith, nat_tests, has_some m u, times_some m t, has_none m u, times_none m t)
+
+  -- what is below a node is so still where another one comes
+  put_above : (m lo q o : ℕ) (a : A) (t : Forest A) → lo ≢ o → m ≢ o → has m (children lo t) ≡ true → has m (children lo (put q o a Empty t)) ≡ true
+  put_above m lo q o a Empty ne other h = absurd (cc h)
+  put_above m lo q o a (Node k b below beside) ne other h =
+      grind (arith, nat_tests, has_put_other m q o a Empty below other refl, has_put_other lo q o a Empty below ne refl, put_above m lo q o a below ne other, put_above m lo q o a beside ne other)
+
+  -- A node without children moves.
+  pub record HasMoved (o q : ℕ) (t : Forest A) : Type 0 where
+    pub has_same : (m : ℕ) → has m (moved o q t) ≡ has m t
+    pub at_same : (m : ℕ) → at m (moved o q t) ≡ at m t
+    pub parent_other : (m : ℕ) → m ≢ o → parent_of m (moved o q t) ≡ parent_of m t
+    pub parent : parent_of o (moved o q t) ≡ Some q
+    pub lone_other : (m : ℕ) → m ≢ q → m ≢ o → children m t ≡ Empty → children m (moved o q t) ≡ Empty
+    pub lone : children o (moved o q t) ≡ Empty
+    pub above : (m lo : ℕ) → lo ≢ o → m ≢ o → has m (children lo t) ≡ true → has m (children lo (moved o q t)) ≡ true
+
+  pub has_moved : (o q : ℕ) (t : Forest A) → Once t → Moves o q t → children o t ≡ Empty → HasMoved o q t
+  has_moved o q t once w e =
+      let a = at_some o t w.node in
+      let out : (m : ℕ) → has m (children o t) ≡ false = λ m. ap (has m) e in
+      let left : Once (removed o t) = once_left o t once in
+      let there : has q (removed o t) ≡ true = parent_stays o q t once w in
+      let gone : has o (removed o t) ≡ false = removed_has o t once w.node in
+      let inner : (m lo : ℕ) → has m (children o (children lo t)) ≡ false = λ m lo. elim (cases_Bool (has o (children lo t))) [
+        | inl y ↦ ap (has m) (children_in o lo t once y ∙ e)
+        | inr y ↦ ap (has m) (children_absent o (children lo t) y)
+      ] in
+      record {
+        has_same = λ m. same_has m t (moved o q t) (rw a.1 (times_moved m o q a.0 t once w));
+        at_same = λ m. at_moved m o q t once w;
+        parent_other = λ m ne. rw a.1 (parent_put_other m q o a.0 (children o t) (removed o t) ne (out m) ∙ parent_left m o t once ne (out m));
+        parent = rw a.1 (parent_put q o a.0 (children o t) (removed o t) left there gone);
+        lone_other = λ m other ne f. lone_moved m o q t once w other ne (out m) f;
+        lone = rw a.1 (children_put q o a.0 (children o t) (removed o t) left there gone ∙ e);
+        above = λ m lo ne other h.
+            let kept : has m (children lo (removed o t)) ≡ true = ap (has m) (children_left lo o t once ne (out lo)) ∙ has_left m o (children lo t) (once_children lo t once) other (inner m lo) ∙ h in
+            let put_in : has m (children lo (put q o a.0 Empty (removed o t))) ≡ true = put_above m lo q o a.0 (removed o t) ne other kept in
+            rw a.1 (subst (λ (sub : Forest A). has m (children lo (put q o a.0 sub (removed o t))) ≡ true) (sym e) put_in);
+      }
+
+-- owners that are left to the deepest level still are
+pub loose_moved : (level : LevelState) (m o q : ℕ) (x : OwnerTree) → HasMoved o q x → ((lo : ℕ) → level.owner ≡ Some lo → lo ≢ o) → m ≢ o → IsLoose level m x → IsLoose level m (moved o q x)
+loose_moved level m o q x h away other l = grind (arith, nat_tests)
 
 -- where a portal's owner moves to an owner of these levels
 module _ (levels : List LevelState) (o q : ℕ) (t : Contexts) (x : OwnerTree) (current : ℕ) (m : HasMoved o q x) where
@@ -38,16 +65,7 @@ module _ (levels : List LevelState) (o q : ℕ) (t : Contexts) (x : OwnerTree) (
       (λ k i there. record { there = m.has_same k ∙ there; parent = m.parent_other k (λ z. other (subst (λ (j : ℕ). IsOwner j levels) z i)) }) l
 
   pub portal_moved : (p r : OpenPortal) → p.owner ≡ Some o → IsBeside p r → IsOwner q levels → IsPortal r levels t x current → IsPortal r levels t (moved o q x) current
-  portal_moved p r e b i k = record {
-    place = k.place;
-    made = k.made;
-    owner = λ n f.
-        let a : IsAttached n r.created levels x = k.owner n f in
-        let ne : n ≢ o = λ z. b.owner n f (e ∙ ap Some (sym z)) in
-        attached_by n r.created levels levels x (moved o q x) (λ w. m.has_same n ∙ w) (m.parent_other n ne)
-        (m.lone_other n (λ z. a.other (subst (λ (j : ℕ). IsOwner j levels) (sym z) i)) ne) refl (λ j. j) a;
-    stage = k.stage;
-  }
+  portal_moved p r e b i k = grind (arith, nat_tests, attached_by, moved o q x)
 
 pub plans_owner_moved : (s : Scene) (o q : ℕ) → Once s.session.owners → Moves o q s.session.owners → ArePlans s.session.plans s.session.contexts s.session.current (referred s.session.owners)
     → ArePlans s.session.plans s.session.contexts s.session.current (referred (moved o q s.session.owners))
@@ -60,33 +78,16 @@ pub record IsBounded (p : OpenPortal) (depth : ℕ) : Type 0 where
   pub active : p.active ≤ depth
 
 pub bounded : (p : OpenPortal) (levels : List LevelState) → IsLive p levels ⊎ IsDead p levels → IsBounded p (length levels)
-bounded p levels s = elim s [
-  | inl l ↦ record { within = l.within; active = omega (arith, l.active, depth_small levels) }
-  | inr d ↦ record { within = d.within; active = d.active }
-]
+bounded p levels s = grind (arith, depth_small levels)
 
 pub lowered_most : (depth n : ℕ) → n ≤ depth → lowered depth n ≤ depth - 1
-lowered_most depth n small = elim (cases_Bool (n == depth)) [
-  | inl y ↦ let same : n ≡ depth = eqb-true n depth y in rw y (omega (arith, same))
-  | inr y ↦ let ne = eqb-false n depth y in rw y (omega (arith, small, ne))
-]
+lowered_most depth n small = grind (arith, nat_tests)
 
 pub lowered_within : (depth c a : ℕ) → c ≤ a → a ≤ depth → lowered depth c ≤ lowered depth a
-lowered_within depth c a within small = elim (cases_Bool (a == depth)) [
-  | inl y ↦
-      let same : a ≡ depth = eqb-true a depth y in
-      let most : lowered depth c ≤ depth - 1 = lowered_most depth c (omega (arith, within, small)) in
-      rw y (omega (arith, most, same))
-  | inr y ↦
-      let ne = eqb-false a depth y in
-      rw (y, ne_eqb c depth (λ z. ne (omega (arith, z, within, small)))) within
-]
+lowered_within depth c a within small = grind (arith, nat_tests, lowered_most depth c)
 
 pub lowered_some : (depth n : ℕ) → 2 ≤ depth → 1 ≤ n → 1 ≤ lowered depth n
-lowered_some depth n deep some = elim (cases_Bool (n == depth)) [
-  | inl y ↦ let same : n ≡ depth = eqb-true n depth y in rw y (omega (arith, same, deep))
-  | inr y ↦ rw y some
-]
+lowered_some depth n deep some = grind (arith, nat_tests)
 
 -- a portal that passes
 module _ (level : LevelState) (levels : List LevelState) (some : 1 ≤ length levels) where
@@ -97,36 +98,19 @@ module _ (level : LevelState) (levels : List LevelState) (some : 1 ≤ length le
   passed old = record old { created = lowered depth old.created; active = lowered depth old.active }
 
   pub passed_line : (p : OpenPortal) → IsAtRest p ⊎ IsAtWork p depth → IsAtRest (passed p) ⊎ IsAtWork (passed p) (length levels)
-  passed_line p line = elim line [
-    | inl r ↦ inl r
-    | inr a ↦ inr (number p.active a.0, λ new. number p.created (a.1 new))
-  ]
-    where
-      number : (n : ℕ) → n ≡ depth → lowered depth n ≡ length levels
-      number n e = rw (eq-eqb n depth e) (omega (arith, e))
+  passed_line p line = grind (arith, nat_tests, depth)
 
   pub passed_live : (p : OpenPortal) → AreOuter levels → IsLive p (level ∷ levels) ⊎ IsDead p (level ∷ levels) → IsLive (passed p) levels
   passed_live p outer s =
       let b : IsBounded p depth = bounded p (level ∷ levels) s in
-      let low : 1 ≤ p.created = elim s [ inl l ↦ l.some | inr d ↦ omega (arith, d.created) ] in
-      let most : lowered depth p.active ≤ depth - 1 = lowered_most depth p.active b.active in
-      record {
-        some = lowered_some depth p.created (omega (arith, some)) low;
-        within = lowered_within depth p.created p.active b.within b.active;
-        active = omega (arith, most, depth_outer levels outer);
-        line = elim s [ inl l ↦ passed_line p l.line | inr d ↦ inl (λ _. d.owner) ];
-      }
+      grind (arith, nat_tests, depth, bounded p (level ∷ levels) s, lowered_most depth p.active b.active, lowered_some depth p.created, lowered_within depth p.created p.active b.within b.active, depth_outer levels outer, passed_line p)
 
   pub changes_passed : (p : OpenPortal) → Changes p (passed p)
   changes_passed p = record { name = refl; context = λ n e. e; owner = λ n e. e }
 
   -- the owner of the level above
   pub above_is : (q : ℕ) → owner_of (first_of levels) ≡ Some q → owner_at (depth - 1) levels ≡ Some q
-  above_is q e = go levels some e
-    where
-      go : (ls : List LevelState) → 1 ≤ length ls → owner_of (first_of ls) ≡ Some q → owner_at (length (level ∷ ls) - 1) ls ≡ Some q
-      go [] n e = absurd (omega (arith, n))
-      go (l ∷ ls) n e = rw (eq-eqb (length ls + 1) (length (level ∷ (l ∷ ls)) - 1) (omega arith)) e
+  above_is q e = grind (arith, nat_tests, owner_at)
 
   pub above_owner : (q : ℕ) → owner_of (first_of levels) ≡ Some q → IsOwner q levels
   above_owner q e = go levels e
@@ -136,11 +120,7 @@ module _ (level : LevelState) (levels : List LevelState) (some : 1 ≤ length le
       go (l ∷ ls) e = inl e
 
   pub above_made : AreOuter levels → (q : ℕ) × (owner_of (first_of levels) ≡ Some q)
-  above_made outer = go levels some outer
-    where
-      go : (ls : List LevelState) → 1 ≤ length ls → AreOuter ls → (q : ℕ) × (owner_of (first_of ls) ≡ Some q)
-      go [] n o = absurd (omega (arith, n))
-      go (l ∷ ls) n o = is_there l.owner o.0.made.owner
+  above_made outer = grind (arith, nat_tests, is_there)
 
   pub above_there : (t : Contexts) (x : OwnerTree) (q : ℕ) → AreLevels levels t x → owner_of (first_of levels) ≡ Some q → has q x ≡ true
   above_there t x q l e = go levels l e
@@ -172,31 +152,11 @@ module _ (level : LevelState) (levels : List LevelState) (some : 1 ≤ length le
             };
         stage = inl (passed_live p h.outer i.stage);
       } in
-      let owners : AreEnding (table_of s.around.kinds) s.session.owners s.session.next_owner s.session.next_serial level levels (front ++ (q ∷ back)) = record {
-        sound = h.owners.sound;
-        each = λ n u. elim (h.owners.each n u) [
-          | inl j ↦ inl j
-          | inr k ↦ inr (elim k [
-            | inl j ↦ inl (elim (owner_split n p front back j) [ inl e ↦ owner_here n q front back e | inr r ↦ owner_beside n q front back r ])
-            | inr l ↦ inr l
-          ])
-        ];
-        begun = h.owners.begun;
-        fresh = h.owners.fresh;
-        items = h.owners.items;
-      } in
+      let owners : AreEnding (table_of s.around.kinds) s.session.owners s.session.next_owner s.session.next_serial level levels (front ++ (q ∷ back)) = kept_owners level levels levels p q front back s h (λ n e. e) in
       let e : Ending level levels levels (front ++ (q ∷ [])) back (with_parts (record (parts_of s) { portals = front ++ (q ∷ back) }) s) =
       replaced level levels levels p q front back s s.session.contexts s.session.owners s.around.shelf h (changes_passed p) h.contexts h.hooks h.all owners h.plans (λ r b d. d.portal) (λ r b k. k) own
       (λ n f z. (i.owner n f).other (inl z)) in
-      record {
-        front = front ++ (q ∷ []);
-        goes = record {
-          parts = record (parts_of s) { portals = portals };
-          same = refl;
-          is = refl;
-          ending = subst (λ (ps : List OpenPortal). Ending level levels levels (front ++ (q ∷ [])) back (with_parts (record (parts_of s) { portals = ps }) s)) (sym is) e;
-        };
-      }
+      replaced_leads level levels levels front back q s (record (parts_of s) { portals = portals }) is refl e
 
   -- its owner moves to that of the level above
   pub moves : (p : OpenPortal) (front back : List OpenPortal) (s : Scene) (o q : ℕ) → Ending level levels levels front (p ∷ back) s → p.created ≡ depth → p.owner ≡ Some o → owner_of (first_of levels) ≡ Some q
@@ -254,15 +214,7 @@ module _ (level : LevelState) (levels : List LevelState) (some : 1 ≤ length le
       replaced level levels levels p new front back s t y s.around.shelf h (changes_passed p) h.contexts h.hooks (levels_moved (level ∷ levels) o q t x s.session.current m a.other h.all) owners (plans_owner_moved s o q once w h.plans)
       (λ r b d. portal_moved levels o q t x s.session.current m p r owned b upper d.portal) (λ r b k. portal_moved (level ∷ levels) o q t x s.session.current m p r owned b (inr upper) k) own
       (λ n f z. a.other (inl (z ∙ ap Some (one_value p.owner n o f owned)))) in
-      record {
-        front = front ++ (new ∷ []);
-        goes = record {
-          parts = record (parts_of s) { owners = y; portals = portals };
-          same = refl;
-          is = refl;
-          ending = subst (λ (ps : List OpenPortal). Ending level levels levels (front ++ (new ∷ [])) back (with_parts (record (parts_of s) { owners = y; portals = ps }) s)) (sym is) e;
-        };
-      }
+      replaced_leads level levels levels front back new s (record (parts_of s) { owners = y; portals = portals }) is refl e
     where
       not_aborted : (r : OpenPortal) → IsLive r (level ∷ levels) → r.created ≡ depth → level.aborted ≡ false
       not_aborted r l deep = elim (cases_Bool level.aborted) [

@@ -1,11 +1,7 @@
 -- How many sessions of a run pin each buffer: a session sees of it how many others do.
-use Rattle.std.proofs.Common.{◌≡◌, ℕ, zero, suc, ◌+◌, ◌-◌, ◌<◌, Bool, true, false, cond, nat_eq, Some, List, [], ◌∷◌, map, refl, sym, ap, ◌∙◌, arith}
-use Rattle.std.specs.Prelude.{if◌then◌else◌, slice_get, slice_index}
-use Rattle.std.specs.List.{sum_by, range_with_len}
-use Rattle.std.proofs.lemmas.Bool.{eqb-true, eqb-false}
+use Rattle.session_rules.proofs.Base.{◌≡◌, ℕ, zero, suc, ◌+◌, ◌-◌, ◌<◌, Bool, true, false, cond, nat_eq, Some, List, [], ◌∷◌, map, refl, sym, ap, ◌∙◌, arith, if◌then◌else◌, slice_get, slice_index, sum_by, range_with_len, eqb-true, eqb-false, sum_by-cons}
+use Rattle.session_rules.proofs.Rules.{SessionState, buffer_pin}
 use Rattle.std.proofs.lemmas.List.FromFn.{get_or-map-range_with_len}
-use Rattle.std.proofs.lemmas.List.Sums.{sum_by-cons}
-use Rattle.session_rules.specs.State.{SessionState, buffer_pin}
 use Rattle.session_rules.specs.Counts.{holds}
 use Rattle.session_rules.specs.World.{Numbered, for_buffers, others, pinning_among}
 

@@ -1,15 +1,7 @@
 -- The contexts of plans among those of levels, and what plans keep where other contexts change.
-use Rattle.std.proofs.Common.{◌≡◌, ◌≢◌, ℕ, ◌≤◌, ◌<◌, true, false, Option, Some, None, List, [], ◌∷◌, refl, sym, ap, ◌∙◌, inl, inr, arith}
-use Rattle.std.specs.Prelude.{unwrap_or, All}
-use Rattle.std.specs.Option.{option_map_or}
-use Rattle.std.proofs.lemmas.List.Elements.{All-weaker}
-use Rattle.forest.specs.Forest.{Empty, has, children, parent_of, removed}
-use Rattle.forest.proofs.Moved.{above_by_parent}
-use Rattle.context_rules.specs.Contexts.{Contexts, is_protected}
-use Rattle.owner_core.specs.Owners.{OwnerTree}
-use Rattle.session_rules.specs.State.{LevelState, StandingPlan, abort_context, cache_context, context_of, first_of, top_context}
-use Rattle.session_rules.specs.Making.{level_parent}
-use Rattle.session_rules.specs.Standing.{AreContexts, AreLevels, AreOuter, ArePlans, IsPlan}
+use Rattle.session_rules.proofs.Base.{◌≡◌, ◌≢◌, ℕ, ◌≤◌, ◌<◌, true, false, Option, Some, List, [], ◌∷◌, sym, ap, ◌∙◌, inl, arith, unwrap_or, All, option_map_or, All-weaker, nat_tests}
+use Rattle.session_rules.proofs.Below.{Empty, has, children, parent_of, removed, above_by_parent, Contexts, is_protected, OwnerTree}
+use Rattle.session_rules.proofs.Rules.{LevelState, StandingPlan, abort_context, cache_context, context_of, first_of, top_context, level_parent, AreContexts, AreLevels, AreOuter, ArePlans, IsPlan}
 use Rattle.session_rules.proofs.ContextsKept.{IsSame, own_outside, same_removed}
 use Rattle.session_rules.proofs.LevelsKept.{IsContext, is_there}
 use Rattle.session_rules.proofs.Lone.{lone_left}
@@ -27,24 +19,14 @@ cached plan t current i = record { protected = i.protected; parent = i.parent; o
 
 -- another context is the current one
 pub plans_current : (plans : List StandingPlan) (t : Contexts) (a b : ℕ) (c : ℕ → ℕ) → ((m : ℕ) → IsCached m t → b ≢ m) → ArePlans plans t a c → ArePlans plans t b c
-plans_current plans t a b c other h = record {
-  each = All-weaker (λ plan. IsPlan plan t a) (λ plan. IsPlan plan t b)
-      (λ plan i. record { protected = i.protected; parent = i.parent; own = i.own; lone = i.lone; other = other plan.context (cached plan t a i); kept = i.kept }) plans h.each;
-  apart = h.apart;
-  counted = h.counted;
-}
+plans_current plans t a b c other h =
+    search (All-weaker (λ plan. IsPlan plan t a) (λ plan. IsPlan plan t b) (λ plan i. search (other plan.context (cached plan t a i))) plans h.each)
 
 -- contexts change
 pub plans_moved : (plans : List StandingPlan) (t u : Contexts) (current : ℕ) (c : ℕ → ℕ) → ((m : ℕ) → IsCached m t → IsSame m t u × (children m u ≡ Empty)) → ArePlans plans t current c → ArePlans plans u current c
-plans_moved plans t u current c stay h = record {
-  each = All-weaker (λ plan. IsPlan plan t current) (λ plan. IsPlan plan u current)
-      (λ plan i.
-      let s = stay plan.context (cached plan t current i) in
-      record { protected = s.0.protected; parent = s.0.parent ∙ i.parent; own = i.own; lone = s.1; other = i.other; kept = i.kept })
-      plans h.each;
-  apart = h.apart;
-  counted = h.counted;
-}
+plans_moved plans t u current c stay h =
+    search (All-weaker (λ plan. IsPlan plan t current) (λ plan. IsPlan plan u current)
+    (λ plan i. let s = stay plan.context (cached plan t current i) in search (s, s.0.parent ∙ i.parent)) plans h.each)
 
 -- references are counted in another way
 pub plans_counted : (plans : List StandingPlan) (t : Contexts) (current : ℕ) (c d : ℕ → ℕ) → ((m : ℕ) → c m ≡ d m) → ArePlans plans t current c → ArePlans plans t current d
@@ -53,11 +35,7 @@ plans_counted plans t current c d same h = record { each = h.each; apart = h.apa
 -- the parent of a level's context isn't the one for caches
 pub above_other : (levels : List LevelState) (t : Contexts) (x : OwnerTree) → AreLevels levels t x → level_parent (first_of levels) ≢ cache_context
 above_other [] t x l = λ z. absurd (omega (arith, z))
-above_other (level ∷ levels) t x l = go level.context (λ n e. (l.0.context n e).own)
-  where
-    go : (o : Option ℕ) → ((n : ℕ) → o ≡ Some n → abort_context < n) → option_map_or (λ n. n) o top_context ≢ cache_context
-    go None own = λ z. absurd (omega (arith, z))
-    go (Some n) own = λ z. absurd (omega (arith, z, own n refl))
+above_other (level ∷ levels) t x l = grind (arith, λ (n : ℕ) (e : level.context ≡ Some n). (l.0.context n e).own)
 
 pub some_is : (a b : ℕ) → Some a ≡ Some b → a ≡ b
 some_is a b e = cc e
@@ -65,12 +43,8 @@ some_is a b e = cc e
 -- a level's context isn't that of a plan
 pub levels_other : (levels : List LevelState) (t : Contexts) (x : OwnerTree) → AreLevels levels t x → (n : ℕ) → IsContext n levels → (m : ℕ) → IsCached m t → n ≢ m
 levels_other [] t x l n i m c = absurd i
-levels_other (level ∷ levels) t x l n i m c = elim i [
-  | inl e ↦ λ z.
-      above_other levels t x l.1
-      (some_is (level_parent (first_of levels)) cache_context (sym (l.0.context n e).parent ∙ ap (λ (k : ℕ). parent_of k t) z ∙ c.parent))
-  | inr j ↦ levels_other levels t x l.1 n j m c
-]
+levels_other (level ∷ levels) t x l n i m c =
+    grind (arith, nat_tests, above_other levels t x l.1, some_is (level_parent (first_of levels)) cache_context, levels_other levels t x l.1 n)
 
 pub levels_apart : (levels : List LevelState) (t : Contexts) (x : OwnerTree) (plans : List StandingPlan) (current : ℕ) → AreLevels levels t x → All (λ plan. IsPlan plan t current) plans → (n : ℕ) → IsContext n levels → IsApart n plans
 levels_apart levels t x plans current l each n i =

@@ -1,13 +1,7 @@
 -- What plans keep where one of them changes or goes.
-use Rattle.std.proofs.Common.{◌≡◌, ◌≢◌, ℕ, ◌≤◌, ◌<◌, true, false, Some, List, [], ◌∷◌, ◌++◌, refl, sym, ap, ◌∙◌, subst, inl, inr}
-use Rattle.std.specs.Prelude.{◌==◌, All}
-use Rattle.std.proofs.lemmas.Bool.{cases_eq, cases_Bool, eqb-true, eq-eqb, ne_eqb, both_ways}
-use Rattle.std.proofs.lemmas.List.Elements.{All-nil, All-cons, All-head, All-tail, All-weaker}
-use Rattle.forest.specs.Forest.{Empty, has, children, parent_of, removed}
-use Rattle.context_rules.specs.Contexts.{Contexts, is_protected}
-use Rattle.session_rules.specs.State.{StandingPlan, abort_context, cache_context}
-use Rattle.session_rules.specs.Lookup.{plan_at, plan_changed, plans_but}
-use Rattle.session_rules.specs.Standing.{AreApart, AreContexts, ArePlans, Differ, IsPlan, references_of}
+use Rattle.session_rules.proofs.Base.{◌≡◌, ◌≢◌, ℕ, ◌≤◌, ◌<◌, true, false, Some, List, [], ◌∷◌, ◌++◌, refl, sym, ap, ◌∙◌, subst, inl, inr, ◌==◌, All, cases_eq, cases_Bool, eqb-true, eq-eqb, ne_eqb, both_ways, All-nil, All-cons, All-head, All-tail, All-weaker, arith, nat_tests}
+use Rattle.session_rules.proofs.Below.{Empty, has, children, parent_of, removed, Contexts, is_protected}
+use Rattle.session_rules.proofs.Rules.{StandingPlan, abort_context, cache_context, plan_at, plan_changed, plans_but, AreApart, AreContexts, ArePlans, Differ, IsPlan, references_of}
 use Rattle.session_rules.proofs.ContextsKept.{IsSame, same_removed}
 use Rattle.session_rules.proofs.Lone.{lone_left}
 
@@ -49,31 +43,25 @@ split n p (q ∷ qs) apart e = elim (cases_Bool (q.number == n)) [
       }
 ]
 
--- what holds of each plan of such a list
-module _ (P : StandingPlan → Type 0) where
-  pub all_replaced : (p q : StandingPlan) (front back : List StandingPlan) → (P p → P q) → All P (front ++ (p ∷ back)) → All P (front ++ (q ∷ back))
+-- what holds of each of a list with one in the middle
+module _ {A : Type 0} (P : A → Type 0) where
+  pub all_replaced : (p q : A) (front back : List A) → (P p → P q) → All P (front ++ (p ∷ back)) → All P (front ++ (q ∷ back))
   all_replaced p q [] back so h = All-cons P q back (so (All-head P p back h)) (All-tail P p back h)
   all_replaced p q (x ∷ xs) back so h =
       All-cons P x (xs ++ (q ∷ back)) (All-head P x (xs ++ (p ∷ back)) h) (all_replaced p q xs back so (All-tail P x (xs ++ (p ∷ back)) h))
 
-  pub all_without : (p : StandingPlan) (front back : List StandingPlan) → All P (front ++ (p ∷ back)) → All P (front ++ back)
+  pub all_without : (p : A) (front back : List A) → All P (front ++ (p ∷ back)) → All P (front ++ back)
   all_without p [] back h = All-tail P p back h
   all_without p (x ∷ xs) back h = All-cons P x (xs ++ back) (All-head P x (xs ++ (p ∷ back)) h) (all_without p xs back (All-tail P x (xs ++ (p ∷ back)) h))
 
-  pub all_middle : (p : StandingPlan) (front back : List StandingPlan) → All P (front ++ (p ∷ back)) → P p
+  pub all_middle : (p : A) (front back : List A) → All P (front ++ (p ∷ back)) → P p
   all_middle p [] back h = All-head P p back h
   all_middle p (x ∷ xs) back h = all_middle p xs back (All-tail P x (xs ++ (p ∷ back)) h)
 
 -- plans stay apart
 apart_replaced : (p q : StandingPlan) (front back : List StandingPlan) → q.number ≡ p.number → q.context ≡ p.context → AreApart (front ++ (p ∷ back)) → AreApart (front ++ (q ∷ back))
-apart_replaced p q [] back n c h = (
-  All-weaker (Differ p) (Differ q) (λ r d. record { number = λ z. d.number (z ∙ n); context = λ z. d.context (z ∙ c) }) back h.0,
-  h.1,
-)
-apart_replaced p q (x ∷ xs) back n c h = (
-  all_replaced (Differ x) p q xs back (λ d. record { number = λ z. d.number (sym n ∙ z); context = λ z. d.context (sym c ∙ z) }) h.0,
-  apart_replaced p q xs back n c h.1,
-)
+apart_replaced p q [] back n c h = grind (arith, nat_tests)
+apart_replaced p q (x ∷ xs) back n c h = grind (arith, nat_tests, all_replaced (Differ x) p q xs back, apart_replaced p q xs back n c h.1)
 
 apart_without : (p : StandingPlan) (front back : List StandingPlan) → AreApart (front ++ (p ∷ back)) → AreApart (front ++ back)
 apart_without p [] back h = h.1
@@ -123,10 +111,7 @@ none_without n (x ∷ xs) back f b = rw (ne_eqb x.number n (All-head (IsOther n)
 
 counted_other : (m : ℕ) (p : StandingPlan) (front back : List StandingPlan) → p.number ≢ m → references_of m (front ++ (p ∷ back)) ≡ references_of m (front ++ back)
 counted_other m p [] back ne = rw (ne_eqb p.number m ne) refl
-counted_other m p (x ∷ xs) back ne = elim (cases_Bool (x.number == m)) [
-  | inl y ↦ rw y refl
-  | inr y ↦ rw y (counted_other m p xs back ne)
-]
+counted_other m p (x ∷ xs) back ne = grind (arith, nat_tests, counted_other m p xs back ne)
 
 -- A plan becomes another one of its number and its context.
 pub plans_replaced : (plans : List StandingPlan) (t : Contexts) (current : ℕ) (c d : ℕ → ℕ) (n : ℕ) (p q : StandingPlan) → ArePlans plans t current c → (s : Split n p plans)
@@ -168,14 +153,7 @@ plans_without plans t next current c d n p contexts h s now others =
           let i : IsPlan _ t current = stands k x below in
           let ne = differ k x below in
           let same : IsSame _ t (removed p.context t) = same_removed t next contexts _ p.context (ne, out _) i.protected in
-          record {
-            protected = same.protected;
-            parent = same.parent ∙ i.parent;
-            own = i.own;
-            lone = lone_left _ p.context t contexts.once ne (out _) i.lone;
-            other = i.other;
-            kept = i.kept;
-          };
+          search (same.parent ∙ i.parent, lone_left _ p.context t contexts.once ne (out _) i.lone);
       apart = apart_without p s.front s.back was.apart;
       counted = λ m. elim (cases_eq n m) [
         | inl e ↦ ap (λ (k : ℕ). references_of k (s.front ++ s.back)) (sym e) ∙ none_without n s.front s.back s.before s.behind ∙ sym now ∙ ap d e

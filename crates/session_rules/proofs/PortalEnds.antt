@@ -1,42 +1,13 @@
 -- A portal ends within its level: a session that stands leads to one that stands, where portals are at rest.
-use Rattle.std.proofs.Common.{◌≡◌, ◌≢◌, ℕ, Bool, true, false, Option, Some, None, List, [], ◌∷◌, ◌++◌, refl, sym, ap, ◌∙◌, subst, inl, inr}
-use Rattle.std.specs.Prelude.{All}
-use Rattle.std.specs.Option.{option_map_or}
-use Rattle.std.proofs.lemmas.List.Elements.{All-append, All-cons, All-head, All-tail, All-weaker}
-use Rattle.forest.specs.Forest.{Once, has, children, removed}
-use Rattle.forest.proofs.Trees.{has_of_removed, left_apart}
-use Rattle.pgs_step.specs.declared.ids.KindId.{KindId}
-use Rattle.context_rules.specs.Contexts.{Contexts}
-use Rattle.context_rules.specs.Ends.{gone}
-use Rattle.owner_kinds.specs.KindTable.{KindTable, IsSound as IsSoundTable}
-use Rattle.owner_kinds.specs.KindShelf.{table_of}
-use Rattle.owner_core.specs.Owners.{Owner, OwnerTree, has_begun}
-use Rattle.owner_core.proofs.Sounds.{once_of, sound_removed}
-use Rattle.session_rules.specs.State.{LevelState, OpenPortal, buffer_pin, relcache_reference, snapshot_reference}
-use Rattle.session_rules.specs.World.{Scene, Moment}
+use Rattle.session_rules.proofs.Base.{◌≡◌, ◌≢◌, ℕ, Bool, true, false, Option, Some, None, List, [], ◌∷◌, ◌++◌, refl, sym, ap, ◌∙◌, subst, inl, inr, All, option_map_or, All-append, All-cons, All-head, All-tail, All-weaker}
+use Rattle.session_rules.proofs.Below.{Once, has, children, removed, has_of_removed, left_apart, KindId, Contexts, gone, KindTable, IsSoundTable, table_of, Owner, OwnerTree, has_begun, once_of, sound_removed}
+use Rattle.session_rules.proofs.Rules.{LevelState, OpenPortal, buffer_pin, relcache_reference, snapshot_reference, Scene, Moment, does, portal_changed, portal_named, portals_but, Text, context_gone, in_order, portal_gone, where_so, where_there, item_released, owner_gone, owner_released}
 use Rattle.session_rules.specs.Elements as element
-use Rattle.session_rules.specs.Does.{does}
-use Rattle.session_rules.specs.Lookup.{portal_changed, portal_named, portals_but}
-use Rattle.session_rules.specs.Elements.{Text}
-use Rattle.session_rules.specs.Acts.{context_gone, in_order, portal_gone, where_so, where_there}
-use Rattle.session_rules.specs.Releases.{item_released, owner_gone, owner_released}
 use Rattle.session_rules.specs.Portals.{executor_ended, is_ready, portal_ended, portal_owner_ended}
 use Rattle.session_rules.specs.Standing.{AreContexts, AreLevels, AreOwners, ArePortals, HasItems, IsAtRest, IsAttached, IsLive, IsOfPortal, IsOwner, IsPlace, IsPlan, IsPortal, IsWorking, Stands, referred}
-use Rattle.session_rules.proofs.Forests.{at_left, has_left, parent_left}
-use Rattle.session_rules.proofs.Guarded.{all_removed}
-use Rattle.session_rules.proofs.ContextsKept.{contexts_level_gone}
-use Rattle.session_rules.proofs.HooksKept.{conserves_gone, hooks_ended}
-use Rattle.session_rules.proofs.LevelsKept.{begun_has, levels_stay, no_value, one_value}
-use Rattle.session_rules.proofs.Settling.{Fits, HasSettled, besides_of, release_settles, with_besides}
-use Rattle.session_rules.proofs.Releasing.{swept_by, with_owners}
-use Rattle.session_rules.proofs.Swept.{removed_swept}
+use Rattle.session_rules.proofs.Kept.{at_left, has_left, parent_left, all_removed, contexts_level_gone, hooks_ended, parts_gone, begun_has, levels_stay, no_value, one_value, Fits, HasSettled, besides_of, release_settles, with_besides, swept_by, with_owners, removed_swept, lone_left, all_back, all_front, but_one, different_changed, different_without, others_back, others_front, owner_beside, owner_split, rests_becomes, rests_but, attached_by, place_spared, levels_apart, plans_counted}
 use Rattle.session_rules.proofs.EndsStand.{left_count}
-use Rattle.session_rules.proofs.Lone.{lone_left}
-use Rattle.session_rules.proofs.PortalLists.{all_back, all_front, but_one, different_changed, different_without, others_back, others_front, owner_beside, owner_split}
-use Rattle.session_rules.proofs.PortalsAmong.{attached_by, place_spared}
-use Rattle.session_rules.proofs.Resting.{rests_becomes, rests_but}
 use Rattle.session_rules.proofs.Ending.{Beside, below_place, beside_removed, levels_beside, places_beside, plans_beside}
-use Rattle.session_rules.proofs.PlansAmong.{levels_apart, plans_counted}
 use Rattle.session_rules.proofs.StepsStand.{Works, fit_working, not_released, nothing_works}
 use Rattle.session_rules.proofs.PortalsStand.{Named, changes_in, named_changed, named_in, split_portals, this_live, this_portal}
 use Rattle.session_rules.proofs.PortalWorks.{Beside as LeavesPortals, item_beside, nothing_beside, then_beside}
@@ -105,22 +76,15 @@ gone_works s name p h working e none = go p.context refl
         let m : Named name p s.session.portals = named_in name p s.session.portals e in
         let was : ArePortals (m.front ++ (p ∷ m.back)) s.session.levels s.session.contexts s.session.owners s.session.current = split_portals s h working name p m in
         let P : OpenPortal → Type 0 = λ r. IsPortal r s.session.levels s.session.contexts s.session.owners s.session.current in
+        let portals : ArePortals (m.front ++ m.back) s.session.levels s.session.contexts s.session.owners s.session.current = record {
+          each = All-append P m.front m.back (all_front P m.front (p ∷ m.back) was.each) (All-tail P p m.back (all_back P m.front (p ∷ m.back) was.each));
+          different = different_without p m.front m.back was.different;
+        } in
         record {
-          stands = record {
-            contexts = h.contexts;
-            current = h.current;
-            hooks = h.hooks;
-            levels = h.levels;
-            fit = h.fit;
-            kinds = h.kinds;
-            owners = subst (λ (ps : List OpenPortal). AreOwners (table_of s.around.kinds) s.session.owners s.session.next_owner s.session.next_serial s.session.levels ps) (sym left) owned;
-            portals = subst (λ (ps : List OpenPortal). ArePortals ps s.session.levels s.session.contexts s.session.owners s.session.current) (sym left) (record {
-              each = All-append P m.front m.back (all_front P m.front (p ∷ m.back) was.each) (All-tail P p m.back (all_back P m.front (p ∷ m.back) was.each));
-              different = different_without p m.front m.back was.different;
-            });
-            plans = h.plans;
-            snapshots = h.snapshots;
-          };
+          stands = search (
+            subst (λ (ps : List OpenPortal). AreOwners (table_of s.around.kinds) s.session.owners s.session.next_owner s.session.next_serial s.session.levels ps) (sym left) owned,
+            subst (λ (ps : List OpenPortal). ArePortals ps s.session.levels s.session.contexts s.session.owners s.session.current) (sym left) portals,
+          );
           levels = refl;
           at_rest = rests_but p.name s.session.portals;
         }
@@ -144,23 +108,22 @@ gone_works s name p h working e none = go p.context refl
         let Q : OpenPortal → Type 0 = λ r. IsPortal r ls u x cur in
         let before : All P m.front = all_front P m.front (p ∷ m.back) was.each in
         let behind : All P m.back = All-tail P p m.back (all_back P m.front (p ∷ m.back) was.each) in
+        let portals : ArePortals (m.front ++ m.back) ls u x cur = record {
+          each = All-append Q m.front m.back (λ k r below. let o = fronts k r below in still _ (λ v f z. o.context v (q ∙ ap Some (sym z)) f) (before k r below))
+              (λ k r below. let o = backs k r below in still _ (λ v f z. o.context v f (q ∙ ap Some (sym z))) (behind k r below));
+          different = different_without p m.front m.back was.different;
+        } in
         record {
-          stands = record {
-            contexts = contexts_level_gone t next h.contexts c place.own;
-            current = has_left cur c t h.contexts.once place.other outside ∙ h.current;
-            hooks = hooks_ended t (gone c t) s.around.shelf (conserves_gone c t h.contexts.once) h.hooks;
-            levels = levels_all t next h.contexts c p.expr cur place ls u x b h.levels;
-            fit = fit_working ls t u x x cur cur working h.fit;
-            kinds = h.kinds;
-            owners = subst (λ (ps : List OpenPortal). AreOwners (table_of s.around.kinds) x s.session.next_owner s.session.next_serial ls ps) (sym left) owned;
-            portals = subst (λ (ps : List OpenPortal). ArePortals ps ls u x cur) (sym left) (record {
-              each = All-append Q m.front m.back (λ k r below. let o = fronts k r below in still _ (λ v f z. o.context v (q ∙ ap Some (sym z)) f) (before k r below))
-                  (λ k r below. let o = backs k r below in still _ (λ v f z. o.context v f (q ∙ ap Some (sym z))) (behind k r below));
-              different = different_without p m.front m.back was.different;
-            });
-            plans = plans_beside t next h.contexts c p.expr cur place s.session.plans u (referred x) b h.plans;
-            snapshots = h.snapshots;
-          };
+          stands = search (
+            contexts_level_gone t next h.contexts c place.own,
+            has_left cur c t h.contexts.once place.other outside ∙ h.current,
+            hooks_ended t (gone c t) s.around.shelf (parts_gone c t h.contexts.once) h.hooks,
+            levels_all t next h.contexts c p.expr cur place ls u x b h.levels,
+            fit_working ls t u x x cur cur working h.fit,
+            subst (λ (ps : List OpenPortal). AreOwners (table_of s.around.kinds) x s.session.next_owner s.session.next_serial ls ps) (sym left) owned,
+            subst (λ (ps : List OpenPortal). ArePortals ps ls u x cur) (sym left) portals,
+            plans_beside t next h.contexts c p.expr cur place s.session.plans u (referred x) b h.plans,
+          );
           levels = refl;
           at_rest = rests_but p.name s.session.portals;
         }
@@ -200,12 +163,10 @@ owner_ends s name p o h working e owns =
     let portals : List OpenPortal = portal_changed name unowned s.session.portals in
     let is : portals ≡ n.front ++ (unowned p ∷ n.back) = changes_in s h working name p n unowned in
     let spared : (m : ℕ) (expr : Option ℕ) → IsPlace m expr t cur → IsPlace m expr u cur = λ m expr k. place_spared (besides_of s) g.besides cur g.spares h.plans.each m expr cur k in
-    let still : (r : OpenPortal) → ((k : ℕ) → r.owner ≡ Some k → k ≢ o) → IsPortal r ls t x cur → IsPortal r ls u y cur = λ r ne k. record {
-      place = λ m f. spared m r.expr (k.place m f);
-      made = k.made;
-      owner = λ m f. attached_by m r.created ls ls x y (λ w. has_left m o x once (ne m f) (out m) ∙ w) (parent_left m o x once (ne m f) (out m)) (lone_left m o x once (ne m f) (out m)) refl (λ j. j) (k.owner m f);
-      stage = k.stage;
-    } in
+    let still : (r : OpenPortal) → ((k : ℕ) → r.owner ≡ Some k → k ≢ o) → IsPortal r ls t x cur → IsPortal r ls u y cur = λ r ne k. search (
+      λ (m : ℕ) (f : _). spared m r.expr (k.place m f),
+      λ (m : ℕ) (f : _). attached_by m r.created ls ls x y (λ w. has_left m o x once (ne m f) (out m) ∙ w) (parent_left m o x once (ne m f) (out m)) (lone_left m o x once (ne m f) (out m)) refl (λ j. j) (k.owner m f),
+    ) in
     let own : IsPortal (unowned p) ls u y cur =
     let i = this_portal s h working name p n in
     let l : IsLive p ls = this_live s h working name p n in

@@ -1,13 +1,9 @@
 -- What lists of portals keep where one of them changes or goes.
-use Rattle.std.proofs.Common.{◌≡◌, ◌≢◌, ◌⊎◌, ℕ, false, Some, List, [], ◌∷◌, ◌++◌, refl, sym, ap, ◌∙◌, inl, inr}
-use Rattle.std.specs.Prelude.{All}
-use Rattle.std.proofs.lemmas.Bool.{false_from_ne_true}
-use Rattle.std.proofs.lemmas.List.Elements.{All-nil, All-cons, All-head, All-tail, All-weaker}
-use Rattle.pgs_command.specs.Words.{is_text}
-use Rattle.pgs_command.proofs.ValueLemmas.{is_text-means, is_text-same}
-use Rattle.session_rules.specs.State.{OpenPortal}
-use Rattle.session_rules.specs.Lookup.{portal_changed, portals_but}
-use Rattle.session_rules.specs.Standing.{AreDifferent, AreOther, IsOfPortal}
+use Rattle.session_rules.proofs.Base.{◌≡◌, ◌≢◌, ◌⊎◌, ℕ, false, Some, List, [], ◌∷◌, ◌++◌, refl, sym, ap, ◌∙◌, inl, inr, All, false_from_ne_true, All-nil, All-cons, All-head, All-tail, All-weaker, Bool, true, arith, if◌then◌else◌, both_ways, cases_Bool, nat_tests}
+use Rattle.session_rules.proofs.Rules.{OpenPortal, portal_changed, portals_but, AreDifferent, AreOther, IsOfPortal, LevelState, Text, IsAtRest, IsDead, IsLive, IsPortal}
+use Rattle.session_rules.proofs.Below.{is_text, is_text-means, is_text-same, Contexts, OwnerTree}
+use Rattle.session_rules.proofs.PlansKept.{all_replaced, all_without}
+use Rattle.session_rules.proofs.Stacked.{depth_still}
 
 -- what holds of each portal of such a list
 module _ (P : OpenPortal → Type 0) where
@@ -30,13 +26,9 @@ others_back p [] back h = h.0
 others_back p (x ∷ xs) back h = others_back p xs back h.1
 
 -- one goes
-without_one : (P : OpenPortal → Type 0) (p : OpenPortal) (front back : List OpenPortal) → All P (front ++ (p ∷ back)) → All P (front ++ back)
-without_one P p [] back h = All-tail P p back h
-without_one P p (x ∷ xs) back h = All-cons P x (xs ++ back) (All-head P x (xs ++ (p ∷ back)) h) (without_one P p xs back (All-tail P x (xs ++ (p ∷ back)) h))
-
 pub different_without : (p : OpenPortal) (front back : List OpenPortal) → AreDifferent (front ++ (p ∷ back)) → AreDifferent (front ++ back)
 different_without p [] back h = h.1
-different_without p (x ∷ xs) back h = (without_one (AreOther x) p xs back h.0, different_without p xs back h.1)
+different_without p (x ∷ xs) back h = (all_without (AreOther x) p xs back h.0, different_without p xs back h.1)
 
 -- one changes: it keeps its name, and gets neither another context nor another owner
 pub record Changes (p q : OpenPortal) : Type 0 where
@@ -44,28 +36,14 @@ pub record Changes (p q : OpenPortal) : Type 0 where
   pub context : (n : ℕ) → q.context ≡ Some n → p.context ≡ Some n
   pub owner : (n : ℕ) → q.owner ≡ Some n → p.owner ≡ Some n
 
-with_one : (P : OpenPortal → Type 0) (p q : OpenPortal) (front back : List OpenPortal) → (P p → P q) → All P (front ++ (p ∷ back)) → All P (front ++ (q ∷ back))
-with_one P p q [] back so h = All-cons P q back (so (All-head P p back h)) (All-tail P p back h)
-with_one P p q (x ∷ xs) back so h = All-cons P x (xs ++ (q ∷ back)) (All-head P x (xs ++ (p ∷ back)) h) (with_one P p q xs back so (All-tail P x (xs ++ (p ∷ back)) h))
-
 pub different_changed : (p q : OpenPortal) (front back : List OpenPortal) → Changes p q → AreDifferent (front ++ (p ∷ back)) → AreDifferent (front ++ (q ∷ back))
-different_changed p q [] back c h = (
-  All-weaker (AreOther p) (AreOther q)
-      (λ x o. record { name = λ z. o.name (z ∙ c.name); context = λ n e f. o.context n e (c.context n f); owner = λ n e f. o.owner n e (c.owner n f) }) back h.0,
-  h.1,
-)
-different_changed p q (x ∷ xs) back c h = (
-  with_one (AreOther x) p q xs back (λ o. record { name = λ z. o.name (sym c.name ∙ z); context = λ n e f. o.context n (c.context n e) f; owner = λ n e f. o.owner n (c.owner n e) f }) h.0,
-  different_changed p q xs back c h.1,
-)
+different_changed p q [] back c h = grind (arith, nat_tests)
+different_changed p q (x ∷ xs) back c h = grind (arith, nat_tests, all_replaced (AreOther x) p q xs back, different_changed p q xs back c h.1)
 
 -- whose owner it is
 pub owner_split : (n : ℕ) (p : OpenPortal) (front back : List OpenPortal) → IsOfPortal n (front ++ (p ∷ back)) → (p.owner ≡ Some n) ⊎ IsOfPortal n (front ++ back)
 owner_split n p [] back i = i
-owner_split n p (x ∷ xs) back i = elim i [
-  | inl e ↦ inr (inl e)
-  | inr j ↦ elim (owner_split n p xs back j) [ inl e ↦ inl e | inr k ↦ inr (inr k) ]
-]
+owner_split n p (x ∷ xs) back i = grind (arith, nat_tests, owner_split n p xs back)
 
 pub owner_beside : (n : ℕ) (p : OpenPortal) (front back : List OpenPortal) → IsOfPortal n (front ++ back) → IsOfPortal n (front ++ (p ∷ back))
 owner_beside n p [] back i = inr i
@@ -119,7 +97,7 @@ different_new p q [] back new name owner is off h = (
 )
 different_new p q (x ∷ xs) back new name owner is off h =
     let mine : (n : ℕ) → x.context ≡ Some n → n ≢ new = All-head (λ r. (n : ℕ) → r.context ≡ Some n → n ≢ new) x (xs ++ (p ∷ back)) off in (
-      with_one (AreOther x) p q xs back (λ o. record { name = λ z. o.name (sym name ∙ z); context = λ n e g. mine n g (is n e); owner = λ n e g. o.owner n (owner n e) g }) h.0,
+      all_replaced (AreOther x) p q xs back (λ o. record { name = λ z. o.name (sym name ∙ z); context = λ n e g. mine n g (is n e); owner = λ n e g. o.owner n (owner n e) g }) h.0,
       different_new p q xs back new name owner is (All-tail (λ r. (n : ℕ) → r.context ≡ Some n → n ≢ new) x (xs ++ (p ∷ back)) off) h.1,
     )
 
@@ -135,6 +113,58 @@ different_owned p q [] back new name context is off h = (
 )
 different_owned p q (x ∷ xs) back new name context is off h =
     let mine : (n : ℕ) → x.owner ≡ Some n → n ≢ new = All-head (λ r. (n : ℕ) → r.owner ≡ Some n → n ≢ new) x (xs ++ (p ∷ back)) off in (
-      with_one (AreOther x) p q xs back (λ o. record { name = λ z. o.name (sym name ∙ z); context = λ n e g. o.context n (context n e) g; owner = λ n e g. mine n g (is n e) }) h.0,
+      all_replaced (AreOther x) p q xs back (λ o. record { name = λ z. o.name (sym name ∙ z); context = λ n e g. o.context n (context n e) g; owner = λ n e g. mine n g (is n e) }) h.0,
       different_owned p q xs back new name context is (All-tail (λ r. (n : ℕ) → r.owner ≡ Some n → n ≢ new) x (xs ++ (p ∷ back)) off) h.1,
     )
+
+-- no line is at work on a portal where the deepest level is aborted
+pub rests_aborted : (p : OpenPortal) (level : LevelState) (levels : List LevelState) → level.aborted ≡ true → IsLive p (level ∷ levels) ⊎ IsDead p (level ∷ levels) → IsAtRest p
+rests_aborted p level levels aborted s = grind (arith, nat_tests, depth_still level levels aborted)
+
+-- without a level there is no portal
+pub rests_outside : (p : OpenPortal) → IsLive p [] ⊎ IsDead p [] → IsAtRest p
+rests_outside p s = grind (arith, nat_tests)
+
+-- a portal of a name changes
+module _ (name : Text) (f : OpenPortal → OpenPortal) (P Q : OpenPortal → Type 0) where
+  pub all_becomes : (ps : List OpenPortal) → ((p : OpenPortal) → is_text p.name name ≡ true → P p → Q (f p)) → ((p : OpenPortal) → is_text p.name name ≡ false → P p → Q p) → All P ps → All Q (portal_changed name f ps)
+  all_becomes [] so stay h = All-nil Q
+  all_becomes (p ∷ ps) so stay h =
+      All-cons Q (if is_text p.name name then f p else p) (portal_changed name f ps) (one (is_text p.name name) (so p) (stay p)) (all_becomes ps so stay (All-tail P p ps h))
+    where
+      one : (b : Bool) → (b ≡ true → P p → Q (f p)) → (b ≡ false → P p → Q p) → Q (if b then f p else p)
+      one true this other = this refl (All-head P p ps h)
+      one false this other = other refl (All-head P p ps h)
+
+pub rests_becomes : (name : Text) (f : OpenPortal → OpenPortal) (ps : List OpenPortal) → ((p : OpenPortal) → IsAtRest p → IsAtRest (f p)) → All IsAtRest ps → All IsAtRest (portal_changed name f ps)
+rests_becomes name f ps so h = all_becomes name f IsAtRest IsAtRest ps (λ p _ r. so p r) (λ p _ r. r) h
+
+-- one goes
+pub rests_but : (name : Text) (ps : List OpenPortal) → All IsAtRest ps → All IsAtRest (portals_but name ps)
+rests_but name [] h = All-nil IsAtRest
+rests_but name (p ∷ ps) h = elim (cases_Bool (is_text p.name name)) [
+  | inl y ↦ rw y (rests_but name ps (All-tail IsAtRest p ps h))
+  | inr y ↦ rw y (All-cons IsAtRest p (portals_but name ps) (All-head IsAtRest p ps h) (rests_but name ps (All-tail IsAtRest p ps h)))
+]
+
+-- the portals but the one of a name are at rest
+abbrev pub RestsBeside : Text → OpenPortal → Type 0
+RestsBeside name p = is_text p.name name ≡ false → IsAtRest p
+
+pub rests_beside : (name : Text) (ps : List OpenPortal) → All IsAtRest ps → All (RestsBeside name) ps
+rests_beside name ps h = All-weaker IsAtRest (RestsBeside name) (λ p r _. r) ps h
+
+pub beside_becomes : (name : Text) (f : OpenPortal → OpenPortal) (ps : List OpenPortal) → ((p : OpenPortal) → (f p).name ≡ p.name) → All (RestsBeside name) ps → All (RestsBeside name) (portal_changed name f ps)
+beside_becomes name f ps keeps h =
+    all_becomes name f (RestsBeside name) (RestsBeside name) ps (λ p y r n. absurd (both_ways (is_text p.name name) (sym (ap (λ (k : Text). is_text k name) (keeps p)) ∙ n) y)) (λ p _ r. r) h
+
+-- and then that one
+pub beside_rests : (name : Text) (f : OpenPortal → OpenPortal) (ps : List OpenPortal) → ((p : OpenPortal) → IsAtRest (f p)) → All (RestsBeside name) ps → All IsAtRest (portal_changed name f ps)
+beside_rests name f ps so h = all_becomes name f (RestsBeside name) IsAtRest ps (λ p _ _. so p) (λ p n r. r n) h
+
+-- all portals of such levels
+pub all_rest_aborted : (ps : List OpenPortal) (level : LevelState) (levels : List LevelState) (t : Contexts) (x : OwnerTree) (current : ℕ) → level.aborted ≡ true → All (λ p. IsPortal p (level ∷ levels) t x current) ps → All IsAtRest ps
+all_rest_aborted ps level levels t x current aborted h = All-weaker (λ p. IsPortal p (level ∷ levels) t x current) IsAtRest (λ p i. rests_aborted p level levels aborted i.stage) ps h
+
+pub all_rest_outside : (ps : List OpenPortal) (t : Contexts) (x : OwnerTree) (current : ℕ) → All (λ p. IsPortal p [] t x current) ps → All IsAtRest ps
+all_rest_outside ps t x current h = All-weaker (λ p. IsPortal p [] t x current) IsAtRest (λ p i. rests_outside p i.stage) ps h

@@ -1,71 +1,24 @@
 -- The elements of portals lead from a session that stands to one that stands, with its levels as they were.
-use Rattle.std.proofs.Common.{◌≡◌, ◌≢◌, ℕ, ◌-◌, Bool, true, false, Option, Some, None, List, [], ◌∷◌, length, refl, sym, ap, ◌∙◌, subst, inl, inr}
-use Rattle.std.specs.Prelude.{◌==◌, ◌&&◌}
-use Rattle.std.specs.Option.{option_and_then}
-use Rattle.std.proofs.lemmas.Bool.{cases_Bool}
-use Rattle.forest.specs.Forest.{has}
-use Rattle.pgs_step.specs.declared.errors.Error.{Error}
+use Rattle.session_rules.proofs.Base.{◌≡◌, ◌≢◌, ℕ, true, false, Option, Some, None, List, [], ◌∷◌, length, refl, sym, ap, ◌∙◌, subst, inl, inr, option_and_then, arith, nat_tests}
+use Rattle.session_rules.proofs.Below.{has, Error, Item, KindId, Mode, ScanStep, table_of, without, forgotten}
+use Rattle.session_rules.proofs.Rules.{OpenPortal, buffer_pin, Scene, Moment, Check, Element, InPortal, InRow, OfPortal, Text, newest, portal_changed, portal_named, changes, context_cleared_alone, in_order, nothing, portal_becomes, say, where_there, Done, Keeper, NoOne, TheDescriptors, TheKind, ThePlans, given_back, item_released, keeper_of, left_to, scan_part, scanned, does, failing_turn, IsAtRest, IsFetched, IsItem, IsWorking, Stands}
 use Rattle.pgs_step.specs.declared.events.What.TheVariants as what
-use Rattle.pgs_step.specs.declared.ids.Item.{Item}
-use Rattle.pgs_step.specs.declared.ids.KindId.{KindId}
-use Rattle.pgs_step.specs.declared.lock_modes.Mode.{Mode}
-use Rattle.pgs_command.specs.Words.{is_text}
 use Rattle.portal_store.specs.declared.portal.PortalState.TheVariants as portal
-use Rattle.exec_core.specs.declared.steps.ScanStep.{ScanStep}
 use Rattle.exec_core.specs.declared.steps.ScanStep.TheVariants as step
 use Rattle.exec_core.specs.Turn.{taken}
-use Rattle.owner_kinds.specs.KindShelf.{table_of}
-use Rattle.lock_local.specs.Changes.{acquired}
-use Rattle.file_table.specs.Descriptors.{is_among, without}
-use Rattle.owner_core.specs.Owners.{forgotten}
-use Rattle.session_rules.specs.State.{OpenPortal, StandingPlan, buffer_pin}
-use Rattle.session_rules.specs.World.{Scene, Moment}
 use Rattle.session_rules.specs.Elements as element
-use Rattle.session_rules.specs.Elements.{Check, Element, InPortal, InRow, OfPortal, Text}
-use Rattle.session_rules.specs.Lookup.{newest, plan_at, portal_changed, portal_named}
-use Rattle.session_rules.specs.Acts.{Ended, changes, context_cleared_alone, in_order, nothing, portal_becomes, say, where_so, where_there}
-use Rattle.session_rules.specs.Checks.{failure}
-use Rattle.session_rules.specs.Calls.{Done, unless_refused}
-use Rattle.session_rules.specs.Releases.{Keeper, NoOne, TheDescriptors, TheKind, ThePlans, given_back, item_released, keeper_of, left_to, plan_becomes, plan_settled, plan_stays}
-use Rattle.session_rules.specs.Making.{left}
-use Rattle.session_rules.specs.Taking.{item_taken, lock_taken, memory_taken, remembers, taken_by}
-use Rattle.session_rules.specs.Parts.{at_owner, scan_part, scanned}
-use Rattle.session_rules.specs.Does.{does, failing_turn}
-use Rattle.session_rules.specs.Standing.{IsAtRest, IsFetched, IsItem, IsWorking, Stands}
-use Rattle.session_rules.proofs.EndsStand.{stands_tabled}
-use Rattle.session_rules.proofs.ItemsStand.{give_step, other_step}
-use Rattle.session_rules.proofs.NamesStand.{alone_step, at_name}
-use Rattle.session_rules.proofs.Releasing.{tables_of}
-use Rattle.session_rules.proofs.StepsStand.{Works, fallible_keeps, keeps_allocated, kept_step, nothing_works}
+use Rattle.session_rules.proofs.ItemsStand.{give_step, lock_beside, take_beside}
+use Rattle.session_rules.proofs.NamesStand.{alone_step}
+use Rattle.session_rules.proofs.Kept.{rests_becomes}
+use Rattle.session_rules.proofs.StepsStand.{Works, fallible_keeps, nothing_works, alloc_beside, beside_by}
 use Rattle.session_rules.proofs.PortalsStand.{Named, active_portal, named_changed, named_in, scan_portal, state_portal, this_portal}
-use Rattle.session_rules.proofs.Resting.{rests_becomes}
-
--- steps that leave the portals as they are
-pub record Beside (s z : Scene) : Type 0 where
-  pub works : Works s z
-  pub portals : z.session.portals ≡ s.session.portals
-
-pub nothing_beside : (s : Scene) → Stands s → Beside s s
-nothing_beside s h = record { works = nothing_works s h; portals = refl }
+pub use Rattle.session_rules.proofs.StepsStand.{Beside, nothing_beside}
 
 -- what is given back leaves the portals
 pub given_portals : (keeper : Keeper) (key : ℕ) (s : Scene) → (left_to keeper key s).scene.session.portals ≡ s.session.portals
 given_portals NoOne key s = refl
-given_portals ThePlans key s = go (plan_at key s.session.plans)
-  where
-    settled : (q : StandingPlan) (b : Bool) → (elim b as (λ _. Ended) [ true ↦ plan_settled q s | false ↦ plan_stays q s ]).scene.session.portals ≡ s.session.portals
-    settled q true = refl
-    settled q false = refl
-
-    go : (o : Option StandingPlan) → (where_there o (λ plan. plan_becomes (record plan { references = plan.references - 1 })) s).scene.session.portals ≡ s.session.portals
-    go None = refl
-    go (Some p) = settled (record p { references = p.references - 1 }) (p.discarded && (p.references - 1 == 0))
-given_portals TheDescriptors key s = go (is_among key s.session.recent)
-  where
-    go : (b : Bool)
-        → (where_so b (λ scene. record { scene = record scene { session = record scene.session { recent = without key scene.session.recent } }; events = what.DescriptorClosed key ∷ [] }) s).scene.session.portals ≡ s.session.portals
-    go true = refl
-    go false = refl
+given_portals ThePlans key s = grind (arith, nat_tests)
+given_portals TheDescriptors key s = grind (arith, nat_tests, without key)
 given_portals (TheKind place) key s = refl
 
 -- an owner gives an item back
@@ -85,19 +38,12 @@ then_beside a b c x y = record { works = record { stands = y.works.stands; level
 -- without a portal of the name nothing changes
 pub none_changed : (name : Text) (f : OpenPortal → OpenPortal) (ps : List OpenPortal) → portal_named name ps ≡ None → portal_changed name f ps ≡ ps
 none_changed name f [] e = refl
-none_changed name f (p ∷ ps) e = elim (cases_Bool (is_text p.name name)) [
-  | inl y ↦ let z : Some p ≡ None = rw y at e in absurd (cc z)
-  | inr y ↦ rw y (ap (λ (qs : List OpenPortal). p ∷ qs) (none_changed name f ps (rw y at e)))
-]
+none_changed name f (p ∷ ps) e = grind (arith, nat_tests, none_changed name f ps)
 
 -- a portal changes, where one has the name
 pub becomes_works : (s : Scene) (name : Text) (f : OpenPortal → OpenPortal) → Stands s → ((p : OpenPortal) → IsAtRest p → IsAtRest (f p)) → ((p : OpenPortal) → portal_named name s.session.portals ≡ Some p → Stands (portal_becomes name f s).scene) → Works s (portal_becomes name f s).scene
-becomes_works s name f h rests named = go (portal_named name s.session.portals) refl
-  where
-    go : (o : Option OpenPortal) → portal_named name s.session.portals ≡ o → Works s (portal_becomes name f s).scene
-    go None e =
-        subst (λ (ps : List OpenPortal). Works s (record s { session = record s.session { portals = ps } })) (sym (none_changed name f s.session.portals e)) (nothing_works s h)
-    go (Some p) e = record { stands = named p e; levels = refl; at_rest = rests_becomes name f s.session.portals rests }
+becomes_works s name f h rests named =
+    grind (arith, nat_tests, none_changed name f s.session.portals, nothing_works s h, rests_becomes name f s.session.portals rests)
 
 -- a step of a turn of the portal of a name
 pub record Turns (name : Text) (s z : Scene) : Type 0 where
@@ -112,16 +58,7 @@ beside_turns name s z b = record {
 
 pub becomes_fetched : (s : Scene) (name : Text) (f : OpenPortal → OpenPortal) → ((p : OpenPortal) → (f p).name ≡ p.name) → ((p : OpenPortal) → portal_named name s.session.portals ≡ Some p → (f p).active ≡ length s.session.levels)
     → IsFetched name (portal_becomes name f s).scene
-becomes_fetched s name f keeps active q e = go (portal_named name s.session.portals) refl
-  where
-    go : (o : Option OpenPortal) → portal_named name s.session.portals ≡ o → q.active ≡ length s.session.levels
-    go None n =
-        let z : None ≡ Some q = sym n ∙ sym (ap (portal_named name) (none_changed name f s.session.portals n)) ∙ e in
-        absurd (cc z)
-    go (Some p) n =
-        let z : Some (f p) ≡ Some q = sym (named_changed name p f s.session.portals keeps n) ∙ e in
-        let same : f p ≡ q = cc z in
-        ap (λ (r : OpenPortal). r.active) (sym same) ∙ active p n
+becomes_fetched s name f keeps active q e = grind (arith, nat_tests, none_changed name f s.session.portals, named_changed name)
 
 -- where it fails, its line is at work on it
 pub failed_stands : (s : Scene) (name : Text) → Stands s → IsWorking s.session.levels → IsFetched name s → Stands (portal_becomes name (λ p. record p { state = portal.Failed }) s).scene
@@ -155,54 +92,24 @@ module _ (w : Option ℕ) (moment : Moment) (h : Stands moment.scene) (working :
 
   pub portal_locks : (object : ℕ) (mode : Mode) → Beside moment.scene (does w (element.TakeLock (OfPortal name) object mode) moment).moment.scene
   unfolding does
-  portal_locks object mode =
-      fallible_keeps (Beside moment.scene) w moment _ (at_owner (OfPortal name) (lock_taken object mode)) (nothing_beside moment.scene h)
-      (λ _. at_name (Beside moment.scene) (option_and_then (λ (p : OpenPortal). p.owner) (portal_named name moment.scene.session.portals)) (lock_taken object mode) moment.scene (nothing_beside moment.scene h)
-      (λ n e. record {
-        works = record { stands = stands_tabled (record (tables_of moment.scene) { locks = acquired n object mode moment.scene.session.locks }) moment.scene refl h; levels = refl; at_rest = λ r. r };
-        portals = refl;
-      }))
+  portal_locks object mode = lock_beside w moment h working (OfPortal name) owner_named object mode
 
   pub portal_takes : (kind : KindId) (key : ℕ) → keeper_of kind ≡ NoOne → kind.0 ≢ 5 → ((serial : ℕ) → IsItem (table_of moment.scene.around.kinds) (record { kind = kind; key = key; serial = serial }))
       → Beside moment.scene (does w (element.Take (OfPortal name) kind key) moment).moment.scene
   unfolding does
-  portal_takes kind key unkept ne is =
-      fallible_keeps (Beside moment.scene) w moment _ (at_owner (OfPortal name) (λ owner. item_taken owner kind key)) (nothing_beside moment.scene h)
-      (λ _. at_name (Beside moment.scene) (option_and_then (λ (p : OpenPortal). p.owner) (portal_named name moment.scene.session.portals)) (λ owner. item_taken owner kind key) moment.scene (nothing_beside moment.scene h)
-      (λ n e. subst (Beside moment.scene) (sym (ap (λ (k : Keeper). (in_order (taken_by k key ∷ remembers n kind key ∷ []) moment.scene).scene) unkept))
-      (record { works = record { stands = other_step moment.scene n kind key (tables_of moment.scene) h working (owner_named n e) ne is refl; levels = refl; at_rest = λ r. r }; portals = refl })))
-
-  -- memory is taken in a context
-  pub memory : (o : Option ℕ) (title : Option Text) (bytes : ℕ) → Beside moment.scene (where_there o (memory_taken title bytes false) moment.scene).scene
-  memory None title bytes = nothing_beside moment.scene h
-  memory (Some n) title bytes = record {
-    works = record {
-      stands = kept_step moment.scene h working _ (keeps_allocated moment.scene.session.contexts moment.scene.session.next_context n (left moment.scene) title bytes [] h.contexts);
-      levels = refl;
-      at_rest = λ r. r;
-    };
-    portals = refl;
-  }
+  portal_takes kind key unkept ne is = take_beside w moment h working (OfPortal name) owner_named kind key unkept ne is
 
   pub portal_allocates : (title : Option Text) (bytes : ℕ) → Beside moment.scene (does w (element.Alloc (InPortal name) title bytes false) moment).moment.scene
   unfolding does
-  portal_allocates title bytes =
-      fallible_keeps (Beside moment.scene) w moment _ (λ scene. where_there (option_and_then (λ (p : OpenPortal). p.context) (portal_named name scene.session.portals)) (memory_taken title bytes false) scene) (nothing_beside moment.scene h)
-      (λ _. memory (option_and_then (λ (p : OpenPortal). p.context) (portal_named name moment.scene.session.portals)) title bytes)
+  portal_allocates title bytes = alloc_beside w moment h working (InPortal name) title bytes false
 
   pub row_allocates : (title : Option Text) (bytes : ℕ) → Beside moment.scene (does w (element.Alloc (InRow name) title bytes false) moment).moment.scene
   unfolding does
-  row_allocates title bytes =
-      fallible_keeps (Beside moment.scene) w moment _ (λ scene. where_there (option_and_then (λ (p : OpenPortal). p.expr) (portal_named name scene.session.portals)) (memory_taken title bytes false) scene) (nothing_beside moment.scene h)
-      (λ _. memory (option_and_then (λ (p : OpenPortal). p.expr) (portal_named name moment.scene.session.portals)) title bytes)
+  row_allocates title bytes = alloc_beside w moment h working (InRow name) title bytes false
 
   pub check_beside : (check : Check) → Beside moment.scene (does w (element.Checks check) moment).moment.scene
   unfolding does
-  check_beside check = go (failure check moment.scene)
-    where
-      go : (r : Option Error) → Beside moment.scene (unless_refused r moment nothing).moment.scene
-      go None = nothing_beside moment.scene h
-      go (Some e) = nothing_beside moment.scene h
+  check_beside check = grind (arith, nat_tests)
 
   pub begins_works : Works moment.scene (does w (element.FetchBegins name) moment).moment.scene
   unfolding does
@@ -226,7 +133,7 @@ module _ (w : Option ℕ) (moment : Moment) (h : Stands moment.scene) (working :
     where
       go : (o : Option ℕ) → Beside s (where_there o context_cleared_alone s).scene
       go None = nothing_beside s k
-      go (Some n) = record { works = record { stands = alone_step s n k work; levels = refl; at_rest = λ r. r }; portals = refl }
+      go (Some n) = beside_by s _ refl refl (alone_step s n k work)
   part_beside s (step.Unpin page) p k work own = go p.owner refl
     where
       go : (o : Option ℕ) → p.owner ≡ o → Beside s (where_there o (λ owner. item_released owner buffer_pin page) s).scene

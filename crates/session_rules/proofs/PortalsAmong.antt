@@ -1,17 +1,9 @@
 -- The contexts and owners of portals among those of levels, and what portals keep where others change.
-use Rattle.std.proofs.Common.{◌≡◌, ◌≢◌, ◌⊎◌, ℕ, ◌≤◌, ◌<◌, Bool, true, false, Option, Some, None, List, [], ◌∷◌, refl, sym, ap, ◌∙◌, subst, inl, inr, arith}
-use Rattle.std.specs.Prelude.{◌==◌, if◌then◌else◌, All}
-use Rattle.std.specs.Option.{option_map_or}
-use Rattle.std.proofs.lemmas.Bool.{cases_eq, both_ways, eq-eqb, ne_eqb}
-use Rattle.std.proofs.lemmas.List.Elements.{All-weaker}
-use Rattle.forest.specs.Forest.{Empty, Node, Once, has, at, children, parent_of, put, removed, changed, with_children}
+use Rattle.session_rules.proofs.Base.{◌≡◌, ◌≢◌, ℕ, ◌≤◌, ◌<◌, true, false, Option, Some, None, List, [], ◌∷◌, refl, sym, ap, ◌∙◌, subst, inl, arith, All, option_map_or, both_ways, eq-eqb, All-weaker, nat_tests}
+use Rattle.session_rules.proofs.Below.{Empty, Node, Once, has, at, children, parent_of, put, removed, changed, with_children, Context, Contexts, is_protected, OwnerTree}
+use Rattle.session_rules.proofs.Rules.{LevelState, OpenPortal, StandingPlan, abort_context, cache_context, first_of, portals_context, top_context, level_parent, AreContexts, AreLevels, AreOuter, ArePortals, IsAttached, IsOwner, IsPlace, IsPlan, IsPortal, IsRow, owner_at}
 use Rattle.forest.proofs.Moved.{at_children}
 use Rattle.forest.proofs.Walks.{children_changed, children_in, parent_in}
-use Rattle.context_rules.specs.Contexts.{Context, Contexts, is_protected}
-use Rattle.owner_core.specs.Owners.{OwnerTree}
-use Rattle.session_rules.specs.State.{LevelState, OpenPortal, StandingPlan, abort_context, cache_context, first_of, portals_context, top_context}
-use Rattle.session_rules.specs.Making.{level_parent}
-use Rattle.session_rules.specs.Standing.{AreContexts, AreLevels, AreOuter, ArePortals, IsAttached, IsOfSession, IsOwner, IsPlace, IsPlan, IsPortal, IsRow, owner_at}
 use Rattle.session_rules.proofs.Guarded.{top_parent}
 use Rattle.session_rules.proofs.ContextsKept.{IsSame, own}
 use Rattle.session_rules.proofs.LevelsKept.{IsContext, no_value}
@@ -30,31 +22,20 @@ row_of e c t current once h =
     let row : Context = h.row.0 in
     let below : children c t ≡ Node e row Empty Empty = h.row.1 in
     let there : has e (children c t) ≡ true = rw (below, eq-eqb e e refl) refl in
-    record {
-      there = there;
-      parent = parent_in e c t once there ∙ rw below refl;
-      protected = ap (λ (o : Option Context). option_map_or own o false) (sym (at_children e c t once there)) ∙ rw (below, eq-eqb e e refl) h.row.2;
-      lone = sym (children_in e c t once there) ∙ rw (below, eq-eqb e e refl) refl;
-    }
+    grind (arith, nat_tests, parent_in e c t once there, at_children e c t once there, children_in e c t once there)
 
 -- a level's context isn't below one of the session's own but the topmost one
 pub off_above : (levels : List LevelState) (t : Contexts) (x : OwnerTree) → AreLevels levels t x → (b : ℕ) → 1 < b → b ≤ abort_context → level_parent (first_of levels) ≢ b
 off_above [] t x l b low high = λ z. absurd (omega (arith, z))
-off_above (level ∷ levels) t x l b low high = go level.context (λ n e. (l.0.context n e).own)
-  where
-    go : (o : Option ℕ) → ((n : ℕ) → o ≡ Some n → abort_context < n) → option_map_or (λ n. n) o top_context ≢ b
-    go None own = λ z. absurd (omega (arith, z))
-    go (Some n) own = λ z. absurd (omega (arith, z, own n refl))
+off_above (level ∷ levels) t x l b low high = grind (arith, λ (n : ℕ) (e : level.context ≡ Some n). (l.0.context n e).own)
 
 pub some_is : (a b : ℕ) → Some a ≡ Some b → a ≡ b
 some_is a b e = cc e
 
 pub off_levels : (levels : List LevelState) (t : Contexts) (x : OwnerTree) → AreLevels levels t x → (n : ℕ) → IsContext n levels → (m b : ℕ) → 1 < b → b ≤ abort_context → parent_of m t ≡ Some b → n ≢ m
 off_levels [] t x l n i m b low high p = absurd i
-off_levels (level ∷ levels) t x l n i m b low high p = elim i [
-  | inl e ↦ λ z. off_above levels t x l.1 b low high (some_is (level_parent (first_of levels)) b (sym (l.0.context n e).parent ∙ ap (λ (k : ℕ). parent_of k t) z ∙ p))
-  | inr j ↦ off_levels levels t x l.1 n j m b low high p
-]
+off_levels (level ∷ levels) t x l n i m b low high p =
+    grind (arith, nat_tests, off_above levels t x l.1 b low high, some_is (level_parent (first_of levels)) b, off_levels levels t x l.1 n)
 
 -- the parent of a level's context isn't a portal's
 pub levels_up : (levels : List LevelState) (t : Contexts) (x : OwnerTree) → AreLevels levels t x → (c : ℕ) → abort_context < c → parent_of c t ≡ Some portals_context → level_parent (first_of levels) ≢ c
@@ -68,28 +49,17 @@ levels_up (level ∷ levels) t x l c own p = go level.context refl
 -- a level's context isn't that of one row
 pub off_rows : (levels : List LevelState) (t : Contexts) (x : OwnerTree) → AreLevels levels t x → (n : ℕ) → IsContext n levels → (e c : ℕ) → abort_context < c → parent_of c t ≡ Some portals_context → parent_of e t ≡ Some c → n ≢ e
 off_rows [] t x l n i e c own up p = absurd i
-off_rows (level ∷ levels) t x l n i e c own up p = elim i [
-  | inl q ↦ λ z. levels_up levels t x l.1 c own up (some_is (level_parent (first_of levels)) c (sym (l.0.context n q).parent ∙ ap (λ (k : ℕ). parent_of k t) z ∙ p))
-  | inr j ↦ off_rows levels t x l.1 n j e c own up p
-]
+off_rows (level ∷ levels) t x l n i e c own up p =
+    grind (arith, nat_tests, levels_up levels t x l.1 c own up, some_is (level_parent (first_of levels)) c, off_rows levels t x l.1 n)
 
 -- nor is one of the session's own
 pub own_rows : (t : Contexts) (next : ℕ) → AreContexts t next → (n : ℕ) → 1 ≤ n → n ≤ abort_context → (e c : ℕ) → abort_context < c → parent_of e t ≡ Some c → n ≢ e
-own_rows t next h n low small e c own_c p = λ z. go z (cases_eq n top_context)
-  where
-    go : n ≡ e → (n ≡ top_context) ⊎ (n ≢ top_context) → ⊥
-    go z (inl one) = no_value (parent_of e t) c (ap (λ (k : ℕ). parent_of k t) (sym z ∙ one) ∙ top_parent own top_context t h.once h.rooted) p
-    go z (inr ne) =
-        let own_n : IsOfSession n t = h.own n (omega (arith, low, ne)) small in
-        let same : top_context ≡ c = some_is top_context c (sym own_n.parent ∙ ap (λ (k : ℕ). parent_of k t) z ∙ p) in
-        absurd (omega (arith, same, own_c))
+own_rows t next h n low small e c own_c p =
+    grind (arith, nat_tests, no_value (parent_of e t) c, top_parent own top_context t h.once h.rooted, some_is top_context c)
 
 -- each portal is as it was
 pub portals_by : (ps : List OpenPortal) (ls ms : List LevelState) (t u : Contexts) (x y : OwnerTree) (a b : ℕ) → ((p : OpenPortal) → IsPortal p ls t x a → IsPortal p ms u y b) → ArePortals ps ls t x a → ArePortals ps ms u y b
-portals_by ps ls ms t u x y a b each h = record {
-  each = All-weaker (λ p. IsPortal p ls t x a) (λ p. IsPortal p ms u y b) each ps h.each;
-  different = h.different;
-}
+portals_by ps ls ms t u x y a b each h = search (All-weaker (λ p. IsPortal p ls t x a) (λ p. IsPortal p ms u y b) each ps h.each)
 
 -- What holds of portals where contexts change: each place is as it was, and of its row is left what was.
 pub portals_moved : (ps : List OpenPortal) (levels : List LevelState) (t u : Contexts) (x : OwnerTree) (a b : ℕ) → ((n : ℕ) (expr : Option ℕ) → IsPlace n expr t a → IsPlace n expr u b) → ArePortals ps levels t x a → ArePortals ps levels u x b
@@ -97,63 +67,25 @@ portals_moved ps levels t u x a b stay h =
     portals_by ps levels levels t u x x a b (λ p i. record { place = λ n e. stay n p.expr (i.place n e); made = i.made; owner = i.owner; stage = i.stage }) h
 
 pub place_same : (n : ℕ) (expr : Option ℕ) (t u : Contexts) (current : ℕ) → IsSame n t u → IsRow expr (children n u) → IsPlace n expr t current → IsPlace n expr u current
-place_same n expr t u current s row h = record {
-  protected = s.protected;
-  parent = s.parent ∙ h.parent;
-  own = h.own;
-  row = row;
-  other = h.other;
-  apart = h.apart;
-}
+place_same n expr t u current s row h = search (s.parent ∙ h.parent)
 
 -- rows behind changes elsewhere
 module _ (t : Contexts) (once : Once t) (n : ℕ) (expr : Option ℕ) (current : ℕ) (h : IsPlace n expr t current) where
   pub row_changed : (k : ℕ) (f : Context → Context) → ((c : Context) → (f c).protected ≡ c.protected) → IsRow expr (children n (changed k f t))
-  row_changed k f keeps = subst (IsRow expr) (sym (children_changed n k f t)) (go expr (children n t) h.row)
-    where
-      go : (o : Option ℕ) (v : Contexts) → IsRow o v → IsRow o (changed k f v)
-      go None v r = ap (changed k f) r
-      go (Some e) v r = (
-        if e == k then f r.0 else r.0,
-        ap (changed k f) r.1,
-        guarded (e == k) r.2,
-      )
-        where
-          guarded : (b : Bool) → r.0.protected ≡ true → (if b then f r.0 else r.0).protected ≡ true
-          guarded true p = keeps r.0 ∙ p
-          guarded false p = p
+  row_changed k f keeps = grind (arith, nat_tests, children_changed n k f t)
 
   pub row_left : (k : ℕ) → n ≢ k → has n (children k t) ≡ false → ((e : ℕ) → expr ≡ Some e → e ≢ k) → IsRow expr (children n (removed k t))
-  row_left k ne out other = subst (IsRow expr) (sym (children_left n k t once ne out)) (go expr other (children n t) h.row)
-    where
-      go : (o : Option ℕ) → ((e : ℕ) → o ≡ Some e → e ≢ k) → (v : Contexts) → IsRow o v → IsRow o (removed k v)
-      go None other v r = ap (removed k) r
-      go (Some e) other v r = (r.0, ap (removed k) r.1 ∙ rw (ne_eqb e k (other e refl)) refl, r.2)
+  row_left k ne out other = grind (arith, nat_tests, children_left n k t once ne out)
 
   pub row_emptied : (k : ℕ) → n ≢ k → has n (children k t) ≡ false → IsRow expr (children n (with_children k Empty t))
-  row_emptied k ne out = subst (IsRow expr) (sym (children_emptied n k t once ne out)) (go expr (children n t) h.row)
-    where
-      go : (o : Option ℕ) (v : Contexts) → IsRow o v → IsRow o (with_children k Empty v)
-      go None v r = ap (with_children k Empty) r
-      go (Some e) v r = (r.0, ap (with_children k Empty) r.1 ∙ nothing (e == k), r.2)
-        where
-          nothing : (b : Bool) → Node e r.0 (if b then Empty else Empty) Empty ≡ Node e r.0 Empty Empty
-          nothing true = refl
-          nothing false = refl
+  row_emptied k ne out = grind (arith, nat_tests, children_emptied n k t once ne out)
 
   pub row_put : (q m : ℕ) (a : Context) (sub : Contexts) → n ≢ q → n ≢ m → has n sub ≡ false → ((e : ℕ) → expr ≡ Some e → e ≢ q) → IsRow expr (children n (put q m a sub t))
-  row_put q m a sub ne new out other = subst (IsRow expr) (sym (children_put_other n q m a sub t once ne new out)) (go expr other (children n t) h.row)
-    where
-      go : (o : Option ℕ) → ((e : ℕ) → o ≡ Some e → e ≢ q) → (v : Contexts) → IsRow o v → IsRow o (put q m a sub v)
-      go None other v r = ap (put q m a sub) r
-      go (Some e) other v r = (r.0, ap (put q m a sub) r.1 ∙ rw (ne_eqb e q (other e refl)) refl, r.2)
+  row_put q m a sub ne new out other = grind (arith, nat_tests, children_put_other n q m a sub t once ne new out)
 
 -- a portal's context isn't a plan's
 pub place_plans : (n : ℕ) (expr : Option ℕ) (t : Contexts) (current : ℕ) (plans : List StandingPlan) → IsPlace n expr t current → (a : ℕ) → All (λ plan. IsPlan plan t a) plans → IsApart n plans
-place_plans n expr t current plans h a each =
-    All-weaker (λ plan. IsPlan plan t a) (λ plan. n ≢ plan.context)
-    (λ plan i z. let e : portals_context ≡ cache_context = some_is portals_context cache_context (sym h.parent ∙ ap (λ (k : ℕ). parent_of k t) z ∙ i.parent) in absurd (omega (arith, e)))
-    plans each
+place_plans n expr t current plans h a each = grind (arith, nat_tests, some_is portals_context cache_context)
 
 -- portals where only contexts of plans go
 pub place_spared : (x y : Besides) (a : ℕ) → Spares x y → All (λ plan. IsPlan plan x.contexts a) x.plans → (n : ℕ) (expr : Option ℕ) (current : ℕ) → IsPlace n expr x.contexts current → IsPlace n expr y.contexts current
@@ -163,14 +95,7 @@ place_spared x y a spares each n expr current h =
 
 -- another context is the current one
 pub place_current : (n : ℕ) (expr : Option ℕ) (t : Contexts) (a b : ℕ) → b ≢ n → ((e : ℕ) → expr ≡ Some e → b ≢ e) → IsPlace n expr t a → IsPlace n expr t b
-place_current n expr t a b ne off h = record {
-  protected = h.protected;
-  parent = h.parent;
-  own = h.own;
-  row = h.row;
-  other = ne;
-  apart = λ z. off b z refl;
-}
+place_current n expr t a b ne off h = search (λ (z : expr ≡ Some b). off b z refl)
 
 -- one of the session's own is
 pub place_own : (t : Contexts) (next : ℕ) → AreContexts t next → (b : ℕ) → 1 ≤ b → b ≤ abort_context → (n : ℕ) (expr : Option ℕ) (a : ℕ) → IsPlace n expr t a → IsPlace n expr t b
@@ -189,12 +114,7 @@ place_level levels t x once l b i n expr a h =
 -- a portal's owner where owners change and stay where they are
 pub attached_by : (n number : ℕ) (ls ms : List LevelState) (x y : OwnerTree) → (has n x ≡ true → has n y ≡ true) → (parent_of n y ≡ parent_of n x) → (children n x ≡ Empty → children n y ≡ Empty) → owner_at number ms ≡ owner_at number ls → (IsOwner n ms → IsOwner n ls)
     → IsAttached n number ls x → IsAttached n number ms y
-attached_by n number ls ms x y there parent lone at own h = record {
-  there = there h.there;
-  parent = parent ∙ h.parent ∙ sym at;
-  lone = lone h.lone;
-  other = λ i. h.other (own i);
-}
+attached_by n number ls ms x y there parent lone at own h = search (there h.there, parent ∙ h.parent ∙ sym at, lone h.lone, λ (i : IsOwner n ms). h.other (own i))
 
 -- the parent of a new context of a level is neither a portal's context nor that of one row
 pub off_parent : (levels : List LevelState) (t : Contexts) (x : OwnerTree) → AreLevels levels t x → AreOuter levels → (m : ℕ) → parent_of m t ≡ Some portals_context → abort_context < m → level_parent (first_of levels) ≢ m

@@ -1,41 +1,14 @@
 -- The steps of a portal lead from a session that stands to one that stands.
-use Rattle.std.proofs.Common.{◌≡◌, ◌≢◌, ◌⊎◌, ℕ, ◌+◌, ◌≤◌, ◌<◌, true, false, Option, Some, None, List, [], ◌∷◌, ◌++◌, length, refl, sym, ap, ◌∙◌, subst, inl, inr, arith}
-use Rattle.std.specs.Prelude.{◌==◌, ◌||◌, All, codes}
-use Rattle.std.specs.Option.{option_map_or, option_and_then}
-use Rattle.std.proofs.lemmas.Bool.{cases_eq, cases_Bool, both_ways, eq-eqb, or_parts}
-use Rattle.std.proofs.lemmas.List.Elements.{All-nil, All-cons, All-head, All-tail, All-append, All-weaker}
-use Rattle.forest.specs.Forest.{Forest, Empty, Node, Once, at, has, children, parent_of, put, size}
-use Rattle.forest.proofs.Trees.{Apart, apart_of}
-use Rattle.pgs_command.specs.Words.{is_text}
-use Rattle.pgs_command.proofs.ValueLemmas.{is_text-means, is_text-same}
+use Rattle.session_rules.proofs.Base.{◌≡◌, ◌≢◌, ◌⊎◌, ℕ, ◌+◌, ◌≤◌, ◌<◌, true, false, Option, Some, None, List, [], ◌∷◌, ◌++◌, length, refl, sym, ap, ◌∙◌, subst, inl, inr, arith, ◌==◌, ◌||◌, All, codes, option_map_or, option_and_then, cases_eq, cases_Bool, both_ways, eq-eqb, or_parts, All-nil, All-cons, All-head, All-tail, All-append, All-weaker, nat_tests}
+use Rattle.session_rules.proofs.Below.{Forest, Empty, Node, Once, at, has, children, parent_of, put, size, Apart, apart_of, Contexts, created, is_protected, new_context, table_of, Owner, OwnerTree, has_begun, once_of, fresh, sound_created, new_scan, Scan, is_text, is_text-means, is_text-same}
+use Rattle.session_rules.proofs.Rules.{LevelState, OpenPortal, cache_context, first_of, level_owner, plan_reference, portals_context, Scene, OfPortal, PortalContext, Text, portal_changed, portal_named, in_order, portal_becomes, context_made, new_context_made, new_owner_made, owner_made, portal_made}
 use Rattle.portal_store.specs.declared.portal.PortalState.TheVariants as portal
 use Rattle.any_ctx.specs.declared.any.CtxKind.TheVariants as kind
-use Rattle.context_rules.specs.Contexts.{Contexts, created, is_protected, new_context}
-use Rattle.owner_kinds.specs.KindShelf.{table_of}
-use Rattle.owner_core.specs.Owners.{Owner, OwnerTree, has_begun}
 use Rattle.owner_core.specs.Owners as owners
-use Rattle.owner_core.proofs.Sounds.{once_of, fresh, sound_created}
-use Rattle.exec_core.specs.Turn.{new_scan}
-use Rattle.session_rules.specs.State.{LevelState, OpenPortal, cache_context, first_of, level_owner, plan_reference, portals_context}
-use Rattle.session_rules.specs.World.{Scene}
-use Rattle.session_rules.specs.Elements.{OfPortal, PortalContext, Text}
-use Rattle.session_rules.specs.Lookup.{portal_changed, portal_named}
-use Rattle.session_rules.specs.Acts.{in_order, portal_becomes}
-use Rattle.session_rules.specs.Making.{context_made, new_context_made, new_owner_made, owner_made, portal_made}
 use Rattle.session_rules.proofs.ItemsStand.{owner_there}
 use Rattle.portal_store.specs.declared.portal.PortalState.{PortalState}
-use Rattle.exec_core.specs.declared.scan.Scan.{Scan}
-use Rattle.session_rules.specs.Standing.{AreContexts, AreDifferent, AreHooks, AreLevels, AreOther, AreOwners, ArePlans, ArePortals, IsAtRest, IsAtWork, IsAttached, IsDead, IsLive, IsOfPortal, IsOwner, IsPlace, IsPortal, IsWorking, Stands, active_depth, owner_at, referred}
-use Rattle.session_rules.proofs.Forests.{children_put, has_put_other}
-use Rattle.session_rules.proofs.ContextsKept.{Stay, contexts_created, has_created, is_unused, new_parent, new_protected, protected_has, stay_created, stay_same}
-use Rattle.session_rules.proofs.HeldItems.{held_created}
-use Rattle.session_rules.proofs.HooksKept.{hooks_put}
-use Rattle.session_rules.proofs.LevelsKept.{levels_stay, no_value, one_value}
-use Rattle.session_rules.proofs.Lone.{lone_put}
-use Rattle.session_rules.proofs.PlansAmong.{plans_counted}
-use Rattle.session_rules.proofs.PortalLists.{Changes, all_back, all_front, changed_one, different_new, different_changed, different_owned, others_back, others_front, owner_beside, owner_here, owner_split}
-use Rattle.session_rules.proofs.PortalsAmong.{IsRowOf, attached_by, own_rows, place_same, row_of, row_put}
-use Rattle.session_rules.proofs.Stacked.{depth_small, depth_working}
+use Rattle.session_rules.specs.Standing.{WasReleased, AreContexts, AreDifferent, AreHooks, AreLevels, AreOther, AreOwners, ArePlans, ArePortals, IsAtRest, IsAtWork, IsAttached, IsDead, IsLive, IsOfPortal, IsOwner, IsPlace, IsPortal, IsWorking, Stands, active_depth, owner_at, referred}
+use Rattle.session_rules.proofs.Kept.{children_put, has_put_other, Stay, contexts_created, has_created, is_unused, new_parent, new_protected, protected_has, stay_created, stay_same, held_created, hooks_put, levels_stay, no_value, one_value, lone_put, plans_counted, Changes, all_back, all_front, changed_one, different_new, different_changed, different_owned, others_back, others_front, owner_beside, owner_here, owner_split, IsRowOf, attached_by, own_rows, place_same, row_of, row_put, depth_small, depth_working}
 use Rattle.session_rules.proofs.StepsStand.{IsNewOwner, fit_working, new_owner_is, not_released, still_planned}
 
 -- the portal of a name among the others
@@ -59,13 +32,7 @@ named_in name p (q ∷ qs) e = elim (cases_Bool (is_text q.name name)) [
 -- and behind its change
 pub named_changed : (name : Text) (p : OpenPortal) (f : OpenPortal → OpenPortal) (ps : List OpenPortal) → ((q : OpenPortal) → (f q).name ≡ q.name) → portal_named name ps ≡ Some p → portal_named name (portal_changed name f ps) ≡ Some (f p)
 named_changed name p f [] keeps e = absurd (cc e)
-named_changed name p f (q ∷ qs) keeps e = elim (cases_Bool (is_text q.name name)) [
-  | inl y ↦
-      let same : q ≡ p = let z : Some q ≡ Some p = rw y at e in cc z in
-      let now : is_text (f q).name name ≡ true = ap (λ (n : Text). is_text n name) (keeps q) ∙ y in
-      rw (y, now) (ap (λ (x : OpenPortal). Some (f x)) same)
-  | inr y ↦ rw (y, y) (named_changed name p f qs keeps (rw y at e))
-]
+named_changed name p f (q ∷ qs) keeps e = grind (arith, nat_tests, named_changed name p f qs keeps)
 
 -- in a level where steps are taken each portal is live
 pub live_here : (p : OpenPortal) (levels : List LevelState) → IsWorking levels → IsLive p levels ⊎ IsDead p levels → IsLive p levels
@@ -98,18 +65,11 @@ portal_step s p q front back u next y count h working are contexts stay there ho
     let each : All (λ r. IsPortal r ls u y cur) (front ++ (q ∷ back)) =
     All-append (λ r. IsPortal r ls u y cur) front (q ∷ back) (λ k r below. others _ (before k r below) (inl (fronts k r below)))
     (All-cons (λ r. IsPortal r ls u y cur) q back own (λ k r below. others _ (tail k r below) (inr (backs k r below)))) in
-    record {
-      contexts = contexts;
-      current = there;
-      hooks = hooks;
-      levels = levels;
-      fit = fit_working ls t u x y cur cur working h.fit;
-      kinds = h.kinds;
-      owners = subst (λ (ps : List OpenPortal). AreOwners (table_of s.around.kinds) y count s.session.next_serial ls ps) (sym is) owned;
-      portals = subst (λ (ps : List OpenPortal). ArePortals ps ls u y cur) (sym is) (record { each = each; different = different });
-      plans = plans;
-      snapshots = h.snapshots;
-    }
+    search (
+      fit_working ls t u x y cur cur working h.fit,
+      subst (λ (ps : List OpenPortal). AreOwners (table_of s.around.kinds) y count s.session.next_serial ls ps) (sym is) owned,
+      subst (λ (ps : List OpenPortal). ArePortals ps ls u y cur) (sym is) (record { each = each; different = different }),
+    )
 
 -- the portal of a name in a session that stands
 module _ (s : Scene) (h : Stands s) (working : IsWorking s.session.levels) (name : Text) (p : OpenPortal) (n : Named name p s.session.portals) where
@@ -191,7 +151,7 @@ module _ (s : Scene) (h : Stands s) (working : IsWorking s.session.levels) (name
       portal_step s p q n.front n.back u (next + 1) s.session.owners s.session.next_owner h working n.is
       (contexts_created t next h.contexts portals_context title kind.Small true there (λ _. guarded)) stay
       (has_created t next h.contexts cur portals_context title kind.Small true h.current)
-      (hooks_put portals_context next (new_context title kind.Small true) t s.around.shelf h.contexts.once there refl h.hooks)
+      (hooks_put portals_context next (new_context title kind.Small true) t s.around.shelf h.contexts.once refl h.hooks)
       (still_planned s u h stay (λ m k. lone_put m portals_context next (new_context title kind.Small true) Empty t (λ z. omega (arith, z, k.own)) (newer m (protected_has m t k.protected)) refl k.lone))
       (levels_stay s.session.levels t u s.session.owners s.session.owners (λ m j prot. stay m prot) (λ m j w. record { there = w; parent = refl }) h.levels)
       (same_owners q (λ k e. e))
@@ -207,18 +167,7 @@ pub put_here : {A : Type 0} (q m : ℕ) (a : A) (t : Forest A) → Once t → ha
 put_here q m a Empty o h u = absurd (cc h)
 put_here q m a (Node k b below beside) o h u =
     let apart : Apart k below beside = apart_of k b below beside o in
-    let out = or_parts (k == m) (has m below || has m beside) u in
-    let rest = or_parts (has m below) (has m beside) out.1 in
-    let ne : q ≢ m = λ z. both_ways (has m (Node k b below beside)) u (ap (λ (j : ℕ). has j (Node k b below beside)) (sym z) ∙ h) in
-    elim (cases_Bool (k == q)) [
-      | inl y ↦ rw y refl
-      | inr y ↦ elim (cases_Bool (has q below)) [
-        | inl s ↦ rw (y, has_put_other q q m a Empty below ne refl, s) (put_here q m a below apart.once_below s rest.0)
-        | inr s ↦
-            let there : has q beside ≡ true = rw (y, s) at h in
-            rw (y, has_put_other q q m a Empty below ne refl, s) (put_here q m a beside apart.once_beside there rest.1)
-      ]
-    ]
+    grind (arith, nat_tests, apart_of k b below beside o, or_parts (k == m) (has m below || has m beside) u, or_parts (has m below) (has m beside), has_put_other q q m a Empty below, put_here q m a below apart.once_below, put_here q m a beside apart.once_beside)
 
 -- a level's owner is there
 pub owners_there : (levels : List LevelState) (t : Contexts) (x : OwnerTree) (m : ℕ) → AreLevels levels t x → IsOwner m levels → has m x ≡ true
@@ -251,15 +200,10 @@ module _ (s : Scene) (h : Stands s) (working : IsWorking s.session.levels) (name
       let i = this_portal s h working name p n in
       let l : IsLive p ls = this_live s h working name p n in
       let up = owner_deep ls lo is_lo in
-      let others : (r : OpenPortal) → IsPortal r ls t x cur → IsPortal r ls t y cur = λ r k. record {
-        place = k.place;
-        made = k.made;
-        owner = λ m e.
-            let a = k.owner m e in
-            attached_by m r.created ls ls x y (λ w. new.had m (other m a.there) ∙ w) (new.parents m (other m a.there))
-            (new.lone m (other m a.there) (λ j g z. a.other (subst (λ (v : ℕ). IsOwner v ls) (one_value (Some lo) lo j refl g ∙ sym z) up.1))) refl (λ j. j) a;
-        stage = k.stage;
-      } in
+      let others : (r : OpenPortal) → IsPortal r ls t x cur → IsPortal r ls t y cur = λ r k. search (λ (m : ℕ) (e : _).
+      let a = k.owner m e in
+      attached_by m r.created ls ls x y (λ w. new.had m (other m a.there) ∙ w) (new.parents m (other m a.there))
+      (new.lone m (other m a.there) (λ j g z. a.other (subst (λ (v : ℕ). IsOwner v ls) (one_value (Some lo) lo j refl g ∙ sym z) up.1))) refl (λ j. j) a) in
       let own : IsPortal q ls t y cur = record {
         place = i.place;
         made = i.made;
@@ -353,7 +297,7 @@ module _ (s : Scene) (h : Stands s) (working : IsWorking s.session.levels) (name
       portal_step s p q n.front n.back u (next + 1) x s.session.next_owner h working n.is
       (contexts_created t next h.contexts c title kind.Small true there (λ _. place.protected)) stay
       (has_created t next h.contexts cur c title kind.Small true h.current)
-      (hooks_put c next (new_context title kind.Small true) t s.around.shelf h.contexts.once there refl h.hooks)
+      (hooks_put c next (new_context title kind.Small true) t s.around.shelf h.contexts.once refl h.hooks)
       (still_planned s u h stay (λ m k. lone_put m c next (new_context title kind.Small true) Empty t
       (λ z. let e2 : Some cache_context ≡ Some portals_context = sym k.parent ∙ ap (λ (j : ℕ). parent_of j t) z ∙ place.parent in let e3 : cache_context ≡ portals_context = cc e2 in absurd (omega (arith, e3)))
       (newer m (protected_has m t k.protected)) refl k.lone))
@@ -371,19 +315,11 @@ module _ (s : Scene) (h : Stands s) (working : IsWorking s.session.levels) (name
       (record { place = i.place; made = i.made; owner = i.owner; stage = inl (record { some = l.some; within = l.within; active = l.active; line = line }) })
 
   pub scan_portal : (change : Scan → Scan) → Stands (portal_becomes name (λ r. record r { scan = change r.scan }) s).scene
-  scan_portal change =
-      let i = this_portal s h working name p n in
-      let l : IsLive p s.session.levels = this_live s h working name p n in
-      alone_portal s h working name p n (λ r. record r { scan = change r.scan }) (record { name = refl; context = λ k e. e; owner = λ k e. e }) (λ k e. e)
-      (record { place = i.place; made = i.made; owner = i.owner; stage = inl (record { some = l.some; within = l.within; active = l.active; line = l.line }) })
+  scan_portal change = grind (arith, nat_tests, this_portal s h working name p n, this_live s h working name p n, alone_portal s h working name p n)
 
   pub active_portal : Stands (portal_becomes name (λ r. record r { active = length s.session.levels }) s).scene
   active_portal =
-      let i = this_portal s h working name p n in
-      let l : IsLive p s.session.levels = this_live s h working name p n in
-      let d = depth_here s.session.levels working in
-      alone_portal s h working name p n (λ r. record r { active = length s.session.levels }) (record { name = refl; context = λ k e. e; owner = λ k e. e }) (λ k e. e)
-      (record { place = i.place; made = i.made; owner = i.owner; stage = inl (record { some = l.some; within = omega (arith, l.within, l.active, d.0); active = omega (arith, d.0); line = elim l.line [ inl r ↦ inl r | inr a ↦ inr (refl, a.1) ] }) })
+      grind (arith, nat_tests, this_portal s h working name p n, this_live s h working name p n, depth_here s.session.levels working, alone_portal s h working name p n)
 
 -- A portal of a new name is made.
 pub new_names : (name : Text) (ps : List OpenPortal) → portal_named name ps ≡ None → (p : OpenPortal) → p.name ≡ name → p.context ≡ None → p.owner ≡ None → All (AreOther p) ps
@@ -409,23 +345,6 @@ made_portal s name object rows bad h working free =
       owner = λ n e. absurd (cc e);
       stage = inl (record { some = d.1; within = omega arith; active = omega (arith, d.0); line = inl (λ _. refl) });
     } in
-    record {
-      contexts = h.contexts;
-      current = h.current;
-      hooks = h.hooks;
-      levels = h.levels;
-      fit = h.fit;
-      kinds = h.kinds;
-      owners = record {
-        sound = h.owners.sound;
-        each = λ n u. elim (h.owners.each n u) [ inl i ↦ inl i | inr k ↦ inr (elim k [ inl j ↦ inl (inr j) | inr r ↦ inr r ]) ];
-        begun = h.owners.begun;
-        items = h.owners.items;
-      };
-      portals = record {
-        each = All-cons (λ r. IsPortal r s.session.levels s.session.contexts s.session.owners s.session.current) p s.session.portals own h.portals.each;
-        different = (new_names name s.session.portals free p refl refl refl, h.portals.different);
-      };
-      plans = h.plans;
-      snapshots = h.snapshots;
-    }
+    let each : (n : ℕ) → has n s.session.owners ≡ true → IsOwner n s.session.levels ⊎ (IsOfPortal n (p ∷ s.session.portals) ⊎ WasReleased n s.session.levels s.session.owners) =
+    λ n u. elim (h.owners.each n u) [ inl i ↦ inl i | inr k ↦ inr (elim k [ inl j ↦ inl (inr j) | inr r ↦ inr r ]) ] in
+    search (All-cons (λ r. IsPortal r s.session.levels s.session.contexts s.session.owners s.session.current) p s.session.portals own h.portals.each, new_names name s.session.portals free p refl refl refl)

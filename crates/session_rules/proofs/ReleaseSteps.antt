@@ -1,24 +1,8 @@
 -- The steps of a phase of a release: what they say themselves, and that a law which each of them keeps is kept by the phase.
-use Rattle.std.proofs.Common.{◌≡◌, ℕ, Bool, true, false, if◌then◌else◌, List, [], ◌∷◌, ◌++◌, Option, Some, None, refl}
-use Rattle.std.specs.Option.{option_map_or}
-use Rattle.pgs_step.specs.declared.events.What.{What}
+use Rattle.session_rules.proofs.Base.{◌≡◌, ℕ, Bool, true, false, if◌then◌else◌, List, [], ◌∷◌, ◌++◌, Option, Some, None, refl, option_map_or}
+use Rattle.session_rules.proofs.Below.{What, Item, Phase, BeforeLocks, Locks, AfterLocks, Empty, Node, at, children, parent_of, table_of, KindTable, release_order, KindId, Owner, OwnerTree, forgotten, released, Step, Said, GivesBack, ReleasesLocks, PassesLocks, ReleasesAllLocks, lock_step, own_steps, release_steps, releases_of, steps_below, top_locks}
+use Rattle.session_rules.proofs.Rules.{Scene, newest, changes, for_each, in_order, say, where_there, Keeper, NoOne, TheDescriptors, TheKind, ThePlans, descriptor_left, given_back, item_released, keeper_of, key_left, left_to, phase_released, plan_left, step_done, remembers}
 use Rattle.pgs_step.specs.declared.events.What.TheVariants as what
-use Rattle.pgs_step.specs.declared.ids.Item.{Item}
-use Rattle.pgs_step.specs.declared.ids.Phase.{Phase}
-use Rattle.pgs_step.specs.declared.ids.Phase.TheVariants.{BeforeLocks, Locks, AfterLocks}
-use Rattle.forest.specs.Forest.{Empty, Node, at, children, parent_of}
-use Rattle.owner_kinds.specs.KindShelf.{table_of}
-use Rattle.owner_kinds.specs.KindTable.{KindTable}
-use Rattle.owner_items.specs.Next.{release_order}
-use Rattle.pgs_step.specs.declared.ids.KindId.{KindId}
-use Rattle.owner_core.specs.Owners.{Owner, OwnerTree, forgotten}
-use Rattle.owner_core.specs.Released.{released}
-use Rattle.owner_core.specs.Steps.{Step, Said, GivesBack, ReleasesLocks, PassesLocks, ReleasesAllLocks, lock_step, own_steps, release_steps, releases_of, steps_below, top_locks}
-use Rattle.session_rules.specs.World.{Scene}
-use Rattle.session_rules.specs.Lookup.{newest}
-use Rattle.session_rules.specs.Acts.{changes, for_each, in_order, say, where_there}
-use Rattle.session_rules.specs.Releases.{Keeper, NoOne, TheDescriptors, TheKind, ThePlans, descriptor_left, given_back, item_released, keeper_of, key_left, left_to, phase_released, plan_left, step_done}
-use Rattle.session_rules.specs.Taking.{remembers}
 use Rattle.session_rules.proofs.Leaves.{Acts, Keeps, Law}
 
 -- What a law owes for an item that is forgotten, for owners and their items, and for locks that go.

@@ -1,26 +1,13 @@
 -- What a release leaves: the owners without their items, and of all else only what tables count.
-use Rattle.std.proofs.Common.{◌≡◌, ◌≢◌, ℕ, ◌<◌, ◌≤◌, Bool, true, false, Option, List, [], ◌∷◌, length, slice_get, All, refl, sym, ap, ◌∙◌, subst, inl, inr, arith}
-use Rattle.std.specs.Prelude.{zero, suc, ◌-◌, not, filter, unwrap_or, if◌then◌else◌}
-use Rattle.std.specs.Option.{option_map}
+use Rattle.session_rules.proofs.Base.{◌≡◌, ◌≢◌, ℕ, ◌<◌, ◌≤◌, Bool, true, false, Option, List, [], ◌∷◌, length, slice_get, All, refl, sym, ap, ◌∙◌, subst, inl, inr, arith, zero, suc, ◌-◌, not, filter, unwrap_or, if◌then◌else◌, option_map}
+use Rattle.session_rules.proofs.Below.{Item, Phase, BeforeLocks, Locks, AfterLocks, swept, Kind, table_of, Owner, OwnerTree, HoldsNothing, own_released, released, IsSound, sound_released, Lock}
+use Rattle.session_rules.proofs.Rules.{Scene, HasItems, IsItem}
 use Rattle.std.proofs.lemmas.Bool.{cases_Bool, le-ltb, lt-ltb, ne_eqb}
 use Rattle.std.proofs.lemmas.List.Elements.{All-nil, All-head, All-tail, All-filter}
-use Rattle.pgs_step.specs.declared.ids.Item.{Item}
-use Rattle.pgs_step.specs.declared.ids.Phase.{Phase}
-use Rattle.pgs_step.specs.declared.ids.Phase.TheVariants.{BeforeLocks, Locks, AfterLocks}
-use Rattle.forest.specs.Walk.{swept}
-use Rattle.owner_kinds.specs.Kind.{Kind}
 use Rattle.owner_kinds.specs.KindTable.{KindTable, built_in_rows, row_of, IsSound as IsSoundTable}
-use Rattle.owner_kinds.specs.KindShelf.{table_of}
 use Rattle.owner_kinds.specs.Place.{IsPlace}
 use Rattle.owner_kinds.specs.declared.kind_row.KindRow.{KindRow}
 use Rattle.owner_items.specs.Next.{is_of_phase, is_phase}
-use Rattle.owner_core.specs.Owners.{Owner, OwnerTree, HoldsNothing}
-use Rattle.owner_core.specs.Released.{own_released, released}
-use Rattle.owner_core.specs.Sound.{IsSound}
-use Rattle.owner_core.proofs.Sounds.{sound_released}
-use Rattle.lock_local.specs.Locks.{Lock}
-use Rattle.session_rules.specs.World.{Scene}
-use Rattle.session_rules.specs.Standing.{HasItems, IsItem}
 use Rattle.session_rules.proofs.Swept.{both_swept}
 
 -- what tables count besides owners

@@ -1,28 +1,9 @@
 -- A portal becomes another one, or goes, where the deepest level ends.
-use Rattle.std.proofs.Common.{◌≡◌, ℕ, ◌+◌, ◌≤◌, Bool, true, false, Option, Some, None, List, [], ◌∷◌, ◌++◌, append_assoc, length, refl, sym, ◌∙◌, subst, inl, inr, arith}
-use Rattle.std.specs.Prelude.{◌==◌, All}
-use Rattle.std.proofs.lemmas.Bool.{eq-eqb, eqb-true, eqb-false, ne_eqb}
-use Rattle.std.proofs.lemmas.List.Elements.{All-nil, All-cons, All-head, All-tail, All-append}
-use Rattle.forest.specs.Forest.{Once, has}
-use Rattle.forest.proofs.Moved.{below_parent}
-use Rattle.reset_callbacks.specs.ShelfState.{ShelfState}
-use Rattle.context_rules.specs.Contexts.{Contexts}
-use Rattle.owner_kinds.specs.KindShelf.{table_of}
-use Rattle.owner_core.specs.Owners.{OwnerTree}
-use Rattle.owner_core.proofs.Sounds.{once_of}
-use Rattle.session_rules.specs.State.{LevelState, OpenPortal, buffer_pin, relcache_reference, snapshot_reference}
-use Rattle.session_rules.specs.World.{Scene}
-use Rattle.session_rules.specs.Acts.{Ended, context_gone, for_each, in_order, portal_gone, where_so, where_there}
-use Rattle.session_rules.specs.Releases.{item_released}
-use Rattle.session_rules.specs.Portals.{executor_ended, is_ready, portal_closed}
-use Rattle.session_rules.specs.Standing.{AreContexts, AreDifferent, AreHooks, AreLevels, AreOther, ArePlans, IsAttached, IsLive, IsPortal, active_depth, referred}
-use Rattle.session_rules.specs.Ending.{AreEnding, Ending, IsAway, IsDone, IsLoose}
-use Rattle.session_rules.proofs.LevelsKept.{no_value}
-use Rattle.session_rules.proofs.Stacked.{depth_outer, depth_small, depth_still}
-use Rattle.session_rules.proofs.PortalLists.{Changes, different_changed, others_back, others_front}
-use Rattle.session_rules.proofs.PortalsAmong.{attached_by}
-use Rattle.session_rules.proofs.Resting.{rests_aborted}
-use Rattle.session_rules.proofs.Ending.{Goes, Leads, close_goes, each_goes, goes_nothing, item_goes, parts_of, then_goes, with_parts}
+use Rattle.session_rules.proofs.Base.{◌≡◌, ℕ, ◌+◌, ◌≤◌, Bool, true, false, Option, Some, None, List, [], ◌∷◌, ◌++◌, append_assoc, length, refl, sym, ◌∙◌, subst, inl, inr, arith, ◌==◌, All, eqb-true, eqb-false, ne_eqb, All-nil, All-cons, All-head, All-tail, All-append, ◌⊎◌, nat_tests}
+use Rattle.session_rules.proofs.Below.{Once, has, below_parent, ShelfState, Contexts, table_of, OwnerTree, once_of}
+use Rattle.session_rules.proofs.Rules.{LevelState, OpenPortal, buffer_pin, relcache_reference, snapshot_reference, Scene, Ended, context_gone, for_each, in_order, portal_gone, where_so, where_there, item_released, executor_ended, is_ready, portal_closed, AreContexts, AreDifferent, AreHooks, AreLevels, AreOther, ArePlans, IsAttached, IsLive, IsPortal, active_depth, referred, AreEnding, Ending, IsAway, IsDone, IsLoose, IsOwner, IsOfPortal}
+use Rattle.session_rules.proofs.Kept.{no_value, depth_outer, depth_small, depth_still, Changes, different_changed, others_back, others_front, owner_split, owner_here, owner_beside, rests_aborted, attached_by}
+use Rattle.session_rules.proofs.Ending.{Goes, Leads, close_goes, each_goes, goes_nothing, item_goes, parts_of, then_goes, with_parts, Parts}
 
 -- another portal has neither the context nor the owner of one
 pub record IsBeside (p r : OpenPortal) : Type 0 where
@@ -66,6 +47,27 @@ module _ (level : LevelState) (levels done : List LevelState) where
         are = sym joined;
       }
 
+  -- whose owner is whose then, where it keeps its own
+  pub kept_owners : (p q : OpenPortal) (front back : List OpenPortal) (s : Scene) → Ending level levels done front (p ∷ back) s → ((n : ℕ) → p.owner ≡ Some n → q.owner ≡ Some n)
+      → AreEnding (table_of s.around.kinds) s.session.owners s.session.next_owner s.session.next_serial level levels (front ++ (q ∷ back))
+  kept_owners p q front back s h keeps =
+      let each : (n : ℕ) → has n s.session.owners ≡ true → IsOwner n (level ∷ levels) ⊎ (IsOfPortal n (front ++ (q ∷ back)) ⊎ IsLoose level n s.session.owners) = λ n u. elim (h.owners.each n u) [
+        | inl j ↦ inl j
+        | inr k ↦ inr (elim k [
+          | inl j ↦ inl (elim (owner_split n p front back j) [ inl e ↦ owner_here n q front back (keeps n e) | inr r ↦ owner_beside n q front back r ])
+          | inr l ↦ inr l
+        ])
+      ] in
+      search
+
+  -- An act makes it so.
+  pub replaced_leads : (front back : List OpenPortal) (q : OpenPortal) (s : Scene) (x : Parts) → x.portals ≡ front ++ (q ∷ back) → table_of x.kinds ≡ table_of s.around.kinds
+      → Ending level levels done (front ++ (q ∷ [])) back (with_parts (record x { portals = front ++ (q ∷ back) }) s) → Leads level levels done back s (with_parts x s)
+  replaced_leads front back q s x is same e = record {
+    front = front ++ (q ∷ []);
+    goes = record { parts = x; same = same; is = refl; ending = subst (λ (ps : List OpenPortal). Ending level levels done (front ++ (q ∷ [])) back (with_parts (record x { portals = ps }) s)) (sym is) e };
+  }
+
   -- A portal is done as it is.
   pub kept : (p : OpenPortal) (front back : List OpenPortal) (s : Scene) → Ending level levels done front (p ∷ back) s → IsPortal p done s.session.contexts s.session.owners s.session.current → IsAway level p → Ending level levels done (front ++ (p ∷ [])) back s
   kept p front back s h own away =
@@ -106,11 +108,7 @@ module _ (level : LevelState) (levels done : List LevelState) where
 
   -- the owner of a portal of the deepest level is below that one's
   pub own_loose : (p : OpenPortal) (x : OwnerTree) → Once x → (o lo : ℕ) → IsAttached o p.created (level ∷ levels) x → p.created ≡ length (level ∷ levels) → level.owner ≡ Some lo → IsLoose level o x
-  own_loose p x once o lo a created is = record {
-    owner = lo;
-    is = is;
-    within = inr (below_parent o lo x once (a.parent ∙ rw (eq-eqb (length levels + 1) p.created (omega (arith, created))) is));
-  }
+  own_loose p x once o lo a created is = grind (arith, nat_tests, below_parent o lo x once)
 
 -- Portals close where level 1 commits.
 module _ (level : LevelState) (made : (p : OpenPortal) → IsLive p (level ∷ []) → (lo : ℕ) × (level.owner ≡ Some lo)) where

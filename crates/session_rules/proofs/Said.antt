@@ -1,13 +1,8 @@
 -- What is said where contexts, locks, descriptors and snapshots change: all events pass a test where each kind of them does.
-use Rattle.std.proofs.Common.{◌≡◌, ℕ, ◌+◌, Bool, true, false, if◌then◌else◌, List, [], ◌∷◌, ◌++◌, map, flat_map, reverse, Option, Some, None}
-use Rattle.std.specs.Prelude.{◌==◌, filter}
-use Rattle.std.specs.Option.{option_map_or}
+use Rattle.session_rules.proofs.Base.{◌≡◌, ℕ, ◌+◌, Bool, true, false, if◌then◌else◌, List, [], ◌∷◌, ◌++◌, map, flat_map, reverse, Option, Some, None, ◌==◌, filter, option_map_or}
+use Rattle.session_rules.proofs.Below.{What, Mode, Empty, Node, at, children, Hook, is_among, Active}
 use Rattle.chunk_header.specs.declared.Stats.{Stats}
-use Rattle.pgs_step.specs.declared.events.What.{What}
 use Rattle.pgs_step.specs.declared.events.What.TheVariants as what
-use Rattle.pgs_step.specs.declared.lock_modes.Mode.{Mode}
-use Rattle.forest.specs.Forest.{Empty, Node, at, children}
-use Rattle.reset_callbacks.specs.Hook.{Hook}
 use Rattle.context_report.specs.declared.Total.{Total}
 use Rattle.context_report.specs.Lines.{last_of, line_of, no_total}
 use Rattle.context_rules.specs.Contexts.{Context, Contexts, is_child, move_events, reparented_events}
@@ -16,9 +11,7 @@ use Rattle.context_rules.specs.Ends.{callbacks, cleared, cleared_alone, gone_eve
 use Rattle.context_rules.specs.Reports.{lines, report, summed}
 use Rattle.lock_local.specs.Locks.{Lock, owner_count}
 use Rattle.lock_local.specs.Changes as locks
-use Rattle.file_table.specs.Descriptors.{is_among}
 use Rattle.file_table.specs.Files.{Files, given_events, loser, touch_events}
-use Rattle.snap_table.specs.declared.active.Active.{Active}
 use Rattle.snap_table.specs.Snapshots.{is_deep, pops}
 
 -- all events pass the test

@@ -1,10 +1,21 @@
 -- How the scripts of these files are run.
-use Rattle.std.specs.Prelude.{ℕ, List, [], ◌∷◌, map, codes, Option, None}
-use Rattle.pgs_step.specs.declared.ids.Phase.TheVariants.{BeforeLocks, AfterLocks}
-use Rattle.owner_kinds.specs.Kind.{Kind}
-use Rattle.reset_callbacks.specs.ShelfState.{ShelfState}
-use Rattle.session_rules.specs.World.{Options}
-use Rattle.session_rules.specs.Transcript.{transcript, text_of_transcript}
+use Rattle.session_rules.proofs.Base.{ℕ, List, [], ◌∷◌, map, codes, Option, None}
+use Rattle.session_rules.proofs.Below.{BeforeLocks, AfterLocks, Kind, ShelfState, row_of, conflicts, up8, granted, grown, doubled, is_reserved}
+use Rattle.session_rules.proofs.Rules.{Options, opening, elements_of, does, does_all, recovered, exited, turn, course_by, transcript_by, transcript}
+use Rattle.std.specs.Fmt.{digits}
+use Rattle.hex.specs.Hex.{decode_pairs, encode_with}
+use Rattle.pgs_step.specs.Text.{kind_name, error_text, text_of, what_text}
+use Rattle.pgs_command.specs.Lines.{read_line}
+use Rattle.pgs_command.specs.Table.{command_of, transaction_rows, context_rows, chunk_rows, item_rows, lock_rows, snapshot_rows, plan_rows, portal_rows, tell_rows}
+use Rattle.pgs_command.specs.Values.{number_between, name_of, kind_of, class_of, mode_of, bytes_of}
+use Rattle.pgs_command.specs.Words.{words_of}
+use Rattle.any_ctx.specs.SetLedger as set
+use Rattle.any_ctx.specs.SlabLedger as slab
+use Rattle.any_ctx.specs.GenerationLedger as generation
+use Rattle.any_ctx.specs.BumpLedger as bump
+use Rattle.session_rules.specs.Asked.{asked, asked_all, asked_by, asked_by_turn}
+use Rattle.session_rules.specs.Modes.{generated, swept, whole_run, made_script}
+use Rattle.session_rules.specs.Transcript.{text_of_transcript}
 
 -- one session, with as much space and as many descriptors as a run has by default
 abbrev pub options : Options
@@ -30,3 +41,8 @@ told options script = told_wanting None options script
 -- the last lines of a session that has no other contexts by then
 abbrev pub gone : List ℕ
 gone = codes "1 delete c5\n1 delete c4\n1 delete c3\n1 delete c2\n1 delete c1\n1 exit\n"
+
+-- a row that unfolds this name unfolds all that a script is computed by
+unfoldable pub all_rules : ℕ
+unfolding text_of what_text kind_name error_text digits decode_pairs encode_with read_line command_of transaction_rows context_rows chunk_rows item_rows lock_rows snapshot_rows plan_rows portal_rows tell_rows words_of number_between opening elements_of does does_all recovered exited turn course_by transcript_by name_of kind_of is_reserved class_of mode_of bytes_of conflicts row_of up8 granted grown doubled set.created set.stats set.take set.take_class set.take_own set.chunk_limit set.limit_class set.class_of set.class_up_to set.cut_off set.reused set.from_new set.block_size set.halved set.halved_by set.renewed set.cut_up set.cut_rest set.with_own set.give set.without_own set.resize set.resize_class set.resize_block slab.created slab.free_chunks slab.per_block slab.serve slab.stats slab.stride slab.take generation.chosen generation.created generation.cut generation.cut_off generation.emptied generation.freed_shared generation.give generation.lessened generation.stats generation.take generation.take_cut generation.take_from bump.created bump.cut_off bump.stats bump.take bump.take_cut asked asked_all asked_by asked_by_turn generated swept whole_run made_script
+all_rules = 0

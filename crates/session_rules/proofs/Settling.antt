@@ -1,42 +1,18 @@
 -- What a release leaves of plans, contexts and tables: each plan counts the references that owners still hold, and one that has to go
 -- is gone with its context.
-use Rattle.std.proofs.Common.{◌≡◌, ◌≢◌, ℕ, ◌+◌, ◌-◌, ◌≤◌, ◌<◌, Bool, true, false, Option, Some, None, List, [], ◌∷◌, ◌++◌, refl, sym, ap, ◌∙◌, subst, arith}
-use Rattle.std.specs.Prelude.{◌==◌, ◌&&◌, nat_lt, if◌then◌else◌, All}
-use Rattle.std.specs.Option.{option_map_or}
-use Rattle.std.proofs.lemmas.Bool.{eq-eqb, eqb-true, eqb-false, ne_eqb}
+use Rattle.session_rules.proofs.Base.{◌≡◌, ◌≢◌, ℕ, ◌+◌, ◌-◌, ◌≤◌, ◌<◌, Bool, true, false, Option, Some, None, List, [], ◌∷◌, ◌++◌, refl, sym, ap, ◌∙◌, subst, arith, ◌==◌, ◌&&◌, nat_lt, if◌then◌else◌, All, option_map_or, eq-eqb, eqb-true, eqb-false, ne_eqb, nat_tests}
+use Rattle.session_rules.proofs.Below.{Item, Phase, BeforeLocks, Locks, AfterLocks, Once, has, children, parent_of, removed, ShelfState, Contexts, is_protected, gone, handed_in, KindTable, table_of, is_of, OwnerTree, released, IsSound, Step, Said, GivesBack, ReleasesLocks, PassesLocks, ReleasesAllLocks, release_steps, once_of, sound_released, Lock, is_among, without, removed_absent}
+use Rattle.session_rules.proofs.Rules.{StandingPlan, abort_context, cache_context, plan_reference, Scene, plan_at, plan_changed, plans_but, Ended, for_each, where_so, where_there, NoOne, ThePlans, TheDescriptors, TheKind, given_back, left_to, owner_released, phase_released, plan_becomes, plan_left, plan_settled, plan_stays, step_done, AreContexts, AreHooks, ArePlans, IsPlan, referred, references_of}
 use Rattle.pgs_step.specs.declared.events.What.TheVariants as what
-use Rattle.pgs_step.specs.declared.ids.Item.{Item}
-use Rattle.pgs_step.specs.declared.ids.Phase.{Phase}
-use Rattle.pgs_step.specs.declared.ids.Phase.TheVariants.{BeforeLocks, Locks, AfterLocks}
-use Rattle.forest.specs.Forest.{Once, has, children, parent_of, removed}
-use Rattle.reset_callbacks.specs.ShelfState.{ShelfState}
-use Rattle.context_rules.specs.Contexts.{Contexts, is_protected}
-use Rattle.context_rules.specs.Ends.{gone, handed_in}
 use Rattle.owner_kinds.specs.Kind.{Kind, changed_at, closed}
-use Rattle.owner_kinds.specs.KindTable.{KindTable}
-use Rattle.owner_kinds.specs.KindShelf.{table_of}
 use Rattle.owner_kinds.proofs.Places.{table-closed}
-use Rattle.owner_items.specs.ItemList.{is_of}
-use Rattle.owner_core.specs.Owners.{OwnerTree}
-use Rattle.owner_core.specs.Released.{released}
-use Rattle.owner_core.specs.Sound.{IsSound}
-use Rattle.owner_core.specs.Steps.{Step, Said, GivesBack, ReleasesLocks, PassesLocks, ReleasesAllLocks, release_steps}
-use Rattle.owner_core.proofs.Sounds.{once_of, sound_released}
-use Rattle.lock_local.specs.Locks.{Lock}
 use Rattle.lock_local.specs.Changes as locks
-use Rattle.file_table.specs.Descriptors.{is_among, without}
-use Rattle.session_rules.specs.State.{StandingPlan, abort_context, cache_context, plan_reference}
-use Rattle.session_rules.specs.World.{Scene}
-use Rattle.session_rules.specs.Lookup.{plan_at, plan_changed, plans_but}
-use Rattle.session_rules.specs.Acts.{Ended, for_each, where_so, where_there}
-use Rattle.session_rules.specs.Releases.{NoOne, ThePlans, TheDescriptors, TheKind, given_back, left_to, owner_released, phase_released, plan_becomes, plan_left, plan_settled, plan_stays, step_done}
-use Rattle.session_rules.specs.Standing.{AreContexts, AreHooks, ArePlans, IsPlan, referred, references_of}
 use Rattle.session_rules.proofs.ContextsKept.{IsSame, contexts_level_gone, off_outside, same_removed}
 use Rattle.session_rules.proofs.Lone.{children_left}
-use Rattle.forest.proofs.Trees.{removed_absent}
 use Rattle.session_rules.proofs.Forests.{has_left}
 use Rattle.session_rules.proofs.HeldItems.{given, gives, gives_phase}
-use Rattle.session_rules.proofs.HooksKept.{conserves_gone, hooks_ended}
+use Rattle.session_rules.proofs.HooksKept.{hooks_ended}
+use Rattle.session_rules.proofs.HookSums.{parts_gone}
 use Rattle.session_rules.proofs.PlansKept.{Split, all_middle, all_replaced, all_without, but_is, changed_is, plans_replaced, plans_without, split}
 use Rattle.session_rules.proofs.Releasing.{HasSwept, released_swept, with_owners}
 
@@ -167,7 +143,7 @@ module _ (s : Scene) (c d : ℕ → ℕ) (h : Fits s.session.next_context s.sess
         is = refl;
         fits = record {
           contexts = contexts_level_gone t s.session.next_context h.contexts k (subst (λ (j : ℕ). abort_context < j) (sym context) own.own);
-          hooks = hooks_ended t (gone k t) s.around.shelf (conserves_gone k t h.contexts.once) h.hooks;
+          hooks = hooks_ended t (gone k t) s.around.shelf (parts_gone k t h.contexts.once) h.hooks;
           plans =
               subst (λ (x : List StandingPlan). ArePlans x (removed k t) s.session.current d) (sym is)
               (subst (λ (j : ℕ). ArePlans (w.front ++ w.back) (removed j t) s.session.current d) (sym context)
@@ -253,11 +229,7 @@ module _ (s : Scene) (d : ℕ → ℕ) (h : Fits s.session.next_context s.sessio
   other_left false false place key = settles_tables s.session.locks s.session.recent (changed_at place (closed key) s.around.kinds) (table-closed s.around.kinds place key)
 
 pub fewer : (s : Scene) (c d : ℕ → ℕ) → ((m : ℕ) → c m ≡ d m) → Fits s.session.next_context s.session.current c (besides_of s) → Fits s.session.next_context s.session.current d (besides_of s)
-fewer s c d same h = record {
-  contexts = h.contexts;
-  hooks = h.hooks;
-  plans = record { each = h.plans.each; apart = h.plans.apart; counted = λ m. h.plans.counted m ∙ same m };
-}
+fewer s c d same h = grind (arith, nat_tests)
 
 -- an item is given back
 pub item_settles : (item : Item) (s : Scene) (c d : ℕ → ℕ) → ((m : ℕ) → c m ≡ (if is_of plan_reference m item then 1 else 0) + d m) → Fits s.session.next_context s.session.current c (besides_of s) → Settles d s (given_back item s).scene

@@ -1,39 +1,17 @@
 -- Laws that see some parts of a scene alone, and to which some events say nothing: they have the leaves that change other parts.
-use Rattle.std.proofs.Common.{◌≡◌, ℕ, ◌-◌, Bool, true, false, if◌then◌else◌, List, [], ◌∷◌, ◌++◌, codes, Option, Some, None, refl}
-use Rattle.std.specs.Prelude.{◌==◌, ◌&&◌, length, take}
+use Rattle.session_rules.proofs.Base.{◌≡◌, ℕ, ◌-◌, Bool, true, false, if◌then◌else◌, List, [], ◌∷◌, ◌++◌, codes, Option, Some, None, refl, ◌==◌, ◌&&◌, length, take}
+use Rattle.session_rules.proofs.Below.{What, Item, KindId, Phase, Mode, CtxKind, changed, children, subtree, Hook, ShelfState, zeros, Context, Contexts, is_among, Lock, Kind, OwnerTree, released, Active}
+use Rattle.session_rules.proofs.Rules.{Scene, Text, plan_at, changes, children_gone, context_cleared, context_cleared_alone, context_gone, in_order, portal_becomes, say, where_there, context_moved, lock_given_back, snapshot_popped, stack_lowered, stack_popped}
 use Rattle.chunk_header.specs.declared.Stats.{Stats}
-use Rattle.pgs_step.specs.declared.events.What.{What}
 use Rattle.pgs_step.specs.declared.events.What.TheVariants as what
-use Rattle.pgs_step.specs.declared.ids.Item.{Item}
-use Rattle.pgs_step.specs.declared.ids.KindId.{KindId}
-use Rattle.pgs_step.specs.declared.ids.Phase.{Phase}
-use Rattle.pgs_step.specs.declared.lock_modes.Mode.{Mode}
-use Rattle.any_ctx.specs.declared.any.CtxKind.{CtxKind}
 use Rattle.any_ctx.specs.declared.any.CtxKind.TheVariants as kind
-use Rattle.forest.specs.Forest.{changed, children, subtree}
 use Rattle.forest.specs.Walk.{order_at}
-use Rattle.reset_callbacks.specs.Hook.{Hook}
-use Rattle.reset_callbacks.specs.ShelfState.{ShelfState}
 use Rattle.context_report.specs.declared.Total.{Total}
 use Rattle.context_report.specs.Lines.{last_of, line_of}
-use Rattle.context_rules.specs.Chunks.{zeros}
-use Rattle.context_rules.specs.Contexts.{Context, Contexts}
-use Rattle.file_table.specs.Descriptors.{is_among}
-use Rattle.lock_local.specs.Locks.{Lock}
-use Rattle.owner_kinds.specs.Kind.{Kind}
-use Rattle.owner_core.specs.Owners.{OwnerTree}
-use Rattle.owner_core.specs.Released.{released}
-use Rattle.snap_table.specs.declared.active.Active.{Active}
 use Rattle.session_rules.specs.State.{LevelState, OpenPortal, StandingPlan, cache_context, last_of as last_snapshot}
-use Rattle.session_rules.specs.World.{Scene}
-use Rattle.session_rules.specs.Elements.{Text}
-use Rattle.session_rules.specs.Lookup.{plan_at}
-use Rattle.session_rules.specs.Acts.{changes, children_gone, context_cleared, context_cleared_alone, context_gone, in_order, portal_becomes, say, where_there}
 use Rattle.session_rules.specs.Releases.{Keeper, NoOne, TheDescriptors, TheKind, ThePlans, descriptor_left, given_back, item_released, keeper_of, key_left, owner_gone, owner_moved, phase_released, plan_becomes, plan_left, plan_settled, plan_stays}
-use Rattle.session_rules.specs.Parts.{context_moved, lock_given_back, snapshot_popped}
 use Rattle.session_rules.specs.Making.{context_made, held, left as bytes_left, owner_made, plan_made}
 use Rattle.session_rules.specs.Taking.{descriptor_given, files, hook_waits, item_taken, lock_taken, remembers, snapshot_pushed, taken_by}
-use Rattle.session_rules.specs.Ends.{stack_lowered, stack_popped}
 use Rattle.session_rules.proofs.Leaves.{Acts, EndLeaves, Keeps, Law, Leaves, LevelLeaves, is_level_word, is_word}
 use Rattle.session_rules.proofs.Chunked.{LeavesHooks, by_allocated, by_freed, by_resized, by_written}
 use Rattle.session_rules.proofs.ReleaseSteps.{ItemGoes, LockLeaves, OwnerLeaves, item_given_back, item_releases, phase_keeps}

@@ -1,11 +1,9 @@
 -- The elements of commands say no more than words by themselves, and those of usual commands register no hook and move no context.
-use Rattle.std.proofs.Common.{◌≡◌, ℕ, zero, suc, ◌+◌, ◌-◌, Bool, true, false, not, if◌then◌else◌, List, [], ◌∷◌, ◌++◌, map, length, replicate, flat_map, Option, Some, None, refl}
-use Rattle.std.proofs.lemmas.Bool.{false_from_ne_true}
-use Rattle.std.specs.Prelude.{nat_lt, ◌&&◌, ◌==◌}
-use Rattle.std.specs.Option.{option_map_or}
+use Rattle.session_rules.proofs.Base.{◌≡◌, ℕ, zero, suc, ◌+◌, ◌-◌, Bool, true, false, not, if◌then◌else◌, List, [], ◌∷◌, ◌++◌, map, length, replicate, flat_map, Option, Some, None, refl, false_from_ne_true, nat_lt, ◌&&◌, ◌==◌, option_map_or}
+use Rattle.session_rules.proofs.Below.{Scan, ScanStep, Command}
+use Rattle.session_rules.proofs.Rules.{LevelState, OpenPortal, SessionState, is_aborted, Check, Element, Text, portal_named, line_elements}
 use Rattle.pgs_step.specs.declared.errors.Error.TheVariants as error
 use Rattle.pgs_step.specs.declared.events.What.TheVariants as what
-use Rattle.pgs_command.specs.declared.commands.Command.{Command}
 use Rattle.pgs_command.specs.declared.commands.Command.TheVariants as command
 use Rattle.pgs_command.specs.declared.commands.TransactionCommand.{TransactionCommand}
 use Rattle.pgs_command.specs.declared.commands.TransactionCommand.TheVariants as transaction
@@ -27,17 +25,11 @@ use Rattle.pgs_command.specs.declared.commands.PortalCommand.{PortalCommand}
 use Rattle.pgs_command.specs.declared.commands.PortalCommand.TheVariants as portal
 use Rattle.pgs_command.specs.declared.commands.TellCommand.{TellCommand}
 use Rattle.pgs_command.specs.declared.commands.TellCommand.TheVariants as tell
-use Rattle.exec_core.specs.declared.scan.Scan.{Scan}
-use Rattle.exec_core.specs.declared.steps.ScanStep.{ScanStep}
 use Rattle.exec_core.specs.declared.steps.ScanStep.TheVariants as step
 use Rattle.exec_core.specs.Turn as exec
-use Rattle.session_rules.specs.State.{LevelState, OpenPortal, SessionState, is_aborted}
 use Rattle.session_rules.specs.Elements as e
-use Rattle.session_rules.specs.Elements.{Check, Element, Text}
-use Rattle.session_rules.specs.Lookup.{portal_named}
 use Rattle.session_rules.specs.Works.{after_turn, chunk_row, context_row, fallible_part, fetch_steps, item_row, lock_row, plan_row, portal_row, row_of, snapshot_row, tell_row, turn_steps, work_of}
 use Rattle.session_rules.specs.Commands.{at_savepoint, begin, commit, committed_to, elements_of, in_transaction, is_end, refused, rollback, rolled_back_to, save, savepoint, start, then_ok, transaction_of, unaborted}
-use Rattle.session_rules.specs.Transcript.{line_elements}
 use Rattle.session_rules.proofs.Leaves.{AreSpoken}
 
 -- a command that registers no hook and moves no context

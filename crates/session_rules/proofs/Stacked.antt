@@ -1,11 +1,7 @@
 -- What the stack of active snapshots keeps: its levels never fall, and each of them is a level.
-use Rattle.std.proofs.Common.{◌≡◌, ℕ, ◌+◌, ◌≤◌, ◌<◌, Bool, true, false, List, [], ◌∷◌, ◌++◌, refl, ◌∙◌, inl, inr, arith}
-use Rattle.std.specs.Prelude.{zero, suc, ◌-◌, ◌==◌, ◌||◌, nat_lt, if◌then◌else◌, length, map, take}
-use Rattle.std.proofs.lemmas.Bool.{cases_Bool, ltb-true, eqb-true, eqb-false}
-use Rattle.snap_table.specs.declared.active.Active.{Active}
-use Rattle.snap_table.specs.Snapshots.{kept_below, lowered}
-use Rattle.session_rules.specs.State.{LevelState}
-use Rattle.session_rules.specs.Standing.{AreOuter, AreStacked, IsActive, active_depth}
+use Rattle.session_rules.proofs.Base.{◌≡◌, ℕ, ◌+◌, ◌≤◌, Bool, true, false, List, [], ◌∷◌, ◌++◌, refl, ◌∙◌, arith, zero, suc, ◌-◌, ◌||◌, length, map, take, nat_tests}
+use Rattle.session_rules.proofs.Below.{Active, kept_below, lowered}
+use Rattle.session_rules.proofs.Rules.{LevelState, AreOuter, AreStacked, IsActive, active_depth}
 
 -- the levels are also from a lower one, and to a higher one
 pub stacked_within : (low high least most : ℕ) (entries : List Active) → low ≤ least → most ≤ high → AreStacked least most entries → AreStacked low high entries
@@ -28,24 +24,13 @@ stacked_taken (suc n) least most (entry ∷ entries) h = (h.0, h.1, stacked_take
 pub stacked_below : (level least most : ℕ) (entries : List Active) → AreStacked least most entries → AreStacked least (level - 1) (kept_below level entries)
 stacked_below level least most [] h = tt
 stacked_below level least most (entry ∷ entries) h =
-    let rest : AreStacked entry.level (level - 1) (kept_below level entries) = stacked_below level entry.level most entries h.2 in
-    elim (cases_Bool (nat_lt entry.level level)) [
-      | inl y ↦ let less : entry.level < level = ltb-true entry.level level y in rw y (h.0, omega (arith, less), rest)
-      | inr y ↦ rw y (stacked_within least (level - 1) entry.level (level - 1) (kept_below level entries) h.0 (omega arith) rest)
-    ]
+    grind (arith, nat_tests, stacked_below level entry.level most entries h.2, stacked_within least (level - 1) entry.level (level - 1) (kept_below level entries) h.0)
 
 -- those of the deepest level belong to the one above
 pub lowered_from : (level least low : ℕ) (entries : List Active) → low ≤ least → low ≤ level - 1 → 1 ≤ level → AreStacked least level entries → AreStacked low (level - 1) (map (lowered level) entries)
 lowered_from level least low [] l u some h = tt
 lowered_from level least low (entry ∷ entries) l u some h =
-    elim (cases_Bool (entry.level == level)) [
-      | inl y ↦
-          let same : entry.level ≡ level = eqb-true entry.level level y in
-          rw y (u, omega arith, lowered_from level entry.level (level - 1) entries (omega (arith, same)) (omega arith) some h.2)
-      | inr y ↦
-          let up : entry.level ≤ level - 1 = omega (arith, h.1, eqb-false entry.level level y, some) in
-          rw y (omega (arith, l, h.0), up, lowered_from level entry.level entry.level entries (omega arith) up some h.2)
-    ]
+    grind (arith, nat_tests, lowered_from level entry.level (level - 1) entries, lowered_from level entry.level entry.level entries)
 
 pub stacked_lowered : (level : ℕ) (entries : List Active) → 2 ≤ level → AreStacked 1 level entries → AreStacked 1 (level - 1) (map (lowered level) entries)
 stacked_lowered level entries some h = lowered_from level 1 1 entries (omega arith) (omega (arith, some)) (omega (arith, some)) h
@@ -68,11 +53,7 @@ depth_working level levels h = rw (h.started, h.unaborted) refl
 
 pub depth_small : (levels : List LevelState) → active_depth levels ≤ length levels
 depth_small [] = omega arith
-depth_small (level ∷ levels) = go (level.starting || level.aborted)
-  where
-    go : (b : Bool) → (if b then length levels else length levels + 1) ≤ length (level ∷ levels)
-    go true = omega arith
-    go false = omega arith
+depth_small (level ∷ levels) = grind (arith, nat_tests)
 
 pub depth_outer : (levels : List LevelState) → AreOuter levels → active_depth levels ≡ length levels
 depth_outer [] h = refl

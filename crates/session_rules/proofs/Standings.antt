@@ -1,16 +1,9 @@
 -- What callers take from a session that stands.
-use Rattle.std.proofs.Common.{◌≡◌, ℕ, ◌≤◌, true, false, List, [], ◌∷◌, All, sym, ap, ◌∙◌, subst, inl, inr, arith}
-use Rattle.std.proofs.lemmas.Bool.{cases_eq, both_ways, false_from_ne_true}
-use Rattle.std.proofs.lemmas.List.Elements.{All-nil, All-cons, All-head, All-tail}
-use Rattle.forest.specs.Forest.{Empty, Node, has, AllNodes}
-use Rattle.pgs_step.specs.declared.ids.Item.{Item}
-use Rattle.owner_kinds.specs.KindTable.{IsKind, IsSound, KindTable}
-use Rattle.owner_kinds.specs.KindShelf.{table_of}
-use Rattle.owner_core.specs.Owners.{OwnerTree, has_begun}
-use Rattle.session_rules.specs.State.{LevelState, SessionState, abort_context, top_context}
-use Rattle.session_rules.specs.World.{Around, Scene}
-use Rattle.session_rules.specs.Standing.{AreHooks, AreOwners, HasItems, IsItem, Stands, StandsBetweenLines}
-use Rattle.session_rules.proofs.ContextsKept.{protected_has, top_protected}
+use Rattle.session_rules.proofs.Base.{◌≡◌, ℕ, ◌≤◌, true, false, List, [], ◌∷◌, All, ap, ◌∙◌, inl, inr, arith, cases_eq, both_ways, false_from_ne_true, All-nil, All-cons, All-head, All-tail, nat_tests}
+use Rattle.session_rules.proofs.Below.{Empty, Node, has, AllNodes, Item, table_of, OwnerTree, has_begun}
+use Rattle.session_rules.proofs.Rules.{LevelState, SessionState, abort_context, top_context, Around, Scene, AreHooks, HasItems, IsItem, Stands, StandsBetweenLines}
+use Rattle.owner_kinds.specs.KindTable.{IsKind, KindTable}
+use Rattle.session_rules.proofs.Kept.{protected_has, top_protected}
 use Rattle.session_rules.proofs.EndsStand.{settled}
 
 -- The session's own contexts are there.
@@ -37,18 +30,7 @@ items_known table (Node n owner below beside) h = (kinds_known table owner.items
 
 -- A session that stands does so in other surroundings, where its hooks fit the shelf there, and what never changes of kinds is the same.
 pub stands_elsewhere : (session : SessionState) (a b : Around) → AreHooks session.contexts b.shelf → table_of b.kinds ≡ table_of a.kinds → Stands (record { session = session; around = a }) → Stands (record { session = session; around = b })
-stands_elsewhere session a b hooks same h = record {
-  contexts = h.contexts;
-  current = h.current;
-  hooks = hooks;
-  levels = h.levels;
-  fit = h.fit;
-  kinds = subst (λ (kinds : KindTable). IsSound kinds) (sym same) h.kinds;
-  owners = subst (λ (kinds : KindTable). AreOwners kinds session.owners session.next_owner session.next_serial session.levels session.portals) (sym same) h.owners;
-  portals = h.portals;
-  plans = h.plans;
-  snapshots = h.snapshots;
-}
+stands_elsewhere session a b hooks same h = grind (arith, nat_tests)
 
 pub stands_between_elsewhere : (session : SessionState) (a b : Around) → AreHooks session.contexts b.shelf → table_of b.kinds ≡ table_of a.kinds → StandsBetweenLines (record { session = session; around = a })
     → StandsBetweenLines (record { session = session; around = b })

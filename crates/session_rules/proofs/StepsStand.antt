@@ -1,54 +1,25 @@
 -- The steps of commands lead from a session that stands to one that stands.
-use Rattle.std.proofs.Common.{◌≡◌, ◌≢◌, ℕ, ◌+◌, ◌-◌, ◌<◌, ◌≤◌, ◌⊎◌, ◌++◌, length, Bool, true, false, Option, Some, None, List, [], ◌∷◌, refl, sym, ap, ◌∙◌, subst, inl, inr, arith}
-use Rattle.std.specs.Prelude.{◌==◌, All, take, nat_le, if◌then◌else◌, Result, Ok, Err}
-use Rattle.std.specs.Option.{option_map_or}
-use Rattle.std.proofs.lemmas.Bool.{cases_eq, cases_Bool, cases_lt, eq-eqb, ne_eqb, both_ways, le-ltb, leb-false}
-use Rattle.std.proofs.lemmas.List.Elements.{All-nil, All-weaker}
-use Rattle.forest.specs.Forest.{Empty, has, Once, at, children, parent_of, put, changed, size, AllNodes}
-use Rattle.forest.proofs.Trees.{has_at, times_some, has_changed}
+use Rattle.session_rules.proofs.Base.{◌≡◌, ◌≢◌, ℕ, ◌+◌, ◌<◌, ◌≤◌, ◌⊎◌, ◌++◌, length, Bool, true, false, Option, Some, None, List, [], ◌∷◌, refl, sym, ap, ◌∙◌, subst, inl, inr, arith, ◌==◌, All, if◌then◌else◌, Result, Ok, Err, option_map_or, All-nil, All-weaker, nat_tests}
+use Rattle.session_rules.proofs.Below.{Empty, has, Once, at, children, parent_of, put, changed, size, AllNodes, has_at, times_some, has_changed, Error, Active, ShelfState, taken, KindTable, IsSoundTable, table_of, once_of, fresh, sound_created}
+use Rattle.session_rules.proofs.Rules.{LevelState, OpenPortal, StandingPlan, deepest_changed, first_of, owner_of, plan_reference, top_context, Scene, Moment, LevelContext, OfLevel, Text, memory_in, aborted, cleaned_up, committed, subcommitted, does, Ended, changes, in_order, nothing, say, switched, where_there, chunk_resized, memory_taken, snapshot_pushed, level_stands, fallible, is_call, refused_call}
+use Rattle.std.proofs.lemmas.Bool.{cases_eq, eq-eqb, ne_eqb, both_ways}
 use Rattle.forest.proofs.Neighbours.{parent_absent}
-use Rattle.pgs_step.specs.declared.errors.Error.{Error}
-use Rattle.pgs_step.specs.declared.events.What.TheVariants as what
-use Rattle.snap_table.specs.declared.active.Active.{Active}
 use Rattle.chunk_header.specs.declared.CtxError.{CtxError}
-use Rattle.chunk_header.specs.Answers.{Taken, Resized}
-use Rattle.reset_callbacks.specs.ShelfState.{ShelfState, taken}
-use Rattle.any_ctx.specs.Ledgers.{Ledger, Place, give}
+use Rattle.chunk_header.specs.Answers.{Taken}
+use Rattle.any_ctx.specs.Ledgers.{Ledger, Place}
 use Rattle.any_ctx.specs.declared.any.CtxKind.TheVariants as kind
 use Rattle.context_rules.specs.Contexts as rules
 use Rattle.context_rules.specs.Contexts.{Chunk, Context, Contexts, Found, created, found, is_protected, new_context}
-use Rattle.context_rules.specs.Chunks.{allocated, freed, freed_in, from_ok, refitted, resized, resized_in, served, with_changed, with_chunk, with_size, without, written, written_over, zeros}
-use Rattle.owner_kinds.specs.KindTable.{KindTable, IsSound as IsSoundTable}
-use Rattle.owner_kinds.specs.KindShelf.{table_of}
+use Rattle.context_rules.specs.Chunks.{allocated, freed, from_ok, resized, served, with_chunk, without, written, zeros}
 use Rattle.owner_core.specs.Owners.{Owner, OwnerTree, has_begun, items_of}
 use Rattle.owner_core.specs.Owners as owners
-use Rattle.owner_core.specs.Sound.{IsSound, one_below}
-use Rattle.owner_core.proofs.Sounds.{once_of, fresh, sound_created}
-use Rattle.session_rules.specs.State.{LevelState, OpenPortal, StandingPlan, deepest_changed, first_of, last_of, owner_of, plan_reference, top_context}
-use Rattle.session_rules.specs.World.{Scene, Moment}
+use Rattle.owner_core.specs.Sound.{IsSound}
 use Rattle.session_rules.specs.Elements as element
-use Rattle.session_rules.specs.Elements.{Check, InCurrent, LevelContext, OfLevel, Text}
-use Rattle.session_rules.specs.Lookup.{memory_in}
-use Rattle.session_rules.specs.Ends.{aborted, cleaned_up, committed, subcommitted}
-use Rattle.session_rules.specs.Does.{does}
-use Rattle.session_rules.specs.Acts.{Ended, changes, in_order, nothing, say, switched, where_there}
 use Rattle.session_rules.specs.Making.{held, left, level_context_name, level_made, level_parent, limit, new_context_made, new_owner_made}
-use Rattle.session_rules.specs.Taking.{chunk_resized, memory_taken, snapshot_pushed}
-use Rattle.session_rules.specs.Parts.{level_stands}
-use Rattle.session_rules.specs.Calls.{fallible, is_call, refused_call, unless_refused}
-use Rattle.session_rules.specs.Standing.{AreContexts, AreHooks, AreLevels, AreOuter, AreOwners, ArePlans, ArePortals, AreStacked, FitLevels, HasItems, IsActive, IsAtRest, IsContextOf, IsDead, IsDeepest, IsFresh, IsItem, IsLive, IsMade, IsOpen, IsOwner, IsOwnerOf, IsPlace, IsPlan, IsPortal, IsReleased, IsRow, IsWorking, Stands, WasReleased, active_depth, owner_at, referred}
-use Rattle.session_rules.proofs.Forests.{at_put, at_put_other, children_put, has_put_other, parent_put, parent_put_other}
-use Rattle.session_rules.proofs.Guarded.{all_put}
-use Rattle.session_rules.proofs.ContextsKept.{Stay, contexts_changed, contexts_created, has_created, new_empty, new_parent, new_protected, protected_has, stay_changed, stay_created, stay_same, top_protected}
-use Rattle.session_rules.proofs.HooksKept.{hooks_changed, hooks_put}
-use Rattle.session_rules.proofs.Stacked.{depth_small, depth_working, stacked_pushed, stacked_taken, stacked_within}
-use Rattle.session_rules.proofs.Lone.{lone_changed, lone_put}
-use Rattle.session_rules.proofs.HeldItems.{held_created}
-use Rattle.session_rules.proofs.Settling.{Besides, Fits, Spares, besides_of, with_besides}
-use Rattle.session_rules.proofs.PlansAmong.{IsCached, levels_apart, levels_other, parent_apart, plans_counted, plans_current, plans_moved}
-use Rattle.session_rules.proofs.PortalsAmong.{IsRowOf, attached_by, off_parent, place_level, place_same, place_spared, portals_by, portals_moved, row_changed, row_of, row_parent_off, row_put}
-use Rattle.session_rules.proofs.LevelsKept.{is_there, levels_stay, no_value, one_value}
-use Rattle.session_rules.proofs.EndsStand.{Leaves, aborted_stands, cleaned_up_stands, committed_stands, is_settled, settled, subcommitted_leaves}
+use Rattle.session_rules.specs.Standing.{IsLevel, IsOfPortal, AreContexts, AreHooks, AreLevels, AreOuter, AreOwners, ArePlans, ArePortals, AreStacked, FitLevels, HasItems, IsActive, IsAtRest, IsContextOf, IsDead, IsDeepest, IsFresh, IsItem, IsLive, IsMade, IsOpen, IsOwner, IsOwnerOf, IsPlace, IsPlan, IsPortal, IsReleased, IsRow, IsWorking, Stands, WasReleased, active_depth, owner_at, referred}
+use Rattle.session_rules.proofs.Kept.{at_put, at_put_other, children_put, has_put_other, parent_put, parent_put_other, all_put, Stay, contexts_changed, contexts_created, has_created, new_empty, new_parent, new_protected, protected_has, stay_changed, stay_created, stay_same, top_protected, hooks_changed, hooks_put, depth_small, depth_working, stacked_pushed, stacked_taken, stacked_within, lone_changed, lone_put, held_created, Besides, Fits, Spares, besides_of, with_besides, IsCached, levels_apart, levels_other, parent_apart, plans_counted, plans_current, plans_moved, IsRowOf, attached_by, off_parent, place_level, place_same, place_spared, portals_by, portals_moved, row_changed, row_of, row_parent_off, row_put, is_there, levels_stay, no_value, one_value}
+use Rattle.session_rules.proofs.EndsStand.{Leaves, deepest_active, aborted_stands, cleaned_up_stands, committed_stands, is_settled, settled, subcommitted_leaves}
+use Rattle.session_rules.specs.Elements.{MemoryRole}
 
 -- a refused call changes nothing but the count
 pub not_refused : (a b : Bool) (x y : Error) (own : Option Error) → (if a then Some x else (if b then Some y else own)) ≡ None → own ≡ None
@@ -60,23 +31,7 @@ pub own_refusal : (w : Option ℕ) (fail call : ℕ) (own : Option Error) → re
 own_refusal w fail call own e = not_refused (call == fail) (is_call w call) _ _ own e
 
 pub fallible_keeps : (P : Scene → Type 0) (w : Option ℕ) (moment : Moment) (own : Option Error) (act : Scene → Ended) → P moment.scene → (own ≡ None → P (act moment.scene).scene) → P (fallible w moment own act).moment.scene
-fallible_keeps P w moment own act before behind = go (refused_call w moment.fail (moment.calls + 1) own) (own_refusal w moment.fail (moment.calls + 1) own)
-  where
-    go : (r : Option Error) → (r ≡ None → own ≡ None) → P (unless_refused r (record moment { calls = moment.calls + 1 }) act).moment.scene
-    go None h = behind (h refl)
-    go (Some e) h = before
-
--- a level in which steps can be taken is deepest
-pub deepest_active : (level : LevelState) (t : Contexts) (x : OwnerTree) (current : ℕ) → IsActive level → IsDeepest level t x current
-deepest_active level t x current h = record {
-  made = λ _. h.made;
-  empty = λ n s e. absurd (both_ways level.starting h.started s);
-  alone = λ n s e. absurd (both_ways level.starting h.started s);
-  idle = λ n s e. absurd (both_ways level.starting h.started s);
-  released = λ n a e. absurd (both_ways level.aborted h.unaborted a);
-  at_abort = λ a. absurd (both_ways level.aborted h.unaborted a);
-  open_level = λ a. absurd (both_ways level.aborted h.unaborted a);
-}
+fallible_keeps P w moment own act before behind = grind (arith, nat_tests, own_refusal w moment.fail (moment.calls + 1) own)
 
 -- what work in a level leads to: the session stands, its levels are as they were, and where portals were at rest they still are
 pub record Works (s z : Scene) : Type 0 where
@@ -86,6 +41,17 @@ pub record Works (s z : Scene) : Type 0 where
 
 pub nothing_works : (s : Scene) → Stands s → Works s s
 nothing_works s h = record { stands = h; levels = refl; at_rest = λ r. r }
+
+-- steps that leave the portals as they are
+pub record Beside (s z : Scene) : Type 0 where
+  pub works : Works s z
+  pub portals : z.session.portals ≡ s.session.portals
+
+pub beside_by : (s z : Scene) → z.session.levels ≡ s.session.levels → z.session.portals ≡ s.session.portals → Stands z → Beside s z
+beside_by s z levels portals h = record { works = record { stands = h; levels = levels; at_rest = subst (All IsAtRest) (sym portals) }; portals = portals }
+
+pub nothing_beside : (s : Scene) → Stands s → Beside s s
+nothing_beside s h = beside_by s s refl refl h
 
 pub fit_working : (levels : List LevelState) (t u : Contexts) (x y : OwnerTree) (a b : ℕ) → IsWorking levels → FitLevels levels t x a → FitLevels levels u y b
 fit_working [] t u x y a b w h = absurd w
@@ -103,19 +69,11 @@ not_released (level ∷ levels) n x h r = both_ways level.aborted h.unaborted r.
 pub contexts_step : (s : Scene) → Stands s → IsWorking s.session.levels → (u : Contexts) (next current : ℕ) (x : ShelfState) (plans : List StandingPlan) → AreContexts u next → Stay s.session.contexts u → has current u ≡ true → AreHooks u x
     → ArePlans plans u current (referred s.session.owners) → ArePortals s.session.portals s.session.levels u s.session.owners current
     → Stands (record s { session = record s.session { contexts = u; next_context = next; current = current; plans = plans }; around = record s.around { shelf = x } })
-contexts_step s h working u next current x plans c stay there hooks planned open_portals = record {
-  contexts = c;
-  current = there;
-  hooks = hooks;
-  levels =
-      levels_stay s.session.levels s.session.contexts u s.session.owners s.session.owners (λ m i prot. stay m prot) (λ m i there. record { there = there; parent = refl }) h.levels;
-  fit = fit_working s.session.levels s.session.contexts u s.session.owners s.session.owners s.session.current current working h.fit;
-  owners = h.owners;
-  kinds = h.kinds;
-  portals = open_portals;
-  plans = planned;
-  snapshots = h.snapshots;
-}
+contexts_step s h working u next current x plans c stay there hooks planned open_portals =
+    search (
+      levels_stay s.session.levels s.session.contexts u s.session.owners s.session.owners (λ m i prot. stay m prot) (λ m i there. record { there = there; parent = refl }) h.levels,
+      fit_working s.session.levels s.session.contexts u s.session.owners s.session.owners s.session.current current working h.fit,
+    )
 
 -- the plans where no plan's context gets a child
 pub still_planned : (s : Scene) (u : Contexts) → Stands s → Stay s.session.contexts u → ((m : ℕ) → IsCached m s.session.contexts → children m u ≡ Empty) → ArePlans s.session.plans u s.session.current (referred s.session.owners)
@@ -132,40 +90,22 @@ still_portals s u h stay rows =
 -- Plans, their contexts and tables change.
 pub besides_step : (s : Scene) (x : Besides) → Stands s → IsWorking s.session.levels → table_of x.kinds ≡ table_of s.around.kinds → Fits s.session.next_context s.session.current (referred s.session.owners) x → Spares (besides_of s) x
     → Stands (with_besides x s)
-besides_step s x h working same fits spares = record {
-  contexts = fits.contexts;
-  current = spares.there s.session.current (All-weaker (λ plan. IsPlan plan s.session.contexts s.session.current) (λ plan. s.session.current ≢ plan.context) (λ plan i. i.other) s.session.plans h.plans.each) h.current;
-  hooks = fits.hooks;
-  levels = levels_stay s.session.levels s.session.contexts x.contexts s.session.owners s.session.owners
-      (λ m i prot. spares.same m (levels_apart s.session.levels s.session.contexts s.session.owners s.session.plans s.session.current h.levels h.plans.each m i) prot)
-      (λ m i there. record { there = there; parent = refl }) h.levels;
-  fit = fit_working s.session.levels s.session.contexts x.contexts s.session.owners s.session.owners s.session.current s.session.current working h.fit;
-  owners = subst (λ (kinds : KindTable). AreOwners kinds s.session.owners s.session.next_owner s.session.next_serial s.session.levels s.session.portals) (sym same) h.owners;
-  kinds = subst (λ (kinds : KindTable). IsSoundTable kinds) (sym same) h.kinds;
-  portals = portals_moved s.session.portals s.session.levels s.session.contexts x.contexts s.session.owners s.session.current s.session.current
-      (λ n expr i. place_spared (besides_of s) x s.session.current spares h.plans.each n expr s.session.current i) h.portals;
-  plans = fits.plans;
-  snapshots = h.snapshots;
-}
+besides_step s x h working same fits spares =
+    search (
+      spares.there s.session.current (All-weaker (λ plan. IsPlan plan s.session.contexts s.session.current) (λ plan. s.session.current ≢ plan.context) (λ plan i. i.other) s.session.plans h.plans.each) h.current,
+      levels_stay s.session.levels s.session.contexts x.contexts s.session.owners s.session.owners
+          (λ m i prot. spares.same m (levels_apart s.session.levels s.session.contexts s.session.owners s.session.plans s.session.current h.levels h.plans.each m i) prot)
+          (λ m i there. record { there = there; parent = refl }) h.levels,
+      fit_working s.session.levels s.session.contexts x.contexts s.session.owners s.session.owners s.session.current s.session.current working h.fit,
+      subst (λ (kinds : KindTable). AreOwners kinds s.session.owners s.session.next_owner s.session.next_serial s.session.levels s.session.portals) (sym same) h.owners,
+      subst (λ (kinds : KindTable). IsSoundTable kinds) (sym same) h.kinds,
+      portals_moved s.session.portals s.session.levels s.session.contexts x.contexts s.session.owners s.session.current s.session.current
+          (λ n expr i. place_spared (besides_of s) x s.session.current spares h.plans.each n expr s.session.current i) h.portals,
+    )
 
 -- The stack of active snapshots changes.
 pub stack_works : (s : Scene) (stack : List Active) → Stands s → AreStacked 1 (active_depth s.session.levels) stack → Works s (record s { session = record s.session { snapshots = stack } })
-stack_works s stack h stacked = record {
-  stands = record {
-    contexts = h.contexts;
-    current = h.current;
-    hooks = h.hooks;
-    levels = h.levels;
-    fit = h.fit;
-    owners = h.owners;
-    kinds = h.kinds;
-    portals = h.portals;
-    plans = h.plans;
-    snapshots = stacked;
-  };
-  levels = refl;
-  at_rest = λ r. r;
-}
+stack_works s stack h stacked = record { stands = search; levels = refl; at_rest = λ r. r }
 
 -- a snapshot is pushed in a level
 pub push_stacked : (levels : List LevelState) (snapshot : ℕ) (stack : List Active) → IsWorking levels → AreStacked 1 (active_depth levels) stack
@@ -217,43 +157,14 @@ pub fresh_chunks : (c : Context) (g : List Chunk → List Chunk) (ledger : Ledge
 fresh_chunks c g ledger e fresh unused = let w = fresh unused in (ap g w.0 ∙ e, w.1)
 
 pub keeps_freed : (t : Contexts) (next : ℕ) (name : List ℕ) → AreContexts t next → KeepsContexts t (freed name t) next
-keeps_freed t next name h = go (found name t)
-  where
-    by_ledger : (f : Found) (r : Result Ledger CtxError) → KeepsContexts t (from_ok (λ given. changed f.context (λ c. record c { ledger = given; chunks = without name c.chunks }) t) t r) next
-    by_ledger f (Ok given) =
-        keeps_changed t next f.context (λ c. record c { ledger = given; chunks = without name c.chunks }) h (λ c. refl) (λ c. refl) (λ c fresh. fresh_chunks c (without name) given refl fresh)
-    by_ledger f (Err e) = keeps_same t next h
-
-    go : (o : Option Found) → KeepsContexts t (option_map_or (freed_in name t) o t) next
-    go None = keeps_same t next h
-    go (Some f) = by_ledger f (give f.ledger f.chunk.place)
+keeps_freed t next name h = grind (arith, nat_tests, found name t, without name, keeps_changed t next, fresh_chunks, keeps_same t next h)
 
 pub keeps_resized : (t : Contexts) (next held limit : ℕ) (name : List ℕ) (bytes : ℕ) → AreContexts t next → KeepsContexts t (resized held limit name bytes t) next
-keeps_resized t next held limit name bytes h = go (found name t)
-  where
-    by_ledger : (f : Found) (r : Result (Resized Ledger Place) CtxError)
-        → KeepsContexts t (from_ok (λ answer. changed f.context (λ c. record c { ledger = answer.ledger; chunks = with_changed name (with_size bytes answer.place) c.chunks }) t) t r) next
-    by_ledger f (Ok answer) =
-        keeps_changed t next f.context (λ c. record c { ledger = answer.ledger; chunks = with_changed name (with_size bytes answer.place) c.chunks }) h (λ c. refl) (λ c. refl)
-        (λ c fresh. fresh_chunks c (with_changed name (with_size bytes answer.place)) answer.ledger refl fresh)
-    by_ledger f (Err e) = keeps_same t next h
-
-    go : (o : Option Found) → KeepsContexts t (option_map_or (resized_in held limit name bytes t) o t) next
-    go None = keeps_same t next h
-    go (Some f) = by_ledger f (refitted held limit bytes f)
+keeps_resized t next held limit name bytes h =
+    grind (arith, nat_tests, found name t, keeps_changed t next, fresh_chunks, keeps_same t next h)
 
 pub keeps_written : (t : Contexts) (next : ℕ) (name : List ℕ) (place : ℕ) (bytes : List ℕ) → AreContexts t next → KeepsContexts t (written name place bytes t) next
-keeps_written t next name place bytes h = go (found name t)
-  where
-    write : List Chunk → List Chunk
-    write = λ chunks. with_changed name (λ chunk. record chunk { known = written_over place bytes chunk.known }) chunks
-
-    go : (o : Option Found)
-        → KeepsContexts t (option_map_or (λ f. changed f.context (λ c. record c { chunks = with_changed name (λ chunk. record chunk { known = written_over place bytes chunk.known }) c.chunks }) t) o t) next
-    go None = keeps_same t next h
-    go (Some f) =
-        keeps_changed t next f.context (λ c. record c { chunks = with_changed name (λ chunk. record chunk { known = written_over place bytes chunk.known }) c.chunks }) h (λ c. refl) (λ c. refl)
-        (λ c fresh. fresh_chunks c (λ chunks. with_changed name (λ chunk. record chunk { known = written_over place bytes chunk.known }) chunks) c.ledger refl fresh)
+keeps_written t next name place bytes h = grind (arith, nat_tests, found name t, keeps_same t next h, keeps_changed t next, fresh_chunks)
 
 -- where a level is being started, the stack is that of the levels above it
 pub stacked_above_it : (levels : List LevelState) (stack : List Active) → AreStacked 1 (active_depth levels) stack → AreStacked 1 (length levels) stack
@@ -268,20 +179,7 @@ not_dead p (level ∷ levels) outer d = both_ways level.aborted outer.0.unaborte
 pub pushed_portal : (new : LevelState) (levels : List LevelState) (t : Contexts) (x : OwnerTree) (current : ℕ) (p : OpenPortal) → new.starting ≡ true → new.owner ≡ None → AreOuter levels → IsAtRest p → IsPortal p levels t x current
     → IsPortal p (new ∷ levels) t x current
 pushed_portal new levels t x current p starting none outer rests i =
-    elim i.stage [
-      | inl l ↦
-          let deep : p.active ≤ length levels = omega (arith, l.active, depth_small levels) in
-          let below : p.created ≤ length levels = omega (arith, l.within, deep) in
-          record {
-            place = i.place;
-            made = i.made;
-            owner = λ n e.
-                attached_by n p.created levels (new ∷ levels) x x (λ u. u) refl (λ u. u) (rw (ne_eqb (length levels + 1) p.created (λ z. omega (arith, z, below))) refl)
-                (λ j. elim j [ inl q ↦ absurd (no_value new.owner n none q) | inr k ↦ k ]) (i.owner n e);
-            stage = inl (record { some = l.some; within = l.within; active = rw starting deep; line = inl rests });
-          }
-      | inr d ↦ absurd (not_dead p levels outer d)
-    ]
+    grind (arith, nat_tests, depth_small levels, attached_by, no_value new.owner, not_dead p levels outer)
 
 -- a portal where the deepest level changes and keeps its owner
 pub same_portal : (old new : LevelState) (levels : List LevelState) (t u : Contexts) (x : OwnerTree) (a b : ℕ) (p : OpenPortal) → new.owner ≡ old.owner → (IsLive p (old ∷ levels) → IsLive p (new ∷ levels)) → new.aborted ≡ old.aborted
@@ -299,47 +197,26 @@ same_portal old new levels t u x a b p same live aborted stay i = record {
 
 -- A level is pushed.
 pub level_made_stands : (name : Option Text) (implicit : Bool) (s : Scene) → Stands s → All IsAtRest s.session.portals → AreOuter s.session.levels → (implicit ≡ true → s.session.levels ≡ []) → Stands (level_made name implicit s).scene
-level_made_stands name implicit s h at_rest outer alone = let new : LevelState = record { name = name; context = None; owner = None; implicit = implicit; aborted = false; starting = true } in record {
-  contexts = h.contexts;
-  current = h.current;
-  hooks = h.hooks;
-  levels = (
-    record {
-      context = λ n e. absurd (no_value None n refl e);
-      owner = λ n e. absurd (no_value None n refl e);
-      implicit = alone;
-    },
-    h.levels,
-  );
-  fit = (
-    record {
+level_made_stands name implicit s h at_rest outer alone =
+    let new : LevelState = record { name = name; context = None; owner = None; implicit = implicit; aborted = false; starting = true } in
+    let level : IsLevel new s.session.levels s.session.contexts s.session.owners = record { context = λ n e. absurd (cc e); owner = λ n e. absurd (cc e); implicit = alone } in
+    let deepest : IsDeepest new s.session.contexts s.session.owners s.session.current = record {
       made = λ e. absurd (cc e);
-      empty = λ n _ e. absurd (no_value None n refl e);
-      alone = λ n _ e. absurd (no_value None n refl e);
-      idle = λ n _ e. absurd (no_value None n refl e);
-      released = λ n _ e. absurd (no_value None n refl e);
+      empty = λ n _ e. absurd (cc e);
+      alone = λ n _ e. absurd (cc e);
+      idle = λ n _ e. absurd (cc e);
+      released = λ n _ e. absurd (cc e);
       at_abort = λ e. absurd (cc e);
       open_level = λ e. absurd (cc e);
-    },
-    outer,
-  );
-  owners = record {
-    sound = h.owners.sound;
-    each = λ n u. elim (h.owners.each n u) [
+    } in
+    let each : (n : ℕ) → has n s.session.owners ≡ true → IsOwner n (new ∷ s.session.levels) ⊎ (IsOfPortal n s.session.portals ⊎ IsReleased new n s.session.owners) = λ n u. elim (h.owners.each n u) [
       | inl i ↦ inl (inr i)
       | inr k ↦ elim k [ inl p ↦ inr (inl p) | inr r ↦ absurd (not_released_outer s.session.levels n s.session.owners outer r) ]
-    ];
-    begun = λ n u. absurd (not_released_outer s.session.levels n s.session.owners outer (h.owners.begun n u));
-    items = h.owners.items;
-  };
-  kinds = h.kinds;
-  portals = record {
-    each = λ k r below. pushed_portal new s.session.levels s.session.contexts s.session.owners s.session.current _ refl refl outer (at_rest k r below) (h.portals.each k r below);
-    different = h.portals.different;
-  };
-  plans = h.plans;
-  snapshots = stacked_above_it s.session.levels s.session.snapshots h.snapshots;
-}
+    ] in
+    let begun : (n : ℕ) → has_begun n s.session.owners ≡ true → IsReleased new n s.session.owners = λ n u. absurd (not_released_outer s.session.levels n s.session.owners outer (h.owners.begun n u)) in
+    let portals : All (λ p. IsPortal p (new ∷ s.session.levels) s.session.contexts s.session.owners s.session.current) s.session.portals =
+    λ k r below. pushed_portal new s.session.levels s.session.contexts s.session.owners s.session.current _ refl refl outer (at_rest k r below) (h.portals.each k r below) in
+    search (stacked_above_it s.session.levels s.session.snapshots h.snapshots)
 
 -- the parent of a new context of a level is there, and protected
 pub parent_protected : (levels : List LevelState) (t : Contexts) (x : OwnerTree) (next : ℕ) → AreContexts t next → AreLevels levels t x → AreOuter levels → is_protected (level_parent (first_of levels)) t ≡ true
@@ -368,7 +245,7 @@ level_context_stands level levels s starting none h =
     record {
       contexts = contexts_created t next c p name kind.Default true there (λ _. guarded);
       current = has_created t next c s.session.current p name kind.Default true h.current;
-      hooks = hooks_put p next (new_context name kind.Default true) t s.around.shelf c.once there refl h.hooks;
+      hooks = hooks_put p next (new_context name kind.Default true) t s.around.shelf c.once refl h.hooks;
       levels = (
         record {
           context = λ n e. subst (λ (m : ℕ). IsContextOf m levels u) (one_value (Some next) next n refl e) (record {
@@ -422,11 +299,7 @@ level_context_stands level levels s starting none h =
 
 -- numbers of owners are below the next one
 pub owner_below : (x : OwnerTree) (a b n : ℕ) → IsSound x a b → has n x ≡ true → n < a
-owner_below x a b n h u =
-    elim (cases_lt n a) [
-      | inl y ↦ y
-      | inr y ↦ let none : one_below a n ≡ 0 = rw (le-ltb n a y) refl in absurd (omega (arith, h.numbers n, times_some n x u, none))
-    ]
+owner_below x a b n h u = grind (arith, nat_tests, times_some n x u)
 
 -- a new owner
 abbrev pub new_owner : Owner
@@ -471,10 +344,7 @@ new_owner_is (Some p) n x once new there =
 
 -- a portal isn't one of a level that is being started
 pub created_below : (level : LevelState) (levels : List LevelState) → level.starting ≡ true → (level.aborted ≡ true → IsOpen level) → (p : OpenPortal) → IsLive p (level ∷ levels) ⊎ IsDead p (level ∷ levels) → p.created ≤ length levels
-created_below level levels starting gone p s = elim s [
-  | inl l ↦ let deep : active_depth (level ∷ levels) ≡ length levels = rw starting refl in omega (arith, l.within, l.active, deep)
-  | inr d ↦ absurd (both_ways level.starting (gone d.aborted).started starting)
-]
+created_below level levels starting gone p s = grind (arith, nat_tests)
 
 pub first_is : (levels : List LevelState) (p : ℕ) → owner_of (first_of levels) ≡ Some p → IsOwner p levels
 first_is [] p e = absurd (no_value None p refl e)
@@ -619,11 +489,7 @@ settled_as P scene levels h e all =
 
 -- a limit that wasn't reached
 pub below_limit : (most n : ℕ) → limit most n ≡ None → n < most
-below_limit most n e =
-    elim (cases_Bool (nat_le most n)) [
-      | inl y ↦ let z : Some _ ≡ None = rw y at e in absurd (cc z)
-      | inr y ↦ leb-false most n y
-    ]
+below_limit most n e = grind (arith, nat_tests)
 
 -- Each element, whatever call is refused.
 module _ (w : Option ℕ) (moment : Moment) (h : Stands moment.scene) where
@@ -654,14 +520,7 @@ module _ (w : Option ℕ) (moment : Moment) (h : Stands moment.scene) where
 
   pub pop_works : Works moment.scene (does w element.PopSnapshot moment).moment.scene
   unfolding does
-  pop_works = popped (last_of moment.scene.session.snapshots)
-    where
-      popped : (o : Option Active)
-          → Works moment.scene (where_there o (λ entry. in_order (changes (λ session. record session { snapshots = take (length session.snapshots - 1) session.snapshots }) ∷ say (what.Pop entry.snapshot) ∷ [])) moment.scene).scene
-      popped None = nothing_works moment.scene h
-      popped (Some entry) =
-          let stack : List Active = moment.scene.session.snapshots in
-          stack_works moment.scene (take (length stack - 1) stack) h (stacked_taken (length stack - 1) 1 (active_depth moment.scene.session.levels) stack h.snapshots)
+  pop_works = grind (arith, nat_tests, in_order, say, nothing_works moment.scene h, stack_works moment.scene, stacked_taken)
 
   -- in an active level
   module _ (working : IsWorking moment.scene.session.levels) where
@@ -675,40 +534,26 @@ module _ (w : Option ℕ) (moment : Moment) (h : Stands moment.scene) where
     pub free_works : (name : Text) → Works moment.scene (does w (element.FreeChunk name) moment).moment.scene
     unfolding does
     free_works name =
-        record {
-          stands = kept_step moment.scene h working (freed name moment.scene.session.contexts) (keeps_freed moment.scene.session.contexts moment.scene.session.next_context name h.contexts);
-          levels = refl;
-          at_rest = λ r. r;
-        }
+        (beside_by moment.scene _ refl refl (kept_step moment.scene h working (freed name moment.scene.session.contexts) (keeps_freed moment.scene.session.contexts moment.scene.session.next_context name h.contexts))).works
 
     pub put_works : (name : Text) (from : ℕ) (bytes : List ℕ) → Works moment.scene (does w (element.Put name from bytes) moment).moment.scene
     unfolding does
     put_works name from bytes =
-        record {
-          stands = kept_step moment.scene h working (written name from bytes moment.scene.session.contexts)
-              (keeps_written moment.scene.session.contexts moment.scene.session.next_context name from bytes h.contexts);
-          levels = refl;
-          at_rest = λ r. r;
-        }
+        (beside_by moment.scene _ refl refl (kept_step moment.scene h working (written name from bytes moment.scene.session.contexts)
+        (keeps_written moment.scene.session.contexts moment.scene.session.next_context name from bytes h.contexts))).works
 
     pub realloc_works : (name : Text) (bytes : ℕ) → Works moment.scene (does w (element.Realloc name bytes) moment).moment.scene
     unfolding does
     realloc_works name bytes =
         fallible_keeps (Works moment.scene) w moment _ (chunk_resized name bytes) (nothing_works moment.scene h)
-        (λ _. record {
-          stands = kept_step moment.scene h working (resized (held moment.scene.session) moment.scene.around.space name bytes moment.scene.session.contexts)
-              (keeps_resized moment.scene.session.contexts moment.scene.session.next_context (held moment.scene.session) moment.scene.around.space name bytes h.contexts);
-          levels = refl;
-          at_rest = λ r. r;
-        })
+        (λ _. (beside_by moment.scene _ refl refl (kept_step moment.scene h working (resized (held moment.scene.session) moment.scene.around.space name bytes moment.scene.session.contexts)
+        (keeps_resized moment.scene.session.contexts moment.scene.session.next_context (held moment.scene.session) moment.scene.around.space name bytes h.contexts))).works)
 
-    pub alloc_works : (name : Option Text) (bytes : ℕ) (zeroed : Bool) → Works moment.scene (does w (element.Alloc InCurrent name bytes zeroed) moment).moment.scene
+    pub alloc_beside : (role : MemoryRole) (name : Option Text) (bytes : ℕ) (zeroed : Bool) → Beside moment.scene (does w (element.Alloc role name bytes zeroed) moment).moment.scene
     unfolding does
-    alloc_works name bytes zeroed =
-        fallible_keeps (Works moment.scene) w moment _ (λ scene. where_there (memory_in InCurrent scene.session) (memory_taken name bytes zeroed) scene) (nothing_works moment.scene h)
-        (λ _. record {
-          stands = kept_step moment.scene h working (allocated moment.scene.session.current (left moment.scene) name bytes (if zeroed then zeros bytes else []) moment.scene.session.contexts)
-              (keeps_allocated moment.scene.session.contexts moment.scene.session.next_context moment.scene.session.current (left moment.scene) name bytes (if zeroed then zeros bytes else []) h.contexts);
-          levels = refl;
-          at_rest = λ r. r;
-        })
+    alloc_beside role name bytes zeroed =
+        fallible_keeps (Beside moment.scene) w moment _ (λ scene. where_there (memory_in role scene.session) (memory_taken name bytes zeroed) scene) (nothing_beside moment.scene h) (λ _. memory (memory_in role moment.scene.session))
+      where
+        memory : (o : Option ℕ) → Beside moment.scene (where_there o (memory_taken name bytes zeroed) moment.scene).scene
+        memory None = nothing_beside moment.scene h
+        memory (Some n) = beside_by moment.scene _ refl refl (kept_step moment.scene h working _ (keeps_allocated moment.scene.session.contexts moment.scene.session.next_context n (left moment.scene) name bytes (if zeroed then zeros bytes else []) h.contexts))

@@ -1,11 +1,6 @@
 -- A node of a forest, and all below it, with other data.
-use Rattle.std.proofs.Common.{◌≡◌, ◌≢◌, ℕ, Bool, true, false, Option, Some, None, refl, sym, ◌∙◌, inl, inr}
-use Rattle.std.specs.Prelude.{◌==◌, ◌||◌}
-use Rattle.std.specs.Option.{option_map, option_map_or}
-use Rattle.std.proofs.lemmas.Bool.{cases_Bool, ne_eqb, eqb-true}
-use Rattle.forest.specs.Forest.{Forest, Empty, Node, either, has, Once, at, children, is_root, parent_of, removed, subtree, AllNodes}
-use Rattle.forest.specs.Walk.{all_changed, swept}
-use Rattle.forest.proofs.Trees.{Apart, apart_of, at_absent}
+use Rattle.session_rules.proofs.Base.{◌≡◌, ◌≢◌, ℕ, false, refl, option_map, arith, nat_tests}
+use Rattle.session_rules.proofs.Below.{Forest, Empty, Node, has, Once, at, children, is_root, parent_of, removed, subtree, AllNodes, all_changed, swept, Apart, apart_of, at_absent}
 use Rattle.session_rules.proofs.Guarded.{all_children, all_at}
 
 module _ {A : Type 0} (f : A → A) where
@@ -23,104 +18,41 @@ module _ {A : Type 0} (f : A → A) where
 
   pub has_swept : (m n : ℕ) (t : Forest A) → has m (swept f n t) ≡ has m t
   has_swept m n Empty = refl
-  has_swept m n (Node k a below beside) =
-      elim (cases_Bool (k == n)) [
-        | inl y ↦ rw (y, has_all m below, has_swept m n beside) refl
-        | inr y ↦ rw (y, has_swept m n below, has_swept m n beside) refl
-      ]
+  has_swept m n (Node k a below beside) = grind (arith, has_all m below, has_swept m n below, has_swept m n beside)
 
   root_swept : (m n : ℕ) (t : Forest A) → is_root m (swept f n t) ≡ is_root m t
   root_swept m n Empty = refl
-  root_swept m n (Node k a below beside) =
-      elim (cases_Bool (k == n)) [
-        | inl y ↦ rw (y, root_swept m n beside) refl
-        | inr y ↦ rw (y, root_swept m n beside) refl
-      ]
+  root_swept m n (Node k a below beside) = grind (arith, root_swept m n beside)
 
   pub parent_swept : (m n : ℕ) (t : Forest A) → parent_of m (swept f n t) ≡ parent_of m t
   parent_swept m n Empty = refl
   parent_swept m n (Node k a below beside) =
-      elim (cases_Bool (k == n)) [
-        | inl y ↦ rw (y, root_all m below, has_all m below, parent_all m below, parent_swept m n beside) refl
-        | inr y ↦ rw (y, root_swept m n below, has_swept m n below, parent_swept m n below, parent_swept m n beside) refl
-      ]
+      grind (arith, root_all m below, has_all m below, parent_all m below, root_swept m n below, has_swept m n below, parent_swept m n below, parent_swept m n beside)
 
   pub removed_swept : (n : ℕ) (t : Forest A) → removed n (swept f n t) ≡ removed n t
   removed_swept n Empty = refl
-  removed_swept n (Node k a below beside) =
-      elim (cases_Bool (k == n)) [
-        | inl y ↦ rw (y, y) (removed_swept n beside)
-        | inr y ↦ rw (y, y, removed_swept n below, removed_swept n beside) refl
-      ]
+  removed_swept n (Node k a below beside) = grind (arith, removed_swept n below, removed_swept n beside)
 
   pub children_swept : (n : ℕ) (t : Forest A) → children n (swept f n t) ≡ all_changed f (children n t)
   children_swept n Empty = refl
-  children_swept n (Node k a below beside) =
-      elim (cases_Bool (k == n)) [
-        | inl y ↦ rw (y, y) refl
-        | inr y ↦ elim (cases_Bool (has n below)) [
-          | inl u ↦ rw (y, y, has_swept n n below, u) (children_swept n below)
-          | inr u ↦ rw (y, y, has_swept n n below, u) (children_swept n beside)
-        ]
-      ]
+  children_swept n (Node k a below beside) = grind (arith, has_swept n n below, children_swept n below, children_swept n beside)
 
   pub below_swept : (m n : ℕ) (t : Forest A) → has m (children n (swept f n t)) ≡ has m (children n t)
   below_swept m n t = rw (children_swept n t) (has_all m (children n t))
 
   at_here : (n : ℕ) (t : Forest A) → at n (swept f n t) ≡ option_map f (at n t)
   at_here n Empty = refl
-  at_here n (Node k a below beside) =
-      elim (cases_Bool (k == n)) [
-        | inl y ↦ rw (y, y) refl
-        | inr y ↦ rw (y, y, at_here n below, at_here n beside) (joined (at n below) (at n beside))
-      ]
-    where
-      joined : (x y : Option A) → either (option_map f x) (option_map f y) ≡ option_map f (either x y)
-      joined None y = refl
-      joined (Some x) y = refl
+  at_here n (Node k a below beside) = grind (arith, at_here n below, at_here n beside)
+
+  unswept : (n : ℕ) (t : Forest A) → has n t ≡ false → swept f n t ≡ t
+  unswept n Empty h = refl
+  unswept n (Node k a below beside) h = grind (arith, unswept n below, unswept n beside)
 
   pub at_swept_other : (m n : ℕ) (t : Forest A) → Once t → m ≢ n → has m (children n t) ≡ false → at m (swept f n t) ≡ at m t
   at_swept_other m n Empty o ne u = refl
   at_swept_other m n (Node k a below beside) o ne u =
       let apart : Apart k below beside = apart_of k a below beside o in
-      elim (cases_Bool (k == n)) [
-        | inl y ↦
-            let v : has m below ≡ false = rw y at u in
-            let w : has n beside ≡ false = rw (eqb-true k n y) at apart.not_beside in
-            rw (
-              y,
-              ne_eqb k m (λ e. ne (sym e ∙ eqb-true k n y)),
-              at_absent m below v,
-              at_absent m (all_changed f below) (has_all m below ∙ v),
-              unswept n beside w,
-            ) refl
-        | inr y ↦ elim (cases_Bool (has n below)) [
-          | inl w ↦
-              let v : has m (children n below) ≡ false = rw (y, w) at u in
-              rw (y, unswept n beside (apart.apart n w), at_swept_other m n below apart.once_below ne v) refl
-          | inr w ↦
-              let v : has m (children n beside) ≡ false = rw (y, w) at u in
-              rw (y, unswept n below w, at_swept_other m n beside apart.once_beside ne v) refl
-        ]
-      ]
-    where
-      unswept : (n : ℕ) (t : Forest A) → has n t ≡ false → swept f n t ≡ t
-      unswept n Empty h = refl
-      unswept n (Node k a below beside) h = rw (first_false (k == n) (has n below || has n beside) h, unswept n below (second_false (k == n) (has n below) (has n beside) h), unswept n beside (third_false (k == n) (has n below) (has n beside) h)) refl
-        where
-          first_false : (x y : Bool) → (x || y) ≡ false → x ≡ false
-          first_false true y h = h
-          first_false false y h = refl
-
-          second_false : (x y z : Bool) → (x || (y || z)) ≡ false → y ≡ false
-          second_false true y z h = absurd (cc h)
-          second_false false true z h = h
-          second_false false false z h = refl
-
-          third_false : (x y z : Bool) → (x || (y || z)) ≡ false → z ≡ false
-          third_false true y z h = absurd (cc h)
-          third_false false true z h = absurd (cc h)
-          third_false false false z h = h
+      grind (arith, nat_tests, at_absent m below, at_absent m (all_changed f below), has_all m below, unswept n below, unswept n beside, apart.apart n, at_swept_other m n below apart.once_below ne, at_swept_other m n beside apart.once_beside ne)
 
   module _ (P Q : A → Type 0) (so : (a : A) → P a → Q (f a)) where
     all_all : (t : Forest A) → AllNodes P t → AllNodes Q (all_changed f t)
@@ -129,19 +61,11 @@ module _ {A : Type 0} (f : A → A) where
 
     -- what holds of them then
     pub swept_all : (n : ℕ) (t : Forest A) → AllNodes P t → AllNodes Q (subtree n (swept f n t))
-    swept_all n t h = rw (at_here n t, children_swept n t) (go (at n t) refl)
-      where
-        go : (x : Option A) → at n t ≡ x → AllNodes Q (option_map_or (λ a. Node n a (all_changed f (children n t)) Empty) (option_map f x) Empty)
-        go None e = tt
-        go (Some a) e = (so a (all_at P n t a h e), all_all (children n t) (all_children P n t h), tt)
+    swept_all n t h = grind (arith, at_here n t, children_swept n t, so, all_at P n t, all_all (children n t) (all_children P n t h))
 
   pub all_swept : (P : A → Type 0) (n : ℕ) (t : Forest A) → ((a : A) → P a → P (f a)) → AllNodes P t → AllNodes P (swept f n t)
   all_swept P n Empty so h = tt
-  all_swept P n (Node k a below beside) so h =
-      elim (cases_Bool (k == n)) [
-        | inl y ↦ rw y (so a h.0, all_all P P so below h.1, all_swept P n beside so h.2)
-        | inr y ↦ rw y (h.0, all_swept P n below so h.1, all_swept P n beside so h.2)
-      ]
+  all_swept P n (Node k a below beside) so h = grind (arith, so a h.0, all_all P P so below h.1, all_swept P n below so h.1, all_swept P n beside so h.2)
 
 module _ {A : Type 0} (f g : A → A) where
   both_all : (t : Forest A) → all_changed g (all_changed f t) ≡ all_changed (λ a. g (f a)) t
@@ -151,8 +75,4 @@ module _ {A : Type 0} (f g : A → A) where
   -- one sweep and then another
   pub both_swept : (n : ℕ) (t : Forest A) → swept g n (swept f n t) ≡ swept (λ a. g (f a)) n t
   both_swept n Empty = refl
-  both_swept n (Node k a below beside) =
-      elim (cases_Bool (k == n)) [
-        | inl y ↦ rw (y, y, both_all below, both_swept n beside) refl
-        | inr y ↦ rw (y, y, both_swept n below, both_swept n beside) refl
-      ]
+  both_swept n (Node k a below beside) = grind (arith, both_all below, both_swept n below, both_swept n beside)

@@ -1,14 +1,9 @@
 -- Commands lead from a session between two lines to one between two lines.
-use Rattle.std.proofs.Common.{◌≡◌, ℕ, ◌+◌, ◌≤◌, ◌<◌, Bool, true, false, Option, Some, None, List, [], ◌∷◌, ◌++◌, refl, sym, ap, ◌∙◌, subst, inl, arith}
-use Rattle.std.specs.Prelude.{All, zero, suc, ◌-◌, ◌&&◌, ◌==◌, not, length, map, codes, is_none, is_some, replicate, nat_lt, if◌then◌else◌}
-use Rattle.std.specs.Option.{option_and_then, option_map_or}
-use Rattle.std.proofs.lemmas.Bool.{le-ltb, ltb-true}
-use Rattle.std.proofs.lemmas.List.Elements.{All-cons}
-use Rattle.pgs_step.specs.declared.errors.Error.{Error}
+use Rattle.session_rules.proofs.Base.{◌≡◌, ℕ, ◌+◌, ◌≤◌, ◌<◌, Bool, true, false, Option, Some, None, List, [], ◌∷◌, ◌++◌, refl, sym, ap, ◌∙◌, subst, inl, arith, All, zero, suc, ◌-◌, ◌&&◌, ◌==◌, not, length, map, codes, is_none, is_some, replicate, nat_lt, if◌then◌else◌, option_and_then, option_map_or, le-ltb, ltb-true, All-cons, flat_map, nat_tests}
+use Rattle.session_rules.proofs.Below.{Error, What, size, Scan, ScanStep, table_of, Command, is_text-same, KindId}
+use Rattle.session_rules.proofs.Rules.{LevelState, OpenPortal, SessionState, buffer_pin, file_kind, is_aborted, level_owner, plan_reference, relcache_reference, snapshot_reference, Scene, Moment, Check, Element, InCurrent, InPortal, InRow, LevelContext, OfLevel, OfPortal, PortalContext, RowContext, Text, Ended, in_order, nothing, portal_becomes, where_there, level_stands, failure, unless, Done, fallible, refused_call, unless_refused, context_made, level_made, new_context_made, new_owner_made, portal_made, does, does_all, then_done, line_elements, turn, turn_of, AreOpen, AreOuter, FitLevels, IsActive, IsAtRest, IsFetched, IsOpen, IsWorking, Stands, StandsBetweenLines}
 use Rattle.pgs_step.specs.declared.errors.Error.TheVariants as error
-use Rattle.pgs_step.specs.declared.events.What.{What}
 use Rattle.pgs_step.specs.declared.events.What.TheVariants as what
-use Rattle.pgs_command.specs.declared.commands.Command.{Command}
 use Rattle.pgs_command.specs.declared.commands.Command.TheVariants as command
 use Rattle.pgs_command.specs.declared.commands.TransactionCommand.{TransactionCommand}
 use Rattle.pgs_command.specs.declared.commands.TransactionCommand.TheVariants as transaction
@@ -31,44 +26,25 @@ use Rattle.pgs_command.specs.declared.commands.PortalCommand.TheVariants as port
 use Rattle.pgs_command.specs.declared.commands.TellCommand.{TellCommand}
 use Rattle.pgs_command.specs.declared.commands.TellCommand.TheVariants as tell
 use Rattle.pgs_command.specs.Kinds.{class_kind}
-use Rattle.session_rules.specs.State.{LevelState, OpenPortal, SessionState, buffer_pin, file_kind, first_of, is_aborted, level_owner, owner_of, plan_reference, relcache_reference, snapshot_reference}
-use Rattle.session_rules.specs.World.{Scene, Moment}
 use Rattle.session_rules.specs.Elements as element
-use Rattle.session_rules.specs.Elements.{Check, Element, InCurrent, InPortal, InRow, LevelContext, OfLevel, OfPortal, PortalContext, RowContext, Text}
-use Rattle.session_rules.specs.Acts.{Ended, in_order, nothing, portal_becomes, where_there}
-use Rattle.forest.specs.Forest.{size}
 use Rattle.session_rules.specs.Lookup.{is_named, plan_at, portal_named}
-use Rattle.session_rules.specs.Parts.{level_stands}
-use Rattle.session_rules.specs.Checks.{failure, unless}
-use Rattle.session_rules.specs.Calls.{Done, fallible, refused_call, unless_refused}
-use Rattle.session_rules.specs.Making.{context_made, level_made, new_context_made, new_owner_made, portal_made}
-use Rattle.session_rules.specs.Does.{does, does_all, then_done}
 use Rattle.session_rules.specs.Commands.{at_savepoint, begin, commit, committed_to, elements_of, ends_aborted, in_transaction, is_end, refused, rollback, rolled_back_to, save, savepoint, start, then_ok, transaction_of, unaborted}
 use Rattle.session_rules.specs.Works.{Row, after_turn, portal_steps, chunk_row, context_row, fallible_part, fetch_steps, item_row, lock_row, plan_row, portal_row, row_of, snapshot_row, tell_row, turn_steps, work_of}
-use Rattle.exec_core.specs.declared.scan.Scan.{Scan}
-use Rattle.exec_core.specs.declared.steps.ScanStep.{ScanStep}
 use Rattle.exec_core.specs.declared.steps.ScanStep.TheVariants as step
 use Rattle.exec_core.specs.Turn.{is_bad, is_tenth, new_scan, page_of, page_steps, row_step, row_steps, unpinned}
 use Rattle.exec_core.specs.Turn.{turn as scan_turn}
 use Rattle.portal_store.specs.declared.portal.PortalState.TheVariants as state
 use Rattle.pgs_step.specs.declared.lock_modes.Mode.TheVariants.{AccessShareLock}
 use Rattle.pgs_command.specs.declared.kinds.ReferenceClass.TheVariants.{Relcache}
-use Rattle.pgs_command.proofs.ValueLemmas.{is_text-same}
 use Rattle.any_ctx.specs.declared.any.CtxKind.TheVariants as kind
-use Rattle.std.specs.List.{flat_map}
-use Rattle.session_rules.proofs.LevelsKept.{is_there}
+use Rattle.session_rules.proofs.Kept.{is_there, RestsBeside, beside_becomes, beside_rests, rests_beside}
 use Rattle.session_rules.proofs.PortalsStand.{context_portal, made_portal, named_changed, named_in, owner_portal, row_portal}
 use Rattle.session_rules.proofs.PortalWorks.{Beside, Turned, Turns, begins_fetched, begins_works, beside_turns, check_beside, portal_allocates, portal_enlarges, portal_locks, portal_takes, ready_works, row_allocates, scan_turns, turned}
 use Rattle.session_rules.proofs.PortalEnds.{end_portal_works}
-use Rattle.session_rules.proofs.Resting.{RestsBeside, beside_becomes, beside_rests, rests_beside}
 use Rattle.session_rules.proofs.Leaves.{IsRun}
-use Rattle.session_rules.specs.Transcript.{line_elements, turn, turn_of}
-use Rattle.session_rules.specs.Standing.{AreOpen, AreOuter, FitLevels, IsActive, IsAtRest, IsFetched, IsOpen, IsWorking, Stands, StandsBetweenLines}
 use Rattle.session_rules.proofs.EndsStand.{Leaves, outer_open, recovered_stands}
-use Rattle.session_rules.proofs.StepsStand.{Works, abort_stands, alloc_works, below_limit, cleanup_stands, commit_stands, enlarge_works, free_works, level_context_stands, level_made_stands, level_owner_stands, level_stands_stands, merge_stands, nothing_works, own_refusal, pop_works, push_works, put_works, realloc_works, settled_as}
-use Rattle.owner_kinds.specs.KindShelf.{table_of}
-use Rattle.session_rules.proofs.ItemsStand.{class_item, class_other, class_unkept, file_works, give_back_named_works, give_back_works, lock_works, pin_works, snapshot_item, take_named_works, take_plan_works, take_works, touch_works, unlock_works}
-use Rattle.session_rules.proofs.PlansStand.{drop_plan_works, is_new, is_standing, make_plan_works}
+use Rattle.session_rules.proofs.StepsStand.{Works, abort_stands, below_limit, cleanup_stands, commit_stands, enlarge_works, free_works, level_context_stands, level_made_stands, level_owner_stands, level_stands_stands, merge_stands, nothing_works, own_refusal, pop_works, push_works, put_works, realloc_works, settled_as, alloc_beside}
+use Rattle.session_rules.proofs.ItemsStand.{class_item, class_other, class_unkept, file_works, give_back_named_works, give_back_works, pin_works, snapshot_item, take_named_works, take_plan_works, take_works, touch_works, unlock_works, drop_plan_works, is_new, is_standing, make_plan_works, lock_beside, there}
 use Rattle.session_rules.proofs.NamesStand.{delete_children_works, delete_works, make_script_context_works, register_works, reparent_works, reset_only_works, reset_works, switch_works}
 
 -- What some elements led to: whatever refused them the session stands, and where nothing did, more is known of it.
@@ -104,11 +80,7 @@ module _ (w : Option ℕ) where
   leads_then : (Q : Scene → Type 0) (x : Element) (xs : List Element) (moment : Moment) → ((r : Error) → (does w x moment).refusal ≡ Some r → Stands (does w x moment).moment.scene)
       → ((does w x moment).refusal ≡ None → Leads Q (does_all w xs (does w x moment).moment)) → Leads Q (does_all w (x ∷ xs) moment)
   unfolding does_all
-  leads_then Q x xs moment stopped next = go (does w x moment).refusal refl
-    where
-      go : (r : Option Error) → (does w x moment).refusal ≡ r → Leads Q (then_done (does w x moment) r (does_all w xs))
-      go None e = let k : Leads Q (does_all w xs (does w x moment).moment) = next e in record { stands = k.stands; passed = k.passed }
-      go (Some r) e = record { stands = stopped r e; passed = λ none. let z : Some r ≡ None = sym e ∙ none in absurd (cc z) }
+  leads_then Q x xs moment stopped next = grind (arith, nat_tests)
 
   runs_then : (Q : Scene → Type 0) (x : Element) (xs : List Element) (moment : Moment) → Meets x moment.scene → ((r : Error) → (does w x moment).refusal ≡ Some r → Stands (does w x moment).moment.scene)
       → ((does w x moment).refusal ≡ None → Runs w Q xs (does w x moment).moment) → Runs w Q (x ∷ xs) moment
@@ -282,11 +254,7 @@ module _ (w : Option ℕ) (levels : List LevelState) (active : IsWorking levels)
       })) next
 
   pub level_owned : (moment : Moment) → Nears levels name moment.scene → (lo : ℕ) × (level_owner moment.scene.session ≡ Some lo)
-  level_owned moment at = go moment.scene.session.levels (working_in levels moment.scene active at.are)
-    where
-      go : (ls : List LevelState) → IsWorking ls → (lo : ℕ) × (owner_of (first_of ls) ≡ Some lo)
-      go [] a = absurd a
-      go (level ∷ ls) a = is_there level.owner a.made.owner
+  level_owned moment at = grind (arith, nat_tests, working_in levels moment.scene active at.are, is_there)
 
   pub behind_owner : (xs : List Element) (moment : Moment) → Makes levels name true false moment.scene → ((m : Moment) → Makes levels name true true m.scene → Runs w Q xs m)
       → Runs w Q (element.MakeOwner (OfPortal name) ∷ xs) moment
@@ -540,44 +508,8 @@ module _ (w : Option ℕ) (levels : List LevelState) (active : IsWorking levels)
   works_in : (m : Moment) → At levels m.scene → IsWorking m.scene.session.levels
   works_in m k = working_at levels m.scene active k
 
-  -- A step that asks nothing of what was checked before it: a command of such a step has no case of its own below.
-  abbrev IsPlain : Element → Type 0
-  IsPlain (element.Switch name) = Unit {0}
-  IsPlain (element.Register name) = Unit {0}
-  IsPlain (element.ResetOnly name) = Unit {0}
-  IsPlain (element.Alloc InCurrent (Some name) size zeroed) = Unit {0}
-  IsPlain (element.Realloc name size) = Unit {0}
-  IsPlain (element.FreeChunk name) = Unit {0}
-  IsPlain (element.Put name place bytes) = Unit {0}
-  IsPlain (element.Show name place n) = Unit {0}
-  IsPlain (element.Touch file) = Unit {0}
-  IsPlain (element.GiveBack kind key) = Unit {0}
-  IsPlain (element.GiveBackNamed kind key) = Unit {0}
-  IsPlain (element.TakeLock OfLevel object mode) = Unit {0}
-  IsPlain (element.Unlock object mode) = Unit {0}
-  IsPlain (element.PushSnapshot key) = Unit {0}
-  IsPlain element.PopSnapshot = Unit {0}
-  IsPlain (element.DropPlan number) = Unit {0}
-  IsPlain other = ⊥
-
-  by_plain : (x : Element) (m : Moment) → At levels m.scene → IsPlain x → Runs w (At levels) (x ∷ []) m
-  by_plain (element.Switch name) m k plain = by_step (element.Switch name) m k tt (switch_works w m k.stands (works_in m k) name)
-  by_plain (element.Register name) m k plain = by_step (element.Register name) m k tt (register_works w m k.stands (works_in m k) name)
-  by_plain (element.ResetOnly name) m k plain = by_step (element.ResetOnly name) m k tt (reset_only_works w m k.stands (works_in m k) name)
-  by_plain (element.Alloc InCurrent (Some name) size zeroed) m k plain = by_step (element.Alloc InCurrent (Some name) size zeroed) m k tt (alloc_works w m k.stands (works_in m k) (Some name) size zeroed)
-  by_plain (element.Realloc name size) m k plain = by_step (element.Realloc name size) m k tt (realloc_works w m k.stands (works_in m k) name size)
-  by_plain (element.FreeChunk name) m k plain = by_step (element.FreeChunk name) m k tt (free_works w m k.stands (works_in m k) name)
-  by_plain (element.Put name place bytes) m k plain = by_step (element.Put name place bytes) m k tt (put_works w m k.stands (works_in m k) name place bytes)
-  by_plain (element.Show name place n) m k plain = by_step (element.Show name place n) m k tt (show_works w name place n m k.stands)
-  by_plain (element.Touch file) m k plain = by_step (element.Touch file) m k tt (touch_works w m k.stands (works_in m k) file)
-  by_plain (element.GiveBack kind key) m k plain = by_step (element.GiveBack kind key) m k tt (give_back_works w m k.stands (works_in m k) kind key)
-  by_plain (element.GiveBackNamed kind key) m k plain = by_step (element.GiveBackNamed kind key) m k tt (give_back_named_works w m k.stands (works_in m k) kind key)
-  by_plain (element.TakeLock OfLevel object mode) m k plain = by_step (element.TakeLock OfLevel object mode) m k tt (lock_works w m k.stands (works_in m k) object mode)
-  by_plain (element.Unlock object mode) m k plain = by_step (element.Unlock object mode) m k tt (unlock_works w m k.stands (works_in m k) object mode)
-  by_plain (element.PushSnapshot key) m k plain = by_step (element.PushSnapshot key) m k tt (push_works w m k.stands (works_in m k) key)
-  by_plain element.PopSnapshot m k plain = by_step element.PopSnapshot m k tt (pop_works w m k.stands)
-  by_plain (element.DropPlan number) m k plain = by_step (element.DropPlan number) m k tt (drop_plan_works w m k.stands (works_in m k) number)
-  by_plain other m k plain = elim plain [ ]
+  gives_back : (kind : KindId) (key : ℕ) (m : Moment) → At levels m.scene → Runs w (At levels) (element.GiveBack kind key ∷ []) m
+  gives_back kind key m k = by_step (element.GiveBack kind key) m k tt (give_back_works w m k.stands (works_in m k) kind key)
 
   contexts_lead : (c : ContextCommand) (m : Moment) → At levels m.scene → Steps (context_row c) m
   contexts_lead (context.Create name parent kind) m k ok = by_step _ m k tt (make_script_context_works w m k.stands (works_in m k) name parent _)
@@ -585,11 +517,17 @@ module _ (w : Option ℕ) (levels : List LevelState) (active : IsWorking levels)
   contexts_lead (context.Delete name) m k ok = by_step (element.Delete name) m k tt (delete_works w m k.stands (works_in m k) name ok.1.0)
   contexts_lead (context.DeleteChildren name) m k ok = by_step (element.DeleteChildren name) m k tt (delete_children_works w m k.stands (works_in m k) name ok.1.0)
   contexts_lead (context.Reparent name parent) m k ok = by_step (element.Reparent name parent) m k ok.1.1.0 (reparent_works w m k.stands (works_in m k) name parent ok.1.1.0)
-  contexts_lead other m k ok = by_plain _ m k tt
+  contexts_lead (context.Switch name) m k ok = by_step (element.Switch name) m k tt (switch_works w m k.stands (works_in m k) name)
+  contexts_lead (context.OnReset name) m k ok = by_step (element.Register name) m k tt (register_works w m k.stands (works_in m k) name)
+  contexts_lead (context.ResetOnly name) m k ok = by_step (element.ResetOnly name) m k tt (reset_only_works w m k.stands (works_in m k) name)
 
   chunks_lead : (c : ChunkCommand) (m : Moment) → At levels m.scene → Steps (chunk_row c) m
-  chunks_lead (chunk.Free name) m k ok = by_plain _ m k tt
-  chunks_lead other m k ok = by_plain _ m k tt
+  chunks_lead (chunk.Alloc name size) m k ok = by_step _ m k tt (alloc_beside w m k.stands (works_in m k) InCurrent (Some name) size false).works
+  chunks_lead (chunk.AllocZeroed name size) m k ok = by_step _ m k tt (alloc_beside w m k.stands (works_in m k) InCurrent (Some name) size true).works
+  chunks_lead (chunk.Realloc name size) m k ok = by_step (element.Realloc name size) m k tt (realloc_works w m k.stands (works_in m k) name size)
+  chunks_lead (chunk.Free name) m k ok = by_step (element.FreeChunk name) m k tt (free_works w m k.stands (works_in m k) name)
+  chunks_lead (chunk.Put name place bytes) m k ok = by_step (element.Put name place bytes) m k tt (put_works w m k.stands (works_in m k) name place bytes)
+  chunks_lead (chunk.Show name place n) m k ok = by_step (element.Show name place n) m k tt (show_works w name place n m k.stands)
 
   items_lead : (c : ItemCommand) (m : Moment) → At levels m.scene → Steps (item_row c) m
   items_lead (item.Pin buffer) m k ok =
@@ -602,15 +540,17 @@ module _ (w : Option ℕ) (levels : List LevelState) (active : IsWorking levels)
   items_lead (item.Snapshot key) m k ok =
       by_take (element.Take OfLevel snapshot_reference key) m k works_in
       (λ n l. take_works w n l.stands (works_in n l) snapshot_reference key refl (λ z. absurd (omega (arith, z))) (snapshot_item (table_of n.scene.around.kinds) key))
-  items_lead other m k ok = by_plain _ m k tt
+  items_lead (item.Touch file) m k ok = by_step (element.Touch file) m k tt (touch_works w m k.stands (works_in m k) file)
+  items_lead (item.Drop kind key) m k ok = by_step (element.GiveBackNamed kind key) m k tt (give_back_named_works w m k.stands (works_in m k) kind key)
+  items_lead other m k ok = gives_back _ _ m k
 
   locks_lead : (c : LockCommand) (m : Moment) → At levels m.scene → Steps (lock_row c) m
-  locks_lead (lock.Lock object mode) m k ok = by_plain _ m k tt
-  locks_lead other m k ok = by_plain _ m k tt
+  locks_lead (lock.Lock object mode) m k ok = by_step (element.TakeLock OfLevel object mode) m k tt (lock_beside w m k.stands (works_in m k) OfLevel (there w m k.stands (works_in m k)) object mode).works
+  locks_lead (lock.Unlock object mode) m k ok = by_step (element.Unlock object mode) m k tt (unlock_works w m k.stands (works_in m k) object mode)
 
   snapshots_lead : (c : SnapshotCommand) (m : Moment) → At levels m.scene → Steps (snapshot_row c) m
-  snapshots_lead snapshot.Pop m k ok = by_plain _ m k tt
-  snapshots_lead other m k ok = by_plain _ m k tt
+  snapshots_lead (snapshot.Push key) m k ok = by_step (element.PushSnapshot key) m k tt (push_works w m k.stands (works_in m k) key)
+  snapshots_lead snapshot.Pop m k ok = by_step element.PopSnapshot m k tt (pop_works w m k.stands)
 
   plans_lead : (c : PlanCommand) (m : Moment) → At levels m.scene → Steps (plan_row c) m
   plans_lead (plan.Create number) m k ok = by_step (element.MakePlan number) m k tt (make_plan_works w m k.stands (works_in m k) number (is_new (plan_at number m.scene.session.plans) error.NameTaken ok.0))
@@ -619,7 +559,8 @@ module _ (w : Option ℕ) (levels : List LevelState) (active : IsWorking levels)
       (λ n l ok.
       let p = is_standing (plan_at number n.scene.session.plans) error.NoSuchName ok in
       by_step (element.Take OfLevel plan_reference number) n l (works_in n l) (take_plan_works w n l.stands (works_in n l) number p.0 p.1))
-  plans_lead other m k ok = by_plain _ m k tt
+  plans_lead (plan.Unreference number) m k ok = gives_back plan_reference number m k
+  plans_lead (plan.Drop number) m k ok = by_step (element.DropPlan number) m k tt (drop_plan_works w m k.stands (works_in m k) number)
 
   portals_lead : (c : PortalCommand) (portals : List OpenPortal) (m : Moment) → At levels m.scene → Steps (portal_row c portals) m
   portals_lead (portal.Open name object rows bad) portals m k ok = portal_leads w levels active name object rows bad m k (is_unnamed (portal_named name m.scene.session.portals) error.PortalTaken ok.0)
@@ -762,13 +703,7 @@ pub open_of : (scene : Scene) (level : LevelState) (levels : List LevelState) �
 open_of scene level levels h is = (subst AreOpen is h.open_levels).0
 
 pub active_of : (scene : Scene) (level : LevelState) (levels : List LevelState) → StandsBetweenLines scene → scene.session.levels ≡ level ∷ levels → level.aborted ≡ false → IsActive level
-active_of scene level levels h is unaborted =
-    let open_level : IsOpen level = open_of scene level levels h is in
-    record {
-      made = (subst (λ (ls : List LevelState). FitLevels ls scene.session.contexts scene.session.owners scene.session.current) is h.stands.fit).0.made open_level.started;
-      started = open_level.started;
-      unaborted = unaborted;
-    }
+active_of scene level levels h is unaborted = grind (arith, nat_tests, open_of scene level levels h is)
 
 pub only_left : (b : Bool) → (b && true) ≡ false → b ≡ false
 only_left true e = e

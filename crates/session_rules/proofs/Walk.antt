@@ -1,32 +1,20 @@
 -- What follows from a law's leaves: each act and each element keeps it, but those that are owed apart.
-use Rattle.std.proofs.Common.{◌≡◌, ℕ, ◌+◌, Bool, true, false, List, [], ◌∷◌, codes, Option, Some, None, refl, subst, arith}
-use Rattle.std.specs.Option.{option_and_then}
+use Rattle.session_rules.proofs.Base.{◌≡◌, ℕ, ◌+◌, Bool, true, false, List, [], ◌∷◌, codes, Option, Some, None, refl, subst, arith, option_and_then}
+use Rattle.session_rules.proofs.Below.{Error, What, KindId, CtxKind, ScanStep}
+use Rattle.session_rules.proofs.Rules.{LevelState, OpenPortal, StandingPlan, buffer_pin, deepest_changed, depth, first_of, level_above, level_context, level_owner, owner_of, portals_context, Moment, Scene, failure, Ended, changes, children_gone, context_cleared, context_cleared_alone, context_gone, for_each, in_order, nothing, portal_becomes, say, switched, where_so, where_there, item_released, plan_becomes, context_made, level_context_name, level_made, level_parent, new_context_made, new_owner_made, owner_made, plan_made, portal_made, chunk_resized, descriptor_given, hook_registered, hook_waits, lock_taken, memory_taken, snapshot_pushed, does, does_all, failing_turn, then_done}
 use Rattle.std.proofs.lemmas.List.{append-nil}
-use Rattle.pgs_step.specs.declared.errors.Error.{Error}
-use Rattle.pgs_step.specs.declared.events.What.{What}
 use Rattle.pgs_step.specs.declared.events.What.TheVariants as what
-use Rattle.pgs_step.specs.declared.ids.KindId.{KindId}
-use Rattle.any_ctx.specs.declared.any.CtxKind.{CtxKind}
 use Rattle.any_ctx.specs.declared.any.CtxKind.TheVariants as kind
-use Rattle.exec_core.specs.declared.steps.ScanStep.{ScanStep}
 use Rattle.exec_core.specs.declared.steps.ScanStep.TheVariants as step
 use Rattle.exec_core.specs.Turn.{taken}
 use Rattle.portal_store.specs.declared.portal.PortalState.TheVariants as portal
 use Rattle.context_rules.specs.Chunks.{freed, shown, written}
 use Rattle.session_rules.specs.Counts.{counts}
-use Rattle.session_rules.specs.State.{LevelState, OpenPortal, StandingPlan, buffer_pin, deepest_changed, depth, first_of, level_above, level_context, level_owner, owner_of, portals_context}
-use Rattle.session_rules.specs.World.{Moment, Scene}
 use Rattle.session_rules.specs.Elements as e
 use Rattle.session_rules.specs.Elements.{Element, LevelContext, MemoryRole, NewContext, OfLevel, OfPortal, OwnerRole, PortalContext, RowContext, ScriptContext, Text}
 use Rattle.session_rules.specs.Lookup.{context_named, kind_named, memory_in, owner_in, plan_at, portal_named}
-use Rattle.session_rules.specs.Checks.{failure}
-use Rattle.session_rules.specs.Acts.{Ended, changes, children_gone, context_cleared, context_cleared_alone, context_gone, for_each, in_order, nothing, portal_becomes, say, switched, where_so, where_there}
-use Rattle.session_rules.specs.Releases.{item_released, plan_becomes}
-use Rattle.session_rules.specs.Making.{context_made, level_context_name, level_made, level_parent, new_context_made, new_owner_made, owner_made, plan_made, portal_made}
-use Rattle.session_rules.specs.Taking.{chunk_resized, descriptor_given, hook_registered, hook_waits, lock_taken, memory_taken, snapshot_pushed}
 use Rattle.session_rules.specs.Parts.{at_context, at_kind, at_owner, at_portal, context_moved, contexts_become, level_stands, lock_given_back, pinning, scan_part, scanned, snapshot_popped}
 use Rattle.session_rules.specs.Calls.{Done, fallible, refused_call, unfailing, unless_refused}
-use Rattle.session_rules.specs.Does.{does, does_all, failing_turn, then_done}
 use Rattle.session_rules.proofs.Leaves.{Acts, AllKeep, AreSpoken, Follows, IsRun, IsSpoken, Keeps, Law, Leaves, LevelLeaves, MakeLeaves, MoveLeaves, Owes, OwesEnds, OwesMakes, OwesMoves, last, next}
 
 module _ (R : Law) (a : Acts R) where

@@ -1,26 +1,12 @@
 -- What follows from a law's leaves where it is kept in any scene: what takes items and the ends of portals, levels and sessions keep it too.
-use Rattle.std.proofs.Common.{ℕ, ◌-◌, ◌≤◌, Bool, true, false, not, if◌then◌else◌, List, [], ◌∷◌, Option, None, refl, arith}
-use Rattle.std.specs.Prelude.{◌==◌, drop, unwrap_or}
-use Rattle.pgs_step.specs.declared.errors.Error.{Error}
+use Rattle.session_rules.proofs.Base.{ℕ, ◌-◌, ◌≤◌, Bool, true, false, not, if◌then◌else◌, List, [], ◌∷◌, Option, None, refl, arith, ◌==◌, drop, unwrap_or}
+use Rattle.session_rules.proofs.Below.{Error, KindId, Phase, BeforeLocks, Locks, AfterLocks, level_lowered, is_empty}
+use Rattle.session_rules.proofs.Rules.{Moment, Scene, Element, OfLevel, has_failed, changes, children_gone, context_gone, for_each, in_order, portal_becomes, portal_gone, say, switched, where_so, where_there, item_released, owner_gone, owner_moved, owner_released, phase_released, executor_ended, is_ready, portal_aborted, portal_closed, portal_ended, portal_failed, portal_passed, portal_withdrawn, item_taken, at_kind, at_owner, at_portal, does}
 use Rattle.pgs_step.specs.declared.events.What.TheVariants as what
-use Rattle.pgs_step.specs.declared.ids.KindId.{KindId}
-use Rattle.pgs_step.specs.declared.ids.Phase.{Phase}
-use Rattle.pgs_step.specs.declared.ids.Phase.TheVariants.{BeforeLocks, Locks, AfterLocks}
 use Rattle.portal_store.specs.declared.portal.PortalState.TheVariants as portal
-use Rattle.portal_store.specs.Portal.{lowered as level_lowered}
-use Rattle.context_rules.specs.Contexts.{is_empty}
 use Rattle.session_rules.specs.State.{LevelState, OpenPortal, abort_context, buffer_pin, context_of, deepest_changed, depth, first_of, is_aborted, level_above, level_context, level_owner, owner_of, relcache_reference, snapshot_reference, top_context}
-use Rattle.session_rules.specs.World.{Moment, Scene}
 use Rattle.session_rules.specs.Elements as e
-use Rattle.session_rules.specs.Elements.{Element, OfLevel}
-use Rattle.session_rules.specs.Checks.{has_failed}
-use Rattle.session_rules.specs.Acts.{changes, children_gone, context_gone, for_each, in_order, portal_becomes, portal_gone, say, switched, where_so, where_there}
-use Rattle.session_rules.specs.Releases.{item_released, owner_gone, owner_moved, owner_released, phase_released}
-use Rattle.session_rules.specs.Portals.{executor_ended, is_ready, portal_aborted, portal_closed, portal_ended, portal_failed, portal_passed, portal_withdrawn}
 use Rattle.session_rules.specs.Ends.{aborted, cleaned_up, committed, empty_context_gone, exited, given_up, level_context_gone, level_owner_gone, level_popped, level_released, level_rolled_back, recovered, stack_popped, subcommitted, switched_up}
-use Rattle.session_rules.specs.Taking.{item_taken}
-use Rattle.session_rules.specs.Parts.{at_kind, at_owner, at_portal}
-use Rattle.session_rules.specs.Does.{does}
 use Rattle.session_rules.proofs.Leaves.{Acts, EndLeaves, Keeps, Law, Leaves, LevelLeaves, MakeLeaves, Owes, OwesEnds, OwesMakes, OwesMoves, last, next}
 use Rattle.session_rules.proofs.Walk.{by_each, by_either, by_kind, by_levels, by_order, by_owner, by_portal, by_portal_named, by_so, by_there, fallible_so, levels_owed, makes_owed, unfailing_so}
 

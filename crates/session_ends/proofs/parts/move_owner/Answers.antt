@@ -9,7 +9,7 @@ use Rattle.session_owners.specs.Fitting as fitting
 use Rattle.session_owners.proofs.Acts.{acted_nothing}
 use Rattle.session_rules.specs.Acts.{where_there}
 use Rattle.session_rules.specs.Releases.{owner_moved}
-use Rattle.session_rules.proofs.Moving.{HasMoved, has_moved}
+use Rattle.session_rules.proofs.Passing.{HasMoved, has_moved}
 use Rattle.session_ends.proofs.Out.{some_is}
 use Rattle.session_ends.proofs.parts.move_owner.Goals as goal
 

@@ -1,0 +1,24 @@
+-- The definitions of specs/ that these proofs take.
+pub use Rattle.session_rules.specs.Acts.{Ended, context_gone, for_each, in_order, switched, where_so, changes, portal_gone, say, where_there, portal_becomes, children_gone, context_cleared, context_cleared_alone, nothing}
+pub use Rattle.session_rules.specs.Calls.{Done, unless_refused, fallible, is_call, refused_call}
+pub use Rattle.session_rules.specs.Checks.{has_failed, failure, unless}
+unfoldable pub use Rattle.session_rules.specs.Commands.{elements_of}
+pub use Rattle.session_rules.specs.Does.{then_done, failing_turn}
+unfoldable pub use Rattle.session_rules.specs.Does.{does, does_all}
+pub use Rattle.session_rules.specs.Elements.{Text, Element, OfLevel, Check, InPortal, InRow, OfPortal, PortalContext, InCurrent, LevelContext, RowContext}
+pub use Rattle.session_rules.specs.Ending.{AreEnding, Ending, IsDone, IsLoose, IsAway, gone_levels}
+pub use Rattle.session_rules.specs.Ends.{given_up, level_rolled_back, stack_lowered, stack_popped, aborted, cleaned_up, committed, subcommitted}
+unfoldable pub use Rattle.session_rules.specs.Ends.{exited, recovered}
+pub use Rattle.session_rules.specs.HookCounts.{CountsHooks}
+pub use Rattle.session_rules.specs.Lookup.{newest, portals_but, portal_changed, plan_at, context_named, plan_changed, plans_but, portal_named, memory_in}
+pub use Rattle.session_rules.specs.Making.{context_made, owner_made, plan_made, portal_made, level_parent, new_context_made, left, new_owner_made, held, level_made, level_context_name}
+pub use Rattle.session_rules.specs.Parts.{context_moved, at_kind, at_owner, lock_given_back, at_context, scan_part, scanned, snapshot_popped, level_stands, at_portal}
+pub use Rattle.session_rules.specs.Portals.{portal_aborted, portal_closed, portal_passed, is_ready, portal_failed, portal_withdrawn, executor_ended, portal_ended}
+pub use Rattle.session_rules.specs.Releases.{given_back, item_released, owner_moved, owner_released, Keeper, NoOne, TheKind, keeper_of, owner_gone, phase_released, plan_becomes, TheDescriptors, ThePlans, left_to, plan_settled, plan_stays, descriptor_left, key_left, plan_left, step_done}
+pub use Rattle.session_rules.specs.Standing.{IsFresh, IsOfSession, AreContexts, AreLevels, ArePlans, HasItems, IsItem, IsPlace, IsPortal, IsRow, referred, IsAtRest, IsAttached, IsDead, IsLive, IsOwner, active_depth, Stands, StandsBetweenLines, AreHooks, AreOwners, IsPlan, IsWorking, references_of, AreOuter, IsContextOf, IsOwnerOf, IsReleased, IsAtWork, owner_at, AreApart, Differ, AreDifferent, AreOther, IsOfPortal, IsFetched, ArePortals, AreStacked, IsActive, AreOpen, FitLevels, IsOpen}
+pub use Rattle.session_rules.specs.State.{SessionState, is_aborted, top_context, abort_context, LevelState, OpenPortal, StandingPlan, cache_context, plan_reference, portals_context, context_of, first_of, deepest_changed, owner_of, buffer_pin, file_kind, level_owner, snapshot_reference, last_of, level_context, relcache_reference, depth, level_above}
+unfoldable pub use Rattle.session_rules.specs.State.{opening}
+pub use Rattle.session_rules.specs.Taking.{hook_waits, descriptor_given, item_taken, lock_taken, remembers, taken_by, chunk_resized, memory_taken, snapshot_pushed, hook_registered}
+pub use Rattle.session_rules.specs.Transcript.{line_elements, turn_of, transcript}
+unfoldable pub use Rattle.session_rules.specs.Transcript.{turn, course_by, transcript_by}
+pub use Rattle.session_rules.specs.World.{Moment, Scene, Around, Options}
