@@ -19,7 +19,7 @@ use Rattle.pgs_turns.proofs.OverLemmas.{fit_of, kinds-stopped, shelf-stopped, tr
 use Rattle.pgs_world.specs.declared.performing.End.{End}
 use Rattle.pgs_world.specs.declared.performing.End.TheVariants as end
 use Rattle.pgs_world.specs.Printing.{Gathering, Shows, Moves, GoesOn, FailsWithin}
-use Rattle.pgs_world.specs.Outcome.{most_bytes, HasGiven, AreWhole, refused_call, IsWhole, IsWanted, IsCutOff, IsTooLong, IsUnwritten}
+use Rattle.pgs_world.specs.Outcome.{most_bytes, HasGiven, AreWhole, refused_call, IsLeftBy, IsWhole, IsWanted, IsCutOff, IsTooLong, IsUnwritten}
 use Rattle.pgs_world.specs.Ending.{IsPlayed, outcome_of, status_of}
 use Rattle.pgs_world.specs.Loop.{EndIs, AreFront, is_wanted, OnSourceFault, OnNoSourceFault, OnUnwritten}
 use Rattle.pgs_world.specs.Plays.{Outside, Performed}
@@ -28,7 +28,7 @@ use Rattle.pgs_world.specs.Plays.{Outside, Performed}
 pub record Printed (names : List (List ℕ)) (written written' : Option (List ℕ)) (faults faults' errors : ℕ) (failed : Bool) (events : List Event) : Type 0 where
   pub text : failed ≡ false → written' ≡ append_known written (text_of_transcript names events)
   pub no_fault : failed ≡ false → faults' ≡ faults
-  pub front : failed ≡ true → (front rest : List ℕ) × (front ++ rest ≡ text_of_transcript names events) × (written' ≡ append_known written front)
+  pub front : failed ≡ true → (front rest : List ℕ) × (front ++ rest ≡ text_of_transcript names events) × (written' ≡ append_known written front) × (0 < length rest)
   pub risen : failed ≡ true → HasRisen faults faults'
   pub errors_are : errors ≡ errors_in events
 
@@ -57,7 +57,7 @@ printed_all old new events p empty going none emptied small few =
       no_fault = λ f. (moves_on old.failed new.failed old new texts going f moves).no_fault;
       front = λ f.
           let m = moves_failed old.failed new.failed old new texts going f moves in
-          (m.hands.handed, m.rest, m.hands.parts ∙ ap (λ (z : List ℕ). z ++ texts) empty, m.hands.taken);
+          (m.hands.handed, m.rest, m.hands.parts ∙ ap (λ (z : List ℕ). z ++ texts) empty, m.hands.taken, m.some);
       risen = λ f. (moves_failed old.failed new.failed old new texts going f moves).risen;
       errors_are = omega (arith, p.errors, none, small, few);
     }
@@ -101,6 +101,18 @@ not_by_errors errors m h e = of_test (nat_lt 0 errors) e
 pub status_one : (errors m : ℕ) → errors ≡ m → (status_of end.Whole false errors ≡ 1) ↔ (0 < m)
 status_one errors m e = (λ h. grind (arith, nat_tests), λ h. grind (arith, nat_tests))
 
+-- lines behind the one that met a want of memory leave no more
+pub left_stopped : (setting : Setting) (calls : ℕ) (lines more : List (List ℕ)) (errors : ℕ) (shelf' : ShelfState) (kinds' : List Kind) → (course_of setting (Some calls) lines).wanted ≡ true
+    → IsLeftBy setting (Some calls) lines errors shelf' kinds' → IsLeftBy setting (Some calls) (lines ++ more) errors shelf' kinds'
+left_stopped setting calls lines more errors shelf' kinds' wanted l =
+    let same : transcript setting (Some calls) lines ≡ transcript setting (Some calls) (lines ++ more) = sym (transcript-stopped setting calls lines more wanted) in
+    record {
+      errors_are = l.errors_are ∙ ap errors_in same;
+      hooks = l.hooks ∙ sym (shelf-stopped setting calls lines more wanted);
+      hooks_told = subst (HooksAreTold setting.shelf shelf') same l.hooks_told;
+      kinds = l.kinds ∙ sym (kinds-stopped setting calls lines more wanted);
+    }
+
 -- All that is known of a script that was played: how the reading ended, and what was printed.
 pub record Facts (setting : Setting) (e : End) (n calls errors : ℕ) (failed : Bool) (left left' written written' : Option (List ℕ)) (faults faults' : ℕ) (shelf' : ShelfState) (kinds' : List Kind) : Type 0 where
   pub bytes : List ℕ
@@ -108,9 +120,7 @@ pub record Facts (setting : Setting) (e : End) (n calls errors : ℕ) (failed : 
   pub how : EndIs e bytes lines left left'
   pub count : n ≡ length lines
   pub printed : (w : Option ℕ) → Fits (is_wanted e) calls w → Printed (names_of setting.kinds) written written' faults faults' errors failed (transcript setting w lines)
-  pub hooks : (w : Option ℕ) → Fits (is_wanted e) calls w → shelf' ≡ shelf_after setting w lines
-  pub told : (w : Option ℕ) → Fits (is_wanted e) calls w → HooksAreTold setting.shelf shelf' (transcript setting w lines)
-  pub kinds : (w : Option ℕ) → Fits (is_wanted e) calls w → kinds' ≡ kinds_after setting w lines
+  pub leaves : (w : Option ℕ) → Fits (is_wanted e) calls w → IsLeftBy setting w lines errors shelf' kinds'
   pub stopped : is_wanted e ≡ true → EndsAt setting calls lines n
   pub called : is_wanted e ≡ true → 0 < calls
   pub silent : OnUnwritten e (failed ≡ true)
@@ -179,6 +189,10 @@ first_lines : (n : ℕ) (lines more all : List (List ℕ)) → n ≡ length line
 first_lines n lines more all c e = ap (λ (k : ℕ). take k all) c ∙ ap (take (length lines)) e ∙ take-append_seam lines more
 
 module _ (setting : Setting) (n calls errors : ℕ) (left left' written written' : Option (List ℕ)) (faults faults' : ℕ) (shelf' : ShelfState) (kinds' : List Kind) where
+  -- what lines leave these leave, too
+  left_as : (w : Option ℕ) (lines others : List (List ℕ)) → lines ≡ others → IsLeftBy setting w lines errors shelf' kinds' → IsLeftBy setting w others errors shelf' kinds'
+  left_as w lines others same l = subst (λ (z : List (List ℕ)). IsLeftBy setting w z errors shelf' kinds') same l
+
   abbrev At : End → Bool → Type 0
   At e failed = Facts setting e n calls errors failed left left' written written' faults faults' shelf' kinds'
 
@@ -193,10 +207,7 @@ module _ (setting : Setting) (n calls errors : ℕ) (left left' written written'
         short = f.how.2;
         lines = f.count ∙ ap length f.how.3;
         text = told.text refl;
-        errors = told.errors_are;
-        hooks = f.hooks None tt ∙ ap (shelf_after setting None) f.how.3;
-        hooks_told = subst (λ (z : List (List ℕ)). HooksAreTold setting.shelf shelf' (transcript setting None z)) f.how.3 (f.told None tt);
-        kinds = f.kinds None tt ∙ ap (kinds_after setting None) f.how.3;
+        leaves = left_as None f.lines (lines_of f.bytes) f.how.3 (f.leaves None tt);
         status = status_one errors (errors_in (transcript setting None (lines_of f.bytes))) told.errors_are;
       }
 
@@ -212,7 +223,7 @@ module _ (setting : Setting) (n calls errors : ℕ) (left left' written written'
   cut_off end.SourceFault false f h =
       let none : Printed (names_of setting.kinds) written written' faults faults' errors false (transcript setting None f.lines) = f.printed None tt in
       let told : Printed (names_of setting.kinds) written written' faults faults' errors false (transcript setting None (ended_lines f.bytes)) = subst (λ (z : List (List ℕ)). Printed (names_of setting.kinds) written written' faults faults' errors false (transcript setting None z)) f.how.2 none in
-      record { bytes = f.bytes; given = f.how.0; short = f.how.1; lines = f.count ∙ ap length f.how.2; text = told.text refl; errors = told.errors_are; hooks = f.hooks None tt ∙ ap (shelf_after setting None) f.how.2; hooks_told = subst (λ (z : List (List ℕ)). HooksAreTold setting.shelf shelf' (transcript setting None z)) f.how.2 (f.told None tt); kinds = f.kinds None tt ∙ ap (kinds_after setting None) f.how.2 }
+      record { bytes = f.bytes; given = f.how.0; short = f.how.1; lines = f.count ∙ ap length f.how.2; text = told.text refl; leaves = left_as None f.lines (ended_lines f.bytes) f.how.2 (f.leaves None tt) }
   cut_off end.Whole false f h = absurd (not_by_errors errors 3 (omega arith) h)
   cut_off end.Wanted false f h = absurd (omega (arith, h))
   cut_off end.TooLong false f h = absurd (omega (arith, h))
@@ -223,7 +234,7 @@ module _ (setting : Setting) (n calls errors : ℕ) (left left' written written'
   too_long end.TooLong false f h =
       let none : Printed (names_of setting.kinds) written written' faults faults' errors false (transcript setting None f.lines) = f.printed None tt in
       let told : Printed (names_of setting.kinds) written written' faults faults' errors false (transcript setting None (ended_lines f.bytes)) = subst (λ (z : List (List ℕ)). Printed (names_of setting.kinds) written written' faults faults' errors false (transcript setting None z)) f.how.3 none in
-      record { bytes = f.bytes; over = f.how.0; given = f.how.1; full = f.how.2; lines = f.count ∙ ap length f.how.3; text = told.text refl; errors = told.errors_are; hooks = f.hooks None tt ∙ ap (shelf_after setting None) f.how.3; hooks_told = subst (λ (z : List (List ℕ)). HooksAreTold setting.shelf shelf' (transcript setting None z)) f.how.3 (f.told None tt); kinds = f.kinds None tt ∙ ap (kinds_after setting None) f.how.3 }
+      record { bytes = f.bytes; over = f.how.0; given = f.how.1; full = f.how.2; lines = f.count ∙ ap length f.how.3; text = told.text refl; leaves = left_as None f.lines (ended_lines f.bytes) f.how.3 (f.leaves None tt) }
   too_long end.Whole false f h = absurd (not_by_errors errors 6 (omega arith) h)
   too_long end.Wanted false f h = absurd (omega (arith, h))
   too_long end.SourceFault false f h = absurd (omega (arith, h))
@@ -244,10 +255,7 @@ module _ (setting : Setting) (n calls errors : ℕ) (left left' written written'
         whole_lines = whole_among n f.bytes left' f.how.short (rw f.count f.how.whole);
         defined = record { wanted = ap (λ (c : Course). c.wanted) course ∙ at.wanted; line_is = ap (λ (c : Course). c.performed) course ∙ at.line_is };
         text = told.text refl;
-        errors = told.errors_are;
-        hooks = f.hooks (Some calls) refl ∙ sym (ap (shelf_after setting (Some calls)) f.how.front ∙ shelf-stopped setting calls f.lines f.how.more at.wanted);
-        hooks_told = subst (HooksAreTold setting.shelf shelf') (sym same) (f.told (Some calls) refl);
-        kinds = f.kinds (Some calls) refl ∙ sym (ap (kinds_after setting (Some calls)) f.how.front ∙ kinds-stopped setting calls f.lines f.how.more at.wanted);
+        leaves = left_as (Some calls) (f.lines ++ f.how.more) (lines_of f.bytes) (sym f.how.front) (left_stopped setting calls f.lines f.how.more errors shelf' kinds' at.wanted (f.leaves (Some calls) refl));
       }
   wanted end.Whole false f h = absurd (not_by_errors errors 5 (omega arith) h)
   wanted end.SourceFault false f h = absurd (omega (arith, h))
@@ -308,13 +316,11 @@ module _ (setting : Setting) (n calls errors : ℕ) (left left' written written'
         read = omega (arith, f.count, ap length front.front, length-append f.lines front.more);
         front = part.0;
         rest = part.1;
+        some = part.4;
         parts = part.2 ∙ ap (λ (z : List (List ℕ)). text_in setting (transcript setting w z)) (sym same);
         taken = part.3;
         defined = λ h. subst (λ (z : List (List ℕ)). EndsAt setting (outcome_of (record { end = e; lines = n }) calls true errors).call z n) (sym same) (stopped_of e f f.lines (f.stopped (is_wanted_of e h)) h);
-        errors = told.errors_are ∙ ap (λ (z : List (List ℕ)). errors_in (transcript setting w z)) (sym same);
-        hooks = f.hooks w (fits_of e f) ∙ ap (λ (z : List (List ℕ)). shelf_after setting w z) (sym same);
-        hooks_told = subst (λ (z : List (List ℕ)). HooksAreTold setting.shelf shelf' (transcript setting w z)) (sym same) (f.told w (fits_of e f));
-        kinds = f.kinds w (fits_of e f) ∙ ap (λ (z : List (List ℕ)). kinds_after setting w z) (sym same);
+        leaves = left_as w f.lines (take n (lines_of front.given)) (sym same) (f.leaves w (fits_of e f));
       }
 
   pub unwritten : (e : End) (failed : Bool) → At e failed → status_of e failed errors ≡ 4 → IsUnwritten setting (outcome_of (record { end = e; lines = n }) calls failed errors) left left' written written' shelf' kinds'

@@ -86,19 +86,19 @@ pub fn run<S: Source, K: Sink, H: ResetHook, X: ExtKind>(
     requires hooks { AreDistinct (shelf_state.held shelf.old) }
 
     // Status 0 or 1: all of the source was read, and the whole transcript was written.
-    ensures whole { (o : Asked) → AskFor (map string_text words.now) o → o.generate ≡ 0 → (result.status ≡ 0) ⊎ (result.status ≡ 1)
-        → IsWhole (setting_for o shelf.old kinds.old) result (S.left src.old) (S.left src.new) (K.written out.old) (K.written out.new) shelf.new kinds.new }
-    ensures counts { (o : Asked) → AskFor (map string_text words.now) o → o.generate ≡ 0 → (result.status ≡ 0) ⊎ (result.status ≡ 1) → CountsErrors (setting_for o shelf.old kinds.old) result (S.left src.old) }
+    ensures whole { ForScript (map string_text words.now) (λ o. (result.status ≡ 0) ⊎ (result.status ≡ 1)
+        → IsWhole (setting_for o shelf.old kinds.old) result (S.left src.old) (S.left src.new) (K.written out.old) (K.written out.new) shelf.new kinds.new) }
+    ensures counts { ForScript (map string_text words.now) (λ o. (result.status ≡ 0) ⊎ (result.status ≡ 1) → CountsErrors (setting_for o shelf.old kinds.old) result (S.left src.old)) }
 
     // Each session's account took what the session's opening and its lines ask for, and no other account anything.
-    ensures taken { (o : Asked) → AskFor (map string_text words.now) o → o.generate ≡ 0 → (result.status ≡ 0) ⊎ (result.status ≡ 1) → TakesAll (setting_for o shelf.old kinds.old) (S.left src.old) space.old space.new }
+    ensures taken { ForScript (map string_text words.now) (λ o. (result.status ≡ 0) ⊎ (result.status ≡ 1) → TakesAll (setting_for o shelf.old kinds.old) (S.left src.old) space.old space.new) }
 
     // Unless not all sessions were started, each transcript that these clauses speak of keeps the laws of lifetimes: what is acquired is
     // released exactly once, descendants first, by phase and priority; the end of a level that aborts touches nothing outside it; and each callback
     // runs once, before its memory goes. So does that of the script that is made. And in each no context and no owner is made twice, and none goes
     // that was not made.
     ensures lawful { (o : Asked) → AskFor (map string_text words.now) o → (result.status ≡ 5 → 0 < result.call) → AreLawful (setting_for o shelf.old kinds.old) }
-    ensures generated_lawful { (o : Asked) → AskFor (map string_text words.now) o → 0 < o.generate → (result.status ≡ 5 → 0 < result.call) → IsMadeLawfully o.generate (setting_for o shelf.old kinds.old) }
+    ensures generated_lawful { ForMade (map string_text words.now) (λ o. (result.status ≡ 5 → 0 < result.call) → IsMadeLawfully o.generate (setting_for o shelf.old kinds.old)) }
     ensures made_once { (o : Asked) → AskFor (map string_text words.now) o → (result.status ≡ 5 → 0 < result.call) → AreMadeOnce (setting_for o shelf.old kinds.old) }
 
     // Unless not all sessions were started, the space has the limit that the words say, and no account but a session's took any bytes.
@@ -113,33 +113,34 @@ pub fn run<S: Source, K: Sink, H: ResetHook, X: ExtKind>(
 
     // Status 3: the source failed. Status 6: it has a byte too many.
     ensures source_fault { result.status ≡ 3 → HasRisen (S.faults src.old) (S.faults src.new) }
-    ensures cut_off { (o : Asked) → AskFor (map string_text words.now) o → o.generate ≡ 0 → result.status ≡ 3
-        → IsCutOff (setting_for o shelf.old kinds.old) result (S.left src.old) (S.left src.new) (K.written out.old) (K.written out.new) shelf.new kinds.new }
-    ensures too_long { (o : Asked) → AskFor (map string_text words.now) o → o.generate ≡ 0 → result.status ≡ 6
-        → IsTooLong (setting_for o shelf.old kinds.old) result (S.left src.old) (S.left src.new) (K.written out.old) (K.written out.new) shelf.new kinds.new }
+    ensures cut_off { ForScript (map string_text words.now) (λ o. result.status ≡ 3
+        → IsCutOff (setting_for o shelf.old kinds.old) result (S.left src.old) (S.left src.new) (K.written out.old) (K.written out.new) shelf.new kinds.new) }
+    ensures too_long { ForScript (map string_text words.now) (λ o. result.status ≡ 6
+        → IsTooLong (setting_for o shelf.old kinds.old) result (S.left src.old) (S.left src.new) (K.written out.old) (K.written out.new) shelf.new kinds.new) }
 
     // Status 4: the sink failed.
     ensures sink_fault { result.status ≡ 4 → HasRisen (K.faults out.old) (K.faults out.new) }
-    ensures unwritten { (o : Asked) → AskFor (map string_text words.now) o → o.generate ≡ 0 → result.status ≡ 4
-        → IsUnwritten (setting_for o shelf.old kinds.old) result (S.left src.old) (S.left src.new) (K.written out.old) (K.written out.new) shelf.new kinds.new }
+    ensures unwritten { ForScript (map string_text words.now) (λ o. result.status ≡ 4
+        → IsUnwritten (setting_for o shelf.old kinds.old) result (S.left src.old) (S.left src.new) (K.written out.old) (K.written out.new) shelf.new kinds.new) }
     ensures usage_unwritten { options_of (map string_text words.now) ≡ None → result.status ≡ 4 → IsUsageFront (K.written out.old) (K.written out.new) }
 
     // Status 5: memory was wanted, at the call that is named, or before all sessions had started.
-    ensures wanted { (o : Asked) → AskFor (map string_text words.now) o → o.generate ≡ 0 → result.status ≡ 5 → 0 < result.call
-        → IsWanted (setting_for o shelf.old kinds.old) result (S.left src.old) (S.left src.new) (K.written out.old) (K.written out.new) shelf.new kinds.new }
+    ensures wanted { ForScript (map string_text words.now) (λ o. result.status ≡ 5 → 0 < result.call
+        → IsWanted (setting_for o shelf.old kinds.old) result (S.left src.old) (S.left src.new) (K.written out.old) (K.written out.new) shelf.new kinds.new) }
     ensures not_started { result.status ≡ 5 → result.call ≡ 0 → IsNotStarted result (S.left src.old) (S.left src.new) (K.written out.old) (K.written out.new) shelf.old shelf.new kinds.old kinds.new }
 
     // With rounds of the script that is made nothing is read, and what is written is one line that tells of the run.
-    ensures generated { (o : Asked) → AskFor (map string_text words.now) o → 0 < o.generate → (result.status ≡ 0) ⊎ (result.status ≡ 1)
-        → IsGenerated o.generate (setting_for o shelf.old kinds.old) result (K.written out.old) (K.written out.new) shelf.new kinds.new }
-    ensures generated_taken { (o : Asked) → AskFor (map string_text words.now) o → 0 < o.generate → (result.status ≡ 0) ⊎ (result.status ≡ 1)
-        → TakesInAll (setting_for o shelf.old kinds.old) (made_script o.generate) space.old space.new }
-    ensures generated_untold { (o : Asked) → AskFor (map string_text words.now) o → 0 < o.generate → result.status ≡ 4
-        → IsUntold o.generate (setting_for o shelf.old kinds.old) result (K.written out.old) (K.written out.new) shelf.new kinds.new }
-    ensures generated_stopped { (o : Asked) → AskFor (map string_text words.now) o → 0 < o.generate → result.status ≡ 5 → 0 < result.call
-        → IsStopped o.generate (setting_for o shelf.old kinds.old) result (K.written out.old) (K.written out.new) shelf.new kinds.new }
-    ensures generated_unread { (o : Asked) → AskFor (map string_text words.now) o → 0 < o.generate → src.new ≡ src.old }
-    ensures generated_statuses { (o : Asked) → AskFor (map string_text words.now) o → 0 < o.generate → IsMade result.status }
+    ensures generated { ForMade (map string_text words.now) (λ o. (result.status ≡ 0) ⊎ (result.status ≡ 1)
+        → IsGenerated o.generate (setting_for o shelf.old kinds.old) result (K.written out.old) (K.written out.new) shelf.new kinds.new) }
+    ensures generated_taken { ForMade (map string_text words.now) (λ o. (result.status ≡ 0) ⊎ (result.status ≡ 1)
+        → TakesInAll (setting_for o shelf.old kinds.old) (made_script o.generate) space.old space.new) }
+    ensures generated_untold { ForMade (map string_text words.now) (λ o. result.status ≡ 4
+        → IsUntold o.generate (setting_for o shelf.old kinds.old) result (K.written out.old) (K.written out.new) shelf.new kinds.new) }
+    ensures generated_stopped { ForMade (map string_text words.now) (λ o. result.status ≡ 5 → 0 < result.call
+        → IsStopped o.generate (setting_for o shelf.old kinds.old) result (K.written out.old) (K.written out.new) shelf.new kinds.new) }
+    ensures generated_unread { ForMade (map string_text words.now) (λ o. src.new ≡ src.old) }
+    ensures generated_call { ForMade (map string_text words.now) (λ o. result.status ≢ 5 → result.call ≡ 0) }
+    ensures generated_statuses { ForMade (map string_text words.now) (λ o. IsMade result.status) }
 
     // A fault that was met shows in the status, and there are no other statuses.
     ensures source_grew { S.faults src.old < S.faults src.new → (result.status ≡ 3) ⊎ (result.status ≡ 4) }

@@ -76,9 +76,7 @@ module _ (g : Over) (c : goal.After-made_outcome g) (descriptors : ℕ) (has : H
     how = performs.how;
     count = performs.count;
     printed = printed;
-    hooks = over.shelf;
-    told = over.told;
-    kinds = over.kinds;
+    leaves = λ w f. record { errors_are = (printed w f).errors_are; hooks = over.shelf w f; hooks_told = over.told w f; kinds = over.kinds w f };
     stopped = λ h. subst (λ (n : ℕ). EndsAt setting last.calls.count performs.lines n) (sym performs.count) (over.stopped h);
     called = over.called;
     silent = unwritten_leads c.perform_lines-ended.result.end _ _
