@@ -6,6 +6,7 @@ mod options;
 mod performing;
 mod printer;
 mod program;
+mod sweeping;
 
 pub use options::{
     DEFAULT_DESCRIPTORS, DEFAULT_SESSIONS, DEFAULT_SPACE, MOST_HELD, Options, OptionsError,

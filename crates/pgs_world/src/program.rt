@@ -2,7 +2,7 @@
 ghost use Rattle.std.specs.Prelude.{◌≡◌, ◌≢◌, ◌<◌, ◌≤◌, ◌⊎◌, ℕ, List, Some, [], length, vec_capacity};
 ghost use Rattle.std.specs.Io.KnownBytes.{append_known};
 ghost use Rattle.pgs_io.specs.Faults.{HasRisen};
-ghost use Rattle.std.specs.Prelude.{map, replicate, None, ◌++◌, IfOk, Option};
+ghost use Rattle.std.specs.Prelude.{map, replicate, true, false, None, ◌++◌, IfOk, Option};
 ghost use Rattle.std.specs.Prelude.{string_bytes as string_text};
 ghost use Rattle.addr_space.specs.Space.{accounts, held, risen, taken};
 ghost use Rattle.reset_callbacks.specs.Hook.{AreDistinct};
@@ -13,16 +13,18 @@ ghost use Rattle.owner_kinds.specs.KindShelf.{table_of};
 ghost use Rattle.owner_kinds.specs.KindTable.{IsSound};
 ghost use Rattle.pgs_turns.specs.Transcript.{names_of};
 ghost use Rattle.pgs_turns.specs.World.{run_of, setting_at, setting_of, AreKept, AreStanding, HaveDescriptors, IsOpening};
-ghost use Rattle.pgs_world.specs.Outcome.{most_bytes, setting_for, usage_line, AskFor, IsWhole, IsWanted, IsCutOff, IsTooLong, IsUnwritten, IsNotStarted, IsSharedOut, IsUsageFront, CountsErrors, TakesAll};
+ghost use Rattle.pgs_world.specs.Outcome.{most_bytes, setting_for, usage_line, AskFor, IsWhole, IsWanted, IsCutOff, IsTooLong, IsUnwritten, IsNotStarted, IsSharedOut, IsUsageFront, CountsErrors, TakesAll, ForMade, ForScript, ForSweep};
 ghost use Rattle.pgs_world.specs.Ending.{generated_outcome, generated_status, outcome_of, status_of};
 ghost use Rattle.pgs_world.specs.Generated.{IsGenerated, IsMade, IsStopped, IsUntold};
 ghost use Rattle.pgs_world.specs.Lawful.{AreLawful, AreMadeOnce, IsMadeLawfully};
+ghost use Rattle.pgs_world.specs.Sweep.{most_swept, Sweeps};
 ghost use Rattle.pgs_world.specs.Plays.{outside, Ends, EndsMade, Plays};
 ghost use Rattle.session_rules.specs.Modes.{made_script};
 ghost use Rattle.pgs_turns.specs.Courses.{TakesInAll};
 
 use crate::performing::{End, Ended, perform_lines};
 use crate::printer::Printer;
+use crate::sweeping::sweep;
 use crate::{Options, OptionsError, read_options};
 use addr_space::Space;
 use owner_kinds::{ExtKind, KindShelf};
@@ -44,10 +46,10 @@ const USAGE: &[u8] =
 ///
 /// `status` is the exit status of the program: 0 for a transcript without an ERROR event, 1 for one with
 /// such an event, 2 for refused words, 3 for a source that failed, 4 for a sink that failed, 5 for a want of
-/// memory, 6 for a script of more than 2^24 bytes. `call` is the number of the fallible call that met a want
-/// of memory, counted from 1 over the whole run, and 0 where none did or where not all sessions were
-/// started. `errors` counts the ERROR events, and `lines` the lines that were performed, those that say
-/// nothing among them.
+/// memory, 6 for a script of more than 2^24 bytes, or 65,536 where it is swept. `call` is the number of the
+/// fallible call that met a want of memory, counted from 1 over the whole run, or over that run of a sweep, and 0
+/// where none did or where not all sessions were started. `errors` counts the ERROR events, of all runs of a sweep,
+/// and `lines` the lines that were performed, those that say nothing among them; in a sweep it is 0.
 #[derive(Clone, Copy, Debug, PartialEq, Eq)]
 pub struct Outcome {
     pub status: u8,
@@ -67,6 +69,9 @@ const NOT_STARTED: Outcome = Outcome {
 /// Does all that the program `pgscript` does: it reads a script from the source and writes its transcript
 /// to the sink. Where the words ask for rounds of the script that is made, it reads nothing, performs that
 /// script, and writes one line that tells how many lines, events, ERROR events and fallible calls there were.
+/// Where they ask for a sweep, it reads a script of at most 65,536 bytes, runs it with no failing call and then once
+/// for each of its first 2,000 fallible calls, which fails, and writes a line for each run: how many fallible calls
+/// there were, or which one failed, and how many ERROR events. Before each run but the first all hooks are made fresh.
 ///
 /// `words` are those of the command line, without the program's name; `read_options` reads them. The contexts of
 /// session n count for account n - 1 of the space, whose limit is set to what the words say. The hooks of all
@@ -102,7 +107,7 @@ pub fn run<S: Source, K: Sink, H: ResetHook, X: ExtKind>(
     ensures made_once { (o : Asked) → AskFor (map string_text words.now) o → (result.status ≡ 5 → 0 < result.call) → AreMadeOnce (setting_for o shelf.old kinds.old) }
 
     // Unless not all sessions were started, the space has the limit that the words say, and no account but a session's took any bytes.
-    ensures shared_out { (o : Asked) → AskFor (map string_text words.now) o → (result.status ≡ 5 → 0 < result.call) → IsSharedOut o.sessions o.space space.old space.new }
+    ensures shared_out { (o : Asked) → AskFor (map string_text words.now) o → o.sweep ≡ false → (result.status ≡ 5 → 0 < result.call) → IsSharedOut o.sessions o.space space.old space.new }
 
     // Status 2: the words are refused, and nothing was read.
     ensures usage { result.status ≡ 2 → K.written out.new ≡ append_known (K.written out.old) usage_line }
@@ -127,7 +132,8 @@ pub fn run<S: Source, K: Sink, H: ResetHook, X: ExtKind>(
     // Status 5: memory was wanted, at the call that is named, or before all sessions had started.
     ensures wanted { ForScript (map string_text words.now) (λ o. result.status ≡ 5 → 0 < result.call
         → IsWanted (setting_for o shelf.old kinds.old) result (S.left src.old) (S.left src.new) (K.written out.old) (K.written out.new) shelf.new kinds.new) }
-    ensures not_started { result.status ≡ 5 → result.call ≡ 0 → IsNotStarted result (S.left src.old) (S.left src.new) (K.written out.old) (K.written out.new) shelf.old shelf.new kinds.old kinds.new }
+    ensures not_started { ((o : Asked) → AskFor (map string_text words.now) o → o.sweep ≡ false) → result.status ≡ 5 → result.call ≡ 0
+        → IsNotStarted result (S.left src.old) (S.left src.new) (K.written out.old) (K.written out.new) shelf.old shelf.new kinds.old kinds.new }
 
     // With rounds of the script that is made nothing is read, and what is written is one line that tells of the run.
     ensures generated { ForMade (map string_text words.now) (λ o. (result.status ≡ 0) ⊎ (result.status ≡ 1)
@@ -142,6 +148,11 @@ pub fn run<S: Source, K: Sink, H: ResetHook, X: ExtKind>(
     ensures generated_call { ForMade (map string_text words.now) (λ o. result.status ≢ 5 → result.call ≡ 0) }
     ensures generated_statuses { ForMade (map string_text words.now) (λ o. IsMade result.status) }
 
+    // A sweep, by its status: which lines were written, how many errors all runs had, and what became of hooks and kinds.
+    ensures swept { ForSweep (map string_text words.now) (λ o. Sweeps (setting_for o shelf.old kinds.old) result
+        (outside (S.left src.old) (S.faults src.old) (K.written out.old) (K.faults out.old) shelf.old kinds.old)
+        (outside (S.left src.new) (S.faults src.new) (K.written out.new) (K.faults out.new) shelf.new kinds.new) space.old space.new) }
+
     // A fault that was met shows in the status, and there are no other statuses.
     ensures source_grew { S.faults src.old < S.faults src.new → (result.status ≡ 3) ⊎ (result.status ≡ 4) }
     ensures sink_grew { K.faults out.old < K.faults out.new → result.status ≡ 4 }
@@ -154,11 +165,12 @@ pub fn run<S: Source, K: Sink, H: ResetHook, X: ExtKind>(
     ensures kinds_kept { AreKept kinds.old kinds.new }
 
     // Accepted words, no fault and no byte too many give the whole transcript, unless memory was wanted.
-    ensures complete { (o : Asked) → AskFor (map string_text words.now) o → (bytes : List ℕ) → S.left src.old ≡ Some bytes → length bytes ≤ most_bytes
+    ensures complete { (o : Asked) → AskFor (map string_text words.now) o → (bytes : List ℕ) → S.left src.old ≡ Some bytes → length bytes ≤ most_bytes → (o.sweep ≡ true → length bytes ≤ most_swept)
         → ¬ HasRisen (S.faults src.old) (S.faults src.new) → ¬ HasRisen (K.faults out.old) (K.faults out.new)
         → (result.status ≡ 0) ⊎ (result.status ≡ 1) ⊎ (result.status ≡ 5) }
 {
     match read_options(alloc, words) {
+        Ok(options) if options.sweep => sweep(alloc, &options, src, out, space, shelf, kinds),
         Ok(options) => start(alloc, &options, src, out, space, shelf, kinds),
         Err(OptionsError::Refused) => refuse(out),
         Err(OptionsError::Memory) => NOT_STARTED,
