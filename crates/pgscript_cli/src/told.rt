@@ -13,7 +13,7 @@ pub struct Told<'a> {
 impl Told<'_> {
     /// Whether the words ask for a sweep, which tells of no line.
     fn sweeps(&self) -> bool {
-        self.words.iter().any(|word| word.as_str() == "--sweep")
+        self.words.iter().any(is_sweep)
     }
 }
 
@@ -72,4 +72,9 @@ impl fmt::Display for Words<'_> {
         }
         Ok(())
     }
+}
+
+/// Whether a word of the command line is the option of a sweep.
+pub fn is_sweep(word: &String) -> bool {
+    word.as_str() == "--sweep"
 }
