@@ -153,7 +153,7 @@ of_front bytes lines left left' h = record {
   front = h.front;
 }
 
-front_of : (e : End) (bytes : List ℕ) (lines : List (List ℕ)) (left left' : Option (List ℕ)) → EndIs e bytes lines left left' → Front lines left left'
+pub front_of : (e : End) (bytes : List ℕ) (lines : List (List ℕ)) (left left' : Option (List ℕ)) → EndIs e bytes lines left left' → Front lines left left'
 front_of end.Whole bytes lines left left' h = record {
   given = bytes;
   given_is = h.0;
@@ -185,7 +185,7 @@ front_of end.TooLong bytes lines left left' h =
       front = f.1 ∙ ap (λ (z : List (List ℕ)). z ++ f.0) (sym h.3);
     }
 
-first_lines : (n : ℕ) (lines more all : List (List ℕ)) → n ≡ length lines → all ≡ lines ++ more → take n all ≡ lines
+pub first_lines : (n : ℕ) (lines more all : List (List ℕ)) → n ≡ length lines → all ≡ lines ++ more → take n all ≡ lines
 first_lines n lines more all c e = ap (λ (k : ℕ). take k all) c ∙ ap (take (length lines)) e ∙ take-append_seam lines more
 
 module _ (setting : Setting) (n calls errors : ℕ) (left left' written written' : Option (List ℕ)) (faults faults' : ℕ) (shelf' : ShelfState) (kinds' : List Kind) where
@@ -270,6 +270,14 @@ module _ (setting : Setting) (n calls errors : ℕ) (left left' written written'
   called_of end.TooLong false f h = absurd (omega (arith, h))
   called_of end.Unwritten false f h = absurd (omega (arith, h))
   called_of e true f h = absurd (omega (arith, h))
+
+  -- where no call is named, no line met a want
+  pub met_none : (e : End) (failed : Bool) → At e failed → (outcome_of (record { end = e; lines = n }) calls failed errors).call ≡ 0 → is_wanted e ≡ false
+  met_none end.Wanted failed f h = absurd (omega (arith, f.called refl, h))
+  met_none end.Whole failed f h = refl
+  met_none end.SourceFault failed f h = refl
+  met_none end.TooLong failed f h = refl
+  met_none end.Unwritten failed f h = refl
 
   -- a refused call that fits, and the one that the outcome names
   fits_of : (e : End) → At e true → Fits (is_wanted e) calls (refused_call (outcome_of (record { end = e; lines = n }) calls true errors).call)

@@ -1,5 +1,5 @@
 -- A script that was played, from what its sessions did; and a run in which not all of them could be started.
-use Rattle.std.proofs.Common.{◌≡◌, ◌⊎◌, ℕ, zero, suc, ◌+◌, ◌<◌, ◌≤◌, inl, inr, Bool, true, false, Option, Some, refl, sym, ◌∙◌, ap, subst, arith}
+use Rattle.std.proofs.Common.{◌≡◌, ◌⊎◌, ℕ, zero, suc, ◌+◌, ◌<◌, ◌≤◌, inl, inr, Bool, true, false, List, take, Option, Some, refl, sym, ◌∙◌, ap, subst, arith}
 use Rattle.std.specs.Prelude.{nat_lt, if◌then◌else◌}
 use Rattle.std.proofs.lemmas.Bool.Decides.{nat_tests}
 use Rattle.pgs_io.specs.Lines.{lines_of}
@@ -48,6 +48,7 @@ not_started rounds setting o s t empty same = record {
   performed = λ none. not_performed setting o;
   generates = λ some. not_generated rounds setting o;
   taken = λ none h. absurd (no_other 5 (omega arith) h);
+  taken_so_far = λ none h. absurd (h refl);
   made_taken = λ some h. absurd (no_other 5 (omega arith) h);
   not_started = λ h k. record { hooks = refl; kinds = refl; lines = refl; errors = refl; unread = refl; unwritten = refl };
   given_back = empty;
@@ -82,6 +83,7 @@ module _ (setting : Setting) (sessions : ℕ) (outcome : Outcome) (before after 
     performed = λ _. ends.performed;
     generates = λ some. absurd (omega (arith, some, none));
     taken = λ _ h bytes left. opened_taken setting (lines_of bytes) s t u opening (ends.taken h bytes left);
+    taken_so_far = λ _ _ h. let so_far = ends.taken_so_far h in record { bytes = so_far.bytes; given = so_far.given; takes = opened_taken setting (take outcome.lines (lines_of so_far.bytes)) s t u opening so_far.takes };
     made_taken = λ some. absurd (omega (arith, some, none));
     not_started = λ h k. absurd (omega (arith, ends.leaves.called h, k));
     given_back = λ account. given ends.leaves account (nat_lt account sessions) refl;
@@ -96,6 +98,7 @@ module _ (setting : Setting) (sessions : ℕ) (outcome : Outcome) (before after 
     performed = λ none. absurd (omega (arith, some, none));
     generates = λ _. ends.generates;
     taken = λ none. absurd (omega (arith, some, none));
+    taken_so_far = λ none. absurd (omega (arith, some, none));
     made_taken = λ _ h. opened_taken setting (made_script rounds) s t u opening (ends.taken h);
     not_started = λ h k. absurd (omega (arith, ends.leaves.called h, k));
     given_back = λ account. given ends.leaves account (nat_lt account sessions) refl;
@@ -110,6 +113,7 @@ limited_plays rounds setting outcome before after s u limit p = record {
   performed = p.performed;
   generates = p.generates;
   taken = p.taken;
+  taken_so_far = λ none h k. let so_far = p.taken_so_far none h k in record { bytes = so_far.bytes; given = so_far.given; takes = so_far.takes };
   made_taken = p.made_taken;
   not_started = p.not_started;
   given_back = p.given_back;

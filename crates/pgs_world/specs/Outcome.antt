@@ -85,6 +85,18 @@ TakesAsked setting left before after = (bytes : List ℕ) → left ≡ Some byte
 abbrev pub TakesAll : Setting → Option (List ℕ) → Space → Space → Type 0
 TakesAll setting left before after = (bytes : List ℕ) → left ≡ Some bytes → TakesInAll setting (lines_of bytes) before after
 
+-- Each account took what these lines ask for the session that counts for it: the first of the bytes that a source gave, so many.
+pub record TakesGiven (setting : Setting) (performed : ℕ) (left left' : Option (List ℕ)) (before after : Space) : Type 0 where
+  pub bytes : List ℕ
+  pub given : HasGiven bytes left left'
+  pub takes : TakesLines setting (take performed (lines_of bytes)) before after
+
+-- The same with what the opening of each session asks. No other account took any.
+pub record TakesSoFar (setting : Setting) (performed : ℕ) (left left' : Option (List ℕ)) (before after : Space) : Type 0 where
+  pub bytes : List ℕ
+  pub given : HasGiven bytes left left'
+  pub takes : TakesInAll setting (take performed (lines_of bytes)) before after
+
 -- So many lines were given whole: the newline of each is among the bytes, or the source was at its end behind them. A byte past the most of a script is no part of a line.
 abbrev pub AreWhole : ℕ → List ℕ → Option (List ℕ) → Type 0
 AreWhole lines bytes left = (lines ≤ length (ended_lines (take most_bytes bytes))) ⊎ ((length bytes ≤ most_bytes) × IsAtEnd left)

@@ -13,7 +13,7 @@ ghost use Rattle.owner_kinds.specs.KindShelf.{table_of};
 ghost use Rattle.owner_kinds.specs.KindTable.{IsSound};
 ghost use Rattle.pgs_turns.specs.Transcript.{names_of};
 ghost use Rattle.pgs_turns.specs.World.{run_of, setting_at, setting_of, AreKept, AreStanding, HaveDescriptors, IsOpening};
-ghost use Rattle.pgs_world.specs.Outcome.{most_bytes, setting_for, usage_line, AskFor, IsWhole, IsWanted, IsCutOff, IsTooLong, IsUnwritten, IsNotStarted, IsSharedOut, IsUsageFront, CountsErrors, TakesAll, ForMade, ForScript, ForSweep};
+ghost use Rattle.pgs_world.specs.Outcome.{most_bytes, setting_for, usage_line, AskFor, IsWhole, IsWanted, IsCutOff, IsTooLong, IsUnwritten, IsNotStarted, IsSharedOut, IsUsageFront, CountsErrors, TakesAll, TakesSoFar, ForMade, ForScript, ForSweep};
 ghost use Rattle.pgs_world.specs.Ending.{generated_outcome, generated_status, outcome_of, status_of};
 ghost use Rattle.pgs_world.specs.Generated.{IsGenerated, IsMade, IsStopped, IsUntold};
 ghost use Rattle.pgs_world.specs.Lawful.{AreLawful, AreMadeOnce, IsMadeLawfully};
@@ -97,6 +97,10 @@ pub fn run<S: Source, K: Sink, H: ResetHook, X: ExtKind>(
 
     // Each session's account took what the session's opening and its lines ask for, and no other account anything.
     ensures taken { ForScript (map string_text words.now) (λ o. (result.status ≡ 0) ⊎ (result.status ≡ 1) → TakesAll (setting_for o shelf.old kinds.old) (S.left src.old) space.old space.new) }
+
+    // Where the script was cut short by the source or the sink, or is too long, they took what the lines ask that were performed.
+    ensures taken_so_far { ForScript (map string_text words.now) (λ o. result.status ≢ 5 → result.call ≡ 0
+        → TakesSoFar (setting_for o shelf.old kinds.old) result.lines (S.left src.old) (S.left src.new) space.old space.new) }
 
     // Unless not all sessions were started, each transcript that these clauses speak of keeps the laws of lifetimes: what is acquired is
     // released exactly once, descendants first, by phase and priority; the end of a level that aborts touches nothing outside it; and each callback
