@@ -1,6 +1,7 @@
 -- The runs of a sweep, one behind the other.
-use Rattle.std.proofs.Common.{◌≡◌, ℕ, zero, suc, ◌+◌, ◌-◌, ◌*◌, ◌^◌, ◌≤◌, min, List, [], ◌∷◌, ◌++◌, length, Option, Some, None, refl, sym, ◌∙◌, ap, subst, arith, append_assoc, append-nil}
-use Rattle.std.specs.Prelude.{codes, if◌then◌else◌}
+use Rattle.std.proofs.Common.{◌≡◌, ℕ, zero, suc, ◌+◌, ◌-◌, ◌*◌, ◌^◌, ◌≤◌, min, true, false, List, [], ◌∷◌, ◌++◌, length, Option, Some, None, refl, sym, ◌∙◌, ap, subst, arith, append_assoc, append-nil}
+use Rattle.std.specs.Prelude.{◌==◌, codes, nat_lt, if◌then◌else◌}
+use Rattle.std.proofs.lemmas.Bool.Decides.{nat_tests}
 use Rattle.std.proofs.lemmas.List.{map-append}
 use Rattle.std.proofs.lemmas.List.Sorted.{sum_by-IsPermutation}
 use Rattle.pgs_step.specs.declared.events.Event.{Event}
@@ -18,12 +19,19 @@ use Rattle.pgs_turns.specs.Sweeping.{HooksRan, LeaveRuns, LeaveWanted, LeavesRun
 use Rattle.pgs_turns.specs.Transcript.{Setting, course_of, kinds_after, shelf_after, transcript}
 use Rattle.pgs_turns.proofs.ErrorLemmas.{few_errors}
 
+-- a run behind the first one is told from it
+is_later : (k : ℕ) → nat_lt 0 (suc k) ≡ true
+is_later k = grind (arith, nat_tests)
+
+is_not_first : (k : ℕ) → (suc k == 0) ≡ false
+is_not_first k = grind (arith, nat_tests)
+
 -- run k is set up so where it finds what the runs before it left
 pub setting_found : (k : ℕ) (setting : Setting) (lines : List (List ℕ)) (shelf : ShelfState) (kinds : List Kind) → shelf ≡ shelf_behind k setting lines → kinds ≡ kinds_behind k setting lines
     → setting_for_run k setting shelf kinds ≡ setting_in k setting lines
 unfolding setting_in shelf_behind kinds_behind
-setting_found zero setting lines shelf kinds hooks held = rw (hooks, held) refl
-setting_found (suc k) setting lines shelf kinds hooks held = rw (hooks, held) refl
+setting_found zero setting lines shelf kinds hooks kinds_are = rw (hooks, kinds_are) refl
+setting_found (suc k) setting lines shelf kinds hooks kinds_are = rw (hooks, kinds_are, is_later k) refl
 
 -- What is told of the runs one by one is what the rules tell of the sweep.
 told_on : (more k : ℕ) (setting : Setting) (lines : List (List ℕ))
@@ -51,7 +59,7 @@ pub numbers_in : (k : ℕ) (setting : Setting) (lines : List (List ℕ)) (calls 
     → run_numbers k calls errors ≡ told_in k setting lines
 unfolding told_in course_in transcript transcript_by course_of
 numbers_in zero setting lines calls errors of_calls of_errors = rw (of_calls, of_errors) refl
-numbers_in (suc k) setting lines calls errors of_calls of_errors = rw of_errors refl
+numbers_in (suc k) setting lines calls errors of_calls of_errors = rw (of_errors, is_not_first k) refl
 
 -- how many calls the first run makes
 pub first_calls : (setting : Setting) (lines : List (List ℕ)) → (ended (course_of (setting_in 0 setting lines) None lines)).world.calls ≡ (course_in 0 setting lines).world.calls
@@ -59,21 +67,22 @@ unfolding course_in
 first_calls setting lines = refl
 
 -- no more ERROR events than lines, in each run
-pub few_in_runs : (k : ℕ) (setting : Setting) (lines : List (List ℕ)) → errors_in (events_of_runs k setting lines) ≤ k * length lines
+pub few_in_runs : (k : ℕ) (setting : Setting) (lines : List (List ℕ)) → length lines ≤ 65536 → errors_in (events_of_runs k setting lines) ≤ k * 65536
 unfolding events_of_runs
-few_in_runs zero setting lines = omega arith
-few_in_runs (suc k) setting lines =
+few_in_runs zero setting lines few = omega arith
+few_in_runs (suc k) setting lines few =
     omega (
       arith,
       errors_in-append (events_of_runs k setting lines) (transcript (setting_in k setting lines) None lines),
-      few_in_runs k setting lines,
+      few_in_runs k setting lines few,
       few_errors (setting_in k setting lines) None lines,
+      few,
     )
 
 -- to make hooks fresh changes no count of theirs
 found_runs : (k word : ℕ) (shelf : ShelfState) → runs_of word (held (shelf_for k shelf)) ≡ runs_of word (held shelf)
 found_runs zero word shelf = refl
-found_runs (suc k) word shelf = sum_by-IsPermutation (λ (hook : Hook). if hook.word == word then hook.runs else 0) (held shelf) (held (renewed shelf)) (renewed-permutes shelf)
+found_runs (suc k) word shelf = rw (is_later k) (sum_by-IsPermutation (λ (hook : Hook). if hook.word == word then hook.runs else 0) (held shelf) (held (renewed shelf)) (renewed-permutes shelf))
 
 -- No run leaves hooks and kinds as they are.
 pub leave_none : (setting : Setting) (lines : List (List ℕ)) → LeaveRuns 0 setting lines 0 setting.shelf setting.kinds
