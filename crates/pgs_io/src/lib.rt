@@ -6,12 +6,14 @@ mod lines;
 mod reading;
 mod sinks;
 mod sources;
+mod splitting;
 mod words;
 
 pub use lines::LineBuf;
 pub use reading::{Buffered, LineReader, Next};
 pub use sinks::{MemSink, Sink, StdSink, put_all};
 pub use sources::{MemSource, Source, StdSource};
+pub use splitting::split_line;
 pub use words::{next_token, number};
 
 /// A read or a write failed. The object that failed has counted it among its faults.

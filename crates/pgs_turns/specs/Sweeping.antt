@@ -1,5 +1,5 @@
 -- A sweep: the runs of one script, first with no failing call, and then with one call after the other failing.
-use Rattle.std.specs.Prelude.{◌≡◌, ℕ, zero, suc, ◌+◌, ◌^◌, min, List, [], ◌++◌, length, codes, Option, Some, None}
+use Rattle.std.specs.Prelude.{◌≡◌, ℕ, zero, suc, ◌+◌, ◌-◌, ◌^◌, ◌==◌, min, nat_lt, if◌then◌else◌, List, [], ◌++◌, length, codes, decimal, Option, Some, None}
 use Rattle.pgs_step.specs.declared.events.Event.{Event}
 use Rattle.owner_kinds.specs.Kind.{Kind}
 use Rattle.reset_callbacks.specs.ShelfState.{ShelfState, held, renewed}
@@ -51,9 +51,29 @@ unfoldable pub told_of_runs : ℕ → Setting → List (List ℕ) → List ℕ
 told_of_runs zero setting lines = []
 told_of_runs (suc k) setting lines = told_of_runs k setting lines ++ told_in k setting lines
 
+-- how run k is set up where it finds these hooks and kinds
+abbrev pub shelf_for : ℕ → ShelfState → ShelfState
+shelf_for k shelf = if nat_lt 0 k then renewed shelf else shelf
+
+abbrev pub setting_for_run : ℕ → Setting → ShelfState → List Kind → Setting
+setting_for_run k setting shelf kinds = record { options = record setting.options { fail = k }; shelf = shelf_for k shelf; kinds = kinds }
+
+-- what is told of run k with these numbers
+abbrev pub run_numbers : ℕ → ℕ → ℕ → List ℕ
+run_numbers k calls errors =
+    (if k == 0 then codes "calls " ++ decimal calls else codes "fail " ++ decimal k) ++ (codes " errors " ++ (decimal errors ++ codes "\n"))
+
 -- Each hook has run as often more as `callback` events have its word, where a count at the end of its type stands still.
 abbrev pub HooksRan : ShelfState → ShelfState → List Event → Type 0
 HooksRan before behind events = (word : ℕ) → min (runs_of word (held behind)) (2 ^ 64 - 1) ≡ min (runs_of word (held before) + callbacks_of word (said_by_all events)) (2 ^ 64 - 1)
+
+-- What a run leaves that is set up so, where call w is refused for want of memory, if any: how many ERROR events there were, and what became
+-- of hooks and kinds.
+pub record LeavesRun (w : Option ℕ) (setting : Setting) (lines : List (List ℕ)) (errors : ℕ) (shelf' : ShelfState) (kinds' : List Kind) : Type 0 where
+  pub errors_are : errors ≡ errors_in (transcript setting w lines)
+  pub hooks : shelf' ≡ shelf_after setting w lines
+  pub hooks_told : HooksAreTold setting.shelf shelf' (transcript setting w lines)
+  pub kinds : kinds' ≡ kinds_after setting w lines
 
 -- What the first runs leave, so many: how many ERROR events there were in all of them, and what became of hooks and kinds. The hooks that the
 -- last of them registered are spent, and all others are fresh.

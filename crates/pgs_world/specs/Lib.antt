@@ -11,3 +11,4 @@ pub mod Lawful
 pub mod Options
 pub mod Parts
 pub mod Sweep
+pub mod SweepSteps

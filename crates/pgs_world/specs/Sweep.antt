@@ -13,6 +13,7 @@ use Rattle.pgs_turns.specs.Sweeping.{LeaveRuns, LeaveWanted, events_of_runs, run
 use Rattle.pgs_turns.specs.Transcript.{Setting, EndsAt}
 use Rattle.pgs_turns.specs.World.{AreKept}
 use Rattle.pgs_world.specs.declared.program.Outcome.{Outcome}
+use Rattle.pgs_world.specs.Lawful.{RunsKeepLaws}
 use Rattle.pgs_world.specs.Outcome.{HasGiven, IsSharedOut}
 use Rattle.pgs_world.specs.Plays.{Outside}
 
@@ -32,6 +33,7 @@ pub record IsSwept (setting : Setting) (outcome : Outcome) (before after : Outsi
   pub script : IsRead bytes before.left after.left
   pub text : after.written ≡ append_known before.written (swept setting.options setting.kinds setting.shelf (lines_of bytes))
   pub leaves : LeaveRuns (runs_in setting (lines_of bytes)) setting (lines_of bytes) outcome.errors after.shelf after.kinds
+  pub lawful : RunsKeepLaws (runs_in setting (lines_of bytes)) setting (lines_of bytes)
   pub status : (outcome.status ≡ 1) ↔ (0 < errors_in (events_of_runs (runs_in setting (lines_of bytes)) setting (lines_of bytes)))
 
 -- Status 4: what is told of the runs before was written, and a front of what is told of the last one.
@@ -46,6 +48,7 @@ pub record IsSweepUnwritten (setting : Setting) (outcome : Outcome) (before afte
   pub some : 0 < length rest
   pub text : after.written ≡ append_known before.written (told_of_runs runs setting (lines_of bytes) ++ front)
   pub leaves : LeaveRuns (suc runs) setting (lines_of bytes) outcome.errors after.shelf after.kinds
+  pub lawful : RunsKeepLaws (suc runs) setting (lines_of bytes)
 
 -- Status 5 with a call: the run behind those that are told met a want of memory at that call.
 pub record IsSweepWanted (setting : Setting) (outcome : Outcome) (before after : Outside) : Type 0 where
@@ -57,6 +60,7 @@ pub record IsSweepWanted (setting : Setting) (outcome : Outcome) (before after :
   pub defined : EndsAt (setting_in runs setting (lines_of bytes)) outcome.call (lines_of bytes) line
   pub text : after.written ≡ append_known before.written (told_of_runs runs setting (lines_of bytes))
   pub leaves : LeaveWanted runs outcome.call setting (lines_of bytes) outcome.errors after.shelf after.kinds
+  pub lawful : RunsKeepLaws (suc runs) setting (lines_of bytes)
 
 -- Status 5 without a call: there was no memory for the run behind those that are told, or none for the script, which was not read then.
 pub record IsSweepStopped (setting : Setting) (outcome : Outcome) (before after : Outside) : Type 0 where
@@ -65,6 +69,7 @@ pub record IsSweepStopped (setting : Setting) (outcome : Outcome) (before after 
   pub script : (IsRead bytes before.left after.left × (runs < runs_in setting (lines_of bytes))) ⊎ ((after.left ≡ before.left) × (runs ≡ 0))
   pub text : after.written ≡ append_known before.written (told_of_runs runs setting (lines_of bytes))
   pub leaves : LeaveRuns runs setting (lines_of bytes) outcome.errors after.shelf after.kinds
+  pub lawful : RunsKeepLaws runs setting (lines_of bytes)
 
 -- Status 3 or 6: nothing was performed or written, since the source failed, or has a byte too many.
 pub record IsUnswept (setting : Setting) (outcome : Outcome) (before after : Outside) : Type 0 where
@@ -102,3 +107,4 @@ pub record Sweeps (setting : Setting) (outcome : Outcome) (before after : Outsid
   pub given_back : (account : ℕ) → held t account ≡ 0
   pub accounts_are : accounts t ≡ accounts s
   pub kinds_kept : AreKept before.kinds after.kinds
+  pub shared_out : (outcome.status ≡ 5 → 0 < outcome.call) → outcome.status ≢ 3 → outcome.status ≢ 6 → IsSharedOut setting.options.sessions setting.options.space s t

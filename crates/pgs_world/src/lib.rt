@@ -7,6 +7,7 @@ mod performing;
 mod printer;
 mod program;
 mod sweeping;
+mod whole_script;
 
 pub use options::{
     DEFAULT_DESCRIPTORS, DEFAULT_SESSIONS, DEFAULT_SPACE, MOST_HELD, Options, OptionsError,

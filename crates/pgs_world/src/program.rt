@@ -59,7 +59,7 @@ pub struct Outcome {
 }
 
 /// A run that read nothing and wrote nothing.
-const NOT_STARTED: Outcome = Outcome {
+pub(crate) const NOT_STARTED: Outcome = Outcome {
     status: 5,
     call: 0,
     errors: 0,
@@ -221,15 +221,15 @@ fn start<S: Source, K: Sink, H: ResetHook, X: ExtKind>(
 /// What stands in the places of the space, of the shelf and of the kinds while these are lent to the sessions: the kinds are lent in
 /// the commons of the run.
 #[derive(Drop)]
-struct Places<H: ResetHook, X: ExtKind> {
-    space: Space,
-    shelf: Shelf<H>,
-    commons: Commons<X>,
+pub(crate) struct Places<H: ResetHook, X: ExtKind> {
+    pub(crate) space: Space,
+    pub(crate) shelf: Shelf<H>,
+    pub(crate) commons: Commons<X>,
 }
 
 impl<H: ResetHook, X: ExtKind> Places<H, X> {
     /// A space, a shelf and commons without anything. It fails for want of memory alone.
-    fn new(alloc: Global) -> Result<Places<H, X>, AllocError>
+    pub(crate) fn new(alloc: Global) -> Result<Places<H, X>, AllocError>
         ensures unlocked { IfOk result (λ places. places.commons.locks ≡ []) }
         ensures unpinned { IfOk result (λ places. places.commons.pins ≡ replicate 1024 0) }
     {
