@@ -14,12 +14,13 @@ use Rattle.session_rules.specs.Transcript.{Course, errors_in, text_of_transcript
 use Rattle.pgs_turns.specs.Turns.{Fits}
 use Rattle.pgs_turns.specs.Transcript.{Setting, course_of, kinds_after, names_of, shelf_after, text_in, transcript, EndsAt}
 use Rattle.pgs_turns.specs.Hooks.{HooksAreTold}
+use Rattle.pgs_turns.specs.Sweeping.{LeavesRun}
 use Rattle.pgs_turns.proofs.CourseLemmas.{course_of-stopped}
 use Rattle.pgs_turns.proofs.OverLemmas.{fit_of, kinds-stopped, shelf-stopped, transcript-stopped}
 use Rattle.pgs_world.specs.declared.performing.End.{End}
 use Rattle.pgs_world.specs.declared.performing.End.TheVariants as end
 use Rattle.pgs_world.specs.Printing.{Gathering, Shows, Moves, GoesOn, FailsWithin}
-use Rattle.pgs_world.specs.Outcome.{most_bytes, HasGiven, AreWhole, refused_call, IsLeftBy, IsWhole, IsWanted, IsCutOff, IsTooLong, IsUnwritten}
+use Rattle.pgs_world.specs.Outcome.{most_bytes, HasGiven, AreWhole, refused_call, IsWhole, IsWanted, IsCutOff, IsTooLong, IsUnwritten}
 use Rattle.pgs_world.specs.Ending.{IsPlayed, outcome_of, status_of}
 use Rattle.pgs_world.specs.Loop.{EndIs, AreFront, is_wanted, OnSourceFault, OnNoSourceFault, OnUnwritten}
 use Rattle.pgs_world.specs.Plays.{Outside, Performed}
@@ -103,7 +104,7 @@ status_one errors m e = (λ h. grind (arith, nat_tests), λ h. grind (arith, nat
 
 -- lines behind the one that met a want of memory leave no more
 pub left_stopped : (setting : Setting) (calls : ℕ) (lines more : List (List ℕ)) (errors : ℕ) (shelf' : ShelfState) (kinds' : List Kind) → (course_of setting (Some calls) lines).wanted ≡ true
-    → IsLeftBy setting (Some calls) lines errors shelf' kinds' → IsLeftBy setting (Some calls) (lines ++ more) errors shelf' kinds'
+    → LeavesRun (Some calls) setting lines errors shelf' kinds' → LeavesRun (Some calls) setting (lines ++ more) errors shelf' kinds'
 left_stopped setting calls lines more errors shelf' kinds' wanted l =
     let same : transcript setting (Some calls) lines ≡ transcript setting (Some calls) (lines ++ more) = sym (transcript-stopped setting calls lines more wanted) in
     record {
@@ -120,7 +121,7 @@ pub record Facts (setting : Setting) (e : End) (n calls errors : ℕ) (failed : 
   pub how : EndIs e bytes lines left left'
   pub count : n ≡ length lines
   pub printed : (w : Option ℕ) → Fits (is_wanted e) calls w → Printed (names_of setting.kinds) written written' faults faults' errors failed (transcript setting w lines)
-  pub leaves : (w : Option ℕ) → Fits (is_wanted e) calls w → IsLeftBy setting w lines errors shelf' kinds'
+  pub leaves : (w : Option ℕ) → Fits (is_wanted e) calls w → LeavesRun w setting lines errors shelf' kinds'
   pub stopped : is_wanted e ≡ true → EndsAt setting calls lines n
   pub called : is_wanted e ≡ true → 0 < calls
   pub silent : OnUnwritten e (failed ≡ true)
@@ -190,8 +191,8 @@ first_lines n lines more all c e = ap (λ (k : ℕ). take k all) c ∙ ap (take 
 
 module _ (setting : Setting) (n calls errors : ℕ) (left left' written written' : Option (List ℕ)) (faults faults' : ℕ) (shelf' : ShelfState) (kinds' : List Kind) where
   -- what lines leave these leave, too
-  left_as : (w : Option ℕ) (lines others : List (List ℕ)) → lines ≡ others → IsLeftBy setting w lines errors shelf' kinds' → IsLeftBy setting w others errors shelf' kinds'
-  left_as w lines others same l = subst (λ (z : List (List ℕ)). IsLeftBy setting w z errors shelf' kinds') same l
+  left_as : (w : Option ℕ) (lines others : List (List ℕ)) → lines ≡ others → LeavesRun w setting lines errors shelf' kinds' → LeavesRun w setting others errors shelf' kinds'
+  left_as w lines others same l = subst (λ (z : List (List ℕ)). LeavesRun w setting z errors shelf' kinds') same l
 
   abbrev At : End → Bool → Type 0
   At e failed = Facts setting e n calls errors failed left left' written written' faults faults' shelf' kinds'

@@ -17,7 +17,7 @@ use Rattle.pgs_turns.specs.Summary.{generated_by}
 use Rattle.pgs_turns.proofs.ToldLemmas.{all_lines, few_lines, told_whole}
 use Rattle.pgs_world.specs.declared.program.Outcome.{Outcome}
 use Rattle.pgs_world.specs.Ending.{generated_outcome, generated_status}
-use Rattle.pgs_world.specs.Outcome.{IsLeftBy}
+use Rattle.pgs_turns.specs.Sweeping.{LeavesRun}
 use Rattle.pgs_world.specs.Generated.{IsGenerated, IsMade, IsStopped, IsTranscript, IsUntold}
 use Rattle.pgs_world.specs.Plays.{EndsMade, Generates, Leaves, outside}
 use Rattle.pgs_world.proofs.EndingLemmas.{left_stopped, no_other, not_by_errors, status_one}
@@ -52,7 +52,7 @@ module _ (descriptors : ℕ) (first last : Run) (rounds lines errors : ℕ) (w w
   -- where all lines were performed
   whole_told : (failed : Bool) → Told false failed → IsTranscript rounds None setting (outcome false failed) last.shelf last.commons.kinds
   whole_told failed t =
-      subst (λ (ls : List (List ℕ)). IsLeftBy setting None ls errors last.shelf last.commons.kinds) (all_lines rounds lines (t.whole refl))
+      subst (λ (ls : List (List ℕ)). LeavesRun None setting ls errors last.shelf last.commons.kinds) (all_lines rounds lines (t.whole refl))
       (record { errors_are = t.over.emits None tt; hooks = t.over.shelf None tt; hooks_told = t.over.told None tt; kinds = t.over.kinds None tt })
 
   -- where the last one met a want of memory
@@ -66,7 +66,7 @@ module _ (descriptors : ℕ) (first last : Run) (rounds lines errors : ℕ) (w w
       record {
         defined = record { wanted = ap (λ (c : Course). c.wanted) course ∙ at.wanted; line_is = ap (λ (c : Course). c.performed) course ∙ at.line_is ∙ few_lines rounds lines t.lines };
         silent = t.silent refl;
-        told = subst (λ (ls : List (List ℕ)). IsLeftBy setting (Some n) ls errors last.shelf last.commons.kinds) rest.1
+        told = subst (λ (ls : List (List ℕ)). LeavesRun (Some n) setting ls errors last.shelf last.commons.kinds) rest.1
             (left_stopped setting n front rest.0 errors last.shelf last.commons.kinds at.wanted
             (record { errors_are = t.over.emits (Some n) refl; hooks = t.over.shelf (Some n) refl; hooks_told = t.over.told (Some n) refl; kinds = t.over.kinds (Some n) refl }));
       }

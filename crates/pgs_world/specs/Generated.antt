@@ -9,12 +9,12 @@ use Rattle.session_rules.specs.Transcript.{ended, errors_in}
 use Rattle.pgs_turns.specs.Hooks.{HooksAreTold}
 use Rattle.pgs_turns.specs.Transcript.{Setting, course_of, kinds_after, shelf_after, transcript, EndsAt}
 use Rattle.pgs_turns.specs.Generating.{IsFront, text_for}
-use Rattle.pgs_world.specs.Outcome.{IsLeftBy}
+use Rattle.pgs_turns.specs.Sweeping.{LeavesRun}
 use Rattle.pgs_world.specs.declared.program.Outcome.{Outcome}
 
 -- what the transcript of the script of so many rounds leaves, where call w was refused for want of memory, if any
 abbrev pub IsTranscript : ℕ → Option ℕ → Setting → Outcome → ShelfState → List Kind → Type 0
-IsTranscript rounds w setting outcome shelf' kinds' = IsLeftBy setting w (made_script rounds) outcome.errors shelf' kinds'
+IsTranscript rounds w setting outcome shelf' kinds' = LeavesRun w setting (made_script rounds) outcome.errors shelf' kinds'
 
 -- Status 0 or 1: all lines of so many rounds were performed, and the line that tells of them was written. It is the rules' summary, unless
 -- there were 2^64 events or more.

@@ -11,7 +11,7 @@ use Rattle.addr_space.specs.Space.{Space, taken}
 use Rattle.session_rules.specs.Transcript.{errors_in}
 use Rattle.pgs_turns.specs.Courses.{TakesInAll, TakesLines}
 use Rattle.pgs_turns.specs.Generating.{IsFront}
-use Rattle.pgs_turns.specs.Hooks.{HooksAreTold}
+use Rattle.pgs_turns.specs.Sweeping.{LeavesRun}
 use Rattle.pgs_turns.specs.Transcript.{Setting, transcript, kinds_after, shelf_after, text_in, EndsAt}
 
 -- what words ask for, the hooks that are on the shelf, and the extension kinds
@@ -54,14 +54,6 @@ HasGiven taken before after = before ≡ prepend_known taken after
 abbrev pub HasWritten : Setting → Option ℕ → List (List ℕ) → Option (List ℕ) → Option (List ℕ) → Type 0
 HasWritten setting w lines before after = after ≡ append_known before (text_in setting (transcript setting w lines))
 
--- What the transcript of these lines leaves, where call w is refused for want of memory, if any: so many ERROR events, and these hooks and
--- kinds, by the rules; and it tells what became of the hooks.
-pub record IsLeftBy (setting : Setting) (w : Option ℕ) (lines : List (List ℕ)) (errors : ℕ) (shelf' : ShelfState) (kinds' : List Kind) : Type 0 where
-  pub errors_are : errors ≡ errors_in (transcript setting w lines)
-  pub hooks : shelf' ≡ shelf_after setting w lines
-  pub hooks_told : HooksAreTold setting.shelf shelf' (transcript setting w lines)
-  pub kinds : kinds' ≡ kinds_after setting w lines
-
 -- Status 0 or 1: all of the source was read, and its whole transcript was written.
 pub record IsWhole (setting : Setting) (outcome : Outcome) (left left' written written' : Option (List ℕ)) (shelf' : ShelfState) (kinds' : List Kind) : Type 0 where
   pub bytes : List ℕ
@@ -70,7 +62,7 @@ pub record IsWhole (setting : Setting) (outcome : Outcome) (left left' written w
   pub short : length bytes ≤ most_bytes
   pub lines : outcome.lines ≡ length (lines_of bytes)
   pub text : HasWritten setting None (lines_of bytes) written written'
-  pub leaves : IsLeftBy setting None (lines_of bytes) outcome.errors shelf' kinds'
+  pub leaves : LeavesRun None setting (lines_of bytes) outcome.errors shelf' kinds'
   pub status : (outcome.status ≡ 1) ↔ (0 < errors_in (transcript setting None (lines_of bytes)))
 
 -- the errors are the ERROR events in the transcript of the bytes that a source had
@@ -109,7 +101,7 @@ pub record IsWanted (setting : Setting) (outcome : Outcome) (left left' written 
   pub whole_lines : AreWhole outcome.lines bytes left'
   pub defined : EndsAt setting outcome.call (lines_of bytes) outcome.lines
   pub text : HasWritten setting (Some outcome.call) (lines_of bytes) written written'
-  pub leaves : IsLeftBy setting (Some outcome.call) (lines_of bytes) outcome.errors shelf' kinds'
+  pub leaves : LeavesRun (Some outcome.call) setting (lines_of bytes) outcome.errors shelf' kinds'
 
 -- Status 3: the source failed, and the transcript of the lines whose newline it had given was written.
 pub record IsCutOff (setting : Setting) (outcome : Outcome) (left left' written written' : Option (List ℕ)) (shelf' : ShelfState) (kinds' : List Kind) : Type 0 where
@@ -118,7 +110,7 @@ pub record IsCutOff (setting : Setting) (outcome : Outcome) (left left' written 
   pub short : length bytes ≤ most_bytes
   pub lines : outcome.lines ≡ length (ended_lines bytes)
   pub text : HasWritten setting None (ended_lines bytes) written written'
-  pub leaves : IsLeftBy setting None (ended_lines bytes) outcome.errors shelf' kinds'
+  pub leaves : LeavesRun None setting (ended_lines bytes) outcome.errors shelf' kinds'
 
 -- Status 6: the source has a byte past the most bytes of a script, and the transcript of the lines whose newline is among those was written.
 pub record IsTooLong (setting : Setting) (outcome : Outcome) (left left' written written' : Option (List ℕ)) (shelf' : ShelfState) (kinds' : List Kind) : Type 0 where
@@ -128,7 +120,7 @@ pub record IsTooLong (setting : Setting) (outcome : Outcome) (left left' written
   pub full : length bytes ≡ most_bytes
   pub lines : outcome.lines ≡ length (ended_lines bytes)
   pub text : HasWritten setting None (ended_lines bytes) written written'
-  pub leaves : IsLeftBy setting None (ended_lines bytes) outcome.errors shelf' kinds'
+  pub leaves : LeavesRun None setting (ended_lines bytes) outcome.errors shelf' kinds'
 
 -- the fallible call that a number names as refused; 0 names none
 abbrev pub refused_call : ℕ → Option ℕ
@@ -147,7 +139,7 @@ pub record IsUnwritten (setting : Setting) (outcome : Outcome) (left left' writt
   pub parts : front ++ rest ≡ text_in setting (transcript setting (refused_call outcome.call) (take outcome.lines (lines_of bytes)))
   pub taken : written' ≡ append_known written front
   pub defined : 0 < outcome.call → EndsAt setting outcome.call (take outcome.lines (lines_of bytes)) outcome.lines
-  pub leaves : IsLeftBy setting (refused_call outcome.call) (take outcome.lines (lines_of bytes)) outcome.errors shelf' kinds'
+  pub leaves : LeavesRun (refused_call outcome.call) setting (take outcome.lines (lines_of bytes)) outcome.errors shelf' kinds'
 
 -- Status 5 without a call: not all sessions were started, nothing was read or written, and hooks and kinds are as they were.
 pub record IsNotStarted (outcome : Outcome) (left left' written written' : Option (List ℕ)) (shelf shelf' : ShelfState) (before kinds' : List Kind) : Type 0 where
