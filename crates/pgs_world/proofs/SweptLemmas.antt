@@ -15,6 +15,7 @@ use Rattle.pgs_turns.specs.Generating.{IsFront}
 use Rattle.pgs_turns.specs.Sweeping.{LeaveRuns, LeavesRun, course_in, events_of_runs, run_numbers, runs_in, setting_for_run, setting_in, told_in, told_of_runs}
 use Rattle.pgs_turns.specs.Transcript.{Setting, course_of}
 use Rattle.pgs_turns.specs.World.{AreKept}
+use Rattle.pgs_turns.proofs.ErrorLemmas.{few_errors}
 use Rattle.pgs_turns.proofs.SweepLemmas.{all_told, few_in_runs, first_calls, leave_more, leave_none, leave_wanted, numbers_in, setting_found}
 use Rattle.pgs_world.specs.declared.program.Outcome.{Outcome}
 use Rattle.pgs_world.specs.declared.sweeping.Ran.{Ran}
@@ -22,7 +23,7 @@ use Rattle.pgs_world.specs.Lawful.{KeepLaws, RunsKeepLaws}
 use Rattle.pgs_world.specs.Outcome.{IsSharedOut}
 use Rattle.pgs_world.specs.Plays.{Outside, outside}
 use Rattle.pgs_world.specs.Sweep.{IsRead, IsSweepStatus, Sweeps}
-use Rattle.pgs_world.specs.SweepSteps.{GivesMore, IsUnplayed, RunsOnce, Stands, last_known}
+use Rattle.pgs_world.specs.SweepSteps.{GivesMore, IsUnplayed, RunsOnce, Stands, last_known, refused_in}
 use Rattle.pgs_world.proofs.EndingLemmas.{no_other, not_by_errors, status_one}
 
 -- the calls that fail: which is the last, and how many runs there are
@@ -113,6 +114,19 @@ module _ (k : ℕ) (setting : Setting) (lines : List (List ℕ)) (errors : ℕ) 
         took = took;
         limit = λ some. played.shared_out.limit_is;
       })
+
+  -- so many ERROR events have room in a count
+  pub few_more : length lines ≤ 65536 → k ≤ 2000 → errors + ran.errors < 2 ^ 64
+  few_more few within =
+      omega (
+        arith,
+        there.leaves.errors_are,
+        few_in_runs k setting lines few,
+        run_in.run.leaves.errors_are,
+        few_errors (setting_in k setting lines) (refused_in ran) lines,
+        few,
+        within,
+      )
 
   pub shared : IsSharedOut setting.options.sessions setting.options.space s u
   shared = record { limit_is = played.shared_out.limit_is; others = took }
