@@ -16,7 +16,7 @@ use Rattle.pgs_turns.specs.Sweeping.{LeaveRuns, LeavesRun, course_in, events_of_
 use Rattle.pgs_turns.specs.Transcript.{Setting, course_of}
 use Rattle.pgs_turns.specs.World.{AreKept}
 use Rattle.pgs_turns.proofs.ErrorLemmas.{few_errors}
-use Rattle.pgs_turns.proofs.SweepLemmas.{all_told, few_in_runs, first_calls, leave_more, leave_none, leave_wanted, numbers_in, setting_found}
+use Rattle.pgs_turns.proofs.SweepLemmas.{all_told, few_in_runs, first_calls, is_not_first, leave_more, leave_none, leave_wanted, numbers_in, setting_found}
 use Rattle.pgs_world.specs.declared.program.Outcome.{Outcome}
 use Rattle.pgs_world.specs.declared.sweeping.Ran.{Ran}
 use Rattle.pgs_world.specs.Lawful.{KeepLaws, RunsKeepLaws}
@@ -48,7 +48,7 @@ last_next k last calls now setting lines known first is = subst (λ (n : ℕ). n
   where
     by_case : (k : ℕ) → last ≡ last_known k setting lines → (k ≡ 0 → calls ≡ (course_in 0 setting lines).world.calls) → now ≡ (if k == 0 then min calls most_failing else last) → now ≡ last_known (suc k) setting lines
     by_case zero known first is = is ∙ ap (λ (n : ℕ). min n most_failing) (first refl)
-    by_case (suc k) known first is = is ∙ known
+    by_case (suc k) known first is = let later : now ≡ last = rw (is_not_first k) at is in later ∙ known
 
 kept_both : (a b c : List Kind) → AreKept a b → AreKept b c → AreKept a c
 kept_both a b c p q = record { table = q.table ∙ p.table; limits = q.limits ∙ p.limits; keys = λ kind key. q.keys kind key ∙ p.keys kind key }
