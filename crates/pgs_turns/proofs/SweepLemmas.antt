@@ -23,7 +23,7 @@ use Rattle.pgs_turns.proofs.ErrorLemmas.{few_errors}
 is_later : (k : ℕ) → nat_lt 0 (suc k) ≡ true
 is_later k = grind (arith, nat_tests)
 
-pub is_not_first : (k : ℕ) → (suc k == 0) ≡ false
+is_not_first : (k : ℕ) → (suc k == 0) ≡ false
 is_not_first k = grind (arith, nat_tests)
 
 -- run k is set up so where it finds what the runs before it left

@@ -16,7 +16,7 @@ use Rattle.pgs_turns.specs.Sweeping.{LeaveRuns, LeavesRun, course_in, events_of_
 use Rattle.pgs_turns.specs.Transcript.{Setting, course_of}
 use Rattle.pgs_turns.specs.World.{AreKept}
 use Rattle.pgs_turns.proofs.ErrorLemmas.{few_errors}
-use Rattle.pgs_turns.proofs.SweepLemmas.{all_told, few_in_runs, first_calls, is_not_first, leave_more, leave_none, leave_wanted, numbers_in, setting_found}
+use Rattle.pgs_turns.proofs.SweepLemmas.{all_told, few_in_runs, first_calls, leave_more, leave_none, leave_wanted, numbers_in, setting_found}
 use Rattle.pgs_world.specs.declared.program.Outcome.{Outcome}
 use Rattle.pgs_world.specs.declared.sweeping.Ran.{Ran}
 use Rattle.pgs_world.specs.Lawful.{KeepLaws, RunsKeepLaws}
@@ -38,6 +38,9 @@ is_run (suc k) setting lines h = omega (arith, h)
 pub all_run : (k : ℕ) (setting : Setting) (lines : List (List ℕ)) → last_known k setting lines < k → k ≤ runs_in setting lines → k ≡ runs_in setting lines
 all_run zero setting lines h within = absurd (omega (arith, h))
 all_run (suc k) setting lines h within = omega (arith, h, within)
+
+is_not_first : (k : ℕ) → (suc k == 0) ≡ false
+is_not_first k = grind (arith, nat_tests)
 
 one_more : (k : ℕ) → suc k ≡ k + 1
 one_more k = omega arith
