@@ -39,6 +39,9 @@ pub all_run : (k : ℕ) (setting : Setting) (lines : List (List ℕ)) → last_k
 all_run zero setting lines h within = absurd (omega (arith, h))
 all_run (suc k) setting lines h within = omega (arith, h, within)
 
+is_not_first : (k : ℕ) → (suc k == 0) ≡ false
+is_not_first k = grind (arith, nat_tests)
+
 one_more : (k : ℕ) → suc k ≡ k + 1
 one_more k = omega arith
 
@@ -48,7 +51,7 @@ last_next k last calls now setting lines known first is = subst (λ (n : ℕ). n
   where
     by_case : (k : ℕ) → last ≡ last_known k setting lines → (k ≡ 0 → calls ≡ (course_in 0 setting lines).world.calls) → now ≡ (if k == 0 then min calls most_failing else last) → now ≡ last_known (suc k) setting lines
     by_case zero known first is = is ∙ ap (λ (n : ℕ). min n most_failing) (first refl)
-    by_case (suc k) known first is = is ∙ known
+    by_case (suc k) known first is = let later : now ≡ last = rw (is_not_first k) at is in later ∙ known
 
 kept_both : (a b c : List Kind) → AreKept a b → AreKept b c → AreKept a c
 kept_both a b c p q = record { table = q.table ∙ p.table; limits = q.limits ∙ p.limits; keys = λ kind key. q.keys kind key ∙ p.keys kind key }

@@ -1,5 +1,5 @@
 -- The steps of a sweep: its script is read, and runs are played and told one after the other.
-use Rattle.std.specs.Prelude.{◌≡◌, ℕ, ◌+◌, ◌<◌, ◌≤◌, Bool, true, false, nat_lt, min, if◌then◌else◌, List, [], ◌∷◌, ◌++◌, length, Option, Some, None}
+use Rattle.std.specs.Prelude.{◌≡◌, ℕ, zero, suc, ◌+◌, ◌<◌, ◌≤◌, true, false, min, if◌then◌else◌, List, [], ◌∷◌, ◌++◌, length, Option, Some, None}
 use Rattle.std.specs.Io.KnownBytes.{append_known}
 use Rattle.addr_space.specs.Space.{Space, accounts, held, taken}
 use Rattle.owner_kinds.specs.Kind.{Kind}
@@ -7,7 +7,7 @@ use Rattle.pgs_io.specs.Faults.{HasRisen}
 use Rattle.reset_callbacks.specs.ShelfState.{ShelfState}
 use Rattle.session_rules.specs.Modes.{most_failing}
 use Rattle.session_rules.specs.Transcript.{ended}
-use Rattle.pgs_turns.specs.Sweeping.{LeaveRuns, LeavesRun, course_in, runs_in, told_of_runs}
+use Rattle.pgs_turns.specs.Sweeping.{LeaveRuns, LeavesRun, course_in, told_of_runs}
 use Rattle.pgs_turns.specs.Transcript.{Setting, course_of, EndsAt}
 use Rattle.pgs_turns.specs.World.{AreKept}
 use Rattle.pgs_world.specs.declared.sweeping.Ran.{Ran}
@@ -79,4 +79,5 @@ pub record Stands (runs : ℕ) (setting : Setting) (lines : List (List ℕ)) (er
 
 -- the last call that fails, as far as it is known behind so many runs
 abbrev pub last_known : ℕ → Setting → List (List ℕ) → ℕ
-last_known runs setting lines = if nat_lt 0 runs then min (course_in 0 setting lines).world.calls most_failing else 0
+last_known zero setting lines = 0
+last_known (suc k) setting lines = min (course_in 0 setting lines).world.calls most_failing

@@ -1,5 +1,5 @@
 //! Runs a script once with no failing call, and then once with each of its first calls failing in turn.
-ghost use Rattle.std.specs.Prelude.{◌≡◌, ◌<◌, ◌≤◌, ℕ, List, [], Option, length, min, nat_lt, if◌then◌else◌, replicate, vec_capacity, IfSome, IfNone, ◌==◌};
+ghost use Rattle.std.specs.Prelude.{◌≡◌, ◌<◌, ◌≤◌, ℕ, true, false, List, [], Option, length, min, nat_lt, if◌then◌else◌, replicate, vec_capacity, IfSome, IfNone, ◌==◌};
 ghost use Rattle.std.specs.Io.KnownBytes.{append_known};
 ghost use Rattle.addr_space.specs.Space.{accounts, held};
 ghost use Rattle.owner_kinds.specs.KindShelf.{table_of};

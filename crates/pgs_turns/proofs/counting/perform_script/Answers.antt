@@ -1,4 +1,5 @@
 use Rattle.std.proofs.Common.{◌≡◌, ◌≤◌, ◌+◌, ◌^◌, ℕ, false, length, take, refl, ◌∙◌, arith, length-take}
+use Rattle.std.proofs.lemmas.Bool.Decides.{nat_tests}
 use Rattle.pgs_io.specs.Lines.{lines_of}
 use Rattle.pgs_turns.specs.World.{run_of}
 use Rattle.pgs_turns.specs.Counting.{TakesEvents, TakesEvents-none}
@@ -20,7 +21,7 @@ pub overflow_add-lines : goal.overflow_add-lines
 overflow_add-lines g c =
     omega (
       arith,
-      one_before c.args.script.now c.split_line-line.result.1.now c.split_line-line.result.0.now c.loop-rest.lines (c.loop-rest.invariant.rest ∙ c.split_line-line.ensures.lines),
+      one_before c.args.script.now c.split_line.result.1.now c.split_line.result.0.now c.loop-rest.lines (c.loop-rest.invariant.rest ∙ c.split_line.ensures.lines),
       few_lines_of c.args.script.now,
       c.requires.short,
     )
@@ -35,25 +36,25 @@ perform_kept-requires-clause-room g c =
 pub returns-then-perform_kept-clause-performed : goal.returns-then-perform_kept-clause-performed
 returns-then-perform_kept-clause-performed g c descriptors has =
     line_turn descriptors (run_of c.args.sessions.now c.args.shared.now) (run_of c.loop-rest.sessions c.loop-rest.shared) (run_of c.perform_kept.new.sessions c.perform_kept.new.shared) c.args.counter.now c.loop-rest.counter c.perform_kept.new.counter
-    (lines_of c.args.script.now) c.loop-rest.lines c.split_line-line.result.0.now _ (c.loop-rest.invariant.performed descriptors has)
-    (next_there (lines_of c.args.script.now) (lines_of c.split_line-line.result.1.now) c.loop-rest.lines c.split_line-line.result.0.now (c.loop-rest.invariant.rest ∙ c.split_line-line.ensures.lines))
+    (lines_of c.args.script.now) c.loop-rest.lines c.split_line.result.0.now _ (c.loop-rest.invariant.performed descriptors has)
+    (next_there (lines_of c.args.script.now) (lines_of c.split_line.result.1.now) c.loop-rest.lines c.split_line.result.0.now (c.loop-rest.invariant.rest ∙ c.split_line.ensures.lines))
     c.if-perform_kept.ensures.turn
 
 pub returns-then-perform_kept-clause-within : goal.returns-then-perform_kept-clause-within
 returns-then-perform_kept-clause-within g c =
-    omega (arith, one_before c.args.script.now c.split_line-line.result.1.now c.split_line-line.result.0.now c.loop-rest.lines (c.loop-rest.invariant.rest ∙ c.split_line-line.ensures.lines))
+    omega (arith, one_before c.args.script.now c.split_line.result.1.now c.split_line.result.0.now c.loop-rest.lines (c.loop-rest.invariant.rest ∙ c.split_line.ensures.lines))
 
 pub loop-rest-preserved : goal.loop-rest-preserved
 loop-rest-preserved g c = record {
   performed = λ descriptors has.
       line_turn descriptors (run_of c.args.sessions.now c.args.shared.now) (run_of c.loop-rest.sessions c.loop-rest.shared) (run_of c.perform_kept.new.sessions c.perform_kept.new.shared) c.args.counter.now c.loop-rest.counter c.perform_kept.new.counter
-      (lines_of c.args.script.now) c.loop-rest.lines c.split_line-line.result.0.now _ (c.loop-rest.invariant.performed descriptors has)
-      (next_there (lines_of c.args.script.now) (lines_of c.split_line-line.result.1.now) c.loop-rest.lines c.split_line-line.result.0.now (c.loop-rest.invariant.rest ∙ c.split_line-line.ensures.lines))
+      (lines_of c.args.script.now) c.loop-rest.lines c.split_line.result.0.now _ (c.loop-rest.invariant.performed descriptors has)
+      (next_there (lines_of c.args.script.now) (lines_of c.split_line.result.1.now) c.loop-rest.lines c.split_line.result.0.now (c.loop-rest.invariant.rest ∙ c.split_line.ensures.lines))
       c.if-perform_kept.ensures.turn;
-  rest = next_dropped (lines_of c.args.script.now) (lines_of c.split_line-line.result.1.now) c.loop-rest.lines c.split_line-line.result.0.now (c.loop-rest.invariant.rest ∙ c.split_line-line.ensures.lines);
-  within = omega (arith, one_before c.args.script.now c.split_line-line.result.1.now c.split_line-line.result.0.now c.loop-rest.lines (c.loop-rest.invariant.rest ∙ c.split_line-line.ensures.lines));
+  rest = next_dropped (lines_of c.args.script.now) (lines_of c.split_line.result.1.now) c.loop-rest.lines c.split_line.result.0.now (c.loop-rest.invariant.rest ∙ c.split_line.ensures.lines);
+  within = omega (arith, one_before c.args.script.now c.split_line.result.1.now c.split_line.result.0.now c.loop-rest.lines (c.loop-rest.invariant.rest ∙ c.split_line.ensures.lines));
   standing = c.perform_kept.ensures.standing;
 }
 
 pub returns-clause-whole : goal.returns-clause-whole
-returns-clause-whole g c h = all_before c.args.script.now c.loop-rest.rest c.loop-rest.lines c.loop-rest.invariant.rest ? c.loop-rest.invariant.within
+returns-clause-whole g c h = all_before c.args.script.now c.loop-rest.rest.now c.loop-rest.lines c.loop-rest.invariant.rest (grind (arith, nat_tests, c.is_empty.ensures, c.loop-rest-test.false)) c.loop-rest.invariant.within
