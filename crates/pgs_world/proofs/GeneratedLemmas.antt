@@ -82,7 +82,7 @@ module _ (descriptors : ℕ) (first last : Run) (rounds lines errors : ℕ) (w w
         text = t.text refl refl;
         summed = summed setting rounds;
         told = whole_told false t;
-        status = status_one errors (errors_in (transcript setting None (made_script rounds))) (whole_told false t).errors;
+        status = status_one errors (errors_in (transcript setting None (made_script rounds))) (whole_told false t).errors_are;
       };
       untold = λ h. absurd (not_by_errors errors 4 (omega arith) h);
       stopped = λ h. absurd (not_by_errors errors 5 (omega arith) h);

@@ -106,9 +106,9 @@ pub fn run<S: Source, K: Sink, H: ResetHook, X: ExtKind>(
     // released exactly once, descendants first, by phase and priority; the end of a level that aborts touches nothing outside it; and each callback
     // runs once, before its memory goes. So does that of the script that is made. And in each no context and no owner is made twice, and none goes
     // that was not made.
-    ensures lawful { (o : Asked) → AskFor (map string_text words.now) o → (result.status ≡ 5 → 0 < result.call) → AreLawful (setting_for o shelf.old kinds.old) }
+    ensures lawful { (o : Asked) → AskFor (map string_text words.now) o → o.sweep ≡ false → (result.status ≡ 5 → 0 < result.call) → AreLawful (setting_for o shelf.old kinds.old) }
     ensures generated_lawful { ForMade (map string_text words.now) (λ o. (result.status ≡ 5 → 0 < result.call) → IsMadeLawfully o.generate (setting_for o shelf.old kinds.old)) }
-    ensures made_once { (o : Asked) → AskFor (map string_text words.now) o → (result.status ≡ 5 → 0 < result.call) → AreMadeOnce (setting_for o shelf.old kinds.old) }
+    ensures made_once { (o : Asked) → AskFor (map string_text words.now) o → o.sweep ≡ false → (result.status ≡ 5 → 0 < result.call) → AreMadeOnce (setting_for o shelf.old kinds.old) }
 
     // Unless not all sessions were started, the space has the limit that the words say, and no account but a session's took any bytes.
     ensures shared_out { (o : Asked) → AskFor (map string_text words.now) o → o.sweep ≡ false → (result.status ≡ 5 → 0 < result.call) → IsSharedOut o.sessions o.space space.old space.new }
@@ -152,7 +152,8 @@ pub fn run<S: Source, K: Sink, H: ResetHook, X: ExtKind>(
     ensures generated_call { ForMade (map string_text words.now) (λ o. result.status ≢ 5 → result.call ≡ 0) }
     ensures generated_statuses { ForMade (map string_text words.now) (λ o. IsMade result.status) }
 
-    // A sweep, by its status: which lines were written, how many errors all runs had, and what became of hooks and kinds.
+    // A sweep, by its status: which lines were written, how many errors all runs had, and what became of hooks and kinds. The transcripts of all
+    // runs that were played keep the laws of lifetimes.
     ensures swept { ForSweep (map string_text words.now) (λ o. Sweeps (setting_for o shelf.old kinds.old) result
         (outside (S.left src.old) (S.faults src.old) (K.written out.old) (K.faults out.old) shelf.old kinds.old)
         (outside (S.left src.new) (S.faults src.new) (K.written out.new) (K.faults out.new) shelf.new kinds.new) space.old space.new) }

@@ -26,6 +26,7 @@ swept_nothing o left written source_faults sink_faults = record {
     script = inr (refl, refl);
     text = append_known-nil written;
     leaves = record { errors_are = refl; hooks = refl; hooks_ran = λ word. omega arith; hooks_told = λ k e. absurd (omega (arith, e)); kinds = refl };
+    lawful = λ k less. absurd (omega (arith, less));
   };
   unswept = λ h. absurd (elim h [ inl p ↦ omega (arith, p) | inr p ↦ omega (arith, p) ]);
   overlong = λ h. absurd (omega (arith, h));
@@ -39,6 +40,7 @@ swept_nothing o left written source_faults sink_faults = record {
   given_back = λ account. refl;
   accounts_are = refl;
   kinds_kept = record { table = refl; limits = refl; keys = λ kind key. refl };
+  shared_out = λ h. absurd (omega (arith, h refl));
 }
 
 pub nothing_played : (words : List (List ℕ)) (left written : Option (List ℕ)) (source_faults sink_faults : ℕ)
@@ -63,9 +65,9 @@ nothing_played words left written source_faults sink_faults = record {
   generated_call = λ o asked _ h. absurd (h refl);
   generated_statuses = λ o asked _. inr (inr (inr refl));
   swept = λ o asked _. (the_shelf, the_kinds, the_space, the_space, swept_nothing o left written source_faults sink_faults);
-  lawful = λ o asked h. absurd (omega (arith, h refl));
+  lawful = λ o asked _ h. absurd (omega (arith, h refl));
   generated_lawful = λ o asked _ h. absurd (omega (arith, h refl));
-  made_once = λ o asked h. absurd (omega (arith, h refl));
+  made_once = λ o asked _ h. absurd (omega (arith, h refl));
   not_started = λ _ _ _. (refl, refl, refl, refl);
   source_grew = λ h. absurd (omega (arith, h));
   sink_grew = λ h. absurd (omega (arith, h));

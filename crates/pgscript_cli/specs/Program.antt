@@ -59,9 +59,9 @@ pub record Plays (words : List (List ℕ)) (outcome : Outcome) (left left' writt
   pub generated_call : ForMade words (λ o. outcome.status ≢ 5 → outcome.call ≡ 0)
   pub generated_statuses : ForMade words (λ o. IsMade outcome.status)
   pub swept : ForSweep words (λ o. (shelf : ShelfState) × (kinds : List Kind) × (s : Space) × (t : Space) × Sweeps (asked_run o) outcome (outside left source_faults written sink_faults the_shelf the_kinds) (outside left' source_faults' written' sink_faults' shelf kinds) s t)
-  pub lawful : (o : Options) → AskFor words o → (outcome.status ≡ 5 → 0 < outcome.call) → AreLawful (asked_run o)
+  pub lawful : (o : Options) → AskFor words o → o.sweep ≡ false → (outcome.status ≡ 5 → 0 < outcome.call) → AreLawful (asked_run o)
   pub generated_lawful : ForMade words (λ o. (outcome.status ≡ 5 → 0 < outcome.call) → IsMadeLawfully o.generate (asked_run o))
-  pub made_once : (o : Options) → AskFor words o → (outcome.status ≡ 5 → 0 < outcome.call) → AreMadeOnce (asked_run o)
+  pub made_once : (o : Options) → AskFor words o → o.sweep ≡ false → (outcome.status ≡ 5 → 0 < outcome.call) → AreMadeOnce (asked_run o)
   pub not_started : ((o : Options) → AskFor words o → o.sweep ≡ false) → outcome.status ≡ 5 → outcome.call ≡ 0 → (outcome.lines ≡ 0) × (outcome.errors ≡ 0) × (left' ≡ left) × (written' ≡ written)
   pub source_grew : source_faults < source_faults' → (outcome.status ≡ 3) ⊎ (outcome.status ≡ 4)
   pub sink_grew : sink_faults < sink_faults' → outcome.status ≡ 4

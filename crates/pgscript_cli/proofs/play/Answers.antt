@@ -44,9 +44,9 @@ returns-clause-played g c =
         generated_call = c.run-outcome.ensures.generated_call;
         generated_statuses = c.run-outcome.ensures.generated_statuses;
         swept = λ o asked is. (c.run-outcome.new.shelf, c.run-outcome.new.kinds, c.in-Ok-new.space, c.run-outcome.new.space, rw (← c.in-Ok-all_hooks.ensures.shelf, ← c.in-Ok-both_kinds.ensures) (c.run-outcome.ensures.swept o asked is));
-        lawful = λ o asked h. rw (← c.in-Ok-all_hooks.ensures.shelf, ← c.in-Ok-both_kinds.ensures) (c.run-outcome.ensures.lawful o asked h);
+        lawful = λ o asked once h. rw (← c.in-Ok-all_hooks.ensures.shelf, ← c.in-Ok-both_kinds.ensures) (c.run-outcome.ensures.lawful o asked once h);
         generated_lawful = λ o asked some h. rw (← c.in-Ok-all_hooks.ensures.shelf, ← c.in-Ok-both_kinds.ensures) (c.run-outcome.ensures.generated_lawful o asked some h);
-        made_once = λ o asked h. rw (← c.in-Ok-all_hooks.ensures.shelf, ← c.in-Ok-both_kinds.ensures) (c.run-outcome.ensures.made_once o asked h);
+        made_once = λ o asked once h. rw (← c.in-Ok-all_hooks.ensures.shelf, ← c.in-Ok-both_kinds.ensures) (c.run-outcome.ensures.made_once o asked once h);
         not_started = λ once h k. let left = c.run-outcome.ensures.not_started once h k in (left.lines, left.errors, left.unread, left.unwritten);
         source_grew = c.run-outcome.ensures.source_grew;
         sink_grew = c.run-outcome.ensures.sink_grew;
