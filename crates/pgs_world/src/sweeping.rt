@@ -61,7 +61,6 @@ pub(crate) fn sweep<S: Source, K: Sink, H: ResetHook, X: ExtKind>(
     requires few { options.now.sessions ≤ 64 }
     requires descriptors { 0 < options.now.descriptors }
     requires empty { (account : ℕ) → held space.old account ≡ 0 }
-    requires hooks { AreDistinct (shelf_state.held shelf.old) }
     ensures { Sweeps (setting_for options.now shelf.old kinds.old) result (outside (S.left src.old) (S.faults src.old) (K.written out.old) (K.faults out.old) shelf.old kinds.old)
         (outside (S.left src.new) (S.faults src.new) (K.written out.new) (K.faults out.new) shelf.new kinds.new) space.old space.new }
 {
@@ -90,7 +89,6 @@ fn sweep_script<K: Sink, H: ResetHook, X: ExtKind>(
     requires few { options.now.sessions ≤ 64 }
     requires descriptors { 0 < options.now.descriptors }
     requires empty { (account : ℕ) → held space.old account ≡ 0 }
-    requires hooks { AreDistinct (shelf_state.held shelf.old) }
     requires short { length script.now ≤ 65536 }
     ensures { (left left' : Option (List ℕ)) (faults : ℕ) → IsRead script.now left left'
         → Sweeps (setting_for options.now shelf.old kinds.old) result (outside left faults (K.written out.old) (K.faults out.old) shelf.old kinds.old)
@@ -162,7 +160,6 @@ fn run_once<H: ResetHook, X: ExtKind>(
     requires few { options.now.sessions ≤ 64 }
     requires descriptors { 0 < options.now.descriptors }
     requires empty { (account : ℕ) → held space.old account ≡ 0 }
-    requires hooks { fail ≡ 0 → AreDistinct (shelf_state.held shelf.old) }
     requires short { length script.now ≤ 65536 }
     ensures ran { IfSome result (λ ran. RunsOnce (setting_for_run fail (setting_for options.now shelf.old kinds.old) shelf.old kinds.old) (lines_of script.now) ran shelf.new kinds.new space.old space.new) }
     ensures unplayed { IfNone result (IsUnplayed shelf.old shelf.new kinds.old kinds.new space.old space.new) }
@@ -173,7 +170,9 @@ fn run_once<H: ResetHook, X: ExtKind>(
     let Ok(sessions) = Vec::with_capacity(alloc, options.sessions as usize) else {
         return None;
     };
+    // Kinds and hooks are in order by their types: the two calls say so.
     let _ = kinds.names();
+    let _ = shelf.fresh();
     run_lent(
         alloc, options, fail, script, places, sessions, space, shelf, kinds,
     )
@@ -201,7 +200,7 @@ fn run_lent<H: ResetHook, X: ExtKind>(
     requires few { options.now.sessions ≤ 64 }
     requires descriptors { 0 < options.now.descriptors }
     requires empty { (account : ℕ) → held space.old account ≡ 0 }
-    requires hooks { fail ≡ 0 → AreDistinct (shelf_state.held shelf.old) }
+    requires hooks { AreDistinct (shelf_state.held shelf.old) }
     requires short { length script.now ≤ 65536 }
     ensures ran { IfSome result (λ ran. RunsOnce (setting_for_run fail (setting_for options.now shelf.old kinds.old) shelf.old kinds.old) (lines_of script.now) ran shelf.new kinds.new space.old space.new) }
     ensures unplayed { IfNone result (IsUnplayed shelf.old shelf.new kinds.old kinds.new space.old space.new) }
@@ -250,7 +249,7 @@ fn run_shared<H: ResetHook, X: ExtKind>(
     requires descriptors { 0 < options.now.descriptors }
     requires accounts { options.now.sessions ≤ accounts shared.old.space.now }
     requires empty { (account : ℕ) → held shared.old.space.now account ≡ 0 }
-    requires hooks { shared.old.calls.now.fail ≡ 0 → AreDistinct (shelf_state.held shared.old.shelf.now) }
+    requires hooks { AreDistinct (shelf_state.held shared.old.shelf.now) }
     requires kinds { IsSound (table_of shared.old.commons.now.kinds) }
     requires unlocked { shared.old.commons.now.locks ≡ [] }
     requires unpinned { shared.old.commons.now.pins ≡ replicate 1024 0 }
@@ -271,7 +270,7 @@ fn run_shared<H: ResetHook, X: ExtKind>(
 
 /// Makes the hooks fresh that the run before used. Before the first run, in which no call fails, they stay as they are.
 fn renew_between<H: ResetHook>(fail: u64, shelf: &mut Shelf<H>)
-    requires hooks { fail ≡ 0 → AreDistinct (shelf_state.held shelf.old) }
+    requires hooks { AreDistinct (shelf_state.held shelf.old) }
     ensures renewed { shelf.new ≡ shelf_for fail shelf.old }
     ensures words_differ { AreDistinct (shelf_state.held shelf.new) }
 {

@@ -19,7 +19,8 @@ pub end_unheard-requires-clause-opening : goal.end_unheard-requires-clause-openi
 end_unheard-requires-clause-opening g c = rw c.deref_mut.ensures.value (opened_run _ _ _ c.start_sessions.ensures.opened c.requires.calls)
 
 pub end_unheard-requires-clause-standing : goal.end_unheard-requires-clause-standing
-end_unheard-requires-clause-standing g c = ?
+end_unheard-requires-clause-standing g c =
+    rw c.deref_mut.ensures.value (opened_standing _ _ _ c.start_sessions.ensures.opened c.requires.hooks c.requires.kinds c.requires.unlocked c.requires.unpinned (omega (arith, c.start_sessions.ensures.few, c.requires.few)))
 
 pub run_started-requires-clause-opening : goal.run_started-requires-clause-opening
 run_started-requires-clause-opening g c = rw c.deref_mut-2.ensures.value (opened_run _ _ _ c.start_sessions.ensures.opened c.requires.calls)

@@ -14,7 +14,6 @@ loop-fail-init g c = record {
   last = refl;
   within = omega arith;
   no_fault = refl;
-  hooks = λ first. c.requires.hooks;
 }
 
 -- the ERROR events of all runs have room in their count

@@ -1,7 +1,5 @@
 use Rattle.std.proofs.Common.{◌≡◌, ◌-◌, ◌≤◌}
 use Rattle.pgs_io.specs.Lines.{lines_of}
-use Rattle.reset_callbacks.specs.Hook.{AreDistinct}
-use Rattle.reset_callbacks.specs.ShelfState.{held}
 use Rattle.pgs_turns.specs.Sweeping.{runs_in}
 use Rattle.pgs_world.specs.Outcome.{setting_for}
 use Rattle.pgs_world.specs.SweepSteps.{Stands, last_known}
@@ -14,7 +12,6 @@ invariant-loop-fail g l = record {
   last : l.last ≡ last_known l.fail (setting_for l.options l.initial.shelf l.initial.kinds) (lines_of l.script);
   within : l.fail ≤ runs_in (setting_for l.options l.initial.shelf l.initial.kinds) (lines_of l.script);
   no_fault : g.K.Sink.faults l.out ≡ g.K.Sink.faults l.initial.out;
-  hooks : l.fail ≡ 0 → AreDistinct (held l.shelf);
 }
 
 abbrev pub decreases-loop-fail : goal.decreases-loop-fail
