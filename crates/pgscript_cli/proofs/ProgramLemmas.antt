@@ -1,47 +1,17 @@
 -- Where no memory is found for the words, the space or the hooks, nothing is played.
 use Rattle.std.proofs.Common.{◌≡◌, ◌<◌, ◌⊎◌, inl, inr, ℕ, List, [], Option, refl, arith}
 use Rattle.addr_space.specs.Space.{Space, held}
-use Rattle.pgs_turns.specs.Sweeping.{events_of_runs, kinds_behind, shelf_behind, told_of_runs}
-use Rattle.pgs_world.specs.PrintingLaws.{append_known-nil}
-use Rattle.pgs_world.specs.declared.options.Options.{Options}
-use Rattle.pgs_world.specs.Plays.{outside}
-use Rattle.pgs_world.specs.Sweep.{Sweeps}
+use Rattle.pgs_world.proofs.SweptLemmas.{not_read}
 use Rattle.pgscript_cli.specs.Program.{Plays, asked_run, the_kinds, the_shelf}
+
+-- a space without regions holds nothing
+pub none_held : (s : Space) → s.regions ≡ [] → (account : ℕ) → held s account ≡ 0
+unfolding held
+none_held s none account = rw none refl
 
 -- a space of which nothing is known but that it holds nothing
 the_space : Space
 the_space = record { regions = []; taken = []; limit = 0 }
-
--- no run of a sweep was played
-swept_nothing : (o : Options) (left written : Option (List ℕ)) (source_faults sink_faults : ℕ)
-    → Sweeps (asked_run o) (record { status = 5; call = 0; errors = 0; lines = 0 }) (outside left source_faults written sink_faults the_shelf the_kinds) (outside left source_faults written sink_faults the_shelf the_kinds) the_space the_space
-unfolding told_of_runs events_of_runs shelf_behind kinds_behind held
-swept_nothing o left written source_faults sink_faults = record {
-  whole = λ h. absurd (elim h [ inl p ↦ omega (arith, p) | inr p ↦ omega (arith, p) ]);
-  unwritten = λ h. absurd (omega (arith, h));
-  wanted = λ h k. absurd (omega (arith, k));
-  stopped = λ h k. record {
-    bytes = [];
-    runs = 0;
-    script = inr (refl, refl);
-    text = append_known-nil written;
-    leaves = record { errors_are = refl; hooks = refl; hooks_ran = λ word. omega arith; hooks_told = λ k e. absurd (omega (arith, e)); kinds = refl };
-    lawful = λ k less. absurd (omega (arith, less));
-  };
-  unswept = λ h. absurd (elim h [ inl p ↦ omega (arith, p) | inr p ↦ omega (arith, p) ]);
-  overlong = λ h. absurd (omega (arith, h));
-  lines = refl;
-  call = λ h. absurd (h refl);
-  source_fault = λ h. absurd (omega (arith, h));
-  source_grew = λ h. refl;
-  sink_fault = λ h. absurd (omega (arith, h));
-  sink_grew = λ h. refl;
-  statuses = inr (inr (inr (inr (inl refl))));
-  given_back = λ account. refl;
-  accounts_are = refl;
-  kinds_kept = record { table = refl; limits = refl; keys = λ kind key. refl };
-  shared_out = λ h. absurd (omega (arith, h refl));
-}
 
 pub nothing_played : (words : List (List ℕ)) (left written : Option (List ℕ)) (source_faults sink_faults : ℕ)
     → Plays words (record { status = 5; call = 0; errors = 0; lines = 0 }) left left written written source_faults source_faults sink_faults sink_faults
@@ -64,7 +34,7 @@ nothing_played words left written source_faults sink_faults = record {
   generated_unread = λ o asked _. (refl, refl);
   generated_call = λ o asked _ h. absurd (h refl);
   generated_statuses = λ o asked _. inr (inr (inr refl));
-  swept = λ o asked _. (the_shelf, the_kinds, the_space, the_space, swept_nothing o left written source_faults sink_faults);
+  swept = λ o asked _. (the_shelf, the_kinds, the_space, the_space, not_read (asked_run o) written the_space left left source_faults source_faults sink_faults (none_held the_space refl));
   lawful = λ o asked _ h. absurd (omega (arith, h refl));
   generated_lawful = λ o asked _ h. absurd (omega (arith, h refl));
   made_once = λ o asked _ h. absurd (omega (arith, h refl));
@@ -75,8 +45,3 @@ nothing_played words left written source_faults sink_faults = record {
   call = λ _ h. absurd (h refl);
   complete = λ o asked _ _ _ _ _ _. inr (inr refl);
 }
-
--- a space without regions holds nothing
-pub none_held : (s : Space) → s.regions ≡ [] → (account : ℕ) → held s account ≡ 0
-unfolding held
-none_held s none account = rw none refl
