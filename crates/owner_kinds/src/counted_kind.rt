@@ -1,4 +1,5 @@
-ghost use Rattle.std.specs.Prelude.{◌≡◌, ◌≢◌, ◌≤◌, ◌==◌, [], position};
+ghost use Rattle.std.specs.Prelude.{◌≡◌, ◌≢◌, ◌≤◌, ◌==◌, ◌↔◌, [], IsTrue, position};
+ghost use Rattle.owner_kinds.specs.Kind.{IsFull};
 
 use crate::ext_kind::{ExtKind, KindError};
 use pgs_step::{Name, Phase};
@@ -53,6 +54,13 @@ impl CountedKind {
             keys: Vec::new(alloc),
         }
     }
+
+    /// Whether it holds as many keys as it may, so that `open` answers `Full`.
+    pub fn is_full(&self) -> bool
+        ensures { IsTrue result ↔ IsFull self.now }
+    {
+        self.keys.len() >= self.limit as usize
+    }
 }
 
 impl ExtKind for CountedKind {
@@ -71,7 +79,7 @@ impl ExtKind for CountedKind {
     }
 
     fn open(&mut self, key: u32) -> Result<(), KindError> {
-        if self.keys.len() >= self.limit as usize {
+        if self.is_full() {
             return Err(KindError::Full);
         }
         if self.keys.push(key).is_err() {

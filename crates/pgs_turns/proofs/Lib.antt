@@ -15,6 +15,10 @@ pub mod ToldHooks
 pub mod TurnLemmas
 pub mod WordLemmas
 pub mod LineLemmas
+pub mod CountedLemmas
+pub mod KeptLemmas
 pub mod MadeLemmas
 pub mod ToldLemmas
 pub mod MadeTurns
+pub mod LeftLemmas
+pub mod SweepLemmas

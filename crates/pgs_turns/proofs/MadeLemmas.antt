@@ -39,9 +39,3 @@ made_at (suc n) place less = by_test (made_at n place) (nat_lt place (13 * n)) r
         let line : k ≡ place % 13 = omega (arith, past, less) in
         ap (λ (j : ℕ). slice_get (made_script n ++ made_lines (n + 1)) j) at ∙ get_behind (made_script n) (made_lines (n + 1)) k
         ∙ ap (λ (r : ℕ). slice_get (made_lines r) k) round ∙ ap (λ (j : ℕ). slice_get (made_lines (place / 13 + 1)) j) line
-
--- one more
-pub take_more : {A : Type 0} (xs : List A) (k : ℕ) (x : A) → slice_get xs k ≡ Some x → take k xs ++ x ∷ [] ≡ take (suc k) xs
-take_more [] k x there = absurd (cc there)
-take_more {A = A} (y ∷ ys) zero x there = let same : y ≡ x = cc there in ap (λ (z : A). z ∷ []) (sym same)
-take_more {A = A} (y ∷ ys) (suc k) x there = ap (λ (zs : List A). y ∷ zs) (take_more ys k x there)

@@ -7,15 +7,15 @@ use Rattle.session_rules.specs.Modes.{made_lines, made_script}
 use Rattle.pgs_turns.specs.declared.lines.Said.{Said}
 use Rattle.pgs_command.specs.Lines.{read_line}
 use Rattle.pgs_turns.specs.Script.{said_in}
-use Rattle.pgs_turns.specs.Courses.{HasPerformed, IsOver}
-use Rattle.pgs_turns.specs.Turns.{AllExit, HaveRoom, TakesTurn}
-use Rattle.pgs_turns.specs.World.{IsOpening, Run}
-use Rattle.pgs_turns.proofs.OverLemmas.{run_over}
-use Rattle.pgs_turns.proofs.PlayLemmas.{performed_line, room_behind}
+use Rattle.pgs_turns.specs.Courses.{HasPerformed}
+use Rattle.pgs_turns.specs.Turns.{HaveRoom, TakesTurn}
+use Rattle.pgs_turns.specs.World.{Run}
+use Rattle.pgs_turns.proofs.CountedLemmas.{line_turn}
+use Rattle.pgs_turns.proofs.PlayLemmas.{room_behind}
 use Rattle.pgs_turns.specs.declared.counter.Counter.{Counter}
-use Rattle.pgs_turns.specs.Counting.{TakesEvents, TakesEvents-both}
+use Rattle.pgs_turns.specs.Counting.{TakesEvents}
 use Rattle.pgs_turns.specs.Made.{asked_at, read_at}
-use Rattle.pgs_turns.proofs.MadeLemmas.{made_at, take_more}
+use Rattle.pgs_turns.proofs.MadeLemmas.{made_at}
 use Rattle.pgs_turns.proofs.ToldLemmas.{few_lines}
 
 -- what is made of a value is made of one that is there
@@ -36,20 +36,9 @@ pub made_turn : (descriptors : ℕ) (first old new : Run) (a b c : Counter) (rou
     → HasPerformed descriptors first new (λ events. TakesEvents a events c) (take (place + 1) (made_script rounds)) wanted
 made_turn descriptors first old new a b c rounds place said wanted s less asked t =
     let of_rules = line_of (place / 13 + 1) (place % 13) said asked in
-    let line : List ℕ = of_rules.0 in
-    let next_place : suc place ≡ place + 1 = omega arith in
-    let next : take place (made_script rounds) ++ line ∷ [] ≡ take (place + 1) (made_script rounds) =
-    take_more (made_script rounds) place line (made_at rounds place less ∙ of_rules.1) ∙ ap (λ (k : ℕ). take k (made_script rounds)) next_place in
-    subst (λ (lines : List (List ℕ)). HasPerformed descriptors first new (λ events. TakesEvents a events c) lines wanted) next
-    (performed_line descriptors first old new (λ events. TakesEvents a events b) (λ events. TakesEvents b events c) (λ events. TakesEvents a events c) (take place (made_script rounds)) line wanted s
-    (subst (λ (z : Said). TakesTurn z old new (λ events. TakesEvents b events c) wanted) of_rules.2 t) (λ xs ys p q. TakesEvents-both a b c xs ys p q))
+    line_turn descriptors first old new a b c (made_script rounds) place of_rules.0 wanted s (made_at rounds place less ∙ of_rules.1)
+    (subst (λ (z : Said). TakesTurn z old new (λ events. TakesEvents b events c) wanted) of_rules.2 t)
 
 pub made_room : (descriptors : ℕ) (first run : Run) (emitted : List Event → Type 0) (rounds place : ℕ) → rounds ≤ 10000 → place < 13 * rounds → HasPerformed descriptors first run emitted (take place (made_script rounds)) false → HaveRoom run
 made_room descriptors first run emitted rounds place few less s =
     room_behind descriptors first run emitted (take place (made_script rounds)) false s (omega (arith, few, less, few_lines rounds place (omega (arith, less))))
-
--- behind the ends of all sessions
-pub made_over : (descriptors : ℕ) (first behind last : Run) (a b c : Counter) (lines : List (List ℕ)) (wanted : Bool) → IsOpening first → HasPerformed descriptors first behind (λ events. TakesEvents a events b) lines wanted
-    → AllExit behind last (λ events. TakesEvents b events c) → IsOver descriptors first last (λ events. TakesEvents a events c) lines wanted
-made_over descriptors first behind last a b c lines wanted opens performed ends =
-    run_over descriptors first behind last (λ events. TakesEvents a events b) (λ events. TakesEvents b events c) (λ events. TakesEvents a events c) lines wanted opens performed ends (λ xs ys p q. TakesEvents-both a b c xs ys p q)

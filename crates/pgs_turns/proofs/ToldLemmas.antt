@@ -8,7 +8,7 @@ use Rattle.pgs_turns.specs.Turns.{Fits}
 use Rattle.pgs_turns.specs.Courses.{IsOver}
 use Rattle.pgs_turns.specs.Transcript.{Setting, course_of, transcript}
 use Rattle.pgs_turns.specs.World.{Run, setting_of}
-use Rattle.pgs_turns.proofs.ErrorLemmas.{few_errors}
+use Rattle.pgs_turns.proofs.CountedLemmas.{counted_over}
 use Rattle.pgs_turns.proofs.OverLemmas.{fits_none}
 use Rattle.pgs_turns.specs.declared.counter.Counter.{Counter}
 use Rattle.pgs_turns.specs.Counting.{TakesEvents}
@@ -37,38 +37,18 @@ all_lines n k whole = ap (λ (j : ℕ). take j (made_script n)) (whole ∙ sym (
 module _ (descriptors : ℕ) (first last : Run) (rounds k : ℕ) (wanted : Bool) (none counter : Counter) (no_events : none.events ≡ 0) (no_errors : none.errors ≡ 0) (small : counter.errors < 2 ^ 64) (fits : counter.events < 2 ^ 64)
     (within : k ≤ 13 * rounds) (few : rounds ≤ 10000)
     (over : IsOver descriptors first last (λ events. TakesEvents none events counter) (take k (made_script rounds)) wanted) where
-  -- the counter counts the ERROR events
-  pub counted_errors : (w : Option ℕ) → Fits wanted last.calls.count w → counter.errors ≡ errors_in (transcript (setting_of descriptors first) w (take k (made_script rounds)))
-  counted_errors w f = omega (
-    arith,
-    (over.emits w f).errors_are,
-    no_errors,
-    small,
-    few_errors (setting_of descriptors first) w (take k (made_script rounds)),
-    few_lines rounds k within,
-    within,
-    few,
-  )
+  few_taken : length (take k (made_script rounds)) ≤ 2 ^ 24
+  few_taken = omega (arith, few_lines rounds k within, within, few)
 
-  pub counted_over : IsOver descriptors first last (λ events. counter.errors ≡ errors_in events) (take k (made_script rounds)) wanted
-  counted_over = record {
-    emits = counted_errors;
-    shelf = over.shelf;
-    told = over.told;
-    kinds = over.kinds;
-    calls = over.calls;
-    performed = over.performed;
-    stopped = over.stopped;
-    called = over.called;
-    same = over.same;
-    kept = over.kept;
-    given_back = over.given_back;
-    taken = over.taken;
-  }
+  abbrev Counts : Type 0
+  Counts = IsOver descriptors first last (λ events. counter.errors ≡ errors_in events) (take k (made_script rounds)) wanted
+
+  counts : Counts
+  counts = counted_over descriptors first last (take k (made_script rounds)) wanted none counter counter.errors no_errors refl small few_taken over
 
   -- its numbers are those of the run, where no line met a want of memory
   pub numbers_told : wanted ≡ false → k ≡ 13 * rounds → numbers k counter.events counter.errors last.calls.count ≡ text_for rounds (setting_of descriptors first)
-  unfolding generated_by transcript transcript_by course_of counted_errors
+  unfolding generated_by transcript transcript_by course_of
   numbers_told goes whole =
       let f : Fits wanted last.calls.count None = fits_none wanted last.calls.count goes in
       let lines : take k (made_script rounds) ≡ made_script rounds = all_lines rounds k whole in
@@ -77,7 +57,7 @@ module _ (descriptors : ℕ) (first last : Run) (rounds k : ℕ) (wanted : Bool)
       let performed : k ≡ course.performed = sym (over.performed None f ∙ few_lines rounds k within) in
       ap (λ (n : ℕ). numbers n counter.events counter.errors last.calls.count) performed
       ∙ ap (λ (n : ℕ). numbers course.performed n counter.errors last.calls.count) events
-      ∙ ap (λ (n : ℕ). numbers course.performed (min (length course.events) (2 ^ 64 - 1)) n last.calls.count) (counted_errors None f)
+      ∙ ap (λ (n : ℕ). numbers course.performed (min (length course.events) (2 ^ 64 - 1)) n last.calls.count) (counts.emits None f)
       ∙ ap (λ (n : ℕ). numbers course.performed (min (length course.events) (2 ^ 64 - 1)) (errors_in course.events) n) (sym (over.calls None f))
       ∙ ap (λ (all : List (List ℕ)). told (ended (course_of (setting_of descriptors first) None all))) lines
 
@@ -94,7 +74,7 @@ module _ (descriptors : ℕ) (first last : Run) (rounds k : ℕ) (wanted : Bool)
       → (done ≡ true → w' ≡ append_known w (numbers k events errors last.calls.count)) → (done ≡ false → IsFront (numbers k events errors last.calls.count) w w')
       → Tells descriptors first last rounds (record { lines = k; errors = errors; wanted = wanted; failed = not done }) w w'
   written_tells goes whole events errors events_are errors_are done w w' all front = record {
-    over = subst (λ (n : ℕ). IsOver descriptors first last (λ es. n ≡ errors_in es) (take k (made_script rounds)) wanted) (sym errors_are) counted_over;
+    over = subst (λ (n : ℕ). IsOver descriptors first last (λ es. n ≡ errors_in es) (take k (made_script rounds)) wanted) (sym errors_are) counts;
     lines = within;
     whole = λ h. whole;
     text = λ h f. all (is_done done f) ∙ ap (append_known w) line;
@@ -114,7 +94,7 @@ module _ (descriptors : ℕ) (first last : Run) (rounds k : ℕ) (wanted : Bool)
   -- where a line met a want of memory, nothing was
   pub silent_tells : wanted ≡ true → (errors : ℕ) → errors ≡ counter.errors → (w : Option (List ℕ)) → Tells descriptors first last rounds (record { lines = k; errors = errors; wanted = wanted; failed = not wanted }) w w
   silent_tells stops errors errors_are w = record {
-    over = subst (λ (n : ℕ). IsOver descriptors first last (λ es. n ≡ errors_in es) (take k (made_script rounds)) wanted) (sym errors_are) counted_over;
+    over = subst (λ (n : ℕ). IsOver descriptors first last (λ es. n ≡ errors_in es) (take k (made_script rounds)) wanted) (sym errors_are) counts;
     lines = within;
     whole = λ h. absurd (apart wanted stops h);
     text = λ h f. absurd (apart wanted stops h);

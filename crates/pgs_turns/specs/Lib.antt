@@ -9,3 +9,4 @@ pub mod Counting
 pub mod Summary
 pub mod Made
 pub mod Generating
+pub mod Sweeping

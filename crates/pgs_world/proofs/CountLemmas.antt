@@ -1,5 +1,5 @@
 -- The errors of a whole run are those of the source's bytes.
-use Rattle.std.proofs.Common.{◌≡◌, ℕ, false, List, ◌++◌, Option, Some, None, refl, sym, ap, ◌∙◌, subst, append-nil}
+use Rattle.std.proofs.Common.{◌≡◌, ℕ, false, List, ◌++◌, length, Option, Some, None, refl, sym, ap, ◌∙◌, subst, append-nil}
 use Rattle.std.specs.Io.KnownBytes.{IsAtEnd, prepend_known}
 use Rattle.pgs_io.specs.Lines.{lines_of}
 use Rattle.pgs_turns.specs.Transcript.{Setting}
@@ -7,8 +7,9 @@ use Rattle.addr_space.specs.Space.{Space}
 use Rattle.pgs_turns.specs.Courses.{TakesLines}
 use Rattle.pgs_world.specs.declared.performing.End.{End}
 use Rattle.pgs_world.specs.declared.performing.End.TheVariants as end
-use Rattle.pgs_world.specs.Outcome.{TakesAsked}
+use Rattle.pgs_world.specs.Outcome.{TakesAsked, TakesGiven}
 use Rattle.pgs_world.specs.Loop.{EndIs, is_wanted}
+use Rattle.pgs_world.proofs.EndingLemmas.{first_lines, front_of}
 
 -- what a source had, where it has nothing left
 pub all_given : (taken bytes : List ℕ) (after : Option (List ℕ)) → IsAtEnd after → prepend_known taken after ≡ Some bytes → taken ≡ bytes
@@ -28,3 +29,14 @@ taken_all setting end.Wanted bytes lines left left' s t w how takes given is = a
 taken_all setting end.SourceFault bytes lines left left' s t w how takes given is = absurd (cc)
 taken_all setting end.TooLong bytes lines left left' s t w how takes given is = absurd (cc)
 taken_all setting end.Unwritten bytes lines left left' s t w how takes given is = absurd (cc)
+
+-- what they took where lines were performed of bytes that were given
+pub taken_given : (setting : Setting) (e : End) (n : ℕ) (bytes : List ℕ) (lines : List (List ℕ)) (left left' : Option (List ℕ)) (s t : Space) → n ≡ length lines → EndIs e bytes lines left left'
+    → TakesLines setting lines s t → TakesGiven setting n left left' s t
+taken_given setting e n bytes lines left left' s t count how takes =
+    let front = front_of e bytes lines left left' how in
+    record {
+      bytes = front.given;
+      given = front.given_is;
+      takes = subst (λ (ls : List (List ℕ)). TakesLines setting ls s t) (sym (first_lines n lines front.more (lines_of front.given) count front.front)) takes;
+    }

@@ -14,6 +14,7 @@ use Rattle.session_rules.specs.Transcript.{Course, errors_in, text_of_transcript
 use Rattle.pgs_turns.specs.Turns.{Fits}
 use Rattle.pgs_turns.specs.Transcript.{Setting, course_of, kinds_after, names_of, shelf_after, text_in, transcript, EndsAt}
 use Rattle.pgs_turns.specs.Hooks.{HooksAreTold}
+use Rattle.pgs_turns.specs.Sweeping.{LeavesRun}
 use Rattle.pgs_turns.proofs.CourseLemmas.{course_of-stopped}
 use Rattle.pgs_turns.proofs.OverLemmas.{fit_of, kinds-stopped, shelf-stopped, transcript-stopped}
 use Rattle.pgs_world.specs.declared.performing.End.{End}
@@ -28,7 +29,7 @@ use Rattle.pgs_world.specs.Plays.{Outside, Performed}
 pub record Printed (names : List (List ℕ)) (written written' : Option (List ℕ)) (faults faults' errors : ℕ) (failed : Bool) (events : List Event) : Type 0 where
   pub text : failed ≡ false → written' ≡ append_known written (text_of_transcript names events)
   pub no_fault : failed ≡ false → faults' ≡ faults
-  pub front : failed ≡ true → (front rest : List ℕ) × (front ++ rest ≡ text_of_transcript names events) × (written' ≡ append_known written front)
+  pub front : failed ≡ true → (front rest : List ℕ) × (front ++ rest ≡ text_of_transcript names events) × (written' ≡ append_known written front) × (0 < length rest)
   pub risen : failed ≡ true → HasRisen faults faults'
   pub errors_are : errors ≡ errors_in events
 
@@ -57,7 +58,7 @@ printed_all old new events p empty going none emptied small few =
       no_fault = λ f. (moves_on old.failed new.failed old new texts going f moves).no_fault;
       front = λ f.
           let m = moves_failed old.failed new.failed old new texts going f moves in
-          (m.hands.handed, m.rest, m.hands.parts ∙ ap (λ (z : List ℕ). z ++ texts) empty, m.hands.taken);
+          (m.hands.handed, m.rest, m.hands.parts ∙ ap (λ (z : List ℕ). z ++ texts) empty, m.hands.taken, m.some);
       risen = λ f. (moves_failed old.failed new.failed old new texts going f moves).risen;
       errors_are = omega (arith, p.errors, none, small, few);
     }
@@ -101,6 +102,18 @@ not_by_errors errors m h e = of_test (nat_lt 0 errors) e
 pub status_one : (errors m : ℕ) → errors ≡ m → (status_of end.Whole false errors ≡ 1) ↔ (0 < m)
 status_one errors m e = (λ h. grind (arith, nat_tests), λ h. grind (arith, nat_tests))
 
+-- lines behind the one that met a want of memory leave no more
+pub left_stopped : (setting : Setting) (calls : ℕ) (lines more : List (List ℕ)) (errors : ℕ) (shelf' : ShelfState) (kinds' : List Kind) → (course_of setting (Some calls) lines).wanted ≡ true
+    → LeavesRun (Some calls) setting lines errors shelf' kinds' → LeavesRun (Some calls) setting (lines ++ more) errors shelf' kinds'
+left_stopped setting calls lines more errors shelf' kinds' wanted l =
+    let same : transcript setting (Some calls) lines ≡ transcript setting (Some calls) (lines ++ more) = sym (transcript-stopped setting calls lines more wanted) in
+    record {
+      errors_are = l.errors_are ∙ ap errors_in same;
+      hooks = l.hooks ∙ sym (shelf-stopped setting calls lines more wanted);
+      hooks_told = subst (HooksAreTold setting.shelf shelf') same l.hooks_told;
+      kinds = l.kinds ∙ sym (kinds-stopped setting calls lines more wanted);
+    }
+
 -- All that is known of a script that was played: how the reading ended, and what was printed.
 pub record Facts (setting : Setting) (e : End) (n calls errors : ℕ) (failed : Bool) (left left' written written' : Option (List ℕ)) (faults faults' : ℕ) (shelf' : ShelfState) (kinds' : List Kind) : Type 0 where
   pub bytes : List ℕ
@@ -108,9 +121,7 @@ pub record Facts (setting : Setting) (e : End) (n calls errors : ℕ) (failed : 
   pub how : EndIs e bytes lines left left'
   pub count : n ≡ length lines
   pub printed : (w : Option ℕ) → Fits (is_wanted e) calls w → Printed (names_of setting.kinds) written written' faults faults' errors failed (transcript setting w lines)
-  pub hooks : (w : Option ℕ) → Fits (is_wanted e) calls w → shelf' ≡ shelf_after setting w lines
-  pub told : (w : Option ℕ) → Fits (is_wanted e) calls w → HooksAreTold setting.shelf shelf' (transcript setting w lines)
-  pub kinds : (w : Option ℕ) → Fits (is_wanted e) calls w → kinds' ≡ kinds_after setting w lines
+  pub leaves : (w : Option ℕ) → Fits (is_wanted e) calls w → LeavesRun w setting lines errors shelf' kinds'
   pub stopped : is_wanted e ≡ true → EndsAt setting calls lines n
   pub called : is_wanted e ≡ true → 0 < calls
   pub silent : OnUnwritten e (failed ≡ true)
@@ -143,7 +154,7 @@ of_front bytes lines left left' h = record {
   front = h.front;
 }
 
-front_of : (e : End) (bytes : List ℕ) (lines : List (List ℕ)) (left left' : Option (List ℕ)) → EndIs e bytes lines left left' → Front lines left left'
+pub front_of : (e : End) (bytes : List ℕ) (lines : List (List ℕ)) (left left' : Option (List ℕ)) → EndIs e bytes lines left left' → Front lines left left'
 front_of end.Whole bytes lines left left' h = record {
   given = bytes;
   given_is = h.0;
@@ -175,10 +186,14 @@ front_of end.TooLong bytes lines left left' h =
       front = f.1 ∙ ap (λ (z : List (List ℕ)). z ++ f.0) (sym h.3);
     }
 
-first_lines : (n : ℕ) (lines more all : List (List ℕ)) → n ≡ length lines → all ≡ lines ++ more → take n all ≡ lines
+pub first_lines : (n : ℕ) (lines more all : List (List ℕ)) → n ≡ length lines → all ≡ lines ++ more → take n all ≡ lines
 first_lines n lines more all c e = ap (λ (k : ℕ). take k all) c ∙ ap (take (length lines)) e ∙ take-append_seam lines more
 
 module _ (setting : Setting) (n calls errors : ℕ) (left left' written written' : Option (List ℕ)) (faults faults' : ℕ) (shelf' : ShelfState) (kinds' : List Kind) where
+  -- what lines leave these leave, too
+  left_as : (w : Option ℕ) (lines others : List (List ℕ)) → lines ≡ others → LeavesRun w setting lines errors shelf' kinds' → LeavesRun w setting others errors shelf' kinds'
+  left_as w lines others same l = subst (λ (z : List (List ℕ)). LeavesRun w setting z errors shelf' kinds') same l
+
   abbrev At : End → Bool → Type 0
   At e failed = Facts setting e n calls errors failed left left' written written' faults faults' shelf' kinds'
 
@@ -193,10 +208,7 @@ module _ (setting : Setting) (n calls errors : ℕ) (left left' written written'
         short = f.how.2;
         lines = f.count ∙ ap length f.how.3;
         text = told.text refl;
-        errors = told.errors_are;
-        hooks = f.hooks None tt ∙ ap (shelf_after setting None) f.how.3;
-        hooks_told = subst (λ (z : List (List ℕ)). HooksAreTold setting.shelf shelf' (transcript setting None z)) f.how.3 (f.told None tt);
-        kinds = f.kinds None tt ∙ ap (kinds_after setting None) f.how.3;
+        leaves = left_as None f.lines (lines_of f.bytes) f.how.3 (f.leaves None tt);
         status = status_one errors (errors_in (transcript setting None (lines_of f.bytes))) told.errors_are;
       }
 
@@ -212,7 +224,7 @@ module _ (setting : Setting) (n calls errors : ℕ) (left left' written written'
   cut_off end.SourceFault false f h =
       let none : Printed (names_of setting.kinds) written written' faults faults' errors false (transcript setting None f.lines) = f.printed None tt in
       let told : Printed (names_of setting.kinds) written written' faults faults' errors false (transcript setting None (ended_lines f.bytes)) = subst (λ (z : List (List ℕ)). Printed (names_of setting.kinds) written written' faults faults' errors false (transcript setting None z)) f.how.2 none in
-      record { bytes = f.bytes; given = f.how.0; short = f.how.1; lines = f.count ∙ ap length f.how.2; text = told.text refl; errors = told.errors_are; hooks = f.hooks None tt ∙ ap (shelf_after setting None) f.how.2; hooks_told = subst (λ (z : List (List ℕ)). HooksAreTold setting.shelf shelf' (transcript setting None z)) f.how.2 (f.told None tt); kinds = f.kinds None tt ∙ ap (kinds_after setting None) f.how.2 }
+      record { bytes = f.bytes; given = f.how.0; short = f.how.1; lines = f.count ∙ ap length f.how.2; text = told.text refl; leaves = left_as None f.lines (ended_lines f.bytes) f.how.2 (f.leaves None tt) }
   cut_off end.Whole false f h = absurd (not_by_errors errors 3 (omega arith) h)
   cut_off end.Wanted false f h = absurd (omega (arith, h))
   cut_off end.TooLong false f h = absurd (omega (arith, h))
@@ -223,7 +235,7 @@ module _ (setting : Setting) (n calls errors : ℕ) (left left' written written'
   too_long end.TooLong false f h =
       let none : Printed (names_of setting.kinds) written written' faults faults' errors false (transcript setting None f.lines) = f.printed None tt in
       let told : Printed (names_of setting.kinds) written written' faults faults' errors false (transcript setting None (ended_lines f.bytes)) = subst (λ (z : List (List ℕ)). Printed (names_of setting.kinds) written written' faults faults' errors false (transcript setting None z)) f.how.3 none in
-      record { bytes = f.bytes; over = f.how.0; given = f.how.1; full = f.how.2; lines = f.count ∙ ap length f.how.3; text = told.text refl; errors = told.errors_are; hooks = f.hooks None tt ∙ ap (shelf_after setting None) f.how.3; hooks_told = subst (λ (z : List (List ℕ)). HooksAreTold setting.shelf shelf' (transcript setting None z)) f.how.3 (f.told None tt); kinds = f.kinds None tt ∙ ap (kinds_after setting None) f.how.3 }
+      record { bytes = f.bytes; over = f.how.0; given = f.how.1; full = f.how.2; lines = f.count ∙ ap length f.how.3; text = told.text refl; leaves = left_as None f.lines (ended_lines f.bytes) f.how.3 (f.leaves None tt) }
   too_long end.Whole false f h = absurd (not_by_errors errors 6 (omega arith) h)
   too_long end.Wanted false f h = absurd (omega (arith, h))
   too_long end.SourceFault false f h = absurd (omega (arith, h))
@@ -244,10 +256,7 @@ module _ (setting : Setting) (n calls errors : ℕ) (left left' written written'
         whole_lines = whole_among n f.bytes left' f.how.short (rw f.count f.how.whole);
         defined = record { wanted = ap (λ (c : Course). c.wanted) course ∙ at.wanted; line_is = ap (λ (c : Course). c.performed) course ∙ at.line_is };
         text = told.text refl;
-        errors = told.errors_are;
-        hooks = f.hooks (Some calls) refl ∙ sym (ap (shelf_after setting (Some calls)) f.how.front ∙ shelf-stopped setting calls f.lines f.how.more at.wanted);
-        hooks_told = subst (HooksAreTold setting.shelf shelf') (sym same) (f.told (Some calls) refl);
-        kinds = f.kinds (Some calls) refl ∙ sym (ap (kinds_after setting (Some calls)) f.how.front ∙ kinds-stopped setting calls f.lines f.how.more at.wanted);
+        leaves = left_as (Some calls) (f.lines ++ f.how.more) (lines_of f.bytes) (sym f.how.front) (left_stopped setting calls f.lines f.how.more errors shelf' kinds' at.wanted (f.leaves (Some calls) refl));
       }
   wanted end.Whole false f h = absurd (not_by_errors errors 5 (omega arith) h)
   wanted end.SourceFault false f h = absurd (omega (arith, h))
@@ -262,6 +271,14 @@ module _ (setting : Setting) (n calls errors : ℕ) (left left' written written'
   called_of end.TooLong false f h = absurd (omega (arith, h))
   called_of end.Unwritten false f h = absurd (omega (arith, h))
   called_of e true f h = absurd (omega (arith, h))
+
+  -- where no call is named, no line met a want
+  pub met_none : (e : End) (failed : Bool) → At e failed → (outcome_of (record { end = e; lines = n }) calls failed errors).call ≡ 0 → is_wanted e ≡ false
+  met_none end.Wanted failed f h = absurd (omega (arith, f.called refl, h))
+  met_none end.Whole failed f h = refl
+  met_none end.SourceFault failed f h = refl
+  met_none end.TooLong failed f h = refl
+  met_none end.Unwritten failed f h = refl
 
   -- a refused call that fits, and the one that the outcome names
   fits_of : (e : End) → At e true → Fits (is_wanted e) calls (refused_call (outcome_of (record { end = e; lines = n }) calls true errors).call)
@@ -308,13 +325,11 @@ module _ (setting : Setting) (n calls errors : ℕ) (left left' written written'
         read = omega (arith, f.count, ap length front.front, length-append f.lines front.more);
         front = part.0;
         rest = part.1;
+        some = part.4;
         parts = part.2 ∙ ap (λ (z : List (List ℕ)). text_in setting (transcript setting w z)) (sym same);
         taken = part.3;
         defined = λ h. subst (λ (z : List (List ℕ)). EndsAt setting (outcome_of (record { end = e; lines = n }) calls true errors).call z n) (sym same) (stopped_of e f f.lines (f.stopped (is_wanted_of e h)) h);
-        errors = told.errors_are ∙ ap (λ (z : List (List ℕ)). errors_in (transcript setting w z)) (sym same);
-        hooks = f.hooks w (fits_of e f) ∙ ap (λ (z : List (List ℕ)). shelf_after setting w z) (sym same);
-        hooks_told = subst (λ (z : List (List ℕ)). HooksAreTold setting.shelf shelf' (transcript setting w z)) (sym same) (f.told w (fits_of e f));
-        kinds = f.kinds w (fits_of e f) ∙ ap (λ (z : List (List ℕ)). kinds_after setting w z) (sym same);
+        leaves = left_as w f.lines (take n (lines_of front.given)) (sym same) (f.leaves w (fits_of e f));
       }
 
   pub unwritten : (e : End) (failed : Bool) → At e failed → status_of e failed errors ≡ 4 → IsUnwritten setting (outcome_of (record { end = e; lines = n }) calls failed errors) left left' written written' shelf' kinds'

@@ -17,9 +17,10 @@ use Rattle.pgs_turns.specs.Summary.{generated_by}
 use Rattle.pgs_turns.proofs.ToldLemmas.{all_lines, few_lines, told_whole}
 use Rattle.pgs_world.specs.declared.program.Outcome.{Outcome}
 use Rattle.pgs_world.specs.Ending.{generated_outcome, generated_status}
+use Rattle.pgs_turns.specs.Sweeping.{LeavesRun}
 use Rattle.pgs_world.specs.Generated.{IsGenerated, IsMade, IsStopped, IsTranscript, IsUntold}
 use Rattle.pgs_world.specs.Plays.{EndsMade, Generates, Leaves, outside}
-use Rattle.pgs_world.proofs.EndingLemmas.{no_other, not_by_errors, status_one}
+use Rattle.pgs_world.proofs.EndingLemmas.{left_stopped, no_other, not_by_errors, status_one}
 
 -- all of a list, from its front on
 rest_of : {A : Type 0} (k : ℕ) (xs : List A) → (more : List A) × (take k xs ++ more ≡ xs)
@@ -51,13 +52,8 @@ module _ (descriptors : ℕ) (first last : Run) (rounds lines errors : ℕ) (w w
   -- where all lines were performed
   whole_told : (failed : Bool) → Told false failed → IsTranscript rounds None setting (outcome false failed) last.shelf last.commons.kinds
   whole_told failed t =
-      let all : take lines (made_script rounds) ≡ made_script rounds = all_lines rounds lines (t.whole refl) in
-      record {
-        errors = t.over.emits None tt ∙ ap (λ (ls : List (List ℕ)). errors_in (transcript setting None ls)) all;
-        hooks = t.over.shelf None tt ∙ ap (shelf_after setting None) all;
-        hooks_told = subst (λ (ls : List (List ℕ)). HooksAreTold first.shelf last.shelf (transcript setting None ls)) all (t.over.told None tt);
-        kinds = t.over.kinds None tt ∙ ap (kinds_after setting None) all;
-      }
+      subst (λ (ls : List (List ℕ)). LeavesRun None setting ls errors last.shelf last.commons.kinds) (all_lines rounds lines (t.whole refl))
+      (record { errors_are = t.over.emits None tt; hooks = t.over.shelf None tt; hooks_told = t.over.told None tt; kinds = t.over.kinds None tt })
 
   -- where the last one met a want of memory
   stopped_told : Told true false → IsStopped rounds setting (outcome true false) w w' last.shelf last.commons.kinds
@@ -67,16 +63,12 @@ module _ (descriptors : ℕ) (first last : Run) (rounds lines errors : ℕ) (w w
       let rest = rest_of lines (made_script rounds) in
       let at : EndsAt setting n front (length front) = t.over.stopped refl in
       let course : course_of setting (Some n) (made_script rounds) ≡ course_of setting (Some n) front = ap (course_of setting (Some n)) (sym rest.1) ∙ course_of-stopped setting (Some n) front rest.0 at.wanted in
-      let events : transcript setting (Some n) (made_script rounds) ≡ transcript setting (Some n) front = ap (transcript setting (Some n)) (sym rest.1) ∙ transcript-stopped setting n front rest.0 at.wanted in
       record {
         defined = record { wanted = ap (λ (c : Course). c.wanted) course ∙ at.wanted; line_is = ap (λ (c : Course). c.performed) course ∙ at.line_is ∙ few_lines rounds lines t.lines };
         silent = t.silent refl;
-        told = record {
-          errors = t.over.emits (Some n) refl ∙ ap errors_in (sym events);
-          hooks = t.over.shelf (Some n) refl ∙ sym (ap (shelf_after setting (Some n)) (sym rest.1) ∙ shelf-stopped setting n front rest.0 at.wanted);
-          hooks_told = subst (HooksAreTold first.shelf last.shelf) (sym events) (t.over.told (Some n) refl);
-          kinds = t.over.kinds (Some n) refl ∙ sym (ap (kinds_after setting (Some n)) (sym rest.1) ∙ kinds-stopped setting n front rest.0 at.wanted);
-        };
+        told = subst (λ (ls : List (List ℕ)). LeavesRun (Some n) setting ls errors last.shelf last.commons.kinds) rest.1
+            (left_stopped setting n front rest.0 errors last.shelf last.commons.kinds at.wanted
+            (record { errors_are = t.over.emits (Some n) refl; hooks = t.over.shelf (Some n) refl; hooks_told = t.over.told (Some n) refl; kinds = t.over.kinds (Some n) refl }));
       }
 
   module _ (left : Option (List ℕ)) (source_faults : ℕ) where
@@ -90,7 +82,7 @@ module _ (descriptors : ℕ) (first last : Run) (rounds lines errors : ℕ) (w w
         text = t.text refl refl;
         summed = summed setting rounds;
         told = whole_told false t;
-        status = status_one errors (errors_in (transcript setting None (made_script rounds))) (whole_told false t).errors;
+        status = status_one errors (errors_in (transcript setting None (made_script rounds))) (whole_told false t).errors_are;
       };
       untold = λ h. absurd (not_by_errors errors 4 (omega arith) h);
       stopped = λ h. absurd (not_by_errors errors 5 (omega arith) h);

@@ -9,3 +9,6 @@ pub mod Parts
 pub mod Reading
 pub mod Numbers
 pub mod Rows
+pub mod RunLemmas
+pub mod ScriptLemmas
+pub mod SweptLemmas

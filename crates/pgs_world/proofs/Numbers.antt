@@ -1,24 +1,25 @@
 -- What the options say in rows.
-use Rattle.std.proofs.Common.{zero, suc, ℕ, ◌≡◌, ◌⊎◌, ◌<◌, ◌≤◌, ◌^◌, ◌∙◌, inl, inr, ap, sym, refl, subst, arith, Bool, true, List, [], ◌∷◌, length, codes, Option, Some, None, Result, Ok, slice_index, slice_index_or, pos}
+use Rattle.std.proofs.Common.{zero, suc, ℕ, ◌≡◌, ◌⊎◌, ◌<◌, ◌≤◌, ◌^◌, ◌∙◌, inl, inr, ap, sym, refl, subst, arith, Bool, true, false, ◌||◌, List, [], ◌∷◌, length, codes, Option, Some, None, Result, Ok, Err, slice_index, slice_index_or}
 use Rattle.std.specs.Prelude.{option_map, unwrap_or, ◌==◌, if◌then◌else◌}
 use Rattle.std.specs.Str.{bytes_eq}
 use Rattle.std.specs.Str.Parse.{ParsesUnsigned, digits_value, without_leading_plus}
 use Rattle.std.proofs.lemmas.Slice.Eq.{bytes_eq-Decides}
+use Rattle.clap.specs.Values.{IsUnsignedIn}
 use Rattle.clap.specs.Words.{App, Kinds, Row, Text, IsAmong, fault_of, found_of, is_simple, is_simple_and_free, matches_of, HasMatchesOf, one_text, rows_of, ReadsOne}
 use Rattle.clap.specs.Facts.{args_of}
 use Rattle.clap.specs.Built.{IsParsedFrom}
-use Rattle.clap.proofs.CallerReads.{signed_reads}
 use Rattle.clap.proofs.WalkLemmas.{one_text-rows}
 use Rattle.clap.specs.declared.builder.arg.Arg.{Arg}
 use Rattle.clap.specs.declared.builder.command.Command.{Command}
 use Rattle.clap.specs.declared.error.kind.ErrorKind.{ErrorKind}
-use Rattle.clap.specs.declared.builder.value_parser.ValueParser.TheVariants.{Signed}
+use Rattle.clap.specs.declared.builder.value_parser.ValueParser.{ValueParser}
+use Rattle.clap.specs.declared.builder.value_parser.ValueParser.TheVariants as parser
 use Rattle.clap.specs.declared.parser.matches.ArgMatches.{ArgMatches}
 use Rattle.clap.specs.declared.parser.matches.Found.{Found}
 use Rattle.clap.proofs.OnLiterals.{clap_on_literals}
-use Rattle.pgs_world.specs.Options.{number_in, options_in, options_of, the_app, where_fitting, where_no_fault}
-use Rattle.pgs_world.specs.Parts.{HasOptions, IsNumber}
-use Rattle.pgs_world.proofs.Reading.{IsOption, WasRead, option_read}
+use Rattle.pgs_world.specs.Options.{flag_in, is_true, number_in, options_in, options_of, the_app, where_fitting, where_no_fault}
+use Rattle.pgs_world.specs.Parts.{HasOptions, IsOption}
+use Rattle.pgs_world.proofs.Reading.{IsListed, WasRead, option_read}
 
 -- nothing is no number
 none_some : (n : ℕ) → None ≡ Some n → ⊥
@@ -34,14 +35,18 @@ pub record Told (low high : ℕ) (id : Text) (rows : List Row) (r : Option ℕ) 
   pub within : (n : ℕ) → r ≡ Some n → (low ≤ n) × (n ≤ high)
 
 module _ {E : Type 0} (bits : ℕ) (gives : Text → Result ℕ E → Type 0) (number : GivesNumber bits gives) (low high : ℕ) (fits : high < 2 ^ bits) where
-  of_text : (ignore_case : Bool) (t : Text) (r : Option ℕ) → WasRead (Signed (pos low) (pos high)) ignore_case t → ReadsOne gives t r
+  of_text : (ignore_case : Bool) (t : Text) (r : Option ℕ) → WasRead (parser.Unsigned low high) ignore_case t → ReadsOne gives t r
       → (n : ℕ) × (r ≡ Some n) × (n ≡ digits_value 10 (without_leading_plus t)) × (low ≤ n) × (n ≤ high)
-  of_text ignore_case t r was reads =
-      let got = signed_reads E gives bits low high was.written r (subst (λ (u : Text). ReadsOne gives u r) was.read reads) number fits was.accepted in
-      (got.0, got.1, (number t (Ok got.0) (subst (λ (o : Option ℕ). ReadsOne gives t o) got.1 reads)).1, got.2, got.3)
+  of_text ignore_case t (Some n) was reads =
+      let passed : IsUnsignedIn low high t = subst (IsUnsignedIn low high) (sym was.read) was.accepted in
+      let is : n ≡ digits_value 10 (without_leading_plus t) = (number t (Ok n) reads).1 in
+      (n, refl, is, omega (arith, passed.2, is), omega (arith, passed.3, is))
+  of_text ignore_case t None was reads =
+      let passed : IsUnsignedIn low high t = subst (IsUnsignedIn low high) (sym was.read) was.accepted in
+      absurd (number t (Err reads.0) reads.1 (passed.0, omega (arith, passed.3, fits)))
 
   pub told_by : (f : Found) (id : Text) (ignore_case : Bool) (r : Option ℕ) → (one_text f id ≡ None → r ≡ None) → ((t : Text) → one_text f id ≡ Some t → ReadsOne gives t r)
-      → ((t : Text) → one_text f id ≡ Some t → WasRead (Signed (pos low) (pos high)) ignore_case t) → Told low high id (rows_of f) r
+      → ((t : Text) → one_text f id ≡ Some t → WasRead (parser.Unsigned low high) ignore_case t) → Told low high id (rows_of f) r
   told_by f id ignore_case r none some was = go (one_text f id) refl
     where
       go : (o : Option Text) → one_text f id ≡ o → Told low high id (rows_of f) r
@@ -70,13 +75,14 @@ not_auto t a first help version (inr e) = differ t (codes "version") a 118 first
 first_byte : (t u : Text) → t ≡ u → slice_index t 0 ≡ slice_index u 0
 first_byte t u e = ap (λ (w : Text). slice_index w 0) e
 
--- the options by their places: the name of each, and the least and the most number that it takes
+-- the options by their places: the name of each, and how its value is read
 abbrev name_at : ℕ → Text
 name_at zero = codes "space"
 name_at (suc zero) = codes "sessions"
 name_at (suc (suc zero)) = codes "descriptors"
 name_at (suc (suc (suc zero))) = codes "fail"
-name_at (suc (suc (suc (suc k)))) = codes "generate"
+name_at (suc (suc (suc (suc zero)))) = codes "generate"
+name_at (suc (suc (suc (suc (suc k))))) = codes "sweep"
 
 abbrev least_at : ℕ → ℕ
 least_at zero = 131072
@@ -91,18 +97,35 @@ most_at (suc (suc zero)) = 64
 most_at (suc (suc (suc zero))) = 4294967295
 most_at (suc (suc (suc (suc k)))) = 10000
 
--- names are told apart by their lengths, and two of them by their first letters
-place_of : Text → ℕ
-place_of t = if length t == 5 then 0 else (if length t == 11 then 2 else (if length t == 4 then 3 else (if slice_index t 0 == 115 then 1 else 4)))
+abbrev parser_at : ℕ → ValueParser
+parser_at zero = parser.Unsigned 131072 1073741824
+parser_at (suc zero) = parser.Unsigned 1 64
+parser_at (suc (suc zero)) = parser.Unsigned 8 64
+parser_at (suc (suc (suc zero))) = parser.Unsigned 0 4294967295
+parser_at (suc (suc (suc (suc zero)))) = parser.Unsigned 0 10000
+parser_at (suc (suc (suc (suc (suc k))))) = parser.Bool
 
-placed : (k : ℕ) → k < 5 → place_of (name_at k) ≡ k
+number_at : (k : ℕ) → k < 5 → parser_at k ≡ parser.Unsigned (least_at k) (most_at k)
+number_at zero lt = refl
+number_at (suc zero) lt = refl
+number_at (suc (suc zero)) lt = refl
+number_at (suc (suc (suc zero))) lt = refl
+number_at (suc (suc (suc (suc zero)))) lt = refl
+number_at (suc (suc (suc (suc (suc k))))) lt = absurd (omega (arith, lt))
+
+-- names are told apart by their lengths, and those of one length by their first two letters
+place_of : Text → ℕ
+place_of t = if length t == 5 then (if slice_index t 1 == 112 then 0 else 5) else (if length t == 11 then 2 else (if length t == 4 then 3 else (if slice_index t 0 == 115 then 1 else 4)))
+
+placed : (k : ℕ) → k < 6 → place_of (name_at k) ≡ k
 unfolding place_of
 placed zero lt = refl
 placed (suc zero) lt = refl
 placed (suc (suc zero)) lt = refl
 placed (suc (suc (suc zero))) lt = refl
 placed (suc (suc (suc (suc zero)))) lt = refl
-placed (suc (suc (suc (suc (suc k))))) lt = absurd (omega (arith, lt))
+placed (suc (suc (suc (suc (suc zero))))) lt = refl
+placed (suc (suc (suc (suc (suc (suc k)))))) lt = absurd (omega (arith, lt))
 
 -- no name is that of an option that the command makes itself, or empty
 not_own : (k : ℕ) (t : Text) → t ≡ name_at k → (t ≡ codes "help") ⊎ (t ≡ codes "version") → ⊥
@@ -110,14 +133,24 @@ not_own zero t e = not_auto t 115 (first_byte t (codes "space") e) (λ z. omega 
 not_own (suc zero) t e = not_auto t 115 (first_byte t (codes "sessions") e) (λ z. omega (arith, z)) (λ z. omega (arith, z))
 not_own (suc (suc zero)) t e = not_auto t 100 (first_byte t (codes "descriptors") e) (λ z. omega (arith, z)) (λ z. omega (arith, z))
 not_own (suc (suc (suc zero))) t e = not_auto t 102 (first_byte t (codes "fail") e) (λ z. omega (arith, z)) (λ z. omega (arith, z))
-not_own (suc (suc (suc (suc k)))) t e = not_auto t 103 (first_byte t (codes "generate") e) (λ z. omega (arith, z)) (λ z. omega (arith, z))
+not_own (suc (suc (suc (suc zero)))) t e = not_auto t 103 (first_byte t (codes "generate") e) (λ z. omega (arith, z)) (λ z. omega (arith, z))
+not_own (suc (suc (suc (suc (suc k))))) t e = not_auto t 115 (first_byte t (codes "sweep") e) (λ z. omega (arith, z)) (λ z. omega (arith, z))
 
 is_named : (k : ℕ) → name_at k ≡ [] → ⊥
 is_named zero e = differ (codes "space") [] 115 0 refl refl (λ z. omega (arith, z)) e
 is_named (suc zero) e = differ (codes "sessions") [] 115 0 refl refl (λ z. omega (arith, z)) e
 is_named (suc (suc zero)) e = differ (codes "descriptors") [] 100 0 refl refl (λ z. omega (arith, z)) e
 is_named (suc (suc (suc zero))) e = differ (codes "fail") [] 102 0 refl refl (λ z. omega (arith, z)) e
-is_named (suc (suc (suc (suc k)))) e = differ (codes "generate") [] 103 0 refl refl (λ z. omega (arith, z)) e
+is_named (suc (suc (suc (suc zero)))) e = differ (codes "generate") [] 103 0 refl refl (λ z. omega (arith, z)) e
+is_named (suc (suc (suc (suc (suc k))))) e = differ (codes "sweep") [] 115 0 refl refl (λ z. omega (arith, z)) e
+
+-- a flag says yes where the text of its value does
+flag_read : (t : Text) (r : Bool) → (bytes_eq t (codes "true") || bytes_eq t (codes "false")) ≡ true → (t ≡ codes "true" → r ≡ true) → (t ≡ codes "false" → r ≡ false) → r ≡ bytes_eq t (codes "true")
+flag_read t r one on off = go (bytes_eq t (codes "true")) refl
+  where
+    go : (b : Bool) → bytes_eq t (codes "true") ≡ b → r ≡ bytes_eq t (codes "true")
+    go true e = on ((bytes_eq-Decides t (codes "true")).0 e) ∙ sym e
+    go false e = off ((bytes_eq-Decides t (codes "false")).0 (ap (λ (b : Bool). b || bytes_eq t (codes "false")) (sym e) ∙ one)) ∙ sym e
 
 module _ (c : Command) (h : HasOptions c) where
   abbrev arg_at : ℕ → Arg
@@ -125,46 +158,66 @@ module _ (c : Command) (h : HasOptions c) where
   arg_at (suc zero) = h.sessions
   arg_at (suc (suc zero)) = h.descriptors
   arg_at (suc (suc (suc zero))) = h.fail
-  arg_at (suc (suc (suc (suc k)))) = h.generate
+  arg_at (suc (suc (suc (suc zero)))) = h.generate
+  arg_at (suc (suc (suc (suc (suc k))))) = h.sweep
 
-  five : length (args_of c) ≡ 5
-  five = ap (λ (xs : List Arg). length xs) h.args
+  six : length (args_of c) ≡ 6
+  six = ap (λ (xs : List Arg). length xs) h.args
 
-  is_at : (k : ℕ) (d : Arg) → k < 5 → slice_index_or (args_of c) k d ≡ arg_at k
+  is_at : (k : ℕ) (d : Arg) → k < 6 → slice_index_or (args_of c) k d ≡ arg_at k
   is_at zero d lt = ap (λ (xs : List Arg). slice_index_or xs 0 d) h.args
   is_at (suc zero) d lt = ap (λ (xs : List Arg). slice_index_or xs 1 d) h.args
   is_at (suc (suc zero)) d lt = ap (λ (xs : List Arg). slice_index_or xs 2 d) h.args
   is_at (suc (suc (suc zero))) d lt = ap (λ (xs : List Arg). slice_index_or xs 3 d) h.args
   is_at (suc (suc (suc (suc zero)))) d lt = ap (λ (xs : List Arg). slice_index_or xs 4 d) h.args
-  is_at (suc (suc (suc (suc (suc k))))) d lt = absurd (omega (arith, lt))
+  is_at (suc (suc (suc (suc (suc zero))))) d lt = ap (λ (xs : List Arg). slice_index_or xs 5 d) h.args
+  is_at (suc (suc (suc (suc (suc (suc k)))))) d lt = absurd (omega (arith, lt))
 
-  takes_at : (k : ℕ) → IsNumber (name_at k) (Signed (pos (least_at k)) (pos (most_at k))) (arg_at k)
+  takes_at : (k : ℕ) → IsOption (name_at k) (parser_at k) (arg_at k)
   takes_at zero = h.takes_space
   takes_at (suc zero) = h.takes_sessions
   takes_at (suc (suc zero)) = h.takes_descriptors
   takes_at (suc (suc (suc zero))) = h.takes_fail
-  takes_at (suc (suc (suc (suc k)))) = h.takes_generate
+  takes_at (suc (suc (suc (suc zero)))) = h.takes_generate
+  takes_at (suc (suc (suc (suc (suc k))))) = h.takes_sweep
 
-  id_at : (k : ℕ) (d : Arg) → k < 5 → (slice_index_or (args_of c) k d).id.now ≡ name_at k
+  id_at : (k : ℕ) (d : Arg) → k < 6 → (slice_index_or (args_of c) k d).id.now ≡ name_at k
   id_at k d lt = ap (λ (a : Arg). a.id.now) (is_at k d lt) ∙ (takes_at k).id
 
   -- no two options have one name
-  only_at : (k : ℕ) (d : Arg) → k < 5 → (j : ℕ) (e : Arg) → j < length (args_of c)
+  only_at : (k : ℕ) (d : Arg) → k < 6 → (j : ℕ) (e : Arg) → j < length (args_of c)
       → bytes_eq (slice_index_or (args_of c) j e).id.now (slice_index_or (args_of c) k d).id.now ≡ true → j ≡ k
   only_at k d lt j e less same =
-      let few : j < 5 = omega (arith, less, five) in
+      let few : j < 6 = omega (arith, less, six) in
       sym (placed j few)
       ∙ ap place_of (sym (id_at j e few) ∙ (bytes_eq-Decides (slice_index_or (args_of c) j e).id.now (slice_index_or (args_of c) k d).id.now).0 same ∙ id_at k d lt)
       ∙ placed k lt
 
-  option_at : (k : ℕ) → k < 5 → IsOption c k (arg_at k) (Signed (pos (least_at k)) (pos (most_at k)))
+  option_at : (k : ℕ) → k < 6 → IsListed c k (arg_at k) (parser_at k)
   option_at k lt = record {
-    listed = omega (arith, lt, five);
+    listed = omega (arith, lt, six);
     only = only_at k (arg_at k) lt;
     own = not_own k (slice_index_or (args_of c) k (arg_at k)).id.now (id_at k (arg_at k) lt);
     named = λ e. is_named k (sym (id_at k (arg_at k) lt) ∙ e);
     by = ap (λ (a : Arg). a.value_parser) (is_at k (arg_at k) lt) ∙ (takes_at k).by;
   }
+
+  -- a text of an option was let through by its parser
+  read_at : (m : ArgMatches) (p : IsParsedFrom c m) (k : ℕ) → k < 6 → (t : Text) → one_text (found_of m) (name_at k) ≡ Some t → WasRead (parser_at k) (slice_index_or (args_of c) k (arg_at k)).ignore_case t
+  read_at m p k lt t e =
+      option_read c m p k (arg_at k) (parser_at k) (option_at k lt) h.plain (h.parsed m p) t
+      (subst (λ (w : Text). one_text (found_of m) w ≡ Some t) (sym (id_at k (arg_at k) lt)) e)
+
+  pub sweep_told : (m : ArgMatches) (p : IsParsedFrom c m) (r : Bool) → (one_text (found_of m) (codes "sweep") ≡ None → r ≡ false) → (one_text (found_of m) (codes "sweep") ≡ Some (codes "true") → r ≡ true)
+      → (one_text (found_of m) (codes "sweep") ≡ Some (codes "false") → r ≡ false) → r ≡ flag_in (codes "sweep") (rows_of (found_of m))
+  sweep_told m p r none on off = go (one_text (found_of m) (codes "sweep")) refl ∙ ap is_true (one_text-rows (found_of m) (codes "sweep"))
+    where
+      go : (o : Option Text) → one_text (found_of m) (codes "sweep") ≡ o → r ≡ is_true (one_text (found_of m) (codes "sweep"))
+      go None e = none e ∙ ap is_true (sym e)
+      go (Some t) e =
+          let was : WasRead parser.Bool (slice_index_or (args_of c) 5 (arg_at 5)).ignore_case t = read_at m p 5 (omega arith) t e in
+          flag_read t r (subst (λ (w : Text). (bytes_eq w (codes "true") || bytes_eq w (codes "false")) ≡ true) (sym was.read) was.accepted)
+          (λ is. on (e ∙ ap (λ (w : Text). Some w) is)) (λ is. off (e ∙ ap (λ (w : Text). Some w) is)) ∙ ap is_true (sym e)
 
   -- what is read of an option is what the rows say
   module _ {E : Type 0} (bits : ℕ) (gives : Text → Result ℕ E → Type 0) (number : GivesNumber bits gives) (m : ArgMatches) (p : IsParsedFrom c m) where
@@ -173,8 +226,7 @@ module _ (c : Command) (h : HasOptions c) where
         → Told (least_at k) (most_at k) (name_at k) (rows_of (found_of m)) r
     told_at k lt fits r none some =
         told_by bits gives number (least_at k) (most_at k) fits (found_of m) (name_at k) (slice_index_or (args_of c) k (arg_at k)).ignore_case r none some
-        (λ t e. option_read c m p k (arg_at k) (Signed (pos (least_at k)) (pos (most_at k))) (option_at k lt) h.plain (h.parsed m p) t
-        (subst (λ (w : Text). one_text (found_of m) w ≡ Some t) (sym (id_at k (arg_at k) lt)) e))
+        (λ t e. subst (λ (q : ValueParser). WasRead q (slice_index_or (args_of c) k (arg_at k)).ignore_case t) (number_at k lt) (read_at m p k (omega (arith, lt)) t e))
 
   module _ {E : Type 0} (gives : Text → Result ℕ E → Type 0) (number : GivesNumber 32 gives) (m : ArgMatches) (p : IsParsedFrom c m) where
     pub space_told : (r : Option ℕ) → (one_text (found_of m) (codes "space") ≡ None → r ≡ None) → ((t : Text) → one_text (found_of m) (codes "space") ≡ Some t → ReadsOne gives t r)
@@ -215,12 +267,12 @@ pub no_faults : (a : App) (words : List Text) → a ≡ the_app → fault_of a w
 no_faults a words e none = ap (λ (x : App). fault_of x words) (sym e) ∙ none
 
 -- what the options are where there is no fault
-pub options_told : (words : List Text) (rows : List Row) (a b c d e : Option ℕ) → fault_of the_app words ≡ [] → rows ≡ matches_of the_app words
-    → Told 131072 1073741824 (codes "space") rows a → Told 1 64 (codes "sessions") rows b → Told 8 64 (codes "descriptors") rows c → Told 0 4294967295 (codes "fail") rows d → Told 0 10000 (codes "generate") rows e
-    → options_of words ≡ where_fitting (record { space = unwrap_or a 16777216; sessions = unwrap_or b 1; descriptors = unwrap_or c 16; fail = unwrap_or d 0; generate = unwrap_or e 0 })
-options_told words rows a b c d e none is space sessions descriptors fail generate =
-    let told : options_in rows ≡ record { space = unwrap_or a 16777216; sessions = unwrap_or b 1; descriptors = unwrap_or c 16; fail = unwrap_or d 0; generate = unwrap_or e 0 } =
-    rw (space.told, sessions.told, descriptors.told, fail.told, generate.told) refl in
+pub options_told : (words : List Text) (rows : List Row) (a b c d e : Option ℕ) (f : Bool) → fault_of the_app words ≡ [] → rows ≡ matches_of the_app words
+    → Told 131072 1073741824 (codes "space") rows a → Told 1 64 (codes "sessions") rows b → Told 8 64 (codes "descriptors") rows c → Told 0 4294967295 (codes "fail") rows d → Told 0 10000 (codes "generate") rows e → f ≡ flag_in (codes "sweep") rows
+    → options_of words ≡ where_fitting (record { space = unwrap_or a 16777216; sessions = unwrap_or b 1; descriptors = unwrap_or c 16; fail = unwrap_or d 0; generate = unwrap_or e 0; sweep = f })
+options_told words rows a b c d e f none is space sessions descriptors fail generate sweep =
+    let told : options_in rows ≡ record { space = unwrap_or a 16777216; sessions = unwrap_or b 1; descriptors = unwrap_or c 16; fail = unwrap_or d 0; generate = unwrap_or e 0; sweep = f } =
+    rw (space.told, sessions.told, descriptors.told, fail.told, generate.told, sweep) refl in
     ap (λ (faults : Kinds). where_no_fault faults (matches_of the_app words)) none ∙ ap (λ (r : List Row). where_fitting (options_in r)) (sym is) ∙ ap where_fitting told
 
 -- an option that isn't given has its default, which is in the range

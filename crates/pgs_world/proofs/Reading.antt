@@ -42,14 +42,14 @@ not_a_group c id none named (inr lt) =
     absurd (omega arith)
 
 -- An option of the command, with no other of its name.
-pub record IsOption (old : Command) (k : ℕ) (d : Arg) (q : ValueParser) : Type 0 where
+pub record IsListed (old : Command) (k : ℕ) (d : Arg) (q : ValueParser) : Type 0 where
   pub listed : k < length (args_of old)
   pub only : (j : ℕ) (e : Arg) → j < length (args_of old) → bytes_eq (slice_index_or (args_of old) j e).id.now (slice_index_or (args_of old) k d).id.now ≡ true → j ≡ k
   pub own : IsAuto (slice_index_or (args_of old) k d) → ⊥
   pub named : (slice_index_or (args_of old) k d).id.now ≡ [] → ⊥
   pub by : (slice_index_or (args_of old) k d).value_parser ≡ Some q
 
-module _ (old : Command) (m : ArgMatches) (p : IsParsedFrom old m) (k : ℕ) (d : Arg) (q : ValueParser) (o : IsOption old k d q) where
+module _ (old : Command) (m : ArgMatches) (p : IsParsedFrom old m) (k : ℕ) (d : Arg) (q : ValueParser) (o : IsListed old k d q) where
   -- an argument of that name in the command that was built reads by the same parser
   by_parser : (j : ℕ) (x : Arg) → j < length (args_of p.built) → slice_index_or (args_of p.built) j x ≡ x → bytes_eq x.id.now (slice_index_or (args_of old) k d).id.now ≡ true
       → (parser_of x ≡ q) × (x.ignore_case ≡ (slice_index_or (args_of old) k d).ignore_case)

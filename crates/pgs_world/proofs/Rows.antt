@@ -1,21 +1,21 @@
 -- What words ask for, worked out from the definitions.
-use Rattle.std.proofs.Common.{◌≡◌, refl, [], ◌∷◌, codes, Some, None}
+use Rattle.std.proofs.Common.{◌≡◌, refl, [], ◌∷◌, codes, true, false, Some, None}
 use Rattle.clap.proofs.OnLiterals.{clap_on_literals}
 use Rattle.pgs_world.specs.Options.{options_of}
 
-nothing_given : options_of [] ≡ Some (record { space = 16777216; sessions = 1; descriptors = 16; fail = 0; generate = 0 })
+nothing_given : options_of [] ≡ Some (record { space = 16777216; sessions = 1; descriptors = 16; fail = 0; generate = 0; sweep = false })
 unfolding clap_on_literals
 nothing_given = refl
 
-two_words : options_of (codes "--fail" ∷ codes "5" ∷ []) ≡ Some (record { space = 16777216; sessions = 1; descriptors = 16; fail = 5; generate = 0 })
+two_words : options_of (codes "--fail" ∷ codes "5" ∷ []) ≡ Some (record { space = 16777216; sessions = 1; descriptors = 16; fail = 5; generate = 0; sweep = false })
 unfolding clap_on_literals
 two_words = refl
 
-one_word : options_of (codes "--fail=4294967295" ∷ []) ≡ Some (record { space = 16777216; sessions = 1; descriptors = 16; fail = 4294967295; generate = 0 })
+one_word : options_of (codes "--fail=4294967295" ∷ []) ≡ Some (record { space = 16777216; sessions = 1; descriptors = 16; fail = 4294967295; generate = 0; sweep = false })
 unfolding clap_on_literals
 one_word = refl
 
-both : options_of (codes "--space" ∷ codes "131072" ∷ codes "--fail" ∷ codes "7" ∷ []) ≡ Some (record { space = 131072; sessions = 1; descriptors = 16; fail = 7; generate = 0 })
+both : options_of (codes "--space" ∷ codes "131072" ∷ codes "--fail" ∷ codes "7" ∷ []) ≡ Some (record { space = 131072; sessions = 1; descriptors = 16; fail = 7; generate = 0; sweep = false })
 unfolding clap_on_literals
 both = refl
 
@@ -44,7 +44,7 @@ unfolding clap_on_literals
 no_help = refl
 
 -- several sessions, and their descriptors
-sessions_given : options_of (codes "--sessions" ∷ codes "8" ∷ codes "--descriptors" ∷ codes "64" ∷ codes "--space" ∷ codes "268435456" ∷ []) ≡ Some (record { space = 268435456; sessions = 8; descriptors = 64; fail = 0; generate = 0 })
+sessions_given : options_of (codes "--sessions" ∷ codes "8" ∷ codes "--descriptors" ∷ codes "64" ∷ codes "--space" ∷ codes "268435456" ∷ []) ≡ Some (record { space = 268435456; sessions = 8; descriptors = 64; fail = 0; generate = 0; sweep = false })
 unfolding clap_on_literals
 sessions_given = refl
 
@@ -69,7 +69,7 @@ one_byte_too_many : options_of (codes "--sessions" ∷ codes "8" ∷ codes "--sp
 unfolding clap_on_literals
 one_byte_too_many = refl
 
-rounds_given : options_of (codes "--generate" ∷ codes "2" ∷ []) ≡ Some (record { space = 16777216; sessions = 1; descriptors = 16; fail = 0; generate = 2 })
+rounds_given : options_of (codes "--generate" ∷ codes "2" ∷ []) ≡ Some (record { space = 16777216; sessions = 1; descriptors = 16; fail = 0; generate = 2; sweep = false })
 unfolding clap_on_literals
 rounds_given = refl
 
@@ -77,6 +77,36 @@ too_many_rounds : options_of (codes "--generate=10001" ∷ []) ≡ None
 unfolding clap_on_literals
 too_many_rounds = refl
 
-not_built : options_of (codes "--sweep" ∷ []) ≡ None
+sweep_given : options_of (codes "--sweep" ∷ []) ≡ Some (record { space = 16777216; sessions = 1; descriptors = 16; fail = 0; generate = 0; sweep = true })
 unfolding clap_on_literals
-not_built = refl
+sweep_given = refl
+
+-- a sweep makes each call fail by itself, of a script that is read
+sweep_beside_none : options_of (codes "--fail" ∷ codes "0" ∷ codes "--sweep" ∷ codes "--generate=0" ∷ []) ≡ Some (record { space = 16777216; sessions = 1; descriptors = 16; fail = 0; generate = 0; sweep = true })
+unfolding clap_on_literals
+sweep_beside_none = refl
+
+sweep_beside_fail : options_of (codes "--sweep" ∷ codes "--fail" ∷ codes "1" ∷ []) ≡ None
+unfolding clap_on_literals
+sweep_beside_fail = refl
+
+sweep_beside_rounds : options_of (codes "--generate=1" ∷ codes "--sweep" ∷ []) ≡ None
+unfolding clap_on_literals
+sweep_beside_rounds = refl
+
+sweep_twice : options_of (codes "--sweep" ∷ codes "--sweep" ∷ []) ≡ None
+unfolding clap_on_literals
+sweep_twice = refl
+
+sweep_with_value : options_of (codes "--sweep=true" ∷ []) ≡ None
+unfolding clap_on_literals
+sweep_with_value = refl
+
+-- a number has no sign
+no_sign : options_of (codes "--fail=-0" ∷ []) ≡ None
+unfolding clap_on_literals
+no_sign = refl
+
+no_sign_at_all : options_of (codes "--generate" ∷ codes "-00" ∷ []) ≡ None
+unfolding clap_on_literals
+no_sign_at_all = refl

@@ -1,5 +1,5 @@
 -- A script that was played, from what its sessions did; and a run in which not all of them could be started.
-use Rattle.std.proofs.Common.{◌≡◌, ◌⊎◌, ℕ, zero, suc, ◌+◌, ◌<◌, ◌≤◌, inl, inr, Bool, true, false, Option, Some, refl, sym, ◌∙◌, ap, subst, arith}
+use Rattle.std.proofs.Common.{◌≡◌, ◌⊎◌, ℕ, zero, suc, ◌+◌, ◌<◌, ◌≤◌, inl, inr, Bool, true, false, List, take, Option, Some, refl, sym, ◌∙◌, ap, subst, arith}
 use Rattle.std.specs.Prelude.{nat_lt, if◌then◌else◌}
 use Rattle.std.proofs.lemmas.Bool.Decides.{nat_tests}
 use Rattle.pgs_io.specs.Lines.{lines_of}
@@ -48,6 +48,7 @@ not_started rounds setting o s t empty same = record {
   performed = λ none. not_performed setting o;
   generates = λ some. not_generated rounds setting o;
   taken = λ none h. absurd (no_other 5 (omega arith) h);
+  taken_so_far = λ none h. absurd (h refl);
   made_taken = λ some h. absurd (no_other 5 (omega arith) h);
   not_started = λ h k. record { hooks = refl; kinds = refl; lines = refl; errors = refl; unread = refl; unwritten = refl };
   given_back = empty;
@@ -62,19 +63,33 @@ past_opening x account sessions past =
     let test : nat_lt account sessions ≡ false = grind (arith, nat_tests, past) in
     rw test refl
 
--- Sessions were started in a space s, which made it t, and a script of them ended.
+-- Sessions were started in a space s, so many, which made it t, and their end made that u: no account holds anything, and none but theirs
+-- took anything.
+pub none_held : (sessions : ℕ) (s t u : Space) → ((account : ℕ) → held s account ≡ 0) → ((account : ℕ) → sessions ≤ account → held t account ≡ held s account)
+    → ((account : ℕ) → account < sessions → held u account ≡ 0) → ((account : ℕ) → sessions ≤ account → held u account ≡ held t account) → (account : ℕ) → held u account ≡ 0
+none_held sessions s t u empty others given_back same account = by_test (nat_lt account sessions) refl
+  where
+    by_test : (b : Bool) → nat_lt account sessions ≡ b → held u account ≡ 0
+    by_test true e = given_back account (grind (arith, nat_tests, e))
+    by_test false e = let past : sessions ≤ account = grind (arith, nat_tests, e) in same account past ∙ others account past ∙ empty account
+
+pub shared_out : (setting : Setting) (sessions : ℕ) (s t u : Space) → sessions ≡ setting.options.sessions → s.limit ≡ setting.options.space → t.limit ≡ s.limit
+    → ((account : ℕ) → taken t account ≡ risen (taken s account) (if nat_lt account setting.options.sessions then 65536 else 0)) → u.limit ≡ t.limit → ((account : ℕ) → sessions ≤ account → taken u account ≡ taken t account)
+    → IsSharedOut setting.options.sessions setting.options.space s u
+shared_out setting sessions s t u many limit limits opening still took = record {
+  limit_is = still ∙ limits ∙ limit;
+  others = λ account past. took account (omega (arith, past, many)) ∙ opening account ∙ past_opening (taken s account) account setting.options.sessions past;
+}
+
+-- A script of them ended.
 module _ (setting : Setting) (sessions : ℕ) (outcome : Outcome) (before after : Outside) (s t u : Space) (many : sessions ≡ setting.options.sessions)
     (limit : s.limit ≡ setting.options.space) (limits : t.limit ≡ s.limit) (same_accounts : accounts t ≡ accounts s) (empty : (account : ℕ) → held s account ≡ 0) (others : (account : ℕ) → sessions ≤ account → held t account ≡ held s account)
     (opening : (account : ℕ) → taken t account ≡ risen (taken s account) (if nat_lt account setting.options.sessions then 65536 else 0)) where
-  given : Leaves sessions outcome before.kinds after.kinds t u → (account : ℕ) (b : Bool) → nat_lt account sessions ≡ b → held u account ≡ 0
-  given leaves account true e = leaves.given_back account (grind (arith, nat_tests, e))
-  given leaves account false e = let past : sessions ≤ account = grind (arith, nat_tests, e) in leaves.others account past ∙ others account past ∙ empty account
+  given : Leaves sessions outcome before.kinds after.kinds t u → (account : ℕ) → held u account ≡ 0
+  given leaves = none_held sessions s t u empty others leaves.given_back leaves.others
 
   out_of : Leaves sessions outcome before.kinds after.kinds t u → IsSharedOut setting.options.sessions setting.options.space s u
-  out_of leaves = record {
-    limit_is = leaves.shared_out.limit_is ∙ limits ∙ limit;
-    others = λ account past. leaves.shared_out.others account (omega (arith, past, many)) ∙ opening account ∙ past_opening (taken s account) account setting.options.sessions past;
-  }
+  out_of leaves = shared_out setting sessions s t u many limit limits opening leaves.shared_out.limit_is leaves.shared_out.others
 
   -- one that was read
   pub started_plays : (rounds : ℕ) → rounds ≡ 0 → Ends sessions setting outcome before after t u → Plays rounds setting outcome before after s u
@@ -82,9 +97,10 @@ module _ (setting : Setting) (sessions : ℕ) (outcome : Outcome) (before after 
     performed = λ _. ends.performed;
     generates = λ some. absurd (omega (arith, some, none));
     taken = λ _ h bytes left. opened_taken setting (lines_of bytes) s t u opening (ends.taken h bytes left);
+    taken_so_far = λ _ _ h. let so_far = ends.taken_so_far h in record { bytes = so_far.bytes; given = so_far.given; takes = opened_taken setting (take outcome.lines (lines_of so_far.bytes)) s t u opening so_far.takes };
     made_taken = λ some. absurd (omega (arith, some, none));
     not_started = λ h k. absurd (omega (arith, ends.leaves.called h, k));
-    given_back = λ account. given ends.leaves account (nat_lt account sessions) refl;
+    given_back = given ends.leaves;
     accounts_are = ends.leaves.accounts_are ∙ same_accounts;
     kinds_kept = ends.leaves.kinds_kept;
     shared_out = λ h. out_of ends.leaves;
@@ -96,9 +112,10 @@ module _ (setting : Setting) (sessions : ℕ) (outcome : Outcome) (before after 
     performed = λ none. absurd (omega (arith, some, none));
     generates = λ _. ends.generates;
     taken = λ none. absurd (omega (arith, some, none));
+    taken_so_far = λ none. absurd (omega (arith, some, none));
     made_taken = λ _ h. opened_taken setting (made_script rounds) s t u opening (ends.taken h);
     not_started = λ h k. absurd (omega (arith, ends.leaves.called h, k));
-    given_back = λ account. given ends.leaves account (nat_lt account sessions) refl;
+    given_back = given ends.leaves;
     accounts_are = ends.leaves.accounts_are ∙ same_accounts;
     kinds_kept = ends.leaves.kinds_kept;
     shared_out = λ h. out_of ends.leaves;
@@ -110,6 +127,7 @@ limited_plays rounds setting outcome before after s u limit p = record {
   performed = p.performed;
   generates = p.generates;
   taken = p.taken;
+  taken_so_far = λ none h k. let so_far = p.taken_so_far none h k in record { bytes = so_far.bytes; given = so_far.given; takes = so_far.takes };
   made_taken = p.made_taken;
   not_started = p.not_started;
   given_back = p.given_back;

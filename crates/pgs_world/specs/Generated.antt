@@ -9,15 +9,12 @@ use Rattle.session_rules.specs.Transcript.{ended, errors_in}
 use Rattle.pgs_turns.specs.Hooks.{HooksAreTold}
 use Rattle.pgs_turns.specs.Transcript.{Setting, course_of, kinds_after, shelf_after, transcript, EndsAt}
 use Rattle.pgs_turns.specs.Generating.{IsFront, text_for}
+use Rattle.pgs_turns.specs.Sweeping.{LeavesRun}
 use Rattle.pgs_world.specs.declared.program.Outcome.{Outcome}
 
--- What the transcript of the script of so many rounds tells, where call w was refused for want of memory, if any: how many ERROR events there
--- were, and what became of hooks and kinds.
-pub record IsTranscript (rounds : ℕ) (w : Option ℕ) (setting : Setting) (outcome : Outcome) (shelf' : ShelfState) (kinds' : List Kind) : Type 0 where
-  pub errors : outcome.errors ≡ errors_in (transcript setting w (made_script rounds))
-  pub hooks : shelf' ≡ shelf_after setting w (made_script rounds)
-  pub hooks_told : HooksAreTold setting.shelf shelf' (transcript setting w (made_script rounds))
-  pub kinds : kinds' ≡ kinds_after setting w (made_script rounds)
+-- what the transcript of the script of so many rounds leaves, where call w was refused for want of memory, if any
+abbrev pub IsTranscript : ℕ → Option ℕ → Setting → Outcome → ShelfState → List Kind → Type 0
+IsTranscript rounds w setting outcome shelf' kinds' = LeavesRun w setting (made_script rounds) outcome.errors shelf' kinds'
 
 -- Status 0 or 1: all lines of so many rounds were performed, and the line that tells of them was written. It is the rules' summary, unless
 -- there were 2^64 events or more.

@@ -10,3 +10,5 @@ pub mod Plays
 pub mod Lawful
 pub mod Options
 pub mod Parts
+pub mod Sweep
+pub mod SweepSteps

@@ -1,5 +1,5 @@
 -- What a run did, by its status.
-use Rattle.std.specs.Prelude.{◌≡◌, ℕ, ◌+◌, ◌^◌, ◌<◌, ◌≤◌, ◌↔◌, ◌⊎◌, List, [], ◌∷◌, ◌++◌, length, take, codes, Option, Some, None, ◌==◌, if◌then◌else◌}
+use Rattle.std.specs.Prelude.{◌≡◌, ℕ, ◌+◌, ◌^◌, ◌<◌, ◌≤◌, ◌↔◌, ◌⊎◌, List, [], ◌∷◌, ◌++◌, length, take, codes, Option, Some, None, true, false, ◌==◌, if◌then◌else◌}
 use Rattle.std.specs.Io.KnownBytes.{prepend_known, append_known, IsAtEnd}
 use Rattle.pgs_io.specs.Lines.{lines_of, ended_lines}
 use Rattle.pgs_world.specs.declared.program.Outcome.{Outcome}
@@ -10,7 +10,8 @@ use Rattle.pgs_world.specs.declared.options.Options.{Options}
 use Rattle.addr_space.specs.Space.{Space, taken}
 use Rattle.session_rules.specs.Transcript.{errors_in}
 use Rattle.pgs_turns.specs.Courses.{TakesInAll, TakesLines}
-use Rattle.pgs_turns.specs.Hooks.{HooksAreTold}
+use Rattle.pgs_turns.specs.Generating.{IsFront}
+use Rattle.pgs_turns.specs.Sweeping.{LeavesRun}
 use Rattle.pgs_turns.specs.Transcript.{Setting, transcript, kinds_after, shelf_after, text_in, EndsAt}
 
 -- what words ask for, the hooks that are on the shelf, and the extension kinds
@@ -29,6 +30,18 @@ most_bytes = 2 ^ 24
 abbrev pub AskFor : List (List ℕ) → Options → Type 0
 AskFor words options = options_of words ≡ Some options
 
+-- so it is of what the words ask for, where the script that is read is to run once
+abbrev pub ForScript : List (List ℕ) → (Options → Type 0) → Type 0
+ForScript words So = (o : Options) → AskFor words o → o.generate ≡ 0 → o.sweep ≡ false → So o
+
+-- where a script is made
+abbrev pub ForMade : List (List ℕ) → (Options → Type 0) → Type 0
+ForMade words So = (o : Options) → AskFor words o → 0 < o.generate → So o
+
+-- where the script that is read is swept
+abbrev pub ForSweep : List (List ℕ) → (Options → Type 0) → Type 0
+ForSweep words So = (o : Options) → AskFor words o → o.sweep ≡ true → So o
+
 -- what refused words are answered with
 abbrev pub usage_line : List ℕ
 usage_line = codes "usage: pgscript [--space N] [--sessions N] [--descriptors N] [--fail N] [--generate N] [--sweep]\n"
@@ -41,8 +54,7 @@ HasGiven taken before after = before ≡ prepend_known taken after
 abbrev pub HasWritten : Setting → Option ℕ → List (List ℕ) → Option (List ℕ) → Option (List ℕ) → Type 0
 HasWritten setting w lines before after = after ≡ append_known before (text_in setting (transcript setting w lines))
 
--- Status 0 or 1: all of the source was read, and its whole transcript was written. Hooks and kinds are those that the rules leave, and the
--- transcript tells what became of the hooks.
+-- Status 0 or 1: all of the source was read, and its whole transcript was written.
 pub record IsWhole (setting : Setting) (outcome : Outcome) (left left' written written' : Option (List ℕ)) (shelf' : ShelfState) (kinds' : List Kind) : Type 0 where
   pub bytes : List ℕ
   pub given : HasGiven bytes left left'
@@ -50,10 +62,7 @@ pub record IsWhole (setting : Setting) (outcome : Outcome) (left left' written w
   pub short : length bytes ≤ most_bytes
   pub lines : outcome.lines ≡ length (lines_of bytes)
   pub text : HasWritten setting None (lines_of bytes) written written'
-  pub errors : outcome.errors ≡ errors_in (transcript setting None (lines_of bytes))
-  pub hooks : shelf' ≡ shelf_after setting None (lines_of bytes)
-  pub hooks_told : HooksAreTold setting.shelf shelf' (transcript setting None (lines_of bytes))
-  pub kinds : kinds' ≡ kinds_after setting None (lines_of bytes)
+  pub leaves : LeavesRun None setting (lines_of bytes) outcome.errors shelf' kinds'
   pub status : (outcome.status ≡ 1) ↔ (0 < errors_in (transcript setting None (lines_of bytes)))
 
 -- the errors are the ERROR events in the transcript of the bytes that a source had
@@ -68,6 +77,18 @@ TakesAsked setting left before after = (bytes : List ℕ) → left ≡ Some byte
 abbrev pub TakesAll : Setting → Option (List ℕ) → Space → Space → Type 0
 TakesAll setting left before after = (bytes : List ℕ) → left ≡ Some bytes → TakesInAll setting (lines_of bytes) before after
 
+-- Each account took what these lines ask for the session that counts for it: the first of the bytes that a source gave, so many.
+pub record TakesGiven (setting : Setting) (performed : ℕ) (left left' : Option (List ℕ)) (before after : Space) : Type 0 where
+  pub bytes : List ℕ
+  pub given : HasGiven bytes left left'
+  pub takes : TakesLines setting (take performed (lines_of bytes)) before after
+
+-- The same with what the opening of each session asks. No other account took any.
+pub record TakesSoFar (setting : Setting) (performed : ℕ) (left left' : Option (List ℕ)) (before after : Space) : Type 0 where
+  pub bytes : List ℕ
+  pub given : HasGiven bytes left left'
+  pub takes : TakesInAll setting (take performed (lines_of bytes)) before after
+
 -- So many lines were given whole: the newline of each is among the bytes, or the source was at its end behind them. A byte past the most of a script is no part of a line.
 abbrev pub AreWhole : ℕ → List ℕ → Option (List ℕ) → Type 0
 AreWhole lines bytes left = (lines ≤ length (ended_lines (take most_bytes bytes))) ⊎ ((length bytes ≤ most_bytes) × IsAtEnd left)
@@ -80,10 +101,7 @@ pub record IsWanted (setting : Setting) (outcome : Outcome) (left left' written 
   pub whole_lines : AreWhole outcome.lines bytes left'
   pub defined : EndsAt setting outcome.call (lines_of bytes) outcome.lines
   pub text : HasWritten setting (Some outcome.call) (lines_of bytes) written written'
-  pub errors : outcome.errors ≡ errors_in (transcript setting (Some outcome.call) (lines_of bytes))
-  pub hooks : shelf' ≡ shelf_after setting (Some outcome.call) (lines_of bytes)
-  pub hooks_told : HooksAreTold setting.shelf shelf' (transcript setting (Some outcome.call) (lines_of bytes))
-  pub kinds : kinds' ≡ kinds_after setting (Some outcome.call) (lines_of bytes)
+  pub leaves : LeavesRun (Some outcome.call) setting (lines_of bytes) outcome.errors shelf' kinds'
 
 -- Status 3: the source failed, and the transcript of the lines whose newline it had given was written.
 pub record IsCutOff (setting : Setting) (outcome : Outcome) (left left' written written' : Option (List ℕ)) (shelf' : ShelfState) (kinds' : List Kind) : Type 0 where
@@ -92,10 +110,7 @@ pub record IsCutOff (setting : Setting) (outcome : Outcome) (left left' written 
   pub short : length bytes ≤ most_bytes
   pub lines : outcome.lines ≡ length (ended_lines bytes)
   pub text : HasWritten setting None (ended_lines bytes) written written'
-  pub errors : outcome.errors ≡ errors_in (transcript setting None (ended_lines bytes))
-  pub hooks : shelf' ≡ shelf_after setting None (ended_lines bytes)
-  pub hooks_told : HooksAreTold setting.shelf shelf' (transcript setting None (ended_lines bytes))
-  pub kinds : kinds' ≡ kinds_after setting None (ended_lines bytes)
+  pub leaves : LeavesRun None setting (ended_lines bytes) outcome.errors shelf' kinds'
 
 -- Status 6: the source has a byte past the most bytes of a script, and the transcript of the lines whose newline is among those was written.
 pub record IsTooLong (setting : Setting) (outcome : Outcome) (left left' written written' : Option (List ℕ)) (shelf' : ShelfState) (kinds' : List Kind) : Type 0 where
@@ -105,10 +120,7 @@ pub record IsTooLong (setting : Setting) (outcome : Outcome) (left left' written
   pub full : length bytes ≡ most_bytes
   pub lines : outcome.lines ≡ length (ended_lines bytes)
   pub text : HasWritten setting None (ended_lines bytes) written written'
-  pub errors : outcome.errors ≡ errors_in (transcript setting None (ended_lines bytes))
-  pub hooks : shelf' ≡ shelf_after setting None (ended_lines bytes)
-  pub hooks_told : HooksAreTold setting.shelf shelf' (transcript setting None (ended_lines bytes))
-  pub kinds : kinds' ≡ kinds_after setting None (ended_lines bytes)
+  pub leaves : LeavesRun None setting (ended_lines bytes) outcome.errors shelf' kinds'
 
 -- the fallible call that a number names as refused; 0 names none
 abbrev pub refused_call : ℕ → Option ℕ
@@ -123,13 +135,11 @@ pub record IsUnwritten (setting : Setting) (outcome : Outcome) (left left' writt
   pub read : outcome.lines ≤ length (lines_of bytes)
   pub front : List ℕ
   pub rest : List ℕ
+  pub some : 0 < length rest
   pub parts : front ++ rest ≡ text_in setting (transcript setting (refused_call outcome.call) (take outcome.lines (lines_of bytes)))
   pub taken : written' ≡ append_known written front
   pub defined : 0 < outcome.call → EndsAt setting outcome.call (take outcome.lines (lines_of bytes)) outcome.lines
-  pub errors : outcome.errors ≡ errors_in (transcript setting (refused_call outcome.call) (take outcome.lines (lines_of bytes)))
-  pub hooks : shelf' ≡ shelf_after setting (refused_call outcome.call) (take outcome.lines (lines_of bytes))
-  pub hooks_told : HooksAreTold setting.shelf shelf' (transcript setting (refused_call outcome.call) (take outcome.lines (lines_of bytes)))
-  pub kinds : kinds' ≡ kinds_after setting (refused_call outcome.call) (take outcome.lines (lines_of bytes))
+  pub leaves : LeavesRun (refused_call outcome.call) setting (take outcome.lines (lines_of bytes)) outcome.errors shelf' kinds'
 
 -- Status 5 without a call: not all sessions were started, nothing was read or written, and hooks and kinds are as they were.
 pub record IsNotStarted (outcome : Outcome) (left left' written written' : Option (List ℕ)) (shelf shelf' : ShelfState) (before kinds' : List Kind) : Type 0 where
@@ -145,9 +155,6 @@ pub record IsSharedOut (sessions limit : ℕ) (before after : Space) : Type 0 wh
   pub limit_is : after.limit ≡ limit
   pub others : (account : ℕ) → sessions ≤ account → taken after account ≡ taken before account
 
--- a front of the usage line was written
-pub record IsUsageFront (written written' : Option (List ℕ)) : Type 0 where
-  pub front : List ℕ
-  pub rest : List ℕ
-  pub parts : front ++ rest ≡ usage_line
-  pub taken : written' ≡ append_known written front
+-- a front of the usage line was written, and not all of it
+abbrev pub IsUsageFront : Option (List ℕ) → Option (List ℕ) → Type 0
+IsUsageFront written written' = IsFront usage_line written written'

@@ -11,7 +11,7 @@ use Rattle.pgs_turns.specs.World.{AreKept}
 use Rattle.pgs_world.specs.declared.program.Outcome.{Outcome}
 use Rattle.pgs_world.specs.Ending.{IsPlayed}
 use Rattle.pgs_world.specs.Generated.{IsGenerated, IsMade, IsStopped, IsUntold}
-use Rattle.pgs_world.specs.Outcome.{IsWhole, IsWanted, IsCutOff, IsTooLong, IsUnwritten, IsNotStarted, IsSharedOut, TakesAll, TakesAsked}
+use Rattle.pgs_world.specs.Outcome.{IsWhole, IsWanted, IsCutOff, IsTooLong, IsUnwritten, IsNotStarted, IsSharedOut, TakesAll, TakesAsked, TakesGiven, TakesSoFar}
 
 -- What a run finds and leaves besides the space: what the source has left and how often it failed, what the sink has taken and how often it
 -- failed, the hooks, and the extension kinds.
@@ -65,6 +65,7 @@ pub record Leaves (sessions : ℕ) (outcome : Outcome) (before after : List Kind
 pub record Ends (sessions : ℕ) (setting : Setting) (outcome : Outcome) (before after : Outside) (s t : Space) : Type 0 where
   pub performed : Performed setting outcome before after
   pub taken : (outcome.status ≡ 0) ⊎ (outcome.status ≡ 1) → TakesAsked setting before.left s t
+  pub taken_so_far : outcome.call ≡ 0 → TakesGiven setting outcome.lines before.left after.left s t
   pub leaves : Leaves sessions outcome before.kinds after.kinds s t
 
 -- the script that is made was performed, and its sessions have ended
@@ -78,6 +79,7 @@ pub record Plays (rounds : ℕ) (setting : Setting) (outcome : Outcome) (before 
   pub performed : rounds ≡ 0 → Performed setting outcome before after
   pub generates : 0 < rounds → Generates rounds setting outcome before after
   pub taken : rounds ≡ 0 → (outcome.status ≡ 0) ⊎ (outcome.status ≡ 1) → TakesAll setting before.left s t
+  pub taken_so_far : rounds ≡ 0 → outcome.status ≢ 5 → outcome.call ≡ 0 → TakesSoFar setting outcome.lines before.left after.left s t
   pub made_taken : 0 < rounds → (outcome.status ≡ 0) ⊎ (outcome.status ≡ 1) → TakesInAll setting (made_script rounds) s t
   pub not_started : outcome.status ≡ 5 → outcome.call ≡ 0 → IsNotStarted outcome before.left after.left before.written after.written before.shelf after.shelf before.kinds after.kinds
   pub given_back : (account : ℕ) → held t account ≡ 0

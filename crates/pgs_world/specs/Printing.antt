@@ -1,5 +1,5 @@
 -- What a printer of events does to its sink.
-use Rattle.std.specs.Prelude.{◌≡◌, ℕ, ◌+◌, ◌-◌, ◌^◌, ◌≤◌, min, Bool, true, false, List, [], ◌++◌, Option}
+use Rattle.std.specs.Prelude.{◌≡◌, ℕ, ◌+◌, ◌-◌, ◌^◌, ◌<◌, ◌≤◌, min, Bool, true, false, List, [], ◌++◌, length, Option}
 use Rattle.std.specs.Io.KnownBytes.{append_known}
 use Rattle.pgs_io.specs.Faults.{HasRisen}
 use Rattle.pgs_step.specs.declared.events.What.{What}
@@ -28,6 +28,7 @@ pub record HandsOn (old new : Gathering) (text : List ℕ) (rest : List ℕ) : T
 -- a write has failed, and only a part was handed on
 pub record FailsWithin (old new : Gathering) (text : List ℕ) : Type 0 where
   pub rest : List ℕ
+  pub some : 0 < length rest
   pub hands : HandsOn old new text rest
   pub risen : HasRisen old.faults new.faults
 

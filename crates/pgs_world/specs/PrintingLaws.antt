@@ -1,5 +1,5 @@
 -- Printing nothing, and printing twice.
-use Rattle.std.proofs.Common.{◌≡◌, ℕ, ◌+◌, ◌≤◌, Bool, true, false, List, [], ◌∷◌, ◌++◌, Option, Some, None, refl, sym, ◌∙◌, ap, subst, arith, append_assoc, append-nil}
+use Rattle.std.proofs.Common.{◌≡◌, ℕ, ◌+◌, ◌≤◌, Bool, true, false, List, [], ◌∷◌, ◌++◌, Option, Some, None, refl, sym, ◌∙◌, ap, subst, arith, append_assoc, append-nil, length-append}
 use Rattle.std.specs.Io.KnownBytes.{append_known}
 use Rattle.pgs_io.specs.Faults.{HasRisen}
 use Rattle.pgs_step.specs.declared.events.What.{What}
@@ -47,9 +47,10 @@ Moves-none true a = record { silent = refl }
 
 pub Moves-more : (f g h : Bool) (a b c : Gathering) (xs ys : List ℕ) → b.faults ≤ c.faults → Moves f g a b xs → Moves g h b c ys → Moves f h a c (xs ++ ys)
 Moves-more false false false a b c xs ys n p q = record { hands = hands_more a b c xs ys c.gathered p.hands q.hands; no_fault = q.no_fault ∙ p.no_fault }
-Moves-more false false true a b c xs ys n p q = record { rest = q.rest; hands = hands_more a b c xs ys q.rest p.hands q.hands; risen = subst (λ (z : ℕ). HasRisen z c.faults) p.no_fault q.risen }
+Moves-more false false true a b c xs ys n p q = record { rest = q.rest; some = q.some; hands = hands_more a b c xs ys q.rest p.hands q.hands; risen = subst (λ (z : ℕ). HasRisen z c.faults) p.no_fault q.risen }
 Moves-more false true true a b c xs ys n p q = record {
   rest = p.rest ++ ys;
+  some = omega (arith, p.some, length-append p.rest ys);
   hands = record { handed = p.hands.handed; parts = more_left p.hands.handed p.rest a.gathered xs ys p.hands.parts; taken = q.silent ∙ p.hands.taken };
   risen = (omega (arith, n, p.risen.0), omega (arith, n, p.risen.1));
 }
@@ -111,7 +112,7 @@ Shows-taken a b whats n p is = record {
 -- a printer that turns to another session
 Moves-turned : (f g : Bool) (a b : Gathering) (n : ℕ) (text : List ℕ) → Moves f g a b text → Moves f g a (record b { session = n }) text
 Moves-turned false false a b n text m = record { hands = record { handed = m.hands.handed; parts = m.hands.parts; taken = m.hands.taken }; no_fault = m.no_fault }
-Moves-turned false true a b n text m = record { rest = m.rest; hands = record { handed = m.hands.handed; parts = m.hands.parts; taken = m.hands.taken }; risen = m.risen }
+Moves-turned false true a b n text m = record { rest = m.rest; some = m.some; hands = record { handed = m.hands.handed; parts = m.hands.parts; taken = m.hands.taken }; risen = m.risen }
 Moves-turned true true a b n text m = record { silent = m.silent }
 Moves-turned true false a b n text m = m
 

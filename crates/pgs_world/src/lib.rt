@@ -6,6 +6,8 @@ mod options;
 mod performing;
 mod printer;
 mod program;
+mod sweeping;
+mod whole_script;
 
 pub use options::{
     DEFAULT_DESCRIPTORS, DEFAULT_SESSIONS, DEFAULT_SPACE, MOST_HELD, Options, OptionsError,

@@ -2,7 +2,7 @@
 ghost use Rattle.std.specs.Prelude.{◌≡◌, ◌≢◌, ◌<◌, ◌≤◌, ◌⊎◌, ℕ, List, Some, [], length, vec_capacity};
 ghost use Rattle.std.specs.Io.KnownBytes.{append_known};
 ghost use Rattle.pgs_io.specs.Faults.{HasRisen};
-ghost use Rattle.std.specs.Prelude.{map, replicate, None, ◌++◌, IfOk, Option};
+ghost use Rattle.std.specs.Prelude.{map, replicate, true, false, None, ◌++◌, IfOk, Option};
 ghost use Rattle.std.specs.Prelude.{string_bytes as string_text};
 ghost use Rattle.addr_space.specs.Space.{accounts, held, risen, taken};
 ghost use Rattle.reset_callbacks.specs.Hook.{AreDistinct};
@@ -13,16 +13,18 @@ ghost use Rattle.owner_kinds.specs.KindShelf.{table_of};
 ghost use Rattle.owner_kinds.specs.KindTable.{IsSound};
 ghost use Rattle.pgs_turns.specs.Transcript.{names_of};
 ghost use Rattle.pgs_turns.specs.World.{run_of, setting_at, setting_of, AreKept, AreStanding, HaveDescriptors, IsOpening};
-ghost use Rattle.pgs_world.specs.Outcome.{most_bytes, setting_for, usage_line, AskFor, IsWhole, IsWanted, IsCutOff, IsTooLong, IsUnwritten, IsNotStarted, IsSharedOut, IsUsageFront, CountsErrors, TakesAll};
+ghost use Rattle.pgs_world.specs.Outcome.{most_bytes, setting_for, usage_line, AskFor, IsWhole, IsWanted, IsCutOff, IsTooLong, IsUnwritten, IsNotStarted, IsSharedOut, IsUsageFront, CountsErrors, TakesAll, TakesSoFar, ForMade, ForScript, ForSweep};
 ghost use Rattle.pgs_world.specs.Ending.{generated_outcome, generated_status, outcome_of, status_of};
 ghost use Rattle.pgs_world.specs.Generated.{IsGenerated, IsMade, IsStopped, IsUntold};
 ghost use Rattle.pgs_world.specs.Lawful.{AreLawful, AreMadeOnce, IsMadeLawfully};
+ghost use Rattle.pgs_world.specs.Sweep.{most_swept, Sweeps};
 ghost use Rattle.pgs_world.specs.Plays.{outside, Ends, EndsMade, Plays};
 ghost use Rattle.session_rules.specs.Modes.{made_script};
 ghost use Rattle.pgs_turns.specs.Courses.{TakesInAll};
 
 use crate::performing::{End, Ended, perform_lines};
 use crate::printer::Printer;
+use crate::sweeping::sweep;
 use crate::{Options, OptionsError, read_options};
 use addr_space::Space;
 use owner_kinds::{ExtKind, KindShelf};
@@ -44,10 +46,10 @@ const USAGE: &[u8] =
 ///
 /// `status` is the exit status of the program: 0 for a transcript without an ERROR event, 1 for one with
 /// such an event, 2 for refused words, 3 for a source that failed, 4 for a sink that failed, 5 for a want of
-/// memory, 6 for a script of more than 2^24 bytes. `call` is the number of the fallible call that met a want
-/// of memory, counted from 1 over the whole run, and 0 where none did or where not all sessions were
-/// started. `errors` counts the ERROR events, and `lines` the lines that were performed, those that say
-/// nothing among them.
+/// memory, 6 for a script of more than 2^24 bytes, or 65,536 where it is swept. `call` is the number of the
+/// fallible call that met a want of memory, counted from 1 over the whole run, or over that run of a sweep, and 0
+/// where none did or where not all sessions were started. `errors` counts the ERROR events, of all runs of a sweep,
+/// and `lines` the lines that were performed, those that say nothing among them; in a sweep it is 0.
 #[derive(Clone, Copy, Debug, PartialEq, Eq)]
 pub struct Outcome {
     pub status: u8,
@@ -57,7 +59,7 @@ pub struct Outcome {
 }
 
 /// A run that read nothing and wrote nothing.
-const NOT_STARTED: Outcome = Outcome {
+pub(crate) const NOT_STARTED: Outcome = Outcome {
     status: 5,
     call: 0,
     errors: 0,
@@ -67,6 +69,9 @@ const NOT_STARTED: Outcome = Outcome {
 /// Does all that the program `pgscript` does: it reads a script from the source and writes its transcript
 /// to the sink. Where the words ask for rounds of the script that is made, it reads nothing, performs that
 /// script, and writes one line that tells how many lines, events, ERROR events and fallible calls there were.
+/// Where they ask for a sweep, it reads a script of at most 65,536 bytes, runs it with no failing call and then once
+/// for each of its first 2,000 fallible calls, which fails, and writes a line for each run: how many fallible calls
+/// there were, or which one failed, and how many ERROR events. Before each run but the first all hooks are made fresh.
 ///
 /// `words` are those of the command line, without the program's name; `read_options` reads them. The contexts of
 /// session n count for account n - 1 of the space, whose limit is set to what the words say. The hooks of all
@@ -86,23 +91,27 @@ pub fn run<S: Source, K: Sink, H: ResetHook, X: ExtKind>(
     requires hooks { AreDistinct (shelf_state.held shelf.old) }
 
     // Status 0 or 1: all of the source was read, and the whole transcript was written.
-    ensures whole { (o : Asked) → AskFor (map string_text words.now) o → o.generate ≡ 0 → (result.status ≡ 0) ⊎ (result.status ≡ 1)
-        → IsWhole (setting_for o shelf.old kinds.old) result (S.left src.old) (S.left src.new) (K.written out.old) (K.written out.new) shelf.new kinds.new }
-    ensures counts { (o : Asked) → AskFor (map string_text words.now) o → o.generate ≡ 0 → (result.status ≡ 0) ⊎ (result.status ≡ 1) → CountsErrors (setting_for o shelf.old kinds.old) result (S.left src.old) }
+    ensures whole { ForScript (map string_text words.now) (λ o. (result.status ≡ 0) ⊎ (result.status ≡ 1)
+        → IsWhole (setting_for o shelf.old kinds.old) result (S.left src.old) (S.left src.new) (K.written out.old) (K.written out.new) shelf.new kinds.new) }
+    ensures counts { ForScript (map string_text words.now) (λ o. (result.status ≡ 0) ⊎ (result.status ≡ 1) → CountsErrors (setting_for o shelf.old kinds.old) result (S.left src.old)) }
 
     // Each session's account took what the session's opening and its lines ask for, and no other account anything.
-    ensures taken { (o : Asked) → AskFor (map string_text words.now) o → o.generate ≡ 0 → (result.status ≡ 0) ⊎ (result.status ≡ 1) → TakesAll (setting_for o shelf.old kinds.old) (S.left src.old) space.old space.new }
+    ensures taken { ForScript (map string_text words.now) (λ o. (result.status ≡ 0) ⊎ (result.status ≡ 1) → TakesAll (setting_for o shelf.old kinds.old) (S.left src.old) space.old space.new) }
+
+    // Where the script was cut short by the source or the sink, or is too long, they took what the lines ask that were performed.
+    ensures taken_so_far { ForScript (map string_text words.now) (λ o. result.status ≢ 5 → result.call ≡ 0
+        → TakesSoFar (setting_for o shelf.old kinds.old) result.lines (S.left src.old) (S.left src.new) space.old space.new) }
 
     // Unless not all sessions were started, each transcript that these clauses speak of keeps the laws of lifetimes: what is acquired is
     // released exactly once, descendants first, by phase and priority; the end of a level that aborts touches nothing outside it; and each callback
     // runs once, before its memory goes. So does that of the script that is made. And in each no context and no owner is made twice, and none goes
     // that was not made.
-    ensures lawful { (o : Asked) → AskFor (map string_text words.now) o → (result.status ≡ 5 → 0 < result.call) → AreLawful (setting_for o shelf.old kinds.old) }
-    ensures generated_lawful { (o : Asked) → AskFor (map string_text words.now) o → 0 < o.generate → (result.status ≡ 5 → 0 < result.call) → IsMadeLawfully o.generate (setting_for o shelf.old kinds.old) }
-    ensures made_once { (o : Asked) → AskFor (map string_text words.now) o → (result.status ≡ 5 → 0 < result.call) → AreMadeOnce (setting_for o shelf.old kinds.old) }
+    ensures lawful { (o : Asked) → AskFor (map string_text words.now) o → o.sweep ≡ false → (result.status ≡ 5 → 0 < result.call) → AreLawful (setting_for o shelf.old kinds.old) }
+    ensures generated_lawful { ForMade (map string_text words.now) (λ o. (result.status ≡ 5 → 0 < result.call) → IsMadeLawfully o.generate (setting_for o shelf.old kinds.old)) }
+    ensures made_once { (o : Asked) → AskFor (map string_text words.now) o → o.sweep ≡ false → (result.status ≡ 5 → 0 < result.call) → AreMadeOnce (setting_for o shelf.old kinds.old) }
 
     // Unless not all sessions were started, the space has the limit that the words say, and no account but a session's took any bytes.
-    ensures shared_out { (o : Asked) → AskFor (map string_text words.now) o → (result.status ≡ 5 → 0 < result.call) → IsSharedOut o.sessions o.space space.old space.new }
+    ensures shared_out { (o : Asked) → AskFor (map string_text words.now) o → o.sweep ≡ false → (result.status ≡ 5 → 0 < result.call) → IsSharedOut o.sessions o.space space.old space.new }
 
     // Status 2: the words are refused, and nothing was read.
     ensures usage { result.status ≡ 2 → K.written out.new ≡ append_known (K.written out.old) usage_line }
@@ -113,33 +122,41 @@ pub fn run<S: Source, K: Sink, H: ResetHook, X: ExtKind>(
 
     // Status 3: the source failed. Status 6: it has a byte too many.
     ensures source_fault { result.status ≡ 3 → HasRisen (S.faults src.old) (S.faults src.new) }
-    ensures cut_off { (o : Asked) → AskFor (map string_text words.now) o → o.generate ≡ 0 → result.status ≡ 3
-        → IsCutOff (setting_for o shelf.old kinds.old) result (S.left src.old) (S.left src.new) (K.written out.old) (K.written out.new) shelf.new kinds.new }
-    ensures too_long { (o : Asked) → AskFor (map string_text words.now) o → o.generate ≡ 0 → result.status ≡ 6
-        → IsTooLong (setting_for o shelf.old kinds.old) result (S.left src.old) (S.left src.new) (K.written out.old) (K.written out.new) shelf.new kinds.new }
+    ensures cut_off { ForScript (map string_text words.now) (λ o. result.status ≡ 3
+        → IsCutOff (setting_for o shelf.old kinds.old) result (S.left src.old) (S.left src.new) (K.written out.old) (K.written out.new) shelf.new kinds.new) }
+    ensures too_long { ForScript (map string_text words.now) (λ o. result.status ≡ 6
+        → IsTooLong (setting_for o shelf.old kinds.old) result (S.left src.old) (S.left src.new) (K.written out.old) (K.written out.new) shelf.new kinds.new) }
 
     // Status 4: the sink failed.
     ensures sink_fault { result.status ≡ 4 → HasRisen (K.faults out.old) (K.faults out.new) }
-    ensures unwritten { (o : Asked) → AskFor (map string_text words.now) o → o.generate ≡ 0 → result.status ≡ 4
-        → IsUnwritten (setting_for o shelf.old kinds.old) result (S.left src.old) (S.left src.new) (K.written out.old) (K.written out.new) shelf.new kinds.new }
+    ensures unwritten { ForScript (map string_text words.now) (λ o. result.status ≡ 4
+        → IsUnwritten (setting_for o shelf.old kinds.old) result (S.left src.old) (S.left src.new) (K.written out.old) (K.written out.new) shelf.new kinds.new) }
     ensures usage_unwritten { options_of (map string_text words.now) ≡ None → result.status ≡ 4 → IsUsageFront (K.written out.old) (K.written out.new) }
 
     // Status 5: memory was wanted, at the call that is named, or before all sessions had started.
-    ensures wanted { (o : Asked) → AskFor (map string_text words.now) o → o.generate ≡ 0 → result.status ≡ 5 → 0 < result.call
-        → IsWanted (setting_for o shelf.old kinds.old) result (S.left src.old) (S.left src.new) (K.written out.old) (K.written out.new) shelf.new kinds.new }
-    ensures not_started { result.status ≡ 5 → result.call ≡ 0 → IsNotStarted result (S.left src.old) (S.left src.new) (K.written out.old) (K.written out.new) shelf.old shelf.new kinds.old kinds.new }
+    ensures wanted { ForScript (map string_text words.now) (λ o. result.status ≡ 5 → 0 < result.call
+        → IsWanted (setting_for o shelf.old kinds.old) result (S.left src.old) (S.left src.new) (K.written out.old) (K.written out.new) shelf.new kinds.new) }
+    ensures not_started { ((o : Asked) → AskFor (map string_text words.now) o → o.sweep ≡ false) → result.status ≡ 5 → result.call ≡ 0
+        → IsNotStarted result (S.left src.old) (S.left src.new) (K.written out.old) (K.written out.new) shelf.old shelf.new kinds.old kinds.new }
 
     // With rounds of the script that is made nothing is read, and what is written is one line that tells of the run.
-    ensures generated { (o : Asked) → AskFor (map string_text words.now) o → 0 < o.generate → (result.status ≡ 0) ⊎ (result.status ≡ 1)
-        → IsGenerated o.generate (setting_for o shelf.old kinds.old) result (K.written out.old) (K.written out.new) shelf.new kinds.new }
-    ensures generated_taken { (o : Asked) → AskFor (map string_text words.now) o → 0 < o.generate → (result.status ≡ 0) ⊎ (result.status ≡ 1)
-        → TakesInAll (setting_for o shelf.old kinds.old) (made_script o.generate) space.old space.new }
-    ensures generated_untold { (o : Asked) → AskFor (map string_text words.now) o → 0 < o.generate → result.status ≡ 4
-        → IsUntold o.generate (setting_for o shelf.old kinds.old) result (K.written out.old) (K.written out.new) shelf.new kinds.new }
-    ensures generated_stopped { (o : Asked) → AskFor (map string_text words.now) o → 0 < o.generate → result.status ≡ 5 → 0 < result.call
-        → IsStopped o.generate (setting_for o shelf.old kinds.old) result (K.written out.old) (K.written out.new) shelf.new kinds.new }
-    ensures generated_unread { (o : Asked) → AskFor (map string_text words.now) o → 0 < o.generate → src.new ≡ src.old }
-    ensures generated_statuses { (o : Asked) → AskFor (map string_text words.now) o → 0 < o.generate → IsMade result.status }
+    ensures generated { ForMade (map string_text words.now) (λ o. (result.status ≡ 0) ⊎ (result.status ≡ 1)
+        → IsGenerated o.generate (setting_for o shelf.old kinds.old) result (K.written out.old) (K.written out.new) shelf.new kinds.new) }
+    ensures generated_taken { ForMade (map string_text words.now) (λ o. (result.status ≡ 0) ⊎ (result.status ≡ 1)
+        → TakesInAll (setting_for o shelf.old kinds.old) (made_script o.generate) space.old space.new) }
+    ensures generated_untold { ForMade (map string_text words.now) (λ o. result.status ≡ 4
+        → IsUntold o.generate (setting_for o shelf.old kinds.old) result (K.written out.old) (K.written out.new) shelf.new kinds.new) }
+    ensures generated_stopped { ForMade (map string_text words.now) (λ o. result.status ≡ 5 → 0 < result.call
+        → IsStopped o.generate (setting_for o shelf.old kinds.old) result (K.written out.old) (K.written out.new) shelf.new kinds.new) }
+    ensures generated_unread { ForMade (map string_text words.now) (λ o. src.new ≡ src.old) }
+    ensures generated_call { ForMade (map string_text words.now) (λ o. result.status ≢ 5 → result.call ≡ 0) }
+    ensures generated_statuses { ForMade (map string_text words.now) (λ o. IsMade result.status) }
+
+    // A sweep, by its status: which lines were written, how many errors all runs had, and what became of hooks and kinds. The transcripts of all
+    // runs that were played keep the laws of lifetimes.
+    ensures swept { ForSweep (map string_text words.now) (λ o. Sweeps (setting_for o shelf.old kinds.old) result
+        (outside (S.left src.old) (S.faults src.old) (K.written out.old) (K.faults out.old) shelf.old kinds.old)
+        (outside (S.left src.new) (S.faults src.new) (K.written out.new) (K.faults out.new) shelf.new kinds.new) space.old space.new) }
 
     // A fault that was met shows in the status, and there are no other statuses.
     ensures source_grew { S.faults src.old < S.faults src.new → (result.status ≡ 3) ⊎ (result.status ≡ 4) }
@@ -153,11 +170,12 @@ pub fn run<S: Source, K: Sink, H: ResetHook, X: ExtKind>(
     ensures kinds_kept { AreKept kinds.old kinds.new }
 
     // Accepted words, no fault and no byte too many give the whole transcript, unless memory was wanted.
-    ensures complete { (o : Asked) → AskFor (map string_text words.now) o → (bytes : List ℕ) → S.left src.old ≡ Some bytes → length bytes ≤ most_bytes
+    ensures complete { (o : Asked) → AskFor (map string_text words.now) o → (bytes : List ℕ) → S.left src.old ≡ Some bytes → length bytes ≤ most_bytes → (o.sweep ≡ true → length bytes ≤ most_swept)
         → ¬ HasRisen (S.faults src.old) (S.faults src.new) → ¬ HasRisen (K.faults out.old) (K.faults out.new)
         → (result.status ≡ 0) ⊎ (result.status ≡ 1) ⊎ (result.status ≡ 5) }
 {
     match read_options(alloc, words) {
+        Ok(options) if options.sweep => sweep(alloc, &options, src, out, space, shelf, kinds),
         Ok(options) => start(alloc, &options, src, out, space, shelf, kinds),
         Err(OptionsError::Refused) => refuse(out),
         Err(OptionsError::Memory) => NOT_STARTED,
@@ -204,15 +222,15 @@ fn start<S: Source, K: Sink, H: ResetHook, X: ExtKind>(
 /// What stands in the places of the space, of the shelf and of the kinds while these are lent to the sessions: the kinds are lent in
 /// the commons of the run.
 #[derive(Drop)]
-struct Places<H: ResetHook, X: ExtKind> {
-    space: Space,
-    shelf: Shelf<H>,
-    commons: Commons<X>,
+pub(crate) struct Places<H: ResetHook, X: ExtKind> {
+    pub(crate) space: Space,
+    pub(crate) shelf: Shelf<H>,
+    pub(crate) commons: Commons<X>,
 }
 
 impl<H: ResetHook, X: ExtKind> Places<H, X> {
     /// A space, a shelf and commons without anything. It fails for want of memory alone.
-    fn new(alloc: Global) -> Result<Places<H, X>, AllocError>
+    pub(crate) fn new(alloc: Global) -> Result<Places<H, X>, AllocError>
         ensures unlocked { IfOk result (λ places. places.commons.locks ≡ []) }
         ensures unpinned { IfOk result (λ places. places.commons.pins ≡ replicate 1024 0) }
     {

@@ -3,6 +3,7 @@
 #![tactic(auto)]
 
 mod told;
+mod watched;
 
 ghost use Rattle.std.specs.Prelude.{◌≡◌, ◌≢◌, ℕ, [], drop, map, None, IfOk, IfErr};
 ghost use Rattle.std.specs.Prelude.{string_bytes as string_text};
@@ -18,7 +19,8 @@ ghost use Rattle.std.specs.declared.io.ErrorKind.TheVariants.{OutOfMemory};
 ghost use Rattle.pgs_world.specs.declared.program.Outcome.{Outcome};
 ghost use Rattle.pgscript_cli.specs.Program.{Plays, fresh_hooks, the_kinds, the_shelf};
 
-use crate::told::{NO_START, Told};
+use crate::told::{NO_START, Told, is_sweep};
+use crate::watched::Watched;
 use addr_space::Space;
 use owner_kinds::{CountedKind, KindShelf};
 use pgs_io::{Sink, Source, StdSink, StdSource};
@@ -28,6 +30,7 @@ use reset_callbacks::{CountedHook, Shelf};
 use std::alloc::{AllocError, Global};
 use std::fmt::Display;
 use std::process::ExitCode;
+use std::io::IsTerminal;
 use std::{env, io, mem};
 
 /// How many accounts the space has: one for each session that a run may have.
@@ -44,7 +47,8 @@ const NO_TEXT: u8 = 7;
 
 fn main(rt: HostRuntime) -> ExitCode {
     let mut source = StdSource::new(rt.reader());
-    let mut sink = StdSink::new(io::writer(&rt));
+    let watches = rt.stderr().is_terminal() && asks_for_sweep(env::args(&rt));
+    let mut sink = Watched::new(StdSink::new(io::writer(&rt)), watches, &rt);
     play(rt.alloc(), env::args(&rt), &mut source, &mut sink, &rt)
 }
 
@@ -89,6 +93,14 @@ fn play<S: Source, K: Sink, E: Eprint>(
     // Its memory goes with the process: giving back some thousand blocks one by one would take time for nothing.
     mem::forget(space);
     ExitCode::from(status)
+}
+
+/// Whether the words of the command line, which stand behind the program's name, ask for a sweep.
+fn asks_for_sweep(args: io::Result<env::Args>) -> bool {
+    let Ok(mut args) = args else {
+        return false;
+    };
+    args.any(|word| is_sweep(&word))
 }
 
 /// Tells why the status of a run isn't 0.

@@ -10,6 +10,13 @@ pub struct Told<'a> {
     pub words: &'a [String],
 }
 
+impl Told<'_> {
+    /// Whether the words ask for a sweep, which tells of no line.
+    fn sweeps(&self) -> bool {
+        self.words.iter().any(is_sweep)
+    }
+}
+
 impl fmt::Display for Told<'_> {
     fn fmt<W: fmt::Write>(&self, f: &mut fmt::Formatter<W>) -> fmt::Result {
         let Outcome {
@@ -19,13 +26,17 @@ impl fmt::Display for Told<'_> {
             lines,
         } = *self.outcome;
         match status {
+            1 if self.sweeps() => write!(f, "{} in all runs", Count(errors, "error")),
             1 => write!(f, "{} in {}", Count(errors, "error"), Count(lines, "line")),
             2 => write!(f, "refused words:{}", Words(self.words)),
+            3 if self.sweeps() => write!(f, "the input failed"),
             3 => write!(f, "the input failed after line {lines}"),
             4 if lines == 0 => write!(f, "the output failed"),
             4 => write!(f, "the output failed at line {lines}"),
             5 if call == 0 => write!(f, "{NO_START}"),
+            5 if self.sweeps() => write!(f, "not enough memory at call {call} of a run"),
             5 => write!(f, "not enough memory at call {call}, line {lines}"),
+            6 if self.sweeps() => write!(f, "the script has more than 65536 bytes, the most of a sweep"),
             6 => write!(
                 f,
                 "the script has more than 16777216 bytes: line {lines} was the last"
@@ -61,4 +72,9 @@ impl fmt::Display for Words<'_> {
         }
         Ok(())
     }
+}
+
+/// Whether a word of the command line is the option of a sweep.
+pub fn is_sweep(word: &String) -> bool {
+    word.as_str() == "--sweep"
 }

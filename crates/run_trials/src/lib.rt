@@ -4,4 +4,6 @@
 #[cfg(test)]
 mod options;
 #[cfg(test)]
+mod stingy;
+#[cfg(test)]
 mod tests;

@@ -22,6 +22,7 @@ fn options_are_read(rt: HostRuntime) -> Result<(), Fail> {
         descriptors: 16,
         fail: 5,
         generate: 0,
+        sweep: false,
     };
     assert!(rt; read_options(alloc, &given) == Ok(want));
     Ok(())
@@ -37,6 +38,7 @@ fn no_words_are_the_defaults(rt: HostRuntime) -> Result<(), Fail> {
         descriptors: 16,
         fail: 0,
         generate: 0,
+        sweep: false,
     };
     assert!(rt; read_options(alloc, &given) == Ok(want));
     Ok(())
@@ -60,6 +62,7 @@ fn many_sessions_are_read(rt: HostRuntime) -> Result<(), Fail> {
         descriptors: 8,
         fail: 0,
         generate: 0,
+        sweep: false,
     };
     assert!(rt; read_options(alloc, &given) == Ok(want));
     Ok(())
@@ -91,7 +94,40 @@ fn rounds_are_read(rt: HostRuntime) -> Result<(), Fail> {
         descriptors: 16,
         fail: 0,
         generate: 10_000,
+        sweep: false,
     };
     assert!(rt; read_options(alloc, &given) == Ok(want));
+    Ok(())
+}
+
+#[test]
+fn a_sweep_is_read(rt: HostRuntime) -> Result<(), Fail> {
+    let alloc = rt.alloc();
+    let given = words(alloc, &["--fail", "0", "--sweep"])?;
+    let want = Options {
+        space: 16_777_216,
+        sessions: 1,
+        descriptors: 16,
+        fail: 0,
+        generate: 0,
+        sweep: true,
+    };
+    assert!(rt; read_options(alloc, &given) == Ok(want));
+    Ok(())
+}
+
+#[test]
+fn a_sweep_beside_a_failing_call_is_refused(rt: HostRuntime) -> Result<(), Fail> {
+    let alloc = rt.alloc();
+    let given = words(alloc, &["--sweep", "--fail=1"])?;
+    assert!(rt; read_options(alloc, &given) == Err(OptionsError::Refused));
+    Ok(())
+}
+
+#[test]
+fn a_number_with_a_sign_is_refused(rt: HostRuntime) -> Result<(), Fail> {
+    let alloc = rt.alloc();
+    let given = words(alloc, &["--fail=-0"])?;
+    assert!(rt; read_options(alloc, &given) == Err(OptionsError::Refused));
     Ok(())
 }

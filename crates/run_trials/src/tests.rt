@@ -564,3 +564,42 @@ fn numbers_that_cannot_be_written(rt: HostRuntime) -> Result<(), Fail> {
     );
     Ok(())
 }
+
+/// Each call of a script fails in turn. In its run the call's command fails, and those behind it that need the transaction.
+#[test]
+fn each_call_of_a_script_fails_in_turn(rt: HostRuntime) -> Result<(), Fail> {
+    let script = b"begin\npin 7\nsavepoint s\nlock 5 ShareLock\nalloc a 100\nrelease s\ncommit\n";
+    let told = b"calls 10 errors 0\nfail 1 errors 3\nfail 2 errors 3\nfail 3 errors 3\nfail 4 errors 5\nfail 5 errors 5\nfail 6 errors 4\nfail 7 errors 4\nfail 8 errors 4\nfail 9 errors 3\nfail 10 errors 2\n";
+    let played = play(rt.alloc(), &["--sweep"], script, 5, 0, 0)?;
+    assert_eq!(rt;
+        played.outcome,
+        Outcome {
+            status: 1,
+            call: 0,
+            errors: 36,
+            lines: 0
+        }
+    );
+    assert_eq!(rt; played.written.as_slice(), told);
+    assert_eq!(rt; played.held, 0);
+    Ok(())
+}
+
+/// A hook that runs in each run is fresh again before the next, and spent behind the last.
+#[test]
+fn a_hook_is_made_fresh_between_runs(rt: HostRuntime) -> Result<(), Fail> {
+    let script = b"begin\nonreset CurTransactionContext\nrollback\n";
+    let played = play(rt.alloc(), &["--sweep"], script, 64, 0, 0)?;
+    assert_eq!(rt; played.outcome.status, 1);
+    assert_eq!(rt; played.fresh, 6);
+    Ok(())
+}
+
+#[test]
+fn a_script_that_is_too_long_for_a_sweep(rt: HostRuntime) -> Result<(), Fail> {
+    let script = script_of(rt.alloc(), b"", b"\n", 65_537)?;
+    let played = play(rt.alloc(), &["--sweep"], &script, 4096, 0, 0)?;
+    assert_eq!(rt; (played.outcome.status, played.outcome.lines), (6, 0));
+    assert!(rt; played.written.is_empty());
+    Ok(())
+}

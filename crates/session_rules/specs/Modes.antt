@@ -52,10 +52,14 @@ abbrev pub failing_runs : ℕ → ℕ → Options → List Kind → ShelfState �
 failing_runs zero k options kinds shelf lines = []
 failing_runs (suc more) k options kinds shelf lines =
     let course = whole_run k options kinds shelf lines in
-    told_of_run (codes "fail ") k course ++ failing_runs more (k + 1) options kinds (renewed course.world.shelf) lines
+    told_of_run (codes "fail ") k course ++ failing_runs more (k + 1) options course.world.kinds (renewed course.world.shelf) lines
 
--- What is told of a script with each of its first 2,000 calls failing in turn. Between two runs all hooks are made fresh.
+-- how many calls at most fail in turn
+abbrev pub most_failing : ℕ
+most_failing = 2000
+
+-- What is told of a script with each of its first 2,000 calls failing in turn. Between two runs all hooks are made fresh, and the kinds stay as they are.
 unfoldable pub swept : Options → List Kind → ShelfState → List (List ℕ) → List ℕ
 swept options kinds shelf lines =
     let course = whole_run 0 options kinds shelf lines in
-    told_of_run (codes "calls ") course.world.calls course ++ failing_runs (min course.world.calls 2000) 1 options kinds (renewed course.world.shelf) lines
+    told_of_run (codes "calls ") course.world.calls course ++ failing_runs (min course.world.calls most_failing) 1 options course.world.kinds (renewed course.world.shelf) lines

@@ -3,13 +3,13 @@ use Rattle.session_rules.specs.Modes.{made_script}
 use Rattle.pgs_turns.specs.World.{run_of}
 use Rattle.pgs_turns.specs.declared.counter.Counter.{Counter}
 use Rattle.pgs_turns.proofs.ToldLemmas.{silent_tells, written_tells}
-use Rattle.pgs_turns.proofs.MadeTurns.{made_over}
+use Rattle.pgs_turns.proofs.CountedLemmas.{lines_over}
 use Rattle.pgs_turns.proofs.generating.generate.Goals as goal
 
 pub returns-then-not-wanted-clause-tells : goal.returns-then-not-wanted-clause-tells
 returns-then-not-wanted-clause-tells g c descriptors has =
     let over =
-    made_over descriptors (run_of c.args.sessions.now c.args.shared.now) (run_of c.perform_made-lines.new.sessions c.perform_made-lines.new.shared) (run_of c.exit_all.new.sessions c.exit_all.new.shared)
+    lines_over descriptors (run_of c.args.sessions.now c.args.shared.now) (run_of c.perform_made-lines.new.sessions c.perform_made-lines.new.shared) (run_of c.exit_all.new.sessions c.exit_all.new.shared)
     c.new-counter.result c.perform_made-lines.new.counter c.exit_all.new.out (take c.perform_made-lines.result.0 (made_script c.args.rounds)) c.perform_made-lines.result.1
     c.requires.opening (c.perform_made-lines.ensures.performed descriptors has) c.exit_all.ensures.exits in
     written_tells descriptors (run_of c.args.sessions.now c.args.shared.now) (run_of c.exit_all.new.sessions c.exit_all.new.shared) c.args.rounds c.perform_made-lines.result.0 c.perform_made-lines.result.1 c.new-counter.result c.exit_all.new.out
@@ -21,7 +21,7 @@ returns-then-not-wanted-clause-tells g c descriptors has =
 pub returns-else-not-wanted-clause-tells : goal.returns-else-not-wanted-clause-tells
 returns-else-not-wanted-clause-tells g c descriptors has =
     let over =
-    made_over descriptors (run_of c.args.sessions.now c.args.shared.now) (run_of c.perform_made-lines.new.sessions c.perform_made-lines.new.shared) (run_of c.exit_all.new.sessions c.exit_all.new.shared)
+    lines_over descriptors (run_of c.args.sessions.now c.args.shared.now) (run_of c.perform_made-lines.new.sessions c.perform_made-lines.new.shared) (run_of c.exit_all.new.sessions c.exit_all.new.shared)
     c.new-counter.result c.perform_made-lines.new.counter c.exit_all.new.out (take c.perform_made-lines.result.0 (made_script c.args.rounds)) c.perform_made-lines.result.1
     c.requires.opening (c.perform_made-lines.ensures.performed descriptors has) c.exit_all.ensures.exits in
     silent_tells descriptors (run_of c.args.sessions.now c.args.shared.now) (run_of c.exit_all.new.sessions c.exit_all.new.shared) c.args.rounds c.perform_made-lines.result.0 c.perform_made-lines.result.1 c.new-counter.result c.exit_all.new.out

@@ -3,11 +3,11 @@ use Rattle.std.specs.Prelude.{IfErr, ◌⊎◌}
 use Rattle.std.specs.declared.num.ParseIntError.{ParseIntError}
 use Rattle.std.specs.Str.Parse.{ParsesUnsigned, ExplainsUnsignedError, HasUnsignedDigitsIfOk}
 use Rattle.clap.specs.Words.{Text, found_of, kind_of, rows_of}
-use Rattle.pgs_world.specs.Options.{options_of, where_fitting}
+use Rattle.pgs_world.specs.Options.{flag_in, options_of, where_fitting}
 use Rattle.pgs_world.specs.declared.options.Options.{Options}
 use Rattle.pgs_world.specs.declared.options.OptionsError.{OptionsError}
 use Rattle.pgs_world.specs.declared.options.OptionsError.TheVariants as error
-use Rattle.pgs_world.proofs.Numbers.{Told, descriptors_told, fail_told, free, generate_told, no_faults, nothing_asked, options_told, rows_told, sessions_told, space_told, within}
+use Rattle.pgs_world.proofs.Numbers.{Told, descriptors_told, fail_told, free, generate_told, no_faults, nothing_asked, options_told, rows_told, sessions_told, space_told, sweep_told, within}
 use Rattle.pgs_world.proofs.options.read_options.Goals as goal
 use Rattle.pgs_world.proofs.options.read_options.Goals.{Joined-matches}
 
@@ -52,6 +52,10 @@ module _ (c : Joined-matches) where
   generate = generate_told c.in-Ok.command c.in-Ok.ensures (Reads 16) (λ t r g. g.0) c.in-Ok-try_get_matches_from.matches c.in-Ok-try_get_matches_from.ensures.parsed
       c.get_one-in-Ok-try_get_matches_from-4.result c.get_one-in-Ok-try_get_matches_from-4.ensures.none c.get_one-in-Ok-try_get_matches_from-4.ensures.value
 
+  sweep : c.get_flag.result ≡ flag_in (codes "sweep") (rows_of (found_of c.in-Ok-try_get_matches_from.matches))
+  sweep = sweep_told c.in-Ok.command c.in-Ok.ensures c.in-Ok-try_get_matches_from.matches c.in-Ok-try_get_matches_from.ensures.parsed
+      c.get_flag.result c.get_flag.ensures.none c.get_flag.ensures.value c.get_flag.ensures.other
+
   -- the options that are given
   abbrev given : Options
   given = record {
@@ -60,13 +64,14 @@ module _ (c : Joined-matches) where
     descriptors = c.unwrap_or-in-Ok-try_get_matches_from-2.result;
     fail = c.unwrap_or-in-Ok-try_get_matches_from-3.result;
     generate = c.unwrap_or-in-Ok-try_get_matches_from-4.result;
+    sweep = c.get_flag.result;
   }
 
   told : options_of (map string_text c.args.words.now) ≡ where_fitting given
   told =
-      options_told _ _ c.get_one.result c.get_one-in-Ok-try_get_matches_from.result c.get_one-in-Ok-try_get_matches_from-2.result c.get_one-in-Ok-try_get_matches_from-3.result c.get_one-in-Ok-try_get_matches_from-4.result
+      options_told _ _ c.get_one.result c.get_one-in-Ok-try_get_matches_from.result c.get_one-in-Ok-try_get_matches_from-2.result c.get_one-in-Ok-try_get_matches_from-3.result c.get_one-in-Ok-try_get_matches_from-4.result c.get_flag.result
       (no_faults _ _ c.in-Ok.ensures.app (c.in-Ok-try_get_matches_from.ensures.kinds (free _ c.in-Ok.ensures.app)))
-      (rows_told _ _ c.in-Ok-try_get_matches_from.matches c.in-Ok.ensures.app c.in-Ok-try_get_matches_from.ensures.matches) space sessions descriptors fail generate
+      (rows_told _ _ c.in-Ok-try_get_matches_from.matches c.in-Ok.ensures.app c.in-Ok-try_get_matches_from.ensures.matches) space sessions descriptors fail generate sweep
       ∙ rw (c.unwrap_or.ensures, c.unwrap_or-in-Ok-try_get_matches_from.ensures, c.unwrap_or-in-Ok-try_get_matches_from-2.ensures, c.unwrap_or-in-Ok-try_get_matches_from-3.ensures, c.unwrap_or-in-Ok-try_get_matches_from-4.ensures) refl
 
 pub returns-in-Ok-try_get_matches_from-clause-options : goal.returns-in-Ok-try_get_matches_from-clause-options

@@ -13,8 +13,8 @@ use Rattle.pgs_world.specs.PrinterView.{ShowsEvents, seen}
 use Rattle.pgs_world.specs.PrinterLaws.{ShowsEvents-both, ShowsEvents-flush}
 use Rattle.pgs_world.specs.Ending.{outcome_of}
 use Rattle.pgs_world.specs.declared.program.Outcome.{Outcome}
-use Rattle.pgs_world.proofs.CountLemmas.{taken_all}
-use Rattle.pgs_world.proofs.EndingLemmas.{Facts, Printed, called_of, ended_whole, performed_by, printed_all, printed_told, stays_failed, unwritten_leads}
+use Rattle.pgs_world.proofs.CountLemmas.{taken_all, taken_given}
+use Rattle.pgs_world.proofs.EndingLemmas.{Facts, Printed, called_of, ended_whole, met_none, performed_by, printed_all, printed_told, stays_failed, unwritten_leads}
 use Rattle.pgs_world.proofs.program.play_started.Goals as goal
 use Rattle.pgs_world.proofs.program.play_started.Given.{Over}
 
@@ -76,9 +76,7 @@ module _ (g : Over) (c : goal.After-made_outcome g) (descriptors : ℕ) (has : H
     how = performs.how;
     count = performs.count;
     printed = printed;
-    hooks = over.shelf;
-    told = over.told;
-    kinds = over.kinds;
+    leaves = λ w f. record { errors_are = (printed w f).errors_are; hooks = over.shelf w f; hooks_told = over.told w f; kinds = over.kinds w f };
     stopped = λ h. subst (λ (n : ℕ). EndsAt setting last.calls.count performs.lines n) (sym performs.count) (over.stopped h);
     called = over.called;
     silent = unwritten_leads c.perform_lines-ended.result.end _ _
@@ -100,6 +98,7 @@ returns g c d has =
           (outside (g.S.Source.left c.perform_lines-ended.new.src) (g.S.Source.faults c.perform_lines-ended.new.src) (g.K.Sink.written c.out-1.given.0) (g.K.Sink.faults c.out-1.given.0) c.exit_all.new.shared.shelf.now c.exit_all.new.shared.commons.now.kinds)
           f c.perform_lines-ended.ensures.fault c.perform_lines-ended.ensures.no_fault;
       taken = λ h. taken_all (setting g c d has) c.perform_lines-ended.result.end run.bytes run.lines _ _ c.args.shared.now.space.now c.exit_all.new.shared.space.now (ended_whole _ _ _ h) run.how over.taken;
+      taken_so_far = λ h. taken_given (setting g c d has) c.perform_lines-ended.result.end _ run.bytes run.lines _ _ c.args.shared.now.space.now c.exit_all.new.shared.space.now run.count run.how (over.taken (met_none _ _ _ _ _ _ _ _ _ _ _ _ _ _ f h));
       leaves = record {
         called = called_of _ _ _ _ _ _ _ _ _ _ _ _ _ _ f;
         given_back = over.given_back;

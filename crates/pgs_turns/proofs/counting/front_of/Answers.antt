@@ -1,0 +1,6 @@
+use Rattle.std.proofs.Common.{arith}
+use Rattle.pgs_turns.proofs.KeptLemmas.{kept_front}
+use Rattle.pgs_turns.proofs.counting.front_of.Goals as goal
+
+pub returns : goal.returns
+returns c = kept_front c.args.line.now c.min.result (omega (arith, c.min.ensures))
