@@ -2,6 +2,8 @@
 //! contexts, and on reserved names.
 #![tactic(auto)]
 
+mod counting;
+
 #[cfg(test)]
 mod commands;
 #[cfg(test)]
@@ -12,3 +14,5 @@ mod reserved_names;
 mod streams;
 #[cfg(test)]
 mod texts;
+
+pub use counting::count_lines;

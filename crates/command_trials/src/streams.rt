@@ -1,9 +1,11 @@
 //! Each call once, and the worked values of lines, words and numbers.
+use crate::counting::count_lines;
 use pgs_io::{
-    Buffered, Failed, LineBuf, LineReader, MemSink, MemSource, Next, Sink, Source, StdSink,
-    StdSource, next_token, number, put_all,
+    Failed, Fed, Feed, LineBuf, MemSink, MemSource, Sink, Source, StdSink, StdSource, next_token,
+    number, put_all, split_line,
 };
 use std::collections::VecDeque;
+use std::io::{self, ErrorKind, Read, Write};
 use std::test::Fail;
 
 #[test]
@@ -110,43 +112,68 @@ fn numbers_are_decimal(rt: HostRuntime) {
 fn lines_end_with_a_newline_or_the_input(rt: HostRuntime) -> Result<(), Fail> {
     let bytes = b"a\nb".to_vec(rt.alloc())?;
     let mut source = MemSource::new(bytes, 1, Vec::new(rt.alloc()));
-    let mut reader = LineReader::new(3);
-    let mut line = LineBuf::new();
-    assert_eq!(rt; reader.buffered_line(&mut line), Buffered::Partial);
-    assert_eq!(rt;
-        reader.read_line(&mut source, &mut line),
-        Next::Line { long: false }
-    );
-    assert_eq!(rt; line.as_slice(), b"a".as_slice());
+    let mut feed = Feed::new(3);
+    let mut buf = LineBuf::new();
+    assert_eq!(rt; feed.buffered(), None);
+    let Fed::Line { long: false } = feed.line(&mut source, &mut buf) else {
+        panic!(rt; "no line");
+    };
+    assert_eq!(rt; buf.as_slice(), b"a".as_slice());
     assert_eq!(rt; source.calls(), 2);
-    assert_eq!(rt;
-        reader.read_line(&mut source, &mut line),
-        Next::Last { long: false }
-    );
-    assert_eq!(rt; line.as_slice(), b"b".as_slice());
-    assert_eq!(rt; reader.read_line(&mut source, &mut line), Next::End);
+    let Fed::Line { long: false } = feed.line(&mut source, &mut buf) else {
+        panic!(rt; "no last line");
+    };
+    assert_eq!(rt; buf.as_slice(), b"b".as_slice());
+    assert_eq!(rt; source.calls(), 4);
+    assert_eq!(rt; feed.line(&mut source, &mut buf), Fed::End);
+    assert_eq!(rt; source.calls(), 4);
     Ok(())
 }
 
 #[test]
 fn lines_in_one_read_are_buffered(rt: HostRuntime) -> Result<(), Fail> {
-    let bytes = b"a\n\nb".to_vec(rt.alloc())?;
+    let bytes = b"a\nbc\n\nd".to_vec(rt.alloc())?;
     let fail_at = [2].to_vec(rt.alloc())?;
     let mut source = MemSource::new(bytes, 9, fail_at);
-    let mut reader = LineReader::new(100);
-    let mut line = LineBuf::new();
-    assert_eq!(rt;
-        reader.read_line(&mut source, &mut line),
-        Next::Line { long: false }
-    );
-    assert_eq!(rt;
-        reader.buffered_line(&mut line),
-        Buffered::Whole { long: false }
-    );
-    assert_eq!(rt; line.as_slice(), b"".as_slice());
-    assert_eq!(rt; reader.buffered_line(&mut line), Buffered::Partial);
-    assert_eq!(rt; reader.read_line(&mut source, &mut line), Next::Fault);
+    let mut feed = Feed::new(100);
+    let mut buf = LineBuf::new();
+    let Fed::Line { long: false } = feed.line(&mut source, &mut buf) else {
+        panic!(rt; "no line");
+    };
+    let Some(line) = feed.buffered() else {
+        panic!(rt; "no buffered line");
+    };
+    assert_eq!(rt; line, b"bc".as_slice());
+    let count = line.len();
+    feed.pass(count);
+    let Some(line) = feed.buffered() else {
+        panic!(rt; "no empty line");
+    };
+    assert_eq!(rt; line, b"".as_slice());
+    let count = line.len();
+    feed.pass(count);
+    assert_eq!(rt; feed.buffered(), None);
+    assert_eq!(rt; feed.line(&mut source, &mut buf), Fed::Fault);
     assert_eq!(rt; source.faults(), 1);
+    Ok(())
+}
+
+#[test]
+fn each_failing_call_ends_a_script(rt: HostRuntime) -> Result<(), Fail> {
+    let table = [
+        (1, 0, Fed::Fault),
+        (2, 1, Fed::Fault),
+        (3, 2, Fed::Fault),
+        (4, 3, Fed::Fault),
+        (5, 4, Fed::Fault),
+        (6, 5, Fed::End),
+    ];
+    for (call, lines, end) in table {
+        let bytes = b"begin\npin 1 2\n\ncommit\nhalf".to_vec(rt.alloc())?;
+        let fail_at = [call].to_vec(rt.alloc())?;
+        let mut source = MemSource::new(bytes, 7, fail_at);
+        assert_eq!(rt; count_lines(&mut source, 100), (lines, end));
+    }
     Ok(())
 }
 
@@ -157,32 +184,112 @@ fn a_line_over_512_bytes_is_long(rt: HostRuntime) -> Result<(), Fail> {
     bytes.extend_from_slice(&[b'y'; 513])?;
     bytes.extend_from_slice(b"\n")?;
     let mut source = MemSource::new(bytes, 600, Vec::new(rt.alloc()));
-    let mut reader = LineReader::new(10_000);
-    let mut line = LineBuf::new();
-    assert_eq!(rt;
-        reader.read_line(&mut source, &mut line),
-        Next::Line { long: false }
-    );
-    assert_eq!(rt; line.as_slice(), [b'x'; 512].as_slice());
-    assert_eq!(rt;
-        reader.read_line(&mut source, &mut line),
-        Next::Line { long: true }
-    );
-    assert_eq!(rt; line.as_slice(), [b'y'; 512].as_slice());
+    let mut feed = Feed::new(10_000);
+    let mut buf = LineBuf::new();
+    let Fed::Line { long: false } = feed.line(&mut source, &mut buf) else {
+        panic!(rt; "no line of 512 bytes");
+    };
+    assert_eq!(rt; buf.as_slice(), [b'x'; 512].as_slice());
+    assert_eq!(rt; feed.line(&mut source, &mut buf), Fed::Line { long: true });
+    assert_eq!(rt; buf.as_slice(), [b'y'; 512].as_slice());
     Ok(())
 }
 
 #[test]
-fn too_much_ends_a_script(rt: HostRuntime) -> Result<(), Fail> {
-    let bytes = b"a\nbcd".to_vec(rt.alloc())?;
-    let mut source = MemSource::new(bytes, 9, Vec::new(rt.alloc()));
-    let mut reader = LineReader::new(4);
-    let mut line = LineBuf::new();
-    assert_eq!(rt;
-        reader.read_line(&mut source, &mut line),
-        Next::Line { long: false }
-    );
-    assert_eq!(rt; reader.read_line(&mut source, &mut line), Next::TooMuch);
+fn a_read_asks_for_what_may_be_taken(rt: HostRuntime) -> Result<(), Fail> {
+    let bytes = vec![in rt.alloc(); b'x'; 700]?;
+    let mut source = MemSource::new(bytes, 700, Vec::new(rt.alloc()));
+    assert_eq!(rt; count_lines(&mut source, 600), (0, Fed::TooLong));
+    assert_eq!(rt; source.calls(), 2);
+    assert_eq!(rt; source.unread().len(), 99);
+    Ok(())
+}
+
+#[test]
+fn a_byte_past_the_limit_ends_a_script(rt: HostRuntime) -> Result<(), Fail> {
+    let table: [(&[u8], u32, Fed); 4] = [
+        (b"a\nbcd", 1, Fed::TooLong),
+        (b"a\nb\n", 2, Fed::End),
+        (b"a\nb\n\n", 2, Fed::TooLong),
+        (b"a\nbc", 2, Fed::End),
+    ];
+    for (text, lines, end) in table {
+        let bytes = text.to_vec(rt.alloc())?;
+        let mut source = MemSource::new(bytes, 9, Vec::new(rt.alloc()));
+        assert_eq!(rt; count_lines(&mut source, 4), (lines, end));
+        assert_eq!(rt; source.unread(), b"".as_slice());
+    }
+    Ok(())
+}
+
+#[test]
+fn a_script_is_as_long_as_its_limit(rt: HostRuntime) -> Result<(), Fail> {
+    let mut bytes = vec![in rt.alloc(); b'\n'; 65_536]?;
+    let mut source = MemSource::new(bytes.clone()?, 4096, Vec::new(rt.alloc()));
+    assert_eq!(rt; count_lines(&mut source, 65_536), (65_536, Fed::End));
+    bytes.push(b'\n')?;
+    let mut source = MemSource::new(bytes, 4096, Vec::new(rt.alloc()));
+    assert_eq!(rt; count_lines(&mut source, 65_536), (65_536, Fed::TooLong));
     assert_eq!(rt; source.unread(), b"".as_slice());
     Ok(())
+}
+
+#[test]
+fn a_line_is_split_off_bytes(rt: HostRuntime) {
+    let cases: [(&[u8], &[u8], &[u8]); 4] = [
+        (b"pin 7\ncommit\n", b"pin 7", b"commit\n"),
+        (b"\n\n", b"", b"\n"),
+        (b"commit\n", b"commit", b""),
+        (b"commit", b"commit", b""),
+    ];
+    for (text, line, rest) in cases {
+        if text.is_empty() {
+            continue;
+        }
+        assert_eq!(rt; split_line(text), (line, rest));
+    }
+}
+
+/// Gives an `x` in each call, behind so many calls that a signal interrupts.
+#[derive(Drop)]
+struct Interrupted {
+    calls: u32,
+}
+
+impl Read for Interrupted {
+    fn read(&mut self, buf: &mut [u8]) -> io::Result<usize> {
+        if self.calls > 0 {
+            self.calls -= 1;
+            return Err(ErrorKind::Interrupted.into());
+        }
+        if buf.is_empty() {
+            return Ok(0);
+        }
+        buf[0] = b'x';
+        Ok(1)
+    }
+}
+
+impl Write for Interrupted {
+    fn write(&mut self, buf: &[u8]) -> io::Result<usize> {
+        if self.calls > 0 {
+            self.calls -= 1;
+            return Err(ErrorKind::Interrupted.into());
+        }
+        Ok(buf.len())
+    }
+
+    fn flush(&mut self) -> io::Result<()> {
+        Ok(())
+    }
+}
+
+#[test]
+fn an_interrupted_call_is_tried_again(rt: HostRuntime) {
+    let mut source = StdSource::new(Interrupted { calls: 3 });
+    let mut buf = [0; 2];
+    assert_eq!(rt; source.read(&mut buf), Ok(1));
+    assert_eq!(rt; buf, [b'x', 0]);
+    let mut sink = StdSink::new(Interrupted { calls: 3 });
+    assert_eq!(rt; sink.write(b"abc"), Ok(3));
 }

@@ -1,7 +1,6 @@
 pub mod KnownLemmas
 pub mod LineLemmas
 pub mod NumberLemmas
-pub mod ReadingLemmas
 pub mod FeedLemmas
 pub mod FindingLemmas
 mod PieceLemmas

@@ -1,9 +1,6 @@
 pub mod Faults
 pub mod Memory
 pub mod Lines
-pub mod Reading
-pub mod Answers
-pub mod Filling
 pub mod Feeding
 pub mod FedAnswers
 pub mod FeedParts

@@ -4,7 +4,6 @@
 mod feeding;
 mod finding;
 mod lines;
-mod reading;
 mod sinks;
 mod sources;
 mod splitting;
@@ -12,7 +11,6 @@ mod words;
 
 pub use feeding::{Fed, Feed};
 pub use lines::LineBuf;
-pub use reading::{Buffered, LineReader, Next};
 pub use sinks::{MemSink, Sink, StdSink, put_all};
 pub use sources::{MemSource, Source, StdSource};
 pub use splitting::split_line;

@@ -135,24 +135,12 @@ pub record Front (lines : List (List ℕ)) (left left' : Option (List ℕ)) : Ty
   pub more : List (List ℕ)
   pub front : lines_of given ≡ lines ++ more
 
--- without a byte too many, all that was given counts
-whole_among : (n : ℕ) (bytes : List ℕ) (left' : Option (List ℕ)) → length bytes ≤ most_bytes → (n ≤ length (ended_lines bytes)) ⊎ IsAtEnd left' → AreWhole n bytes left'
-whole_among n bytes left' short (inl few) = inl (rw (take_all most_bytes bytes short) few)
-whole_among n bytes left' short (inr ended) = inr (short, ended)
-
 -- the first bytes are those in front of the others
 first_bytes : (n : ℕ) (bytes over : List ℕ) → length bytes ≡ n → take n (bytes ++ over) ≡ bytes
 first_bytes n bytes over full = ap (λ (k : ℕ). take k (bytes ++ over)) (sym full) ∙ take-append_seam bytes over
 
 of_front : (bytes : List ℕ) (lines : List (List ℕ)) (left left' : Option (List ℕ)) → AreFront bytes lines left left' → Front lines left left'
-of_front bytes lines left left' h = record {
-  given = bytes;
-  given_is = h.given;
-  short = omega (arith, h.short);
-  whole = whole_among (length lines) bytes left' h.short h.whole;
-  more = h.more;
-  front = h.front;
-}
+of_front bytes lines left left' h = record { given = bytes; given_is = h.given; short = h.first.short; whole = h.first.whole; more = h.first.more; front = h.first.front }
 
 pub front_of : (e : End) (bytes : List ℕ) (lines : List (List ℕ)) (left left' : Option (List ℕ)) → EndIs e bytes lines left left' → Front lines left left'
 front_of end.Whole bytes lines left left' h = record {
@@ -171,7 +159,7 @@ front_of end.SourceFault bytes lines left left' h =
       given = bytes;
       given_is = h.0;
       short = omega (arith, h.1);
-      whole = whole_among (length lines) bytes left' h.1 (inl (omega (arith, ap length h.2)));
+      whole = inl (rw (take_all most_bytes bytes h.1) (omega (arith, ap length h.2)));
       more = f.0;
       front = ap lines_of (sym (append-nil bytes)) ∙ f.1 ∙ ap (λ (z : List (List ℕ)). z ++ f.0) (sym h.2);
     }
@@ -246,17 +234,17 @@ module _ (setting : Setting) (n calls errors : ℕ) (left left' written written'
   wanted end.Wanted false f h =
       let some : Printed (names_of setting.kinds) written written' faults faults' errors false (transcript setting (Some calls) f.lines) = f.printed (Some calls) refl in
       let at : EndsAt setting calls f.lines n = f.stopped refl in
-      let same : transcript setting (Some calls) (lines_of f.bytes) ≡ transcript setting (Some calls) f.lines = ap (transcript setting (Some calls)) f.how.front ∙ transcript-stopped setting calls f.lines f.how.more at.wanted in
-      let course : course_of setting (Some calls) (lines_of f.bytes) ≡ course_of setting (Some calls) f.lines = ap (course_of setting (Some calls)) f.how.front ∙ course_of-stopped setting (Some calls) f.lines f.how.more at.wanted in
+      let same : transcript setting (Some calls) (lines_of f.bytes) ≡ transcript setting (Some calls) f.lines = ap (transcript setting (Some calls)) f.how.first.front ∙ transcript-stopped setting calls f.lines f.how.first.more at.wanted in
+      let course : course_of setting (Some calls) (lines_of f.bytes) ≡ course_of setting (Some calls) f.lines = ap (course_of setting (Some calls)) f.how.first.front ∙ course_of-stopped setting (Some calls) f.lines f.how.first.more at.wanted in
       let told : Printed (names_of setting.kinds) written written' faults faults' errors false (transcript setting (Some calls) (lines_of f.bytes)) = subst (λ (z : List Event). Printed (names_of setting.kinds) written written' faults faults' errors false z) (sym same) some in
       record {
         bytes = f.bytes;
         given = f.how.given;
-        short = f.how.short;
-        whole_lines = whole_among n f.bytes left' f.how.short (rw f.count f.how.whole);
+        short = f.how.first.short;
+        whole_lines = rw f.count f.how.first.whole;
         defined = record { wanted = ap (λ (c : Course). c.wanted) course ∙ at.wanted; line_is = ap (λ (c : Course). c.performed) course ∙ at.line_is };
         text = told.text refl;
-        leaves = left_as (Some calls) (f.lines ++ f.how.more) (lines_of f.bytes) (sym f.how.front) (left_stopped setting calls f.lines f.how.more errors shelf' kinds' at.wanted (f.leaves (Some calls) refl));
+        leaves = left_as (Some calls) (f.lines ++ f.how.first.more) (lines_of f.bytes) (sym f.how.first.front) (left_stopped setting calls f.lines f.how.first.more errors shelf' kinds' at.wanted (f.leaves (Some calls) refl));
       }
   wanted end.Whole false f h = absurd (not_by_errors errors 5 (omega arith) h)
   wanted end.SourceFault false f h = absurd (omega (arith, h))

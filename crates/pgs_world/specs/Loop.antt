@@ -1,8 +1,8 @@
 -- Where the reading loop stands, and how it ends.
-use Rattle.std.specs.Prelude.{◌≡◌, ℕ, ◌≤◌, ◌⊎◌, Bool, true, false, List, [], ◌∷◌, ◌++◌, length, Option, Some, None}
+use Rattle.std.specs.Prelude.{◌≡◌, ℕ, ◌≤◌, Bool, true, false, List, [], ◌∷◌, ◌++◌, length, Option, Some, None}
 use Rattle.std.specs.Io.KnownBytes.{IsAtEnd}
 use Rattle.pgs_io.specs.Lines.{lines_of, ended_lines}
-use Rattle.pgs_io.specs.Reading.{Reading, HasRead}
+use Rattle.pgs_io.specs.Feeding.{AreFirst, Feeding, HasFed, MeetsEnd, MeetsFault, MeetsLimit}
 use Rattle.pgs_step.specs.declared.events.Event.{Event}
 use Rattle.pgs_turns.specs.Courses.{HasPerformed}
 use Rattle.pgs_turns.specs.World.{Run}
@@ -24,17 +24,14 @@ is_wanted_in None = false
 is_wanted_in (Some end) = is_wanted end
 
 -- The loop has performed these lines.
-pub record Stands (descriptors : ℕ) (first : Run) (start now : Option (List ℕ)) (reader : Reading) (run : Run) (emitted : List Event → Type 0) (lines : List (List ℕ)) : Type 0 where
-  pub read : HasRead most_bytes start now reader lines
+pub record Stands (descriptors : ℕ) (first : Run) (start now : Option (List ℕ)) (feed : Feeding) (run : Run) (emitted : List Event → Type 0) (lines : List (List ℕ)) : Type 0 where
+  pub read : HasFed most_bytes start now feed lines
   pub performed : HasPerformed descriptors first run emitted lines false
 
 -- The bytes that were given have these lines, and perhaps more. Each has its newline among them, or the source is at its end.
 pub record AreFront (bytes : List ℕ) (lines : List (List ℕ)) (before after : Option (List ℕ)) : Type 0 where
   pub given : HasGiven bytes before after
-  pub short : length bytes ≤ most_bytes
-  pub more : List (List ℕ)
-  pub front : lines_of bytes ≡ lines ++ more
-  pub whole : (length lines ≤ length (ended_lines bytes)) ⊎ IsAtEnd after
+  pub first : AreFirst most_bytes bytes after lines
 
 -- the bytes that were given, by how the loop ended
 abbrev pub EndIs : End → List ℕ → List (List ℕ) → Option (List ℕ) → Option (List ℕ) → Type 0
@@ -43,6 +40,14 @@ EndIs end.Wanted bytes lines before after = AreFront bytes lines before after
 EndIs end.SourceFault bytes lines before after = HasGiven bytes before after × (length bytes ≤ most_bytes) × (lines ≡ ended_lines bytes)
 EndIs end.TooLong bytes lines before after = (over : ℕ) × HasGiven (bytes ++ over ∷ []) before after × (length bytes ≡ most_bytes) × (lines ≡ ended_lines bytes)
 EndIs end.Unwritten bytes lines before after = AreFront bytes lines before after
+
+-- what the feed met, by the end that it leads to
+abbrev pub Meets : End → Option (List ℕ) → Option (List ℕ) → Feeding → Type 0
+Meets end.Whole before after feed = MeetsEnd before after feed
+Meets end.Wanted before after feed = ⊥
+Meets end.SourceFault before after feed = MeetsFault before after feed
+Meets end.TooLong before after feed = MeetsLimit before after feed
+Meets end.Unwritten before after feed = after ≡ before
 
 -- what the loop did
 pub record Performs (descriptors : ℕ) (first : Run) (ended : Ended) (before after : Option (List ℕ)) (run : Run) (emitted : List Event → Type 0) : Type 0 where

@@ -97,7 +97,7 @@ AreWhole lines bytes left = (lines ≤ length (ended_lines (take most_bytes byte
 pub record IsWanted (setting : Setting) (outcome : Outcome) (left left' written written' : Option (List ℕ)) (shelf' : ShelfState) (kinds' : List Kind) : Type 0 where
   pub bytes : List ℕ
   pub given : HasGiven bytes left left'
-  pub short : length bytes ≤ most_bytes
+  pub short : length bytes ≤ most_bytes + 1
   pub whole_lines : AreWhole outcome.lines bytes left'
   pub defined : EndsAt setting outcome.call (lines_of bytes) outcome.lines
   pub text : HasWritten setting (Some outcome.call) (lines_of bytes) written written'

@@ -1,24 +1,23 @@
 //! Reads a script line by line, and performs each line.
-ghost use Rattle.std.specs.Prelude.{◌≡◌, ◌<◌, ◌+◌, ℕ, List, [], true, length, IfSome, IfNone};
+ghost use Rattle.std.specs.Prelude.{◌≡◌, ℕ, List, [], true, false, IfSome, IfOk, IfErr, OnOk};
 ghost use Rattle.pgs_io.specs.Faults.{HasRisen};
 ghost use Rattle.pgs_io.specs.Lines.{IsKept};
-ghost use Rattle.pgs_io.specs.Reading.{GivesLine, GivesLast, MeetsEnd, MeetsFault, MeetsLimit};
-ghost use Rattle.pgs_io.specs.Answers.{IfLine, IfLast, OnEnd, OnFault, OnTooMuch, OnNoFault};
+ghost use Rattle.pgs_io.specs.Feeding.{GivesLine};
 ghost use Rattle.pgs_command.specs.Lines.{read_line};
 ghost use Rattle.pgs_turns.specs.Script.{said_in};
 ghost use Rattle.pgs_world.specs.PrinterView.{ShowsEvents, TakesEvents};
 ghost use Rattle.pgs_turns.specs.World.{run_of, AreStanding, HaveDescriptors, IsOpening};
 ghost use Rattle.pgs_turns.specs.Turns.{HaveRoom, TakesTurn};
-ghost use Rattle.pgs_world.specs.Loop.{Performs, is_wanted_in, IsLineEnd, OnSourceFault, OnNoSourceFault, OnUnwritten};
+ghost use Rattle.pgs_world.specs.Loop.{Performs, Meets, is_wanted_in, IsLineEnd, OnSourceFault, OnNoSourceFault, OnUnwritten};
 
 use crate::printer::Printer;
 use owner_kinds::ExtKind;
-use pgs_io::{Buffered, LineBuf, LineReader, Next, Sink, Source};
+use pgs_io::{Fed, Feed, LineBuf, Sink, Source};
 use pgs_turns::{Said, Session, Shared, is_comment, read_line, take_turn};
 use reset_callbacks::ResetHook;
 
 /// The most bytes that a script has.
-pub(crate) const MOST_BYTES: u64 = 1 << 24;
+pub(crate) const MOST_BYTES: u32 = 1 << 24;
 
 /// Why the reading of a script ended.
 #[derive(Clone, Copy, PartialEq, Eq)]
@@ -57,84 +56,60 @@ pub(crate) fn perform_lines<S: Source, K: Sink, H: ResetHook, X: ExtKind>(
     ensures no_fault { OnNoSourceFault result.end (S.faults src.new ≡ S.faults src.old) }
     ensures unwritten { OnUnwritten result.end (printer.new.failed ≡ true) }
 {
-    let mut reader = LineReader::new(MOST_BYTES);
-    let mut line = LineBuf::new();
+    let mut feed = Feed::new(MOST_BYTES);
+    let mut buf = LineBuf::new();
     let mut lines = 0;
     loop {
-        let Some(next) = next_line(&mut reader, src, &mut line, printer) else {
-            return Ended {
-                end: End::Unwritten,
-                lines,
-            };
+        if let Some(line) = feed.buffered() {
+            let count = line.len();
+            let end = perform_line(sessions, line, false, shared, printer);
+            feed.pass(count);
+            lines += 1;
+            if let Some(end) = end {
+                return Ended { end, lines };
+            }
+            continue;
+        }
+        let long = match next_line(&mut feed, src, &mut buf, printer) {
+            Ok(long) => long,
+            Err(end) => return Ended { end, lines },
         };
-        match next {
-            Next::Line { long } => {
-                let end = perform_line(sessions, line.as_slice(), long, shared, printer);
-                lines += 1;
-                if let Some(end) = end {
-                    return Ended { end, lines };
-                }
-            }
-            Next::Last { long } => {
-                let end = perform_line(sessions, line.as_slice(), long, shared, printer);
-                return Ended {
-                    end: end.unwrap_or(End::Whole),
-                    lines: lines + 1,
-                };
-            }
-            Next::End => {
-                return Ended {
-                    end: End::Whole,
-                    lines,
-                };
-            }
-            Next::Fault => {
-                return Ended {
-                    end: End::SourceFault,
-                    lines,
-                };
-            }
-            Next::TooMuch => {
-                return Ended {
-                    end: End::TooLong,
-                    lines,
-                };
-            }
+        let end = perform_line(sessions, buf.as_slice(), long, shared, printer);
+        lines += 1;
+        if let Some(end) = end {
+            return Ended { end, lines };
         }
     }
 }
 
-/// The next line of the source, or `None` where the sink failed.
+/// Reads the next line, and answers whether it is long, or how the reading ended.
 ///
 /// What is printed is handed to the sink before the source is read.
 fn next_line<S: Source, K: Sink>(
-    reader: &mut LineReader,
+    feed: &mut Feed,
     src: &mut S,
-    line: &mut LineBuf,
+    buf: &mut LineBuf,
     printer: &mut Printer<'_, K>,
-) -> Option<Next>
-    ensures line { IfSome result (λ next. IfLine next (λ long. GivesLine (S.left src.old) (S.left src.new) reader.old reader.new line.new long)) }
-    ensures last { IfSome result (λ next. IfLast next (λ long. GivesLast (S.left src.old) (S.left src.new) reader.old reader.new line.new long)) }
-    ensures end { IfSome result (λ next. OnEnd next (MeetsEnd (S.left src.old) (S.left src.new) reader.old reader.new)) }
-    ensures at_fault { IfSome result (λ next. OnFault next (MeetsFault (S.left src.old) (S.left src.new) reader.old reader.new)) }
-    ensures too_much { IfSome result (λ next. OnTooMuch next (MeetsLimit (S.left src.old) (S.left src.new) reader.old reader.new)) }
-    ensures progress { IfSome result (λ next. IfLine next (λ _. length reader.new.pending + reader.new.room < length reader.old.pending + reader.old.room)) }
-    ensures no_fault { IfSome result (λ next. OnNoFault next (S.faults src.new ≡ S.faults src.old)) }
-    ensures fault { IfSome result (λ next. OnFault next (HasRisen (S.faults src.old) (S.faults src.new))) }
+) -> Result<bool, End>
+    requires { feed.old.ended ≡ false }
+    ensures line { IfOk result (λ long. GivesLine (S.left src.old) (S.left src.new) feed.old feed.new buf.new long) }
+    ensures goes_on { OnOk result (feed.new.ended ≡ false) }
+    ensures same { OnOk result (S.faults src.new ≡ S.faults src.old) }
+    ensures end { IfErr result (λ end. Meets end (S.left src.old) (S.left src.new) feed.old) }
+    ensures fault { IfErr result (λ end. OnSourceFault end (HasRisen (S.faults src.old) (S.faults src.new))) }
+    ensures no_fault { IfErr result (λ end. OnNoSourceFault end (S.faults src.new ≡ S.faults src.old)) }
+    ensures unwritten { IfErr result (λ end. OnUnwritten end (printer.new.failed ≡ true)) }
     ensures printed { TakesEvents K.written K.faults printer.old [] printer.new }
-    ensures unwritten { IfNone result (printer.new.failed ≡ true) }
-    ensures unread { IfNone result (src.new ≡ src.old) }
-    ensures kept { IfNone result (reader.new ≡ reader.old) }
 {
-    match reader.buffered_line(line) {
-        Buffered::Whole { long } => Some(Next::Line { long }),
-        Buffered::Partial => {
-            printer.flush();
-            if printer.has_failed() {
-                return None;
-            }
-            Some(reader.read_line(src, line))
-        }
+    printer.flush();
+    if printer.has_failed() {
+        return Err(End::Unwritten);
+    }
+    match feed.line(src, buf) {
+        Fed::Line { long } => Ok(long),
+        Fed::End => Err(End::Whole),
+        Fed::Fault => Err(End::SourceFault),
+        Fed::TooLong => Err(End::TooLong),
     }
 }
 
