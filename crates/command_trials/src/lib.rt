@@ -2,10 +2,9 @@
 //! contexts, and on reserved names.
 #![tactic(auto)]
 
-mod counting;
-
 #[cfg(test)]
 mod commands;
+mod counting;
 #[cfg(test)]
 mod report_lines;
 #[cfg(test)]

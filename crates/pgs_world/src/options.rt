@@ -140,12 +140,7 @@ fn number<'a>(alloc: Global, name: &'a str, least: u64, most: u64) -> Arg<'a>
 }
 
 /// An option with its name, what it does, and how its value is read.
-fn option<'a>(
-    alloc: Global,
-    name: &'a str,
-    action: ArgAction,
-    parser: ValueParser<'a>,
-) -> Arg<'a>
+fn option<'a>(alloc: Global, name: &'a str, action: ArgAction, parser: ValueParser<'a>) -> Arg<'a>
     ensures { Takes name.entry.now action parser.entry result }
 {
     Arg::new(alloc, name)

@@ -29,8 +29,8 @@ use pgs_world::{Outcome, run};
 use reset_callbacks::{CountedHook, Shelf};
 use std::alloc::{AllocError, Global};
 use std::fmt::Display;
-use std::process::ExitCode;
 use std::io::IsTerminal;
+use std::process::ExitCode;
 use std::{env, io, mem};
 
 /// How many accounts the space has: one for each session that a run may have.

@@ -36,7 +36,10 @@ impl fmt::Display for Told<'_> {
             5 if call == 0 => write!(f, "{NO_START}"),
             5 if self.sweeps() => write!(f, "not enough memory at call {call} of a run"),
             5 => write!(f, "not enough memory at call {call}, line {lines}"),
-            6 if self.sweeps() => write!(f, "the script has more than 65536 bytes, the most of a sweep"),
+            6 if self.sweeps() => write!(
+                f,
+                "the script has more than 65536 bytes, the most of a sweep"
+            ),
             6 => write!(
                 f,
                 "the script has more than 16777216 bytes: line {lines} was the last"

@@ -99,7 +99,8 @@ fn compare(
 
 #[test]
 fn a_kind_without_memory_ends_the_run(rt: HostRuntime) -> Result<(), Fail> {
-    let transcript = b"1 begin level 1\n1 create c6 TopTransactionContext in c1\n1 owner o1\n1 ok\n1 ERROR 53200 no memory at call 5\n1 abort level 1\n1 cleanup level 1\n1 owner o1 gone\n1 delete c6\n1 delete c5\n1 delete c4\n1 delete c3\n1 delete c2\n1 delete c1\n1 exit\n";
+    let transcript =
+        b"1 begin level 1\n1 create c6 TopTransactionContext in c1\n1 owner o1\n1 ok\n1 ERROR 53200 no memory at call 5\n1 abort level 1\n1 cleanup level 1\n1 owner o1 gone\n1 delete c6\n1 delete c5\n1 delete c4\n1 delete c3\n1 delete c2\n1 delete c1\n1 exit\n";
     compare(
         &rt,
         rt.alloc(),
@@ -124,7 +125,8 @@ fn all_sessions_end_where_a_kind_has_no_memory(rt: HostRuntime) -> Result<(), Fa
         String::from_str(alloc, "--sessions")?,
         String::from_str(alloc, "2")?,
     ]?;
-    let transcript = b"2 begin level 1\n2 create c6 TopTransactionContext in c1\n2 owner o1\n2 ok\n1 begin level 1\n1 create c6 TopTransactionContext in c1\n1 owner o1\n1 ok\n1 ERROR 53200 no memory at call 8\n1 abort level 1\n1 cleanup level 1\n1 owner o1 gone\n1 delete c6\n1 delete c5\n1 delete c4\n1 delete c3\n1 delete c2\n1 delete c1\n1 exit\n2 abort level 1\n2 cleanup level 1\n2 owner o1 gone\n2 delete c6\n2 delete c5\n2 delete c4\n2 delete c3\n2 delete c2\n2 delete c1\n2 exit\n";
+    let transcript =
+        b"2 begin level 1\n2 create c6 TopTransactionContext in c1\n2 owner o1\n2 ok\n1 begin level 1\n1 create c6 TopTransactionContext in c1\n1 owner o1\n1 ok\n1 ERROR 53200 no memory at call 8\n1 abort level 1\n1 cleanup level 1\n1 owner o1 gone\n1 delete c6\n1 delete c5\n1 delete c4\n1 delete c3\n1 delete c2\n1 delete c1\n1 exit\n2 abort level 1\n2 cleanup level 1\n2 owner o1 gone\n2 delete c6\n2 delete c5\n2 delete c4\n2 delete c3\n2 delete c2\n2 delete c1\n2 exit\n";
     compare(
         &rt,
         alloc,

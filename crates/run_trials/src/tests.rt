@@ -569,7 +569,8 @@ fn numbers_that_cannot_be_written(rt: HostRuntime) -> Result<(), Fail> {
 #[test]
 fn each_call_of_a_script_fails_in_turn(rt: HostRuntime) -> Result<(), Fail> {
     let script = b"begin\npin 7\nsavepoint s\nlock 5 ShareLock\nalloc a 100\nrelease s\ncommit\n";
-    let told = b"calls 10 errors 0\nfail 1 errors 3\nfail 2 errors 3\nfail 3 errors 3\nfail 4 errors 5\nfail 5 errors 5\nfail 6 errors 4\nfail 7 errors 4\nfail 8 errors 4\nfail 9 errors 3\nfail 10 errors 2\n";
+    let told =
+        b"calls 10 errors 0\nfail 1 errors 3\nfail 2 errors 3\nfail 3 errors 3\nfail 4 errors 5\nfail 5 errors 5\nfail 6 errors 4\nfail 7 errors 4\nfail 8 errors 4\nfail 9 errors 3\nfail 10 errors 2\n";
     let played = play(rt.alloc(), &["--sweep"], script, 5, 0, 0)?;
     assert_eq!(rt;
         played.outcome,
