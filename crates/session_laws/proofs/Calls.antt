@@ -115,8 +115,8 @@ children_read n s = record {
 }
 
 -- the words of a context that is found so
-abbrev words_in : Option Context → List ℕ
-words_in o = option_map_or (λ (c : Context). words_of c.hooks) o []
+abbrev words_there : Option Context → List ℕ
+words_there o = option_map_or (λ (c : Context). words_of c.hooks) o []
 
 -- a context is reset
 alone_read : (n : ℕ) (s : Scene) → CallsHooks s (context_cleared_alone n s).scene (context_cleared_alone n s).events
@@ -128,7 +128,7 @@ alone_read n s = record { so = λ seen fit. reset_read seen fit (counted_alone n
     used_read : (c : Context) → at n t ≡ Some c → (z : Scene) → z.session.contexts ≡ changed n emptied t → IsNumbered z → (seen : List Waiting) → FitsHooks seen s
         → IsRead calling FitsHooks seen z (callbacks n c.hooks ++ (what.Reset n ∷ []))
     used_read c is z are k seen fit =
-        let called : Calls (λ m. n == m) seen (callbacks n c.hooks ++ (what.Reset n ∷ [])) = reset_called n c.hooks seen (fit.words n ∙ ap words_in is) in
+        let called : Calls (λ m. n == m) seen (callbacks n c.hooks ++ (what.Reset n ∷ [])) = reset_called n c.hooks seen (fit.words n ∙ ap words_there is) in
         record {
           allowed = called.allowed;
           fits = record {
@@ -136,10 +136,10 @@ alone_read n s = record { so = λ seen fit. reset_read seen fit (counted_alone n
             words = λ m. elim (cases_eq n m) [
               | inl e ↦
                   called.none m (eq-eqb n m e)
-                  ∙ sym (ap (words_at m) are ∙ (ap (λ (j : ℕ). words_at j (changed n emptied t)) (sym e) ∙ ap words_in (at_changed n emptied t c is)))
+                  ∙ sym (ap (words_at m) are ∙ (ap (λ (j : ℕ). words_at j (changed n emptied t)) (sym e) ∙ ap words_there (at_changed n emptied t c is)))
               | inr differ ↦
                   called.others m (ne_eqb n m differ)
-                  ∙ (fit.words m ∙ sym (ap (words_at m) are ∙ ap words_in (at_changed_other m n emptied t (λ e. differ (sym e)))))
+                  ∙ (fit.words m ∙ sym (ap (words_at m) are ∙ ap words_there (at_changed_other m n emptied t (λ e. differ (sym e)))))
             ];
           };
         }
@@ -181,8 +181,8 @@ words_put : (p n m : ℕ) (c : Context) (t : Contexts) → AreNumbered t n → c
 words_put p n m c t k none = elim (cases_Bool (has p t)) [
   | inl there ↦ elim (cases_eq m n) [
     | inl e ↦ subst (λ (j : ℕ). words_at j (put p n c Empty t) ≡ words_at j t) (sym e)
-        (ap words_in (at_put p n c Empty t k.once there absent) ∙ (ap words_of none ∙ sym (ap words_in (at_absent n t absent))))
-    | inr differ ↦ ap words_in (at_put_other m p n c Empty t differ refl)
+        (ap words_there (at_put p n c Empty t k.once there absent) ∙ (ap words_of none ∙ sym (ap words_there (at_absent n t absent))))
+    | inr differ ↦ ap words_there (at_put_other m p n c Empty t differ refl)
   ]
   | inr away ↦ ap (words_at m) (put_absent p n c Empty t away)
 ]
@@ -210,10 +210,10 @@ KeepsWords t u = (n : ℕ) → words_at n u ≡ words_at n t
 words_changed : (t : Contexts) (n : ℕ) (f : Context → Context) → ((c : Context) → (f c).hooks ≡ c.hooks) → KeepsWords t (changed n f t)
 words_changed t n f same m = elim (cases_eq m n) [
   | inl e ↦ subst (λ (j : ℕ). words_at j (changed n f t) ≡ words_at j t) (sym e) (elim (cases_Bool (has n t)) [
-    | inl there ↦ let a = at_some n t there in ap words_in (at_changed n f t a.0 a.1) ∙ (ap words_of (same a.0) ∙ sym (ap words_in a.1))
+    | inl there ↦ let a = at_some n t there in ap words_there (at_changed n f t a.0 a.1) ∙ (ap words_of (same a.0) ∙ sym (ap words_there a.1))
     | inr away ↦ ap (words_at n) (changed_absent n f t away)
   ])
-  | inr differ ↦ ap words_in (at_changed_other m n f t differ)
+  | inr differ ↦ ap words_there (at_changed_other m n f t differ)
 ]
 
 -- a call on chunks
@@ -263,10 +263,10 @@ hook_read n hook s there = record {
             | inl e ↦
                 subst (λ (j : ℕ). words_on j (record { word = hook.word; context = n } ∷ seen) ≡ words_at j (changed n f t)) e
                 (cond-true (n == n) (hook.word ∷ words_on n seen) (words_on n seen) (eq-eqb n n refl)
-                ∙ (ap (λ (ws : List ℕ). hook.word ∷ ws) (fit.words n ∙ ap words_in a.1) ∙ sym (ap words_in (at_changed n f t a.0 a.1))))
+                ∙ (ap (λ (ws : List ℕ). hook.word ∷ ws) (fit.words n ∙ ap words_there a.1) ∙ sym (ap words_there (at_changed n f t a.0 a.1))))
             | inr differ ↦
                 cond-false (n == m) (hook.word ∷ words_on m seen) (words_on m seen) (ne_eqb n m differ)
-                ∙ (fit.words m ∙ sym (ap words_in (at_changed_other m n f t (λ e. differ (sym e)))))
+                ∙ (fit.words m ∙ sym (ap words_there (at_changed_other m n f t (λ e. differ (sym e)))))
           ];
         };
       };
@@ -287,7 +287,7 @@ moved_read n p s node there out = record { so = λ seen fit. go (is_child n p s.
     go true seen fit k = record { allowed = refl; fits = fit }
     go false seen fit k = record {
       allowed = refl;
-      fits = record { numbered = k; words = λ m. fit.words m ∙ sym (ap words_in (at_moved m n p s.session.contexts fit.numbered.once moves)) };
+      fits = record { numbered = k; words = λ m. fit.words m ∙ sym (ap words_there (at_moved m n p s.session.contexts fit.numbered.once moves)) };
     }
 
 -- a hook is registered, and a context moves, in a session that stands

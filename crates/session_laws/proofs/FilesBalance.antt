@@ -27,26 +27,26 @@ sum_same g h same [] = refl
 sum_same g h same (event ∷ events) = omega (arith, same event, sum_same g h same events, sum_by-cons g event events, sum_by-cons h event events)
 
 -- an item and its owner
-abbrev Pair : Type 0
-Pair = Item × ℕ
+abbrev ItemOwner : Type 0
+ItemOwner = Item × ℕ
 
-abbrev same : Pair → Pair → Bool
+abbrev same : ItemOwner → ItemOwner → Bool
 same p q = same_item p.0 q.0 && (p.1 == q.1)
 
-record AreSame (x y : Pair) : Type 0 where
+record AreSame (x y : ItemOwner) : Type 0 where
   kind : x.0.kind.0 ≡ y.0.kind.0
   key : x.0.key ≡ y.0.key
   serial : x.0.serial ≡ y.0.serial
   owner : x.1 ≡ y.1
 
-are_same : (x y : Pair) → same x y ≡ true → AreSame x y
+are_same : (x y : ItemOwner) → same x y ≡ true → AreSame x y
 are_same x y h =
     let p = and_parts (same_item x.0 y.0) (x.1 == y.1) h in
     let q = and_parts (x.0.kind.0 == y.0.kind.0) ((x.0.key == y.0.key) && (x.0.serial == y.0.serial)) p.0 in
     let r = and_parts (x.0.key == y.0.key) (x.0.serial == y.0.serial) q.1 in
     record { kind = eqb-true x.0.kind.0 y.0.kind.0 q.0; key = eqb-true x.0.key y.0.key r.0; serial = eqb-true x.0.serial y.0.serial r.1; owner = eqb-true x.1 y.1 p.1 }
 
-same_right : (p x y : Pair) → same x y ≡ true → same p x ≡ same p y
+same_right : (p x y : ItemOwner) → same x y ≡ true → same p x ≡ same p y
 same_right p x y h =
     let a = are_same x y h in
     ap (λ (k : ℕ). ((p.0.kind.0 == k) && ((p.0.key == x.0.key) && (p.0.serial == x.0.serial))) && (p.1 == x.1)) a.kind
@@ -54,7 +54,7 @@ same_right p x y h =
     ∙ ap (λ (k : ℕ). ((p.0.kind.0 == y.0.kind.0) && ((p.0.key == y.0.key) && (p.0.serial == k))) && (p.1 == x.1)) a.serial
     ∙ ap (λ (k : ℕ). ((p.0.kind.0 == y.0.kind.0) && ((p.0.key == y.0.key) && (p.0.serial == y.0.serial))) && (p.1 == k)) a.owner
 
-same_itself : (x : Pair) → same x x ≡ true
+same_itself : (x : ItemOwner) → same x x ≡ true
 same_itself x =
     and_from (same_item x.0 x.0) (x.1 == x.1)
     (and_from (x.0.kind.0 == x.0.kind.0) ((x.0.key == x.0.key) && (x.0.serial == x.0.serial)) (eq-eqb x.0.kind.0 x.0.kind.0 refl)
@@ -62,18 +62,18 @@ same_itself x =
     (eq-eqb x.1 x.1 refl)
 
 -- how often a pair stands in a list
-abbrev often : Pair → List Pair → ℕ
+abbrev often : ItemOwner → List ItemOwner → ℕ
 often p xs = sum_by (λ q. one_where (same p q)) xs
 
-often_more : (p x : Pair) (xs : List Pair) → often p (x ∷ xs) ≡ one_where (same p x) + often p xs
+often_more : (p x : ItemOwner) (xs : List ItemOwner) → often p (x ∷ xs) ≡ one_where (same p x) + often p xs
 often_more p x xs = sum_by-cons (λ q. one_where (same p q)) x xs
 
 -- without one of a pair
-abbrev but_one : Pair → List Pair → List Pair
+abbrev but_one : ItemOwner → List ItemOwner → List ItemOwner
 but_one x [] = []
 but_one x (y ∷ ys) = (if same x y then ys else y ∷ but_one x ys)
 
-often_but : (p x : Pair) (ys : List Pair) → 1 ≤ often x ys → often p (but_one x ys) + one_where (same p x) ≡ often p ys
+often_but : (p x : ItemOwner) (ys : List ItemOwner) → 1 ≤ often x ys → often p (but_one x ys) + one_where (same p x) ≡ often p ys
 often_but p x [] h = absurd (omega (arith, h))
 often_but p x (y ∷ ys) h = go (same x y) refl (often_but p x ys)
   where
@@ -81,7 +81,7 @@ often_but p x (y ∷ ys) h = go (same x y) refl (often_but p x ys)
     go true e ih = omega (arith, often_more p y ys, ap one_where (same_right p x y e))
     go false e ih = omega (arith, ih (omega (arith, h, often_more x y ys, ap one_where e)), often_more p y ys, often_more p y (but_one x ys))
 
-length_but : (x : Pair) (ys : List Pair) → 1 ≤ often x ys → length (but_one x ys) + 1 ≡ length ys
+length_but : (x : ItemOwner) (ys : List ItemOwner) → 1 ≤ often x ys → length (but_one x ys) + 1 ≡ length ys
 length_but x [] h = absurd (omega (arith, h))
 length_but x (y ∷ ys) h = go (same x y) refl (length_but x ys)
   where
@@ -91,57 +91,57 @@ length_but x (y ∷ ys) h = go (same x y) refl (length_but x ys)
 
 module _ (f : ℕ) where
   -- pairs whose items are of the file
-  abbrev AreOf : List Pair → Type 0
+  abbrev AreOf : List ItemOwner → Type 0
   AreOf [] = Unit {0}
   AreOf (x ∷ xs) = (is_of file_kind f x.0 ≡ true) × AreOf xs
 
-  no_longer : (xs ys : List Pair) → AreOf xs → ((p : Pair) → is_of file_kind f p.0 ≡ true → often p xs ≤ often p ys) → length xs ≤ length ys
+  no_longer : (xs ys : List ItemOwner) → AreOf xs → ((p : ItemOwner) → is_of file_kind f p.0 ≡ true → often p xs ≤ often p ys) → length xs ≤ length ys
   no_longer [] ys of less = omega arith
   no_longer (x ∷ xs) ys of less =
       let some : 1 ≤ often x ys = omega (arith, less x of.0, often_more x x xs, ap one_where (same_itself x)) in
       omega (arith, length_but x ys some, no_longer xs (but_one x ys) of.1 (λ p is. omega (arith, less p is, often_more p x xs, often_but p x ys some)))
 
   -- the pairs of some events whose items are of the file
-  abbrev of_pair : Option Pair → List Pair
+  abbrev of_pair : Option ItemOwner → List ItemOwner
   of_pair None = []
   of_pair (Some p) = (if is_of file_kind f p.0 then p ∷ [] else [])
 
-  abbrev pairs : (What → Option Pair) → List What → List Pair
+  abbrev pairs : (What → Option ItemOwner) → List What → List ItemOwner
   pairs pick [] = []
   pairs pick (event ∷ events) = of_pair (pick event) ++ pairs pick events
 
-  abbrev in_file : Option Pair → ℕ
+  abbrev in_file : Option ItemOwner → ℕ
   in_file o = option_map_or (λ p. cond (is_of file_kind f p.0) 1 0) o 0
 
-  abbrev is_it : Pair → Option Pair → ℕ
+  abbrev is_it : ItemOwner → Option ItemOwner → ℕ
   is_it p o = option_map_or (λ q. one_where (same p q)) o 0
 
-  pairs_of : (pick : What → Option Pair) (events : List What) → AreOf (pairs pick events)
+  pairs_of : (pick : What → Option ItemOwner) (events : List What) → AreOf (pairs pick events)
   pairs_of pick [] = tt
   pairs_of pick (event ∷ events) = go (pick event) (pairs_of pick events)
     where
-      one : (p : Pair) (b : Bool) → is_of file_kind f p.0 ≡ b → AreOf (pairs pick events) → AreOf ((if b then p ∷ [] else []) ++ pairs pick events)
+      one : (p : ItemOwner) (b : Bool) → is_of file_kind f p.0 ≡ b → AreOf (pairs pick events) → AreOf ((if b then p ∷ [] else []) ++ pairs pick events)
       one p true e h = (e, h)
       one p false e h = h
 
-      go : (o : Option Pair) → AreOf (pairs pick events) → AreOf (of_pair o ++ pairs pick events)
+      go : (o : Option ItemOwner) → AreOf (pairs pick events) → AreOf (of_pair o ++ pairs pick events)
       go None h = h
       go (Some p) h = one p (is_of file_kind f p.0) refl h
 
-  pairs_length : (pick : What → Option Pair) (events : List What) → length (pairs pick events) ≡ sum_by (λ event. in_file (pick event)) events
+  pairs_length : (pick : What → Option ItemOwner) (events : List What) → length (pairs pick events) ≡ sum_by (λ event. in_file (pick event)) events
   pairs_length pick [] = refl
   pairs_length pick (event ∷ events) = omega (arith, go (pick event), pairs_length pick events, sum_by-cons (λ event. in_file (pick event)) event events)
     where
-      one : (p : Pair) (b : Bool) → length ((if b then p ∷ [] else []) ++ pairs pick events) ≡ cond b 1 0 + length (pairs pick events)
+      one : (p : ItemOwner) (b : Bool) → length ((if b then p ∷ [] else []) ++ pairs pick events) ≡ cond b 1 0 + length (pairs pick events)
       one p true = omega arith
       one p false = omega arith
 
-      go : (o : Option Pair) → length (of_pair o ++ pairs pick events) ≡ in_file o + length (pairs pick events)
+      go : (o : Option ItemOwner) → length (of_pair o ++ pairs pick events) ≡ in_file o + length (pairs pick events)
       go None = omega arith
       go (Some p) = one p (is_of file_kind f p.0)
 
   -- another item isn't of the file
-  apart : (p q : Pair) → is_of file_kind f p.0 ≡ true → is_of file_kind f q.0 ≡ false → one_where (same p q) ≡ 0
+  apart : (p q : ItemOwner) → is_of file_kind f p.0 ≡ true → is_of file_kind f q.0 ≡ false → one_where (same p q) ≡ 0
   apart p q is not = go (same p q) refl
     where
       go : (b : Bool) → same p q ≡ b → one_where b ≡ 0
@@ -151,24 +151,24 @@ module _ (f : ℕ) where
           let moved : is_of file_kind f p.0 ≡ is_of file_kind f q.0 = ap (λ (k : ℕ). (k == 8) && (p.0.key == f)) a.kind ∙ ap (λ (k : ℕ). (q.0.kind.0 == 8) && (k == f)) a.key in
           absurd (both_ways (is_of file_kind f q.0) not (sym moved ∙ is))
 
-  pairs_often : (pick : What → Option Pair) (p : Pair) → is_of file_kind f p.0 ≡ true → (events : List What) → often p (pairs pick events) ≡ sum_by (λ event. is_it p (pick event)) events
+  pairs_often : (pick : What → Option ItemOwner) (p : ItemOwner) → is_of file_kind f p.0 ≡ true → (events : List What) → often p (pairs pick events) ≡ sum_by (λ event. is_it p (pick event)) events
   pairs_often pick p is [] = refl
   pairs_often pick p is (event ∷ events) = omega (arith, go (pick event), pairs_often pick p is events, sum_by-cons (λ event. is_it p (pick event)) event events)
     where
-      one : (q : Pair) (b : Bool) → is_of file_kind f q.0 ≡ b → often p ((if b then q ∷ [] else []) ++ pairs pick events) ≡ one_where (same p q) + often p (pairs pick events)
+      one : (q : ItemOwner) (b : Bool) → is_of file_kind f q.0 ≡ b → often p ((if b then q ∷ [] else []) ++ pairs pick events) ≡ one_where (same p q) + often p (pairs pick events)
       one q true e = often_more p q (pairs pick events)
       one q false e = omega (arith, apart p q is e)
 
-      go : (o : Option Pair) → often p (of_pair o ++ pairs pick events) ≡ is_it p o + often p (pairs pick events)
+      go : (o : Option ItemOwner) → often p (of_pair o ++ pairs pick events) ≡ is_it p o + often p (pairs pick events)
       go None = omega arith
       go (Some q) = one q (is_of file_kind f q.0) refl
 
   -- what is acquired and what is released
-  abbrev acquired : What → Option Pair
+  abbrev acquired : What → Option ItemOwner
   acquired (what.Acquire item owner) = Some (item, owner)
   acquired other = None
 
-  abbrev released : What → Option Pair
+  abbrev released : What → Option ItemOwner
   released (what.Release item owner) = Some (item, owner)
   released other = None
 
@@ -180,11 +180,11 @@ module _ (f : ℕ) where
   leaves_is (what.Release item owner) = refl
   leaves_is other = refl
 
-  acquires_is : (p : Pair) (event : What) → acquires p.0 p.1 event ≡ is_it p (acquired event)
+  acquires_is : (p : ItemOwner) (event : What) → acquires p.0 p.1 event ≡ is_it p (acquired event)
   acquires_is p (what.Acquire item owner) = refl
   acquires_is p other = refl
 
-  releases_is : (p : Pair) (event : What) → releases p.0 p.1 event ≡ is_it p (released event)
+  releases_is : (p : ItemOwner) (event : What) → releases p.0 p.1 event ≡ is_it p (released event)
   releases_is p (what.Release item owner) = refl
   releases_is p other = refl
 

@@ -6,7 +6,7 @@ use Rattle.std.proofs.lemmas.Bool.{cases_Bool}
 use Rattle.std.proofs.lemmas.Grind.{common_steps}
 use Rattle.pgs_step.specs.declared.ids.Item.{Item}
 use Rattle.pgs_step.specs.declared.ids.KindId.{KindId}
-use Rattle.forest.specs.Forest.{Empty, Node, Once, at, children, has, moved, put, removed, times}
+use Rattle.forest.specs.Forest.{Empty, Node, Once, at, children, has, moved, put, removed, times as node_times}
 use Rattle.forest.specs.Walk.{all_changed, swept}
 use Rattle.forest.proofs.Trees.{at_absent, at_some, once_removed, put_absent, removed_absent, times_put, times_removed}
 use Rattle.owner_items.specs.ItemList.{is_of, uses}
@@ -54,7 +54,7 @@ module _ (kind : KindId) (key : ℕ) where
   held_some (Node n a below beside) h = grind (arith, common_steps, some_counted a.items, held_some below, held_some beside)
 
 -- each number stands once
-once_by : (x y : OwnerTree) → ((m : ℕ) → times m y ≤ times m x) → Once x → Once y
+once_by : (x y : OwnerTree) → ((m : ℕ) → node_times m y ≤ node_times m x) → Once x → Once y
 once_by x y less once = record { once = λ m. omega (arith, less m, once.once m) }
 
 pub once_less_removed : (n : ℕ) (t : OwnerTree) → Once t → Once (removed n t)
@@ -77,11 +77,11 @@ once_less_moved n p t once = elim (cases_Bool (has n t)) [
   | inr z ↦ rw (at_absent n t z) once
 ]
 
-times_all : (m : ℕ) (f : Owner → Owner) (t : OwnerTree) → times m (all_changed f t) ≡ times m t
+times_all : (m : ℕ) (f : Owner → Owner) (t : OwnerTree) → node_times m (all_changed f t) ≡ node_times m t
 times_all m f Empty = refl
 times_all m f (Node k a below beside) = rw (times_all m f below, times_all m f beside) refl
 
-times_swept : (m : ℕ) (f : Owner → Owner) (n : ℕ) (t : OwnerTree) → times m (swept f n t) ≡ times m t
+times_swept : (m : ℕ) (f : Owner → Owner) (n : ℕ) (t : OwnerTree) → node_times m (swept f n t) ≡ node_times m t
 times_swept m f n Empty = refl
 times_swept m f n (Node k a below beside) =
     elim (cases_Bool (k == n)) [

@@ -157,8 +157,8 @@ module _ (entry : Begun) where
       go (Some c) inside = read_both (confined entry) InPortals (portals_read _ s) (read_both (confined entry) InPortals (children_read c (inside c refl) (becomes s).scene) (read_none (confined entry) InPortals _))
 
 module _ (level : LevelState) (levels : List LevelState) (made : active_depth (level ∷ levels) ≡ length (level ∷ levels) → (lo : ℕ) × (level.owner ≡ Some lo)) (entry : Begun) (own : entry.owner ≡ level.owner) where
-  abbrev n : ℕ
-  n = length (level ∷ levels)
+  abbrev height : ℕ
+  height = length (level ∷ levels)
 
   -- one from further out belongs to the level above
   moves : (p : OpenPortal) (front back : List OpenPortal) (s : Scene) (o lo : ℕ) → Ending level levels (gone_levels level levels) front (p ∷ back) s → p.owner ≡ Some o → level.owner ≡ Some lo → Moves o lo s.session.owners
@@ -169,11 +169,11 @@ module _ (level : LevelState) (levels : List LevelState) (made : active_depth (l
       record { node = a.there; parent = (h.all.0.owner lo is_lo).there; other = λ z. a.other (inl (is_lo ∙ ap Some z)); apart = ap (has lo) a.lone }
 
   withdrawn_read : (p : OpenPortal) (front back : List OpenPortal) (s : Scene) → Ending level levels (gone_levels level levels) front (p ∷ back) s
-      → Reads (confined entry) InPortals s (portal_withdrawn n level.owner p s).scene (portal_withdrawn n level.owner p s).events
+      → Reads (confined entry) InPortals s (portal_withdrawn height level.owner p s).scene (portal_withdrawn height level.owner p s).events
   withdrawn_read p front back s h = by_state (has_failed p.state)
     where
       becomes : Scene → Ended
-      becomes = portal_becomes p.name (λ old. record old { active = n - 1; owner = if has_failed old.state then None else old.owner })
+      becomes = portal_becomes p.name (λ old. record old { active = height - 1; owner = if has_failed old.state then None else old.owner })
 
       after : (act : Scene → Ended) → Reads (confined entry) InPortals s (act s).scene (act s).events → Reads (confined entry) InPortals s (in_order (act ∷ becomes ∷ []) s).scene (in_order (act ∷ becomes ∷ []) s).events
       after act k = read_both (confined entry) InPortals k (read_both (confined entry) InPortals (portals_read entry _ (act s).scene) (read_none (confined entry) InPortals _))
@@ -192,24 +192,24 @@ module _ (level : LevelState) (levels : List LevelState) (made : active_depth (l
       by_state false = after (where_so false (where_there p.owner (λ owner. where_there level.owner (owner_moved owner)))) (read_none (confined entry) InPortals s)
 
   portal_read : (p : OpenPortal) (front back : List OpenPortal) (s : Scene) → Ending level levels (gone_levels level levels) front (p ∷ back) s
-      → ((c : ℕ) → p.created ≡ n → p.context ≡ Some c → is_one_of c (roots_of entry) ≡ true) → Reads (confined entry) InPortals s (portal_aborted n level.owner p s).scene (portal_aborted n level.owner p s).events
-  portal_read p front back s h inside = by_created (p.created == n) refl
+      → ((c : ℕ) → p.created ≡ height → p.context ≡ Some c → is_one_of c (roots_of entry) ≡ true) → Reads (confined entry) InPortals s (portal_aborted height level.owner p s).scene (portal_aborted height level.owner p s).events
+  portal_read p front back s h inside = by_created (p.created == height) refl
     where
-      by_active : (b : Bool) → Reads (confined entry) InPortals s (where_so b (portal_withdrawn n level.owner p) s).scene (where_so b (portal_withdrawn n level.owner p) s).events
+      by_active : (b : Bool) → Reads (confined entry) InPortals s (where_so b (portal_withdrawn height level.owner p) s).scene (where_so b (portal_withdrawn height level.owner p) s).events
       by_active true = withdrawn_read p front back s h
       by_active false = read_none (confined entry) InPortals s
 
-      by_created : (b : Bool) → (p.created == n) ≡ b
-          → Reads (confined entry) InPortals s (elim b as (λ _. Ended) [ true ↦ portal_failed p s | false ↦ where_so (p.active == n) (portal_withdrawn n level.owner p) s ]).scene
-          (elim b as (λ _. Ended) [ true ↦ portal_failed p s | false ↦ where_so (p.active == n) (portal_withdrawn n level.owner p) s ]).events
-      by_created true e = failed_read entry p s (λ c is. inside c (eqb-true p.created n e) is)
-      by_created false e = by_active (p.active == n)
+      by_created : (b : Bool) → (p.created == height) ≡ b
+          → Reads (confined entry) InPortals s (elim b as (λ _. Ended) [ true ↦ portal_failed p s | false ↦ where_so (p.active == height) (portal_withdrawn height level.owner p) s ]).scene
+          (elim b as (λ _. Ended) [ true ↦ portal_failed p s | false ↦ where_so (p.active == height) (portal_withdrawn height level.owner p) s ]).events
+      by_created true e = failed_read entry p s (λ c is. inside c (eqb-true p.created height e) is)
+      by_created false e = by_active (p.active == height)
 
-  pub all_read : (ps front : List OpenPortal) (s : Scene) → Ending level levels (gone_levels level levels) front ps s → AreIn n entry ps
-      → Reads (confined entry) InPortals s (for_each (portal_aborted n level.owner) ps s).scene (for_each (portal_aborted n level.owner) ps s).events
+  pub all_read : (ps front : List OpenPortal) (s : Scene) → Ending level levels (gone_levels level levels) front ps s → AreIn height entry ps
+      → Reads (confined entry) InPortals s (for_each (portal_aborted height level.owner) ps s).scene (for_each (portal_aborted height level.owner) ps s).events
   all_read [] front s h inside = read_none (confined entry) InPortals s
   all_read (p ∷ ps) front s h inside =
-      let act : OpenPortal → Scene → Ended = portal_aborted n level.owner in
+      let act : OpenPortal → Scene → Ended = portal_aborted height level.owner in
       let first : Leads level levels (gone_levels level levels) ps s (act p s).scene = aborted_leads level levels made p front ps s h in
       let next : Scene = with_parts first.goes.parts s in
       let rest : Reads (confined entry) InPortals next (for_each act ps next).scene (for_each act ps next).events = all_read ps first.front next first.goes.ending inside.1 in

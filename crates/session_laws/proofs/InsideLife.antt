@@ -125,8 +125,8 @@ error_at error s leaving levels are k = go levels k
     go [] k = said k
     go (level ∷ levels) k = by_bool level.aborted k
 
-error_read : (error : Error) (s : Scene) → Reads staying FitsInside s s (what.Error error ∷ [])
-error_read error s = record {
+error_stays : (error : Error) (s : Scene) → Reads staying FitsInside s s (what.Error error ∷ [])
+error_stays error s = record {
   so = λ leaving k.
       let o : OneRead AtRest leaving s (what.Error error ∷ []) = error_at error s leaving s.session.levels refl k.at in
       record {
@@ -213,7 +213,7 @@ pub inside_life : (kinds : KindTable) → IsLife kinds staying FitsInside nothin
 inside_life kinds = record {
   opens = λ around same. opens_fit kinds around same;
   elsewhere = λ leaving session a b same k. elsewhere_fits leaving session a b k;
-  error = error_read;
+  error = error_stays;
   turns = λ w line m h. turn_read w line m h;
   exits = λ s h leaving k. (exit_read s h leaving k, tt);
 }

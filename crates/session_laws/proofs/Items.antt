@@ -12,7 +12,7 @@ use Rattle.session_rules.specs.Releases.{Keeper, NoOne, TheDescriptors, TheKind,
 use Rattle.session_rules.specs.Standing.{HasExited}
 use Rattle.session_rules.specs.Taking.{item_taken, taken_by}
 use Rattle.session_rules.proofs.Leaves.{Keeps, Law, LevelLeaves, MakeLeaves, MoveLeaves, is_level_word, is_word}
-use Rattle.session_rules.proofs.Sight.{ContextLeaves, FileLeaves, KeyLeaves, Sight, hook_waits_so, level_leaves_of, locks_one, makes_context, moves_context, of_next_owner, of_owners, places, plans_one, pushes, releases, takes, unlocks, unseen_contexts, unseen_files, unseen_keys, unseen_stack}
+use Rattle.session_rules.proofs.Sight.{ContextLeaves, FileLeaves, KeyLeaves, Sight, hook_waits_so, level_leaves_of, locks_one, makes_context, moves_context, of_next_owner, of_owners, places, plans_one, pushes, releases as item_releases, takes, unlocks, unseen_contexts, unseen_files, unseen_keys, unseen_stack}
 use Rattle.session_rules.proofs.Said.{said_one}
 use Rattle.session_rules.proofs.Walk.{moves_owed}
 use Rattle.session_laws.proofs.ReaderLaws.{OwesTurns, Reads, read_both}
@@ -58,7 +58,7 @@ module _ (item : Item) (owner : ℕ) where
   levels : LevelLeaves R
   levels =
       level_leaves_of sees_owners is_still R sight refl refl contexts (record { word = word_still; line = λ depth n name stats. refl; total = λ total. refl }) level_still
-      (releases sees_owners is_still R sight refl refl contexts.gone contexts.children file_leaves.closed key_leaves.closed (λ n kind key old s found. forgotten_reads item owner n kind key old s found))
+      (item_releases sees_owners is_still R sight refl refl contexts.gone contexts.children file_leaves.closed key_leaves.closed (λ n kind key old s found. forgotten_reads item owner n kind key old s found))
       refl (unseen_stack sees_owners is_still R sight refl (λ snapshot. refl))
 
   make_leaves : MakeLeaves R

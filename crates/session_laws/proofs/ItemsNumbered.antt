@@ -50,8 +50,8 @@ abbrev sees_serial : Part → Bool
 sees_serial of_next_serial = true
 sees_serial other = false
 
-sight : Sight sees_serial is_past Numbers
-sight = record { both = λ a b. read_both numbering IsNext a b; aside = λ s t same h. past_reads s t (same.so of_next_serial refl) h }
+number_sight : Sight sees_serial is_past Numbers
+number_sight = record { both = λ a b. read_both numbering IsNext a b; aside = λ s t same h. past_reads s t (same.so of_next_serial refl) h }
 
 -- an item is acquired with the next number
 remembered_numbers : (n : ℕ) (kind : KindId) (key : ℕ) (s : Scene) → Numbers s (remembers n kind key s).scene (remembers n kind key s).events
@@ -70,32 +70,32 @@ level_past : (event : What) → is_level_word event ≡ true → is_past event �
 level_past (what.Acquire item owner) h = absurd (cc h)
 level_past other h = refl
 
-file_leaves : FileLeaves Numbers
-file_leaves = unseen_files sees_serial is_past Numbers sight refl (λ file. refl) (λ file. refl)
+number_files : FileLeaves Numbers
+number_files = unseen_files sees_serial is_past Numbers number_sight refl (λ file. refl) (λ file. refl)
 
 number_ends : EndLeaves Numbers
 number_ends =
-    end_leaves_of sees_serial is_past Numbers sight refl refl (unseen_contexts sees_serial is_past Numbers sight refl refl refl (λ word n. refl) (λ n. refl) (λ n. refl))
+    end_leaves_of sees_serial is_past Numbers number_sight refl refl (unseen_contexts sees_serial is_past Numbers number_sight refl refl refl (λ word n. refl) (λ n. refl) (λ n. refl))
     (record { word = word_past; line = λ depth n name stats. refl; total = λ total. refl }) level_past
-    (unseen_owners sees_serial is_past Numbers sight refl (λ item n. refl) (λ item n. refl) (λ n kind key. record { so = remembered_numbers n kind key }))
-    (item_goes sees_serial is_past Numbers sight refl (λ item n. refl)) (unseen_locks sees_serial is_past Numbers sight refl (λ object mode count owner. refl) (λ object mode count from to. refl))
-    file_leaves (unseen_keys sees_serial is_past Numbers sight refl) refl (unseen_stack sees_serial is_past Numbers sight refl (λ snapshot. refl))
-    (owner_goes sees_serial is_past Numbers sight refl (λ n. refl)) (owner_moves sees_serial is_past Numbers sight refl (λ n parent. refl))
+    (unseen_owners sees_serial is_past Numbers number_sight refl (λ item n. refl) (λ item n. refl) (λ n kind key. record { so = remembered_numbers n kind key }))
+    (item_goes sees_serial is_past Numbers number_sight refl (λ item n. refl)) (unseen_locks sees_serial is_past Numbers number_sight refl (λ object mode count owner. refl) (λ object mode count from to. refl))
+    number_files (unseen_keys sees_serial is_past Numbers number_sight refl) refl (unseen_stack sees_serial is_past Numbers number_sight refl (λ snapshot. refl))
+    (owner_goes sees_serial is_past Numbers number_sight refl (λ n. refl)) (owner_moves sees_serial is_past Numbers number_sight refl (λ n parent. refl))
 
 number_makes : MakeLeaves Numbers
 number_makes = record {
-  made = makes_context sees_serial is_past Numbers sight refl refl refl (λ n parent name. refl);
-  placed = places sees_serial is_past Numbers sight refl refl;
-  planned = plans_one sees_serial is_past Numbers sight refl refl (makes_context sees_serial is_past Numbers sight refl refl refl (λ n parent name. refl));
-  owner = owner_makes sees_serial is_past Numbers sight refl refl (λ n. refl) (λ n parent. refl);
-  locked = locks_one sees_serial is_past Numbers sight refl (λ object mode count owner. refl) (λ object mode owner. refl);
-  unlocked = unlocks sees_serial is_past Numbers sight refl (λ object mode count owner. refl);
-  used = file_leaves.used;
-  pushed = pushes sees_serial is_past Numbers sight refl (λ snapshot. refl);
+  made = makes_context sees_serial is_past Numbers number_sight refl refl refl (λ n parent name. refl);
+  placed = places sees_serial is_past Numbers number_sight refl refl;
+  planned = plans_one sees_serial is_past Numbers number_sight refl refl (makes_context sees_serial is_past Numbers number_sight refl refl refl (λ n parent name. refl));
+  owner = owner_makes sees_serial is_past Numbers number_sight refl refl (λ n. refl) (λ n parent. refl);
+  locked = locks_one sees_serial is_past Numbers number_sight refl (λ object mode count owner. refl) (λ object mode owner. refl);
+  unlocked = unlocks sees_serial is_past Numbers number_sight refl (λ object mode count owner. refl);
+  used = number_files.used;
+  pushed = pushes sees_serial is_past Numbers number_sight refl (λ snapshot. refl);
 }
 
 number_moves : MoveLeaves Numbers
-number_moves = record { hooked = hook_waits_so sees_serial is_past Numbers sight refl refl refl (λ word n. refl); shifted = moves_context sees_serial is_past Numbers sight refl refl refl (λ n parent. refl) }
+number_moves = record { hooked = hook_waits_so sees_serial is_past Numbers number_sight refl refl refl (λ word n. refl); shifted = moves_context sees_serial is_past Numbers number_sight refl refl refl (λ n parent. refl) }
 
 -- what a line and an exit owe
 pub numbers_turns : OwesTurns (Reads numbering IsNext)

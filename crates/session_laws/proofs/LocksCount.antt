@@ -14,6 +14,10 @@ use Rattle.lock_local.proofs.OwnerLemmas.{counts-added, counts-others}
 use Rattle.lock_local.proofs.ChangeLemmas.{WellCounted, by_passing, down, none_like, passes_some}
 use Rattle.lock_local.proofs.TotalLemmas.{no_total, sum_kept, sum_same, total_down}
 
+counted_where : (b : Bool) (p q r : ℕ) → p + q ≡ r → cond b p 0 + cond b q 0 ≡ cond b r 0
+counted_where true p q r e = e
+counted_where false p q r e = refl
+
 module _ (object mode : ℕ) where
   -- whether a lock is on this object in the mode of this number
   abbrev pub is_this : ℕ → Mode → Bool
@@ -42,10 +46,6 @@ module _ (object mode : ℕ) where
       let p = and_parts (l.object == o) (mode_number l.mode == mode_number m) e in
       ap (λ (k : ℕ). (object == k) && (mode == mode_number l.mode)) (eqb-true l.object o p.0) ∙ ap (λ (k : ℕ). (object == o) && (mode == k)) (eqb-true (mode_number l.mode) (mode_number m) p.1)
 
-  more : (b : Bool) (p q r : ℕ) → p + q ≡ r → cond b p 0 + cond b q 0 ≡ cond b r 0
-  more true p q r e = e
-  more false p q r e = refl
-
   -- a lock is held once more
   total_new : (owner o : ℕ) (m : Mode) → lock_total (new_lock o m owner) ≡ 1
   total_new owner o m = omega (arith, sum_by-cons (λ (c : OwnerCount). c.count) (record { owner = owner; count = 1 }) [])
@@ -56,7 +56,7 @@ module _ (object mode : ℕ) where
   up_weight : (owner o : ℕ) (m : Mode) (l : Lock) → is_lock o m l ≡ true → weight (counted_up owner l) ≡ weight l + once o m
   up_weight owner o m l e =
       let up : lock_total l + 1 ≡ lock_total (counted_up owner l) = sym (counts-added owner 1 l.owners) in
-      sym (more (is_this l.object l.mode) (lock_total l) 1 (lock_total (counted_up owner l)) up) ∙ ap (λ (b : Bool). weight l + cond b 1 0) (same_name o m l e)
+      sym (counted_where (is_this l.object l.mode) (lock_total l) 1 (lock_total (counted_up owner l)) up) ∙ ap (λ (b : Bool). weight l + cond b 1 0) (same_name o m l e)
 
   pub there_acquired : (owner o : ℕ) (m : Mode) (xs : List Lock) → there (acquired owner o m xs) ≡ there xs + once o m
   there_acquired owner o m [] = omega (arith, sum_by-cons weight (new_lock o m owner) [], new_weight owner o m)
@@ -108,7 +108,7 @@ module _ (object mode : ℕ) where
           let here : f x ≡ owner_count owner x = ap (λ b. cond b (owner_count owner x) 0) e in
           let some : 0 < owner_count owner x = omega (arith, held, sum_by-cons f x xs, here, none_held o m owner xs none) in
           let less : weight (counted_down owner x) + once x.object x.mode ≡ weight x =
-          more (is_this x.object x.mode) (lock_total (counted_down owner x)) 1 (lock_total x) (total_down owner x (All-head WellCounted x xs counted) some) in
+          counted_where (is_this x.object x.mode) (lock_total (counted_down owner x)) 1 (lock_total x) (total_down owner x (All-head WellCounted x xs counted) some) in
           let same : once x.object x.mode ≡ once o m = ap (λ (b : Bool). cond b 1 0) (same_name o m x e) in
           let left : there (map (down owner o m) xs) ≡ there xs = ap there rest in
           omega (arith, less, same, left, sum_by-cons weight (counted_down owner x) (map (down owner o m) xs), sum_by-cons weight x xs)

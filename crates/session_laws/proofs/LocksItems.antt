@@ -22,8 +22,8 @@ module _ (k : Subject) (R : Law) (b : Base k R) (h : hides of_items k ≡ true) 
       → t.session.snapshots ≡ s.session.snapshots → ArePlain k events → R s t events
   but_items s t v l r d n plain = b.sees.aside s t (same_but_items k s t h v l r d n) plain
 
-  contexts : ContextLeaves R
-  contexts = unseen_contexts (sees_of k) (passing k) R (sight_of k R b.sees) refl refl refl (λ word n. refl) (λ n. refl) (λ n. refl)
+  item_contexts : ContextLeaves R
+  item_contexts = unseen_contexts (sees_of k) (passing k) R (sight_of k R b.sees) refl refl refl (λ word n. refl) (λ n. refl) (λ n. refl)
 
   keys : KeyLeaves R
   keys = unseen_keys (sees_of k) (passing k) R (sight_of k R b.sees) refl
@@ -45,8 +45,8 @@ module _ (k : Subject) (R : Law) (b : Base k R) (h : hides of_items k ≡ true) 
     sees = b.sees;
     items = record {
       taken = taken_so (sees_of k) (passing k) R (sight_of k R b.sees) refl refl owners b.files keys;
-      released = releases (sees_of k) (passing k) R (sight_of k R b.sees) refl refl contexts.gone contexts.children b.files.closed keys.closed (λ n kind key item s is. but_items s _ refl refl refl refl refl (plain_one k (what.Release item n) h));
-      phase = phase_so (sees_of k) (passing k) R (sight_of k R b.sees) refl refl contexts.gone contexts.children b.files.closed keys.closed owners b.locks;
+      released = releases (sees_of k) (passing k) R (sight_of k R b.sees) refl refl item_contexts.gone item_contexts.children b.files.closed keys.closed (λ n kind key item s is. but_items s _ refl refl refl refl refl (plain_one k (what.Release item n) h));
+      phase = phase_so (sees_of k) (passing k) R (sight_of k R b.sees) refl refl item_contexts.gone item_contexts.children b.files.closed keys.closed owners b.locks;
       gone = λ n. record { so = λ s. but_items s _ refl refl refl refl refl (plain_map k (λ (m : ℕ). what.OwnerGone m) (λ m. refl) (order_at n s.session.owners)) };
       moved = λ n parent. record { so = λ s. but_items s _ refl refl refl refl refl (plain_one k (what.MoveOwner n parent) refl) };
     };

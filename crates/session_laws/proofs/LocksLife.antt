@@ -44,9 +44,9 @@ run_bare w (x ∷ xs) m spoken meets checked b =
     then_bare (does w x m) (does w x m).refusal (does_all w xs) first (λ none. run_bare w xs (does w x m).moment spoken.1 (meets.1 none) (checked.1 none) first)
 
 -- a level that aborts, and one that is rolled back
-abort_bare : (level : LevelState) (levels : List LevelState) (s : Scene) → level.aborted ≡ false → IsOpen level → Stands (settled (level ∷ levels) s) → Bare (settled (level ∷ levels) s) → Bare (aborted (settled (level ∷ levels) s)).scene
-abort_bare level [] s active open_level stands b = bare_none _ (aborted_none level s stands b)
-abort_bare level (next ∷ levels) s active open_level stands b =
+aborts_bare : (level : LevelState) (levels : List LevelState) (s : Scene) → level.aborted ≡ false → IsOpen level → Stands (settled (level ∷ levels) s) → Bare (settled (level ∷ levels) s) → Bare (aborted (settled (level ∷ levels) s)).scene
+aborts_bare level [] s active open_level stands b = bare_none _ (aborted_none level s stands b)
+aborts_bare level (next ∷ levels) s active open_level stands b =
     let left : Leaves (record level { aborted = true } ∷ (next ∷ levels)) (aborted (settled (level ∷ (next ∷ levels)) s)).scene = aborted_stands level (next ∷ levels) s active open_level stands in
     bare_held _ (ap may_hold left.are)
 
@@ -61,7 +61,7 @@ above_bare : (levels : List LevelState) (s : Scene) → Leaves levels s → AreO
 above_bare [] s left outer b = b
 above_bare (level ∷ levels) s left outer b =
     let is : s ≡ settled (level ∷ levels) s = is_left (level ∷ levels) s left in
-    subst (λ (z : Scene). Bare (aborted z).scene) (sym is) (abort_bare level levels s outer.0.unaborted outer.1 (subst Stands is left.between.stands) (subst Bare is b))
+    subst (λ (z : Scene). Bare (aborted z).scene) (sym is) (aborts_bare level levels s outer.0.unaborted outer.1 (subst Stands is left.between.stands) (subst Bare is b))
 
 given_up_bare : (level : LevelState) (levels : List LevelState) (s : Scene) (b i : Bool) → level.starting ≡ b → level.implicit ≡ i → level.aborted ≡ false → Stands (settled (level ∷ levels) s) → Bare (settled (level ∷ levels) s)
     → Bare (elim b as (λ _. Ended) [
@@ -73,7 +73,7 @@ given_up_bare level levels s true i e q active h b =
     above_bare levels (level_rolled_back level (settled (level ∷ levels) s)).scene (rolled_stands level levels s h) h.fit.1 (rolled_bare level levels s h b) in
     record { so = k.so }
 given_up_bare level levels s false true e q active h b = rolled_bare level levels s h b
-given_up_bare level levels s false false e q active h b = abort_bare level levels s active (record { started = e; block = q }) h b
+given_up_bare level levels s false false e q active h b = aborts_bare level levels s active (record { started = e; block = q }) h b
 
 recovered_settled : (error : Error) (levels : List LevelState) (s : Scene) → Stands (settled levels s) → Bare (settled levels s) → Bare (recovered error (settled levels s)).scene
 unfolding recovered

@@ -88,10 +88,6 @@ module _ (object mode : ℕ) where
       }
 
   -- what an owner holds is given up
-  more : (b : Bool) (p q r : ℕ) → p + q ≡ r → cond b p 0 + cond b q 0 ≡ cond b r 0
-  more true p q r e = e
-  more false p q r e = refl
-
   none_more : (b : Bool) (k : ℕ) → k ≡ 0 → cond b k 0 ≡ 0
   none_more true k e = e
   none_more false k e = refl
@@ -104,7 +100,7 @@ module _ (object mode : ℕ) where
       held = cond (is_this object mode x.object x.mode) (owner_count owner x) 0
 
       less : weight object mode (without owner x) + held ≡ weight object mode x
-      less = more (is_this object mode x.object x.mode) (lock_total (without owner x)) (owner_count owner x) (lock_total x) (total_without owner x)
+      less = counted_where (is_this object mode x.object x.mode) (lock_total (without owner x)) (owner_count owner x) (lock_total x) (total_without owner x)
 
       whole : there object mode (x ∷ xs) ≡ weight object mode x + there object mode xs
       whole = sum_by-cons (weight object mode) x xs

@@ -129,18 +129,18 @@ module _ (s : Scene) (h : Stands s) where
       let i = middle p m.front m.back (subst (All (λ r. IsPortal r s.session.levels s.session.contexts s.session.owners s.session.current)) m.is h.portals.each) in
       protected_has n s.session.contexts (i.place n e).protected
 
-  there_placed : (o : Option ℕ) (act : ℕ → Scene → Ended) → ((n : ℕ) → o ≡ Some n → ArePlaced s (act n s).events) → ArePlaced s (where_there o act s).events
-  there_placed None act k = record { allowed = λ parents fit. refl }
-  there_placed (Some n) act k = k n refl
+  placed_there : (o : Option ℕ) (act : ℕ → Scene → Ended) → ((n : ℕ) → o ≡ Some n → ArePlaced s (act n s).events) → ArePlaced s (where_there o act s).events
+  placed_there None act k = record { allowed = λ parents fit. refl }
+  placed_there (Some n) act k = k n refl
 
   context_placed : (new : NewContext) → ArePlaced s (new_context_made new s).events
   context_placed LevelContext = below_context s.session.next_context _ _ s (above_there (level_above s.session) (second_context s.session.levels h.levels))
   context_placed (PortalContext name) = below_context s.session.next_context portals_context _ s (own_there portals_context (omega arith) (omega arith))
   context_placed (RowContext name) =
-      there_placed (option_and_then (λ (p : OpenPortal). p.context) (portal_named name s.session.portals)) _
+      placed_there (option_and_then (λ (p : OpenPortal). p.context) (portal_named name s.session.portals)) _
       (λ n e. below_context s.session.next_context n _ s (place_there name (portal_named name s.session.portals) refl n e))
   context_placed (ScriptContext name parent kind) =
-      there_placed (context_named parent s.session) (λ n. context_made n name false kind)
+      placed_there (context_named parent s.session) (λ n. context_made n name false kind)
       (λ n e. below_context s.session.next_context n name s (named_there parent s n h e))
 
   new_owner_placed : (role : OwnerRole) → ArePlaced s (new_owner_made role s).events

@@ -69,8 +69,8 @@ module _ (kinds : KindTable) where
     };
   }
 
-  abbrev sight : Sight sees_base any (KeepsBase kinds)
-  sight = record {
+  abbrev base_sight : Sight sees_base any (KeepsBase kinds)
+  base_sight = record {
     both = λ a b. record { so = λ h. b.so (a.so h) };
     aside = λ s t alike said. same s t _ (alike.so of_locks refl) (alike.so of_owners refl) (alike.so of_next_serial refl) (ap table_of (alike.so of_kinds refl));
   }
@@ -126,12 +126,12 @@ module _ (kinds : KindTable) where
   locks_change : (s : Scene) (all : List Lock) {events : List What} → (IsInOrder s.session.locks → IsInOrder all) → R s (record s { session = record s.session { locks = all } }) events
   locks_change s all keeps = record { so = λ h. record { places = h.places; locks = keeps h.locks; items = h.items } }
 
-  file_leaves : FileLeaves R
-  file_leaves = unseen_files sees_base any R sight refl (λ file. refl) (λ file. refl)
+  base_files : FileLeaves R
+  base_files = unseen_files sees_base any R base_sight refl (λ file. refl) (λ file. refl)
 
   pub base_leaves : EndLeaves R
   base_leaves =
-      end_leaves_of sees_base any R sight refl refl (unseen_contexts sees_base any R sight refl refl refl (λ word n. refl) (λ n. refl) (λ n. refl))
+      end_leaves_of sees_base any R base_sight refl refl (unseen_contexts sees_base any R base_sight refl refl refl (λ word n. refl) (λ n. refl) (λ n. refl))
       (record { word = λ event h. refl; line = λ depth n name stats. refl; total = λ total. refl }) (λ event h. refl)
       (record {
         releasing = λ item n. record { so = λ s. record { so = λ h. h } };
@@ -147,26 +147,26 @@ module _ (kinds : KindTable) where
         passed = λ from to. record { so = λ s. locks_change s _ (IsInOrder-map (passed_lock from to) (keeps-passed from to) s.session.locks) };
         all_gone = λ top. record { so = λ s. locks_change s [] (λ h. tt) };
       })
-      file_leaves (record {
+      base_files (record {
         opened = λ place key. record { so = λ s. same s _ _ refl refl refl (table-opened s.around.kinds place key) };
         closed = λ place key. record { so = λ s. same s _ _ refl refl refl (table-closed s.around.kinds place key) };
-      }) refl (unseen_stack sees_base any R sight refl (λ snapshot. refl))
+      }) refl (unseen_stack sees_base any R base_sight refl (λ snapshot. refl))
       (λ n. record { so = λ s. owners_change s _ (all_removed (Recalls s.session.next_serial) n s.session.owners) }) (λ n parent. record { so = λ s. owners_change s _ (all_moved (Recalls s.session.next_serial) n parent s.session.owners) })
 
   base_makes : MakeLeaves R
   base_makes = record {
-    made = makes_context sees_base any R sight refl refl refl (λ n parent name. refl);
-    placed = places sees_base any R sight refl refl;
-    planned = plans_one sees_base any R sight refl refl (makes_context sees_base any R sight refl refl refl (λ n parent name. refl));
+    made = makes_context sees_base any R base_sight refl refl refl (λ n parent name. refl);
+    placed = places sees_base any R base_sight refl refl;
+    planned = plans_one sees_base any R base_sight refl refl (makes_context sees_base any R base_sight refl refl refl (λ n parent name. refl));
     owner = λ parent. record { so = owner_so parent };
     locked = λ object mode n. record { so = λ s. locks_change s _ (IsInOrder-acquired n object mode s.session.locks) };
     unlocked = λ object mode n. record { so = λ s. locks_change s _ (λ h. IsInOrder-filter has_owner (map (down n object mode) s.session.locks) (IsInOrder-map (down n object mode) (keeps-down n object mode) s.session.locks h)) };
-    used = file_leaves.used;
-    pushed = pushes sees_base any R sight refl (λ snapshot. refl);
+    used = base_files.used;
+    pushed = pushes sees_base any R base_sight refl (λ snapshot. refl);
   }
 
   base_moves : MoveLeaves R
-  base_moves = record { hooked = hook_waits_so sees_base any R sight refl refl refl (λ word n. refl); shifted = moves_context sees_base any R sight refl refl refl (λ n parent. refl) }
+  base_moves = record { hooked = hook_waits_so sees_base any R base_sight refl refl refl (λ word n. refl); shifted = moves_context sees_base any R base_sight refl refl refl (λ n parent. refl) }
 
   pub base_owed : OwesTurns (KeepsBase kinds)
   base_owed = owes_by R base_leaves base_makes (λ error s. record { so = λ h. h }) (λ w x m meets. moves_owed R base_leaves.levels.leaves.acts base_moves w x m)

@@ -1,6 +1,6 @@
 -- What is read in a release that is going on: what it releases is in order, and all else is passed over.
-use Rattle.std.proofs.Common.{◌≡◌, ℕ, ◌<◌, Bool, true, false, not, List, [], ◌∷◌, ◌++◌, All, Option, Some, None, refl, sym, subst, ap, ◌∙◌, inl, inr}
-use Rattle.std.specs.Prelude.{◌==◌, ◌&&◌, ◌||◌, ◌⊎◌, nat_lt, unwrap_or}
+use Rattle.std.proofs.Common.{◌≡◌, ℕ, nat_lt, ◌<◌, Bool, true, false, not, List, [], ◌∷◌, ◌++◌, All, Option, Some, None, refl, sym, subst, ap, ◌∙◌, inl, inr}
+use Rattle.std.specs.Prelude.{◌==◌, ◌&&◌, ◌||◌, ◌⊎◌, unwrap_or}
 use Rattle.std.specs.Option.{option_map, option_map_or}
 use Rattle.std.specs.List.{list_all}
 use Rattle.std.proofs.lemmas.Bool.{and_from, eq-eqb, lt-ltb, not_from_false, or_left, or_right}
@@ -17,7 +17,8 @@ use Rattle.owner_kinds.specs.declared.kind_row.KindRow.{KindRow}
 use Rattle.owner_items.specs.Next.{is_of_phase, is_phase, priority}
 use Rattle.lifetime_laws.specs.Once.{same_item}
 use Rattle.lifetime_laws.specs.Order.{AnItem, ALock, Member, Owned, Releasing, goes_before, is_warned, may_precede, member_of, ordering, owner_of, place_of, with_member}
-use Rattle.lifetime_laws.specs.Parents.{Node, is_above}
+use Rattle.lifetime_laws.specs.Parents.{is_above}
+use Rattle.lifetime_laws.specs.Parents as replayed
 use Rattle.lifetime_laws.specs.Reading.{allows_all, seen_after}
 use Rattle.lifetime_laws.proofs.Readings.{allows_all-append, seen_after-append}
 use Rattle.session_rules.proofs.Said.{AreSaid, said_more, said_none}
@@ -25,26 +26,26 @@ use Rattle.session_laws.proofs.OrderSaid.{is_aside}
 use Rattle.session_laws.proofs.Warnings.{same_itself}
 
 -- a release that is going on, with what was released so far, the newest first, and the warning directly before
-abbrev pub warned : Option Owned → List Node → Bool → List Member → Releasing
+abbrev pub warned : Option Owned → List replayed.Node → Bool → List Member → Releasing
 warned warning nodes aborts members = record { owners = nodes; batch = Some (record { aborts = aborts; members = members }); warning = warning }
 
-abbrev pub in_batch : List Node → Bool → List Member → Releasing
+abbrev pub in_batch : List replayed.Node → Bool → List Member → Releasing
 in_batch nodes aborts members = warned None nodes aborts members
 
 -- a member may come behind all these
-abbrev pub MayFollow : List Node → List Member → Member → Type 0
+abbrev pub MayFollow : List replayed.Node → List Member → Member → Type 0
 MayFollow nodes members member = All (λ earlier. may_precede nodes earlier member ≡ true) members
 
 -- the numbers stand for owners of which the first isn't the second, nor above it
-pub record AreApart (nodes : List Node) (a b : ℕ) : Type 0 where
+pub record AreApart (nodes : List replayed.Node) (a b : ℕ) : Type 0 where
   pub below : is_above a b nodes ≡ false
   pub other : (a == b) ≡ false
 
 -- which member may come before which
-pub earlier_phase : (nodes : List Node) (a b : Member) → place_of a < place_of b → may_precede nodes a b ≡ true
+pub earlier_phase : (nodes : List replayed.Node) (a b : Member) → place_of a < place_of b → may_precede nodes a b ≡ true
 earlier_phase nodes a b h = or_left (nat_lt (place_of a) (place_of b)) _ (lt-ltb (place_of a) (place_of b) h)
 
-pub same_phase : (nodes : List Node) (a b : Member) → place_of a ≡ place_of b → is_above (owner_of a) (owner_of b) nodes ≡ false → ((owner_of a == owner_of b) ≡ false) ⊎ (goes_before a b ≡ true)
+pub same_phase : (nodes : List replayed.Node) (a b : Member) → place_of a ≡ place_of b → is_above (owner_of a) (owner_of b) nodes ≡ false → ((owner_of a == owner_of b) ≡ false) ⊎ (goes_before a b ≡ true)
     → may_precede nodes a b ≡ true
 same_phase nodes a b same out goes =
     or_right (nat_lt (place_of a) (place_of b)) _
@@ -55,7 +56,7 @@ same_phase nodes a b same out goes =
       | inr before ↦ or_right (not (owner_of a == owner_of b)) (goes_before a b) before
     ])))
 
-module _ (kinds : KindTable) (nodes : List Node) (aborts : Bool) where
+module _ (kinds : KindTable) (nodes : List replayed.Node) (aborts : Bool) where
   -- The events are in order behind what was released so far, and leave that and what they release.
   pub record Adds (old new : List Member) (events : List What) : Type 0 where
     pub allowed : allows_all (ordering kinds) (in_batch nodes aborts old) events ≡ true
@@ -136,7 +137,7 @@ member_is kinds phase n item h = go (row_of kinds item.kind) h
     go None e = absurd (cc e)
     go (Some row) e = ap (λ (place : Phase). Some (AnItem place row.priority item.serial n)) (one_phase phase row.phase e)
 
-module _ (kinds : KindTable) (nodes : List Node) (phase : Phase) (n : ℕ) where
+module _ (kinds : KindTable) (nodes : List replayed.Node) (phase : Phase) (n : ℕ) where
   -- at abort a release counts as it stands
   pub adds_release : (members : List Member) (item : Item) → is_of_phase kinds phase item ≡ true → MayFollow nodes members (item_member kinds phase n item)
       → Adds kinds nodes true members (item_member kinds phase n item ∷ members) (what.Release item n ∷ [])

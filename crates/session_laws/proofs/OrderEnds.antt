@@ -51,8 +51,8 @@ aborted_levels levels = deepest_changed (λ old. record old { aborted = true }) 
 abbrev Pass : Bool → Law
 Pass aborts = Mild (is_passing aborts)
 
-abbrev sight : (aborts : Bool) → Sight sees_levels (is_passing aborts) (Pass aborts)
-sight aborts = mild_sight (is_passing aborts)
+abbrev pass_sight : (aborts : Bool) → Sight sees_levels (is_passing aborts) (Pass aborts)
+pass_sight aborts = mild_sight (is_passing aborts)
 
 pass_acts : (aborts : Bool) → Acts (Pass aborts)
 pass_acts aborts = mild_acts (is_passing aborts) (λ word n. refl) (λ n. refl)
@@ -63,11 +63,11 @@ closed_so file = record { so = λ s. (by_so (Pass false) (pass_acts false) (is_a
 closes_mild : (p : OpenPortal) → Keeps (Pass false) (portal_closed p)
 closes_mild p =
     portal_closes (Pass false) (pass_acts false)
-    (releases sees_levels (is_passing false) (Pass false) (sight false) refl refl (pass_acts false).gone (pass_acts false).children closed_so (unseen_keys sees_levels (is_passing false) (Pass false) (sight false) refl).closed
-    (item_goes sees_levels (is_passing false) (Pass false) (sight false) refl (λ item n. refl))) p
+    (releases sees_levels (is_passing false) (Pass false) (pass_sight false) refl refl (pass_acts false).gone (pass_acts false).children closed_so (unseen_keys sees_levels (is_passing false) (Pass false) (pass_sight false) refl).closed
+    (item_goes sees_levels (is_passing false) (Pass false) (pass_sight false) refl (λ item n. refl))) p
 
 moves_mild : (aborts : Bool) (n parent : ℕ) → Keeps (Pass aborts) (owner_moved n parent)
-moves_mild aborts = owner_moves sees_levels (is_passing aborts) (Pass aborts) (sight aborts) refl (λ n parent. refl)
+moves_mild aborts = owner_moves sees_levels (is_passing aborts) (Pass aborts) (pass_sight aborts) refl (λ n parent. refl)
 
 -- what comes behind an owner that goes
 abbrev Quiet : Law

@@ -43,8 +43,8 @@ mild_acts P called deleted =
 abbrev Unlined : Scene → Scene → List What → Type 0
 Unlined = Mild is_unlined
 
-abbrev sight : Sight sees_levels is_unlined Unlined
-sight = mild_sight is_unlined
+abbrev unlined_sight : Sight sees_levels is_unlined Unlined
+unlined_sight = mild_sight is_unlined
 
 word_unlined : (event : What) → is_word event ≡ true → is_unlined event ≡ true
 word_unlined (what.CommitLevel level) h = absurd (cc h)
@@ -52,41 +52,41 @@ word_unlined (what.AbortLevel level) h = absurd (cc h)
 word_unlined other h = refl
 
 owners : OwnerLeaves Unlined
-owners = unseen_owners sees_levels is_unlined Unlined sight refl (λ item n. refl) (λ item n. refl) (item_comes sees_levels is_unlined Unlined sight refl refl (λ item n. refl))
+owners = unseen_owners sees_levels is_unlined Unlined unlined_sight refl (λ item n. refl) (λ item n. refl) (item_comes sees_levels is_unlined Unlined unlined_sight refl refl (λ item n. refl))
 
-file_leaves : FileLeaves Unlined
-file_leaves = unseen_files sees_levels is_unlined Unlined sight refl (λ file. refl) (λ file. refl)
+unlined_files : FileLeaves Unlined
+unlined_files = unseen_files sees_levels is_unlined Unlined unlined_sight refl (λ file. refl) (λ file. refl)
 
 contexts : ContextLeaves Unlined
-contexts = unseen_contexts sees_levels is_unlined Unlined sight refl refl refl (λ word n. refl) (λ n. refl) (λ n. refl)
+contexts = unseen_contexts sees_levels is_unlined Unlined unlined_sight refl refl refl (λ word n. refl) (λ n. refl) (λ n. refl)
 
 keys : KeyLeaves Unlined
-keys = unseen_keys sees_levels is_unlined Unlined sight refl
+keys = unseen_keys sees_levels is_unlined Unlined unlined_sight refl
 
 pub gone_mild : (n : ℕ) → Keeps Unlined (owner_gone n)
-gone_mild = owner_goes sees_levels is_unlined Unlined sight refl (λ n. refl)
+gone_mild = owner_goes sees_levels is_unlined Unlined unlined_sight refl (λ n. refl)
 
 work_leaves : WorkLeaves Unlined
 work_leaves = record {
-  leaves = leaves_of sees_levels is_unlined Unlined sight refl refl contexts (record { word = word_unlined; line = λ depth n name stats. refl; total = λ total. refl })
-      (releases sees_levels is_unlined Unlined sight refl refl contexts.gone contexts.children file_leaves.closed keys.closed (item_goes sees_levels is_unlined Unlined sight refl (λ item n. refl)));
-  moves = record { hooked = hook_waits_so sees_levels is_unlined Unlined sight refl refl refl (λ word n. refl); shifted = moves_context sees_levels is_unlined Unlined sight refl refl refl (λ n parent. refl) };
-  made = makes_context sees_levels is_unlined Unlined sight refl refl refl (λ n parent name. refl);
-  planned = plans_one sees_levels is_unlined Unlined sight refl refl (makes_context sees_levels is_unlined Unlined sight refl refl refl (λ n parent name. refl));
-  owner = owner_makes sees_levels is_unlined Unlined sight refl refl (λ n. refl) (λ n parent. refl);
-  taken = taken_so sees_levels is_unlined Unlined sight refl refl owners file_leaves keys;
-  locked = locks_one sees_levels is_unlined Unlined sight refl (λ object mode count owner. refl) (λ object mode owner. refl);
-  unlocked = unlocks sees_levels is_unlined Unlined sight refl (λ object mode count owner. refl);
-  used = file_leaves.used;
-  pushed = pushes sees_levels is_unlined Unlined sight refl (λ snapshot. refl);
-  popped = (unseen_stack sees_levels is_unlined Unlined sight refl (λ snapshot. refl)).popped;
-  phase = phase_so sees_levels is_unlined Unlined sight refl refl contexts.gone contexts.children file_leaves.closed keys.closed owners (unseen_locks sees_levels is_unlined Unlined sight refl (λ object mode count owner. refl) (λ object mode count from to. refl));
+  leaves = leaves_of sees_levels is_unlined Unlined unlined_sight refl refl contexts (record { word = word_unlined; line = λ depth n name stats. refl; total = λ total. refl })
+      (releases sees_levels is_unlined Unlined unlined_sight refl refl contexts.gone contexts.children unlined_files.closed keys.closed (item_goes sees_levels is_unlined Unlined unlined_sight refl (λ item n. refl)));
+  moves = record { hooked = hook_waits_so sees_levels is_unlined Unlined unlined_sight refl refl refl (λ word n. refl); shifted = moves_context sees_levels is_unlined Unlined unlined_sight refl refl refl (λ n parent. refl) };
+  made = makes_context sees_levels is_unlined Unlined unlined_sight refl refl refl (λ n parent name. refl);
+  planned = plans_one sees_levels is_unlined Unlined unlined_sight refl refl (makes_context sees_levels is_unlined Unlined unlined_sight refl refl refl (λ n parent name. refl));
+  owner = owner_makes sees_levels is_unlined Unlined unlined_sight refl refl (λ n. refl) (λ n parent. refl);
+  taken = taken_so sees_levels is_unlined Unlined unlined_sight refl refl owners unlined_files keys;
+  locked = locks_one sees_levels is_unlined Unlined unlined_sight refl (λ object mode count owner. refl) (λ object mode owner. refl);
+  unlocked = unlocks sees_levels is_unlined Unlined unlined_sight refl (λ object mode count owner. refl);
+  used = unlined_files.used;
+  pushed = pushes sees_levels is_unlined Unlined unlined_sight refl (λ snapshot. refl);
+  popped = (unseen_stack sees_levels is_unlined Unlined unlined_sight refl (λ snapshot. refl)).popped;
+  phase = phase_so sees_levels is_unlined Unlined unlined_sight refl refl contexts.gone contexts.children unlined_files.closed keys.closed owners (unseen_locks sees_levels is_unlined Unlined unlined_sight refl (λ object mode count owner. refl) (λ object mode count from to. refl));
   discarded = gone_mild;
 }
 
 -- a portal gets its context
 places_mild : (name : Text) (s : Scene) → Unlined s (new_context_made (e.PortalContext name) s).scene (new_context_made (e.PortalContext name) s).events
-places_mild name s = (by_order Unlined work_leaves.leaves.acts (next (work_leaves.made portals_context (codes "PortalContext") true kind.Small) (next (places sees_levels is_unlined Unlined sight refl refl name s.session.next_context) last))).so s
+places_mild name s = (by_order Unlined work_leaves.leaves.acts (next (work_leaves.made portals_context (codes "PortalContext") true kind.Small) (next (places sees_levels is_unlined Unlined unlined_sight refl refl name s.session.next_context) last))).so s
 
 pub own_mild : (w : Option ℕ) (x : Element) (m : Moment) → IsOwnWork x → Follows Unlined m.scene (does w x m)
 own_mild w x m own = own_follows Unlined work_leaves w x m own (λ name. places_mild name m.scene)

@@ -8,7 +8,8 @@ use Rattle.pgs_step.specs.declared.events.What.{What}
 use Rattle.pgs_step.specs.declared.events.What.TheVariants as what
 use Rattle.owner_kinds.specs.KindTable.{KindTable}
 use Rattle.lifetime_laws.specs.Order.{Batch, Member, Owned, Releasing, batch_behind, may_precede, member_in, member_now, members_so_far, ordering}
-use Rattle.lifetime_laws.specs.Parents.{Node, owners_behind}
+use Rattle.lifetime_laws.specs.Parents.{owners_behind}
+use Rattle.lifetime_laws.specs.Parents as replayed
 use Rattle.lifetime_laws.specs.Reading.{allows_all, seen_after}
 use Rattle.lifetime_laws.proofs.Readings.{allows_all-append, seen_after-append}
 use Rattle.session_laws.proofs.ParentsGrowth.{Growth, growing_owners}
@@ -17,7 +18,7 @@ use Rattle.session_laws.proofs.OrderSaid.{is_aside, is_line}
 use Rattle.session_laws.proofs.OrderBatch.{Adds, adds_aside, in_batch}
 
 -- the owners that are replayed behind these events
-abbrev pub nodes_after : List Node → List What → List Node
+abbrev pub nodes_after : List replayed.Node → List What → List replayed.Node
 nodes_after nodes [] = nodes
 nodes_after nodes (event ∷ events) = nodes_after (owners_behind event nodes) events
 
@@ -139,7 +140,7 @@ module _ (kinds : KindTable) where
   }
 
   -- what passes over a release that has released nothing so far
-  passing_one : (aborts : Bool) (nodes : List Node) (event : What) → is_passing aborts event ≡ true → Goes (in_batch nodes aborts []) (event ∷ []) (λ behind. behind ≡ in_batch (owners_behind event nodes) aborts [])
+  passing_one : (aborts : Bool) (nodes : List replayed.Node) (event : What) → is_passing aborts event ≡ true → Goes (in_batch nodes aborts []) (event ∷ []) (λ behind. behind ≡ in_batch (owners_behind event nodes) aborts [])
   passing_one aborts nodes (what.Callback word context) h = record { allowed = refl; behind = refl }
   passing_one aborts nodes (what.Delete context) h = record { allowed = refl; behind = refl }
   passing_one aborts nodes (what.DescriptorClosed file) h = record { allowed = refl; behind = refl }
@@ -149,18 +150,18 @@ module _ (kinds : KindTable) where
   passing_one true nodes (what.Release item owner) h = absurd (cc h)
   passing_one aborts nodes other h = absurd (cc h)
 
-  pub passing_goes : (aborts : Bool) (nodes : List Node) {events : List What} → AreSaid (is_passing aborts) events → Goes (in_batch nodes aborts []) events (λ behind. behind ≡ in_batch (nodes_after nodes events) aborts [])
+  pub passing_goes : (aborts : Bool) (nodes : List replayed.Node) {events : List What} → AreSaid (is_passing aborts) events → Goes (in_batch nodes aborts []) events (λ behind. behind ≡ in_batch (nodes_after nodes events) aborts [])
   passing_goes aborts nodes said_none = goes_none (in_batch nodes aborts []) (λ behind. behind ≡ in_batch nodes aborts []) refl
   passing_goes aborts nodes (said_more {event = event} {events = events} h hs) =
-      let last : List Node = nodes_after (owners_behind event nodes) events in
+      let last : List replayed.Node = nodes_after (owners_behind event nodes) events in
       goes_both (passing_one aborts nodes event h)
       (λ mid is. subst (λ (z : Releasing). Goes z events (λ behind. behind ≡ in_batch last aborts [])) (sym is) (passing_goes aborts (owners_behind event nodes) hs))
 
   -- what a release says in order, and what is said beside it
-  pub adds_goes : (nodes : List Node) (aborts : Bool) (old new : List Member) {events : List What} → Adds kinds nodes aborts old new events → Goes (in_batch nodes aborts old) events (λ behind. behind ≡ in_batch nodes aborts new)
+  pub adds_goes : (nodes : List replayed.Node) (aborts : Bool) (old new : List Member) {events : List What} → Adds kinds nodes aborts old new events → Goes (in_batch nodes aborts old) events (λ behind. behind ≡ in_batch nodes aborts new)
   adds_goes nodes aborts old new h = record { allowed = h.allowed; behind = h.behind }
 
-  pub aside_goes : (nodes : List Node) (aborts : Bool) (members : List Member) {events : List What} → AreSaid is_aside events → Goes (in_batch nodes aborts members) events (λ behind. behind ≡ in_batch nodes aborts members)
+  pub aside_goes : (nodes : List replayed.Node) (aborts : Bool) (members : List Member) {events : List What} → AreSaid is_aside events → Goes (in_batch nodes aborts members) events (λ behind. behind ≡ in_batch nodes aborts members)
   aside_goes nodes aborts members h = adds_goes nodes aborts members members (adds_aside kinds nodes aborts members h)
 
   -- owners that go close it

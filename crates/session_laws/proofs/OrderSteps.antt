@@ -1,6 +1,6 @@
 -- The steps of a release, one owner: its items in the order of the phase, or its locks.
-use Rattle.std.proofs.Common.{◌≡◌, ℕ, Bool, true, false, not, if◌then◌else◌, List, [], ◌∷◌, ◌++◌, map, All, Option, Some, None, refl, sym, subst, ap, ◌∙◌, inl, inr}
-use Rattle.std.specs.Prelude.{◌==◌, ◌&&◌, ◌-◌, nat_lt}
+use Rattle.std.proofs.Common.{◌≡◌, ℕ, nat_lt, Bool, true, false, not, if◌then◌else◌, List, [], ◌∷◌, ◌++◌, map, All, Option, Some, None, refl, sym, subst, ap, ◌∙◌, inl, inr}
+use Rattle.std.specs.Prelude.{◌==◌, ◌&&◌, ◌-◌}
 use Rattle.std.proofs.lemmas.Bool.{and_from, eq-eqb, lt-ltb, or_left, or_right}
 use Rattle.std.proofs.lemmas.List.{append_assoc, append-nil}
 use Rattle.std.proofs.lemmas.List.Elements.{All-nil, All-append, All-cons, All-head, All-tail, All-weaker}
@@ -22,7 +22,8 @@ use Rattle.lock_local.specs.Changes as locks
 use Rattle.lock_local.proofs.OrderLemmas.{IsInOrder-filter, IsInOrder-map, KeepsLock}
 use Rattle.file_table.specs.Descriptors.{is_among, without}
 use Rattle.lifetime_laws.specs.Order.{ALock, Member, goes_before, may_precede, owner_of, place_of, place_of_phase}
-use Rattle.lifetime_laws.specs.Parents.{Node, is_above}
+use Rattle.lifetime_laws.specs.Parents.{is_above}
+use Rattle.lifetime_laws.specs.Parents as replayed
 use Rattle.forest.specs.Forest.{subtree}
 use Rattle.session_rules.specs.State.{StandingPlan}
 use Rattle.session_rules.specs.World.{Scene}
@@ -80,7 +81,7 @@ left_beside (TheKind place) key s = record { said = said_none; stays = record { 
 pub given_beside : (item : Item) (s : Scene) → Beside s (given_back item s)
 given_beside item s = left_beside (keeper_of item.kind) item.key s
 
-module _ (kinds : KindTable) (nodes : List Node) (aborts : Bool) where
+module _ (kinds : KindTable) (nodes : List replayed.Node) (aborts : Bool) where
   -- Events that release what passes a test, in order behind what was released so far; and an act that says such events.
   pub record Grows (P : Member → Type 0) (old : List Member) (events : List What) : Type 0 where
     pub new : List Member
@@ -121,7 +122,7 @@ abbrev pub IsOwn : ℕ → ℕ → Member → Type 0
 IsOwn place n m = (place_of m ≡ place) × (owner_of m ≡ n)
 
 -- whatever an owner may release in a phase of this place may come behind these
-abbrev pub MayRelease : List Node → ℕ → ℕ → List Member → Type 0
+abbrev pub MayRelease : List replayed.Node → ℕ → ℕ → List Member → Type 0
 MayRelease nodes place n old = (m : Member) → IsOwn place n m → MayFollow nodes old m
 
 all_of : {A : Type 0} (P : A → Type 0) → ((x : A) → P x) → (xs : List A) → All P xs
@@ -129,7 +130,7 @@ all_of P f [] = All-nil P
 all_of P f (x ∷ xs) = All-cons P x xs (f x) (all_of P f xs)
 
 -- a member more may come before these, where it may come before each of them
-one_more : {A : Type 0} (nodes : List Node) (member : A → Member) (old : List Member) (m : Member) (xs : List A) → All (λ x. may_precede nodes m (member x) ≡ true) xs → All (λ x. MayFollow nodes old (member x)) xs
+one_more : {A : Type 0} (nodes : List replayed.Node) (member : A → Member) (old : List Member) (m : Member) (xs : List A) → All (λ x. may_precede nodes m (member x) ≡ true) xs → All (λ x. MayFollow nodes old (member x)) xs
     → All (λ x. MayFollow nodes (m ∷ old) (member x)) xs
 one_more nodes member old m [] h k = All-nil (λ x. MayFollow nodes (m ∷ old) (member x))
 one_more nodes member old m (x ∷ xs) h k =
@@ -137,7 +138,7 @@ one_more nodes member old m (x ∷ xs) h k =
     (All-cons (λ earlier. may_precede nodes earlier (member x) ≡ true) m old (All-head (λ x. may_precede nodes m (member x) ≡ true) x xs h) (All-head (λ x. MayFollow nodes old (member x)) x xs k))
     (one_more nodes member old m xs (All-tail (λ x. may_precede nodes m (member x) ≡ true) x xs h) (All-tail (λ x. MayFollow nodes old (member x)) x xs k))
 
-module _ (kinds : KindTable) (nodes : List Node) (phase : Phase) (n : ℕ) (out : is_above n n nodes ≡ false) where
+module _ (kinds : KindTable) (nodes : List replayed.Node) (phase : Phase) (n : ℕ) (out : is_above n n nodes ≡ false) where
   item_goes : (x y : Item) → GoesBefore (priority kinds) x y → may_precede nodes (item_member kinds phase n x) (item_member kinds phase n y) ≡ true
   item_goes x y h = same_phase nodes (item_member kinds phase n x) (item_member kinds phase n y) refl out (inr before)
     where
@@ -176,7 +177,7 @@ releases_more : (commit : Bool) (n : ℕ) (item : Item) (items : List Item) → 
 releases_more true n item items = refl
 releases_more false n item items = refl
 
-module _ (kinds : KindTable) (nodes : List Node) (phase : Phase) (n : ℕ) (out : is_above n n nodes ≡ false) (commit : Bool) where
+module _ (kinds : KindTable) (nodes : List replayed.Node) (phase : Phase) (n : ℕ) (out : is_above n n nodes ≡ false) (commit : Bool) where
   -- the items of a phase, in its order
   items_release : (items : List Item) (s : Scene) (old : List Member) → AreRanked (priority kinds) items → All (λ item. is_of_phase kinds phase item ≡ true) items
       → All (λ item. MayFollow nodes old (item_member kinds phase n item)) items
@@ -232,7 +233,7 @@ told_all n (lock ∷ all) = told_more (told_all n all)
 abbrev pub lock_member : ℕ → Lock → Member
 lock_member n lock = ALock lock.object (mode_number lock.mode) n
 
-module _ (kinds : KindTable) (nodes : List Node) (aborts : Bool) (n : ℕ) (out : is_above n n nodes ≡ false) where
+module _ (kinds : KindTable) (nodes : List replayed.Node) (aborts : Bool) (n : ℕ) (out : is_above n n nodes ≡ false) where
   lock_goes : (x y : Lock) → comes_before x.object x.mode y.object y.mode ≡ true → may_precede nodes (lock_member n x) (lock_member n y) ≡ true
   lock_goes x y h = same_phase nodes (lock_member n x) (lock_member n y) refl out (inr h)
 
@@ -292,7 +293,7 @@ step_stays (ReleasesLocks n) s = record {
 step_stays (PassesLocks n to) s = record { owners = refl; kinds = refl; locks = λ h. IsInOrder-map (locks.passed_lock n to) (keeps_passed n to) s.session.locks h; levels = refl; serial = refl }
 step_stays (ReleasesAllLocks n) s = record { owners = refl; kinds = refl; locks = λ h. tt; levels = refl; serial = refl }
 
-module _ (kinds : KindTable) (nodes : List Node) (commit : Bool) (n : ℕ) (out : is_above n n nodes ≡ false) where
+module _ (kinds : KindTable) (nodes : List replayed.Node) (commit : Bool) (n : ℕ) (out : is_above n n nodes ≡ false) where
   -- the locks of an owner, in their order
   pub locks_release : {steps : List Step} → AreLockSteps n steps → (s : Scene) (old : List Member) → IsInOrder s.session.locks → MayRelease nodes 2 n old
       → Releases kinds nodes (not commit) (IsOwn 2 n) old s (for_each step_done steps s)

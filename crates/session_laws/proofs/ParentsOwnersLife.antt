@@ -32,9 +32,9 @@ owners_owed =
 abbrev pub opening_owners : Growth
 opening_owners = record { nodes = []; next = 1 }
 
-opening_fits : (around : Around) → HasOwners opening_owners (record { session = opening; around = around })
+first_owners_fit : (around : Around) → HasOwners opening_owners (record { session = opening; around = around })
 unfolding opening
-opening_fits around = record {
+first_owners_fit around = record {
   fits = record {
     tree = record { once = record { once = λ n. omega arith }; there = λ n. refl; parent = λ n. refl; single = tt; length = refl };
     below = λ n u. absurd (cc u);
@@ -47,7 +47,7 @@ opening_fits around = record {
 pub owners_life : (kinds : KindTable) → IsLife kinds growing_owners HasOwners opening_owners (λ growth. growth.nodes ≡ [])
 owners_life kinds =
     life_by kinds growing_owners HasOwners opening_owners (λ growth. growth.nodes ≡ []) owners_owed
-    (λ around same. opening_fits around)
+    (λ around same. first_owners_fit around)
     (λ growth session a b same h. record { fits = record { tree = h.fits.tree; below = h.fits.below }; next = h.next })
     (record { so = λ s. owners_past s s (alike_same s.session.owners) refl (takes_past (passed_owner what.Exit refl) takes_none) })
     (λ growth s gone h. none_fit growth.nodes s.session.owners gone.owners h.fits.tree)
