@@ -21,28 +21,21 @@ use Rattle.lifetime_laws.specs.Laws.{IsLawful}
 use Rattle.session_rules.specs.World.{Options, Scene}
 use Rattle.session_rules.specs.Ends.{exited}
 use Rattle.session_rules.specs.Transcript.{Reading, transcript_by}
-use Rattle.session_laws.proofs.ReaderLaws.{IsLife, IsRead}
-use Rattle.session_laws.proofs.Lifts.{HaveLived, IsLifeAmong, last_of_all, lives_among, lives_in_run}
-use Rattle.session_laws.proofs.LiftExits.{exits_life}
-use Rattle.session_laws.proofs.CallWords.{transcript_calls_back}
-use Rattle.session_laws.proofs.FilesCount.{FilesFit, MayOpen, closing_turns}
-use Rattle.session_laws.proofs.ParentsFollow.{paired}
-use Rattle.session_laws.proofs.FilesItems.{item_reader}
-use Rattle.session_laws.proofs.FilesHeld.{ItemFits}
-use Rattle.session_laws.proofs.LiftFiles.{FitsBoth, files_balance, files_life, items_cover, nothing_seen}
-use Rattle.session_laws.proofs.FilesLife.{files_elsewhere, files_error, files_exit, files_open, files_turn}
+use Rattle.session_laws.proofs.Lives.{IsLife, IsRead}
+use Rattle.session_laws.proofs.Lifts.{HaveLived, IsLifeAmong, last_of_all, lives_among, lives_in_run, exits_life}
+use Rattle.session_laws.proofs.Calls.{transcript_calls_back}
+use Rattle.session_laws.proofs.FilesLife.{FilesFit, MayOpen, closing_turns, files_elsewhere, files_error, files_exit, files_open, files_turn}
+use Rattle.session_laws.proofs.MadeOnce.{paired, FitsParents, NoneLeft, shedding_life, made_once_of}
+use Rattle.session_laws.proofs.FilesHeld.{item_reader, ItemFits}
+use Rattle.session_laws.proofs.FilesBalance.{FitsBoth, files_balance, files_life, items_cover, nothing_seen}
 use Rattle.session_laws.proofs.LocksLife.{lock_life}
 use Rattle.session_laws.proofs.StackLife.{stack_life}
-use Rattle.session_laws.proofs.ParentsLife.{contexts_life}
-use Rattle.session_laws.proofs.ParentsOwnersLife.{owners_life}
-use Rattle.session_laws.proofs.MadeChildless.{FitsParents, NoneLeft, shedding_life}
-use Rattle.session_laws.proofs.MadeOnce.{made_once_of}
-use Rattle.session_laws.proofs.MadePlaced.{placing, placing_life}
-use Rattle.session_laws.proofs.MadeGone.{contexts_gone_of, owners_gone_of}
+use Rattle.session_laws.proofs.ParentsLife.{contexts_life, owners_life}
+use Rattle.session_laws.proofs.MadeGone.{placing, placing_life, contexts_gone_of, owners_gone_of}
 use Rattle.session_laws.proofs.OrderLife.{order}
 use Rattle.session_laws.proofs.InsideLife.{inside_life}
 use Rattle.session_laws.proofs.Warnings.{warnings}
-use Rattle.session_laws.proofs.ItemsLives.{items_balance, items_life, numbers_life}
+use Rattle.session_laws.proofs.Items.{items_balance, items_life, numbers_life}
 
 -- what balances in the end
 balances : (brings takes : What → ℕ) (start : ℕ) (whats : List What) → allows_all (count brings takes) start whats ≡ true → seen_after (count brings takes) start whats ≡ 0 → BalancesFrom start brings takes whats

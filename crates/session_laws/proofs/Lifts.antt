@@ -1,37 +1,262 @@
--- What each turn and each exit of a session keeps, a whole run keeps: so the events of each session in a transcript are read as those of a life.
-use Rattle.std.proofs.Common.{◌≡◌, ◌≢◌, ℕ, zero, suc, ◌+◌, ◌-◌, ◌<◌, ◌≤◌, ◌⊎◌, inl, inr, true, false, Bool, Option, Some, None, Result, Ok, Err, List, [], ◌∷◌, ◌++◌, length, refl, sym, ap, ◌∙◌, subst, arith}
-use Rattle.std.specs.Prelude.{◌==◌, slice_get, slice_set}
+-- A line and an exit leave what never changes around a session: the names of the extension kinds, when their items are released, and how many descriptors there are.
+use Rattle.std.proofs.Common.{◌≡◌, ℕ, ◌∙◌, true, false, Bool, Option, Some, None, List, ap, refl, ◌≢◌, zero, suc, ◌+◌, ◌≤◌, ◌⊎◌, inl, inr, cond, [], ◌∷◌, ◌++◌, length, sym, subst, arith, ◌-◌, ◌<◌, Result, Ok, Err}
+use Rattle.pgs_step.specs.declared.events.What.{What}
+use Rattle.pgs_step.specs.declared.errors.Error.{Error}
+use Rattle.pgs_command.specs.declared.commands.Command.{Command}
+use Rattle.owner_kinds.specs.KindShelf.{table_of}
+use Rattle.owner_kinds.proofs.Places.{table-closed, table-opened}
+use Rattle.session_rules.specs.World.{Moment, Scene, Around, Options, World, around, moment, opened, session_at, with_scene}
+use Rattle.session_rules.specs.Calls.{Done}
+use Rattle.session_rules.specs.Does.{does_all}
+use Rattle.session_rules.specs.Ends.{exited, recovered, level_rolled_back}
+use Rattle.session_rules.specs.Transcript.{line_elements, turn, turn_of, Course, Reading, Turn, after_command, after_exit, after_line, after_read, at_start, course_by, ended, exits, goes_on, missing, of_session, transcript_by}
+use Rattle.session_rules.proofs.Leaves.{EndLeaves, Follows, MakeLeaves, MoveLeaves, runs_anyhow}
+use Rattle.session_rules.proofs.Walk.{moves_owed, run_follows}
+use Rattle.session_rules.proofs.Sight.{FileLeaves, KeyLeaves, Part, Sight, end_leaves_of, hook_waits_so, item_comes, item_goes, locks_one, makes_context, moves_context, of_descriptors, of_kinds, owner_goes, owner_makes, owner_moves, places, plans_one, pushes, unlocks, unseen_contexts, unseen_files, unseen_locks, unseen_owners, unseen_stack}
+use Rattle.session_rules.proofs.WalkEnds.{all_owed, exit_follows, recovery_follows}
+use Rattle.session_rules.proofs.Spoken.{line_spoken}
+use Rattle.std.specs.Prelude.{◌==◌, replicate, slice_get, slice_set, slice_index_or}
+use Rattle.std.specs.List.{flat_map, sum_by}
+use Rattle.std.proofs.lemmas.List.Concat.{flat_map-cons, length-flat_map}
+use Rattle.std.proofs.lemmas.List.Sums.{get_or-le-sum_by, sum_by-cons, sum_by-set}
+use Rattle.std.proofs.lemmas.Option.{get_or_from_slice_get, slice_get_within, slice_get_cases}
+use Rattle.reset_callbacks.specs.Hook.{AreDistinct, Hook}
+use Rattle.reset_callbacks.specs.ShelfState.{ShelfState, held}
+use Rattle.context_rules.specs.Ends.{waiting}
+use Rattle.session_rules.specs.State.{SessionState, opening, top_context}
+use Rattle.session_rules.specs.Standing.{AreHooks, StandsBetweenLines}
+use Rattle.session_rules.specs.HookCounts.{HooksCounted, hooks_of}
+use Rattle.session_rules.proofs.HooksKept.{distinct_times, times_append, times_distinct, word_times}
 use Rattle.std.proofs.lemmas.Bool.{cases_eq, cases_lt, cond-false, ne_eqb}
 use Rattle.std.proofs.lemmas.List.{append-nil, length-set, length-replicate}
-use Rattle.std.proofs.lemmas.Option.{slice_get_cases, slice_get_within}
-use Rattle.pgs_step.specs.declared.errors.Error.{Error}
 use Rattle.pgs_step.specs.declared.events.Event.{Event}
-use Rattle.pgs_step.specs.declared.events.What.{What}
-use Rattle.pgs_step.specs.declared.events.What.TheVariants as what
-use Rattle.pgs_command.specs.declared.commands.Command.{Command}
 use Rattle.pgs_command.specs.declared.lines.Line.{Line}
 use Rattle.pgs_command.specs.declared.lines.BadLine.{BadLine}
 use Rattle.owner_kinds.specs.Kind.{Kind}
-use Rattle.owner_kinds.specs.KindShelf.{table_of}
 use Rattle.owner_kinds.specs.KindTable.{IsSound, KindTable}
-use Rattle.reset_callbacks.specs.Hook.{AreDistinct}
-use Rattle.reset_callbacks.specs.ShelfState.{ShelfState, held}
 use Rattle.lifetime_laws.specs.Reading.{Reader, allows_all, events_of, seen_after}
 use Rattle.lifetime_laws.proofs.Readings.{allows_all-append, events_of-append, events_of-other, events_of-own, seen_after-append}
-use Rattle.session_rules.specs.State.{SessionState, opening}
-use Rattle.session_rules.specs.World.{Around, Moment, Options, Scene, World, around, moment, opened, session_at, with_scene}
-use Rattle.session_rules.specs.Acts.{Ended}
-use Rattle.session_rules.specs.Ends.{exited}
-use Rattle.session_rules.specs.Standing.{AreHooks, StandsBetweenLines}
-use Rattle.session_rules.specs.HookCounts.{HooksCounted}
-use Rattle.session_rules.specs.Transcript.{Course, Reading, Turn, after_command, after_exit, after_line, after_read, at_start, course_by, ended, exits, goes_on, missing, of_session, transcript_by, turn}
+use Rattle.session_rules.specs.Acts.{Ended, context_gone, for_each, switched}
 use Rattle.session_rules.proofs.HookLaws.{exited_counts_hooks, turn_counts_hooks}
 use Rattle.session_rules.proofs.OpeningStands.{opening_stands}
 use Rattle.session_rules.proofs.Standings.{stands_between_elsewhere}
 use Rattle.session_rules.proofs.TurnStands.{turn_stands}
-use Rattle.session_laws.proofs.ReaderLaws.{IsLife, IsRead, Reads}
-use Rattle.session_laws.proofs.LiftHooks.{HooksFit, hooks_at_first, hooks_behind, hooks_of_one, place_other, place_set, replicated}
-use Rattle.session_laws.proofs.LiftKinds.{exit_keeps_kinds, turn_keeps_descriptors, turn_keeps_kinds}
+use Rattle.session_laws.proofs.Lives.{IsLife, IsRead, Reads, read_both}
+use Rattle.lifetime_laws.specs.Once.{ending}
+use Rattle.session_rules.proofs.Ordinary.{elements_ordinary, gone_ordinary, is_ordinary, recovery_ordinary, rollback_ordinary}
+use Rattle.session_rules.proofs.Said.{AreSaid, said_more, said_none}
+use Rattle.pgs_step.specs.declared.events.What.TheVariants as what
+
+-- The law: the table of the kinds is the same behind, and so is how many descriptors there are.
+pub record KeepsKinds (s t : Scene) (events : List What) : Type 0 where
+  pub same : table_of t.around.kinds ≡ table_of s.around.kinds
+  pub descriptors : t.around.descriptors ≡ s.around.descriptors
+
+abbrev sees_kinds : Part → Bool
+sees_kinds of_kinds = true
+sees_kinds of_descriptors = true
+sees_kinds other = false
+
+abbrev any : What → Bool
+any event = true
+
+abbrev sight : Sight sees_kinds any KeepsKinds
+sight = record {
+  both = λ h k. record { same = k.same ∙ h.same; descriptors = k.descriptors ∙ h.descriptors };
+  aside = λ s t same said. record { same = ap table_of (same.so of_kinds refl); descriptors = same.so of_descriptors refl };
+}
+
+keys : KeyLeaves KeepsKinds
+keys = record {
+  opened = λ place key. record { so = λ s. record { same = table-opened s.around.kinds place key; descriptors = refl } };
+  closed = λ place key. record { so = λ s. record { same = table-closed s.around.kinds place key; descriptors = refl } };
+}
+
+files : FileLeaves KeepsKinds
+files = unseen_files sees_kinds any KeepsKinds sight refl (λ file. refl) (λ file. refl)
+
+kinds_ends : EndLeaves KeepsKinds
+kinds_ends =
+    end_leaves_of sees_kinds any KeepsKinds sight refl refl (unseen_contexts sees_kinds any KeepsKinds sight refl refl refl (λ word n. refl) (λ n. refl) (λ n. refl))
+    (record { word = λ event h. refl; line = λ depth n name stats. refl; total = λ total. refl }) (λ event h. refl)
+    (unseen_owners sees_kinds any KeepsKinds sight refl (λ item n. refl) (λ item n. refl) (item_comes sees_kinds any KeepsKinds sight refl refl (λ item n. refl)))
+    (item_goes sees_kinds any KeepsKinds sight refl (λ item n. refl)) (unseen_locks sees_kinds any KeepsKinds sight refl (λ object mode count owner. refl) (λ object mode count from to. refl))
+    files keys refl (unseen_stack sees_kinds any KeepsKinds sight refl (λ snapshot. refl))
+    (owner_goes sees_kinds any KeepsKinds sight refl (λ n. refl)) (owner_moves sees_kinds any KeepsKinds sight refl (λ n parent. refl))
+
+kinds_makes : MakeLeaves KeepsKinds
+kinds_makes = record {
+  made = makes_context sees_kinds any KeepsKinds sight refl refl refl (λ n parent name. refl);
+  placed = places sees_kinds any KeepsKinds sight refl refl;
+  planned = plans_one sees_kinds any KeepsKinds sight refl refl (makes_context sees_kinds any KeepsKinds sight refl refl refl (λ n parent name. refl));
+  owner = owner_makes sees_kinds any KeepsKinds sight refl refl (λ n. refl) (λ n parent. refl);
+  locked = locks_one sees_kinds any KeepsKinds sight refl (λ object mode count owner. refl) (λ object mode owner. refl);
+  unlocked = unlocks sees_kinds any KeepsKinds sight refl (λ object mode count owner. refl);
+  used = files.used;
+  pushed = pushes sees_kinds any KeepsKinds sight refl (λ snapshot. refl);
+}
+
+kinds_moves : MoveLeaves KeepsKinds
+kinds_moves = record { hooked = hook_waits_so sees_kinds any KeepsKinds sight refl refl refl (λ word n. refl); shifted = moves_context sees_kinds any KeepsKinds sight refl refl refl (λ n parent. refl) }
+
+turn_of_so : (s : Scene) (done : Done) (refusal : Option Error) → Follows KeepsKinds s done → KeepsKinds s (turn_of done refusal).moment.scene (turn_of done refusal).events
+unfolding recovered
+turn_of_so s done None h = h.so
+turn_of_so s done (Some error) h =
+    let more = recovery_follows KeepsKinds kinds_ends done.moment.scene in
+    record { same = more.same ∙ h.so.same; descriptors = more.descriptors ∙ h.so.descriptors }
+
+turn_so : (w : Option ℕ) (line : Option Command) (m : Moment) → KeepsKinds m.scene (turn w line m).moment.scene (turn w line m).events
+unfolding turn
+turn_so w line m =
+    let done : Done = does_all w (line_elements line m.scene.session) m in
+    turn_of_so m.scene done done.refusal
+    (run_follows KeepsKinds kinds_ends.levels.leaves false (λ x s. Unit {0}) w (line_elements line m.scene.session) m (line_spoken false line m.scene.session (λ usual. absurd (cc usual))) (runs_anyhow w (line_elements line m.scene.session) m)
+    (λ x n known. all_owed KeepsKinds kinds_ends kinds_makes w x n (moves_owed KeepsKinds kinds_ends.levels.leaves.acts kinds_moves w x n)))
+
+exit_so : (s : Scene) → KeepsKinds s (exited s).scene (exited s).events
+exit_so s = exit_follows KeepsKinds kinds_ends (record { so = λ s. record { same = refl; descriptors = refl } }) s
+
+pub turn_keeps_kinds : (w : Option ℕ) (line : Option Command) (m : Moment) → table_of (turn w line m).moment.scene.around.kinds ≡ table_of m.scene.around.kinds
+turn_keeps_kinds w line m = (turn_so w line m).same
+
+pub turn_keeps_descriptors : (w : Option ℕ) (line : Option Command) (m : Moment) → (turn w line m).moment.scene.around.descriptors ≡ m.scene.around.descriptors
+turn_keeps_descriptors w line m = (turn_so w line m).descriptors
+
+pub exit_keeps_kinds : (s : Scene) → table_of (exited s).scene.around.kinds ≡ table_of s.around.kinds
+exit_keeps_kinds s = (exit_so s).same
+
+-- The hooks of all sessions together, when those of one session change; and places of lists.
+
+-- the hooks that wait in sessions
+abbrev pub all_waiting : List SessionState → List Hook
+all_waiting sessions = flat_map (λ session. waiting session.contexts) sessions
+
+-- As many hooks are out of the shelf as wait in all sessions, and no two of those that wait and those that the shelf holds have one word.
+pub record HooksFit (sessions : List SessionState) (x : ShelfState) : Type 0 where
+  pub out : length (all_waiting sessions) ≤ x.out
+  pub words : AreDistinct (all_waiting sessions ++ held x)
+
+-- how many of a session's hooks have a word, and how many wait
+abbrev words_in : ℕ → SessionState → ℕ
+words_in n session = word_times n (waiting session.contexts)
+
+abbrev many_in : SessionState → ℕ
+many_in session = length (waiting session.contexts)
+
+words_together : (n : ℕ) (sessions : List SessionState) → word_times n (all_waiting sessions) ≡ sum_by (words_in n) sessions
+words_together n [] = refl
+words_together n (session ∷ sessions) =
+    ap (word_times n) (flat_map-cons (λ (s : SessionState). waiting s.contexts) session sessions) ∙ omega (
+      arith,
+      times_append n (waiting session.contexts) (all_waiting sessions),
+      words_together n sessions,
+      sum_by-cons (words_in n) session sessions,
+    )
+
+many_together : (sessions : List SessionState) → length (all_waiting sessions) ≡ sum_by many_in sessions
+many_together sessions = length-flat_map (λ (s : SessionState). waiting s.contexts) sessions
+
+-- a session's part of the sum
+part_of : (f : SessionState → ℕ) (sessions : List SessionState) (place : ℕ) (session : SessionState) → slice_get sessions place ≡ Some session → f session ≤ sum_by f sessions
+part_of f sessions place session there =
+    let is : slice_index_or sessions place session ≡ session = get_or_from_slice_get sessions place session session there in
+    omega (arith, ap f is, get_or-le-sum_by f sessions place session (slice_get_within sessions place session there))
+
+changed : (f : SessionState → ℕ) (sessions : List SessionState) (place : ℕ) (session left : SessionState) → slice_get sessions place ≡ Some session
+    → sum_by f (slice_set sessions place left) + f session ≡ sum_by f sessions + f left
+changed f sessions place session left there =
+    let is : slice_index_or sessions place session ≡ session = get_or_from_slice_get sessions place session session there in
+    omega (arith, ap f is, sum_by-set f sessions place left session (slice_get_within sessions place session there))
+
+-- the hooks of each session fit the shelf
+pub hooks_of_one : (sessions : List SessionState) (x : ShelfState) (place : ℕ) (session : SessionState) → slice_get sessions place ≡ Some session → HooksFit sessions x → AreHooks session.contexts x
+hooks_of_one sessions x place session there h = record {
+  out = omega (arith, h.out, many_together sessions, part_of many_in sessions place session there);
+  words = times_distinct (waiting session.contexts ++ held x)
+      (λ n. omega (
+        arith,
+        distinct_times (all_waiting sessions ++ held x) h.words n,
+        times_append n (all_waiting sessions) (held x),
+        times_append n (waiting session.contexts) (held x),
+        words_together n sessions,
+        part_of (words_in n) sessions place session there,
+      ));
+}
+
+pub word_times_are : (n : ℕ) (hooks : List Hook) → word_times n hooks ≡ hooks_of n hooks
+word_times_are n [] = refl
+word_times_are n (hook ∷ hooks) = omega (arith, word_times_are n hooks, sum_by-cons (λ (h : Hook). cond (h.word == n) 1 0) hook hooks)
+
+-- one session's hooks changed as they are counted
+pub hooks_behind : (sessions : List SessionState) (x y : ShelfState) (place : ℕ) (session left : SessionState) (events : List What) → slice_get sessions place ≡ Some session
+    → HooksCounted session.contexts x left.contexts y events → HooksFit sessions x → HooksFit (slice_set sessions place left) y
+hooks_behind sessions x y place session left events there count h = record {
+  out =
+      let own = hooks_of_one sessions x place session there h in
+      omega (
+        arith,
+        h.out,
+        many_together sessions,
+        many_together (slice_set sessions place left),
+        changed many_in sessions place session left there,
+        count.out own.out,
+      );
+  words = times_distinct (all_waiting (slice_set sessions place left) ++ held y)
+      (λ n. omega (
+        arith,
+        distinct_times (all_waiting sessions ++ held x) h.words n,
+        times_append n (all_waiting sessions) (held x),
+        times_append n (all_waiting (slice_set sessions place left)) (held y),
+        words_together n sessions,
+        words_together n (slice_set sessions place left),
+        changed (words_in n) sessions place session left there,
+        count.counts.whole n,
+        word_times_are n (waiting session.contexts ++ held x),
+        word_times_are n (waiting left.contexts ++ held y),
+        times_append n (waiting session.contexts) (held x),
+        times_append n (waiting left.contexts) (held y),
+      ));
+}
+
+-- no hook waits in sessions as they open
+none_wait : (n : ℕ) → all_waiting (replicate n opening) ≡ []
+unfolding opening
+none_wait zero = refl
+none_wait (suc n) = none_wait n
+
+pub hooks_at_first : (n : ℕ) (x : ShelfState) → AreDistinct (held x) → HooksFit (replicate n opening) x
+hooks_at_first n x differ = record {
+  out = omega (arith, ap length (none_wait n));
+  words = subst (λ (hooks : List Hook). AreDistinct (hooks ++ held x)) (sym (none_wait n)) differ;
+}
+
+-- places of lists
+pub replicated : {A : Type 0} (n place : ℕ) (x y : A) → slice_get (replicate n x) place ≡ Some y → y ≡ x
+replicated zero place x y h = cc
+replicated (suc n) zero x y h = cc
+replicated (suc n) (suc place) x y h = replicated n place x y h
+
+-- what stands in a list one of whose places was set
+pub place_set : {A : Type 0} (xs : List A) (i : ℕ) (y : A) (j : ℕ) (x : A) → slice_get (slice_set xs i y) j ≡ Some x → ((j ≡ i) × (x ≡ y)) ⊎ ((j ≢ i) × (slice_get xs j ≡ Some x))
+place_set [] i y j x h = absurd (cc h)
+place_set (z ∷ zs) zero y zero x h = inl (refl, cc)
+place_set (z ∷ zs) zero y (suc j) x h = inr (λ e. omega (arith, e), h)
+place_set (z ∷ zs) (suc i) y zero x h = inr (λ e. omega (arith, e), h)
+place_set (z ∷ zs) (suc i) y (suc j) x h = elim (place_set zs i y j x h) [
+  | inl same ↦ inl (omega (arith, same.0), same.1)
+  | inr other ↦ inr (λ e. other.0 (omega (arith, e)), other.1)
+]
+
+-- the other places of it
+pub place_other : {A : Type 0} (xs : List A) (i j : ℕ) (y : A) → j ≢ i → slice_get (slice_set xs i y) j ≡ slice_get xs j
+place_other [] i j y other = refl
+place_other (z ∷ zs) zero zero y other = absurd (other refl)
+place_other (z ∷ zs) zero (suc j) y other = refl
+place_other (z ∷ zs) (suc i) zero y other = refl
+place_other (z ∷ zs) (suc i) (suc j) y other = place_other zs i j y (λ e. other (omega (arith, e)))
+
+-- What each turn and each exit of a session keeps, a whole run keeps: so the events of each session in a transcript are read as those of a life.
 
 -- the session of this number in its surroundings
 abbrev pub scene_at : ℕ → SessionState → World → Scene
@@ -389,3 +614,63 @@ last_of_all {reader = reader} {start = start} {sessions = sessions} {events = ev
         | inr within ↦ h.lasts n (omega (arith, some)) within
       ]
     ]
+
+-- A session says that it ends once, and nothing behind that.
+
+-- the reader lets what says neither pass, and the session goes on
+passes : (event : What) → is_ordinary event ≡ true → (ending.allows event false ≡ true) × (ending.next event false ≡ false)
+passes what.Exit h = absurd (cc h)
+passes other h = (refl, refl)
+
+all_pass : {events : List What} → AreSaid is_ordinary events → (allows_all ending false events ≡ true) × (seen_after ending false events ≡ false)
+all_pass said_none = (refl, refl)
+all_pass (said_more {event = event} {events = events} h hs) =
+    let one = passes event h in
+    let more = all_pass hs in
+    (rw (one.0, one.1) more.0, ap (λ (ended : Bool). seen_after ending ended events) one.1 ∙ more.1)
+
+-- the session hasn't said that it ends
+abbrev pub IsOn : Bool → Scene → Type 0
+IsOn ended s = ended ≡ false
+
+from_going : (t : Scene) (events : List What) → (allows_all ending false events ≡ true) × (seen_after ending false events ≡ false) → (ended : Bool) → IsOn ended t → IsRead ending IsOn ended t events
+from_going t events read ended on = subst (λ (b : Bool). IsRead ending IsOn b t events) (sym on) (record { allowed = read.0; fits = read.1 })
+
+turn_of_goes : (s : Scene) (done : Done) (refusal : Option Error) → AreSaid is_ordinary done.events → Reads ending IsOn s (turn_of done refusal).moment.scene (turn_of done refusal).events
+unfolding recovered
+turn_of_goes s done None h = record { so = from_going _ _ (all_pass h) }
+turn_of_goes s done (Some error) h =
+    read_both ending IsOn {t = done.moment.scene} (record { so = from_going _ _ (all_pass h) })
+    (read_both ending IsOn {t = done.moment.scene} {xs = what.Error error ∷ []} (record { so = from_going done.moment.scene (what.Error error ∷ []) (refl, refl) }) (record { so = from_going _ _ (all_pass (recovery_ordinary done.moment.scene)) }))
+
+turn_goes : (w : Option ℕ) (line : Option Command) (m : Moment) → Reads ending IsOn m.scene (turn w line m).moment.scene (turn w line m).events
+unfolding turn
+turn_goes w line m =
+    let done : Done = does_all w (line_elements line m.scene.session) m in
+    turn_of_goes m.scene done done.refusal (elements_ordinary w (line_elements line m.scene.session) m (line_spoken false line m.scene.session (λ usual. absurd (cc usual))))
+
+-- what a session says at its exit
+exit_said : (s : Scene) → (allows_all ending false (exited s).events ≡ true) × (seen_after ending false (exited s).events ≡ true)
+unfolding exited
+exit_said s =
+    let rolled : Ended = for_each level_rolled_back s.session.levels s in
+    let rest : List What = (context_gone top_context (switched top_context rolled.scene).scene).events in
+    let first = all_pass (rollback_ordinary s) in
+    let gone = all_pass (gone_ordinary top_context (switched top_context rolled.scene).scene) in
+    let end : (allows_all ending false (rest ++ (what.Exit ∷ [])) ≡ true) × (seen_after ending false (rest ++ (what.Exit ∷ [])) ≡ true) = (
+      allows_all-append ending false rest (what.Exit ∷ []) gone.0 (ap (λ (ended : Bool). allows_all ending ended (what.Exit ∷ [])) gone.1),
+      seen_after-append ending false rest (what.Exit ∷ []) ∙ ap (λ (ended : Bool). seen_after ending ended (what.Exit ∷ [])) gone.1,
+    ) in (
+      allows_all-append ending false rolled.events (rest ++ (what.Exit ∷ [])) first.0 (ap (λ (ended : Bool). allows_all ending ended (rest ++ (what.Exit ∷ []))) first.1 ∙ end.0),
+      seen_after-append ending false rolled.events (rest ++ (what.Exit ∷ [])) ∙ (ap (λ (ended : Bool). seen_after ending ended (rest ++ (what.Exit ∷ []))) first.1 ∙ end.1),
+    )
+
+-- In the life of a session its end is said once, last.
+pub exits_life : (kinds : KindTable) → IsLife kinds ending IsOn false (λ ended. ended ≡ true)
+exits_life kinds = record {
+  opens = λ around table. refl;
+  elsewhere = λ ended session a b same on. on;
+  error = λ error s. record { so = from_going s (what.Error error ∷ []) (refl, refl) };
+  turns = λ w line m h. turn_goes w line m;
+  exits = λ s h ended on. subst (λ (b : Bool). (allows_all ending b (exited s).events ≡ true) × (seen_after ending b (exited s).events ≡ true)) (sym on) (exit_said s);
+}

@@ -1,8 +1,7 @@
 -- Laws that see locks alone, files alone, the stack of snapshots alone or levels alone, and what passes them by.
-use Rattle.std.proofs.Common.{◌≡◌, ℕ, Bool, true, false, if◌then◌else◌, List, [], ◌∷◌, ◌++◌, map, flat_map, refl, sym, subst}
+use Rattle.std.proofs.Common.{◌≡◌, ℕ, Bool, true, false, if◌then◌else◌, List, [], ◌∷◌, ◌++◌, map, flat_map, refl, sym, subst, ◌-◌, reverse, Option, Some, None}
 use Rattle.std.proofs.lemmas.Bool.{and_from}
 use Rattle.pgs_step.specs.declared.events.What.{What}
-use Rattle.pgs_step.specs.declared.events.What.TheVariants as what
 use Rattle.pgs_step.specs.declared.ids.KindId.{KindId}
 use Rattle.pgs_step.specs.declared.ids.Phase.{Phase}
 use Rattle.forest.specs.Forest.{Empty, Node}
@@ -10,11 +9,41 @@ use Rattle.reset_callbacks.specs.Hook.{Hook}
 use Rattle.context_rules.specs.Contexts.{Contexts}
 use Rattle.context_rules.specs.Ends.{gone_events}
 use Rattle.lifetime_laws.specs.Reading.{Reader, allows_all}
-use Rattle.session_rules.specs.World.{Scene}
-use Rattle.session_rules.specs.Releases.{item_released, owner_gone, owner_moved, phase_released}
-use Rattle.session_rules.specs.Taking.{item_taken}
-use Rattle.session_rules.proofs.Leaves.{Keeps, Law, is_word}
-use Rattle.session_laws.proofs.ReaderLaws.{IsRead}
+use Rattle.session_rules.specs.World.{Scene, Moment}
+use Rattle.session_rules.specs.Releases.{item_released, owner_gone, owner_moved, phase_released, descriptor_left}
+use Rattle.session_rules.specs.Taking.{item_taken, files, lock_taken, snapshot_pushed, descriptor_given}
+use Rattle.session_rules.proofs.Leaves.{Keeps, Law, is_word, Acts, EndLeaves, Follows, IsRun, IsSpoken, Leaves, MoveLeaves, Owes, OwesMakes, is_level_word, runs_anyhow}
+use Rattle.session_laws.proofs.Lives.{IsRead}
+use Rattle.std.specs.Prelude.{◌==◌, filter, length, take}
+use Rattle.pgs_step.specs.declared.lock_modes.Mode.{Mode}
+use Rattle.lock_local.specs.Locks.{Lock, owner_count}
+use Rattle.file_table.specs.Descriptors.{is_among, without}
+use Rattle.file_table.specs.Files.{given_events, loser}
+use Rattle.snap_table.specs.declared.active.Active.{Active}
+use Rattle.snap_table.specs.Snapshots.{is_deep}
+use Rattle.session_rules.specs.State.{last_of, LevelState}
+use Rattle.session_rules.specs.Acts.{changes, in_order, say, where_so, where_there}
+use Rattle.session_rules.specs.Parts.{lock_given_back, snapshot_popped, at_kind, at_owner, at_portal}
+use Rattle.session_rules.specs.Ends.{stack_lowered, stack_popped, exited}
+use Rattle.session_rules.proofs.ReleaseSteps.{LockLeaves, OwnerLeaves}
+use Rattle.session_rules.proofs.Sight.{FileLeaves, ContextLeaves, Part, Sight, hook_waits_so, leaves_of, makes_context, moves_context, places, plans_one, says, unseen_contexts, KeyLeaves, phase_so, releases, taken_so, unseen_keys}
+use Rattle.pgs_step.specs.declared.errors.Error.{Error}
+use Rattle.pgs_command.specs.declared.commands.Command.{Command}
+use Rattle.session_rules.specs.Elements.{Element, OfLevel, OwnerRole}
+use Rattle.session_rules.specs.Making.{new_context_made, new_owner_made, owner_made, plan_made}
+use Rattle.session_rules.specs.Portals.{portal_ended}
+use Rattle.session_rules.specs.Calls.{Done}
+use Rattle.session_rules.specs.Does.{does, does_all}
+use Rattle.session_rules.specs.Transcript.{line_elements, turn, turn_of}
+use Rattle.session_rules.proofs.Said.{AreSaid, said_more, said_none}
+use Rattle.session_rules.proofs.Spoken.{line_spoken}
+use Rattle.session_rules.proofs.Walk.{by_kind, by_owner, by_portal_named, context_is_made, element_follows, fallible_so, levels_owed, moves_owed, owner_is_made, run_follows, unfailing_so}
+use Rattle.session_rules.proofs.WalkEnds.{ends_owed, exit_follows, portal_ends, recovers}
+use Rattle.forest.specs.Walk.{order_at}
+use Rattle.pgs_step.specs.declared.events.What.TheVariants as what
+use Rattle.lock_local.specs.Changes as locks
+use Rattle.session_rules.specs.Elements as e
+use Rattle.session_rules.proofs.Sight as part
 
 -- what an event is about, and what a law sees: locks, files, the stack of snapshots, items, or levels, of which no event is here
 pub data Subject : Type 0 where
@@ -178,3 +207,329 @@ module _ (k : Subject) {Seen : Type 0} (reader : Reader Seen) (Fits : Seen → S
         allowed = and_from (reader.allows event seen) (allows_all reader (reader.next event seen) events) (over.allows event p seen) rest.allowed;
         fits = rest.fits;
       }
+
+-- What passes by a law that sees something else: locks, files, or the stack of snapshots.
+
+module _ (k : Subject) (R : Law) (sees : Sees k R) where
+  -- locks
+  but_locks : hides of_locks k ≡ true → (s t : Scene) {events : List What} → t.session.levels ≡ s.session.levels → t.session.recent ≡ s.session.recent → t.around.descriptors ≡ s.around.descriptors → t.session.snapshots ≡ s.session.snapshots → t.session.owners ≡ s.session.owners → t.session.next_owner ≡ s.session.next_owner → ArePlain k events → R s t events
+  but_locks h s t v r d n o x plain = sees.aside s t (same_but_locks k s t h v r d n o x) plain
+
+  releases_plain : hides of_locks k ≡ true → (owner : ℕ) (all : List Lock) → ArePlain k (locks.releases owner all)
+  releases_plain h owner all =
+      plain_flat k (locks.release_of owner)
+      (λ lock. plain_if k (owner_count owner lock == 0) plain_none (plain_one k (what.ReleaseLock lock.object lock.mode (owner_count owner lock) owner) h)) all
+
+  pub passes_plain : (from to : ℕ) (all : List Lock) → ArePlain k (locks.passes from to all)
+  passes_plain from to all =
+      plain_flat k (locks.pass_of from to)
+      (λ lock. plain_if k (owner_count from lock == 0) plain_none (plain_one k (what.PassLock lock.object lock.mode (owner_count from lock) from to) refl)) all
+
+  pub locks_hidden : hides of_locks k ≡ true → LockLeaves R
+  locks_hidden h = record {
+    let_go = λ owner. record { so = λ s. but_locks h s _ refl refl refl refl refl refl (releases_plain h owner s.session.locks) };
+    passed = λ from to. record { so = λ s. but_locks h s _ refl refl refl refl refl refl (passes_plain from to s.session.locks) };
+    all_gone = λ top. record { so = λ s. but_locks h s _ refl refl refl refl refl refl (plain_map k (locks.release_whole top) (λ lock. h) s.session.locks) };
+  }
+
+  pub locked_hidden : hides of_locks k ≡ true → (object : ℕ) (mode : Mode) (n : ℕ) → Keeps R (lock_taken object mode n)
+  locked_hidden h object mode n = record { so = λ s. but_locks h s _ refl refl refl refl refl refl (plain_one k (what.AcquireLock object mode n) h) }
+
+  pub unlocked_hidden : hides of_locks k ≡ true → (object : ℕ) (mode : Mode) (n : ℕ) → Keeps R (lock_given_back object mode n)
+  unlocked_hidden h object mode n = record { so = λ s. but_locks h s _ refl refl refl refl refl refl (plain_one k (what.ReleaseLock object mode 1 n) h) }
+
+  -- files
+  but_files : hides of_files k ≡ true → (s t : Scene) {events : List What} → t.session.levels ≡ s.session.levels → t.session.locks ≡ s.session.locks → t.session.snapshots ≡ s.session.snapshots → t.session.owners ≡ s.session.owners → t.session.next_owner ≡ s.session.next_owner → ArePlain k events → R s t events
+  but_files h s t v l n o x plain = sees.aside s t (same_but_files k s t h v l n o x) plain
+
+  given_plain : hides of_files k ≡ true → (o : Option ℕ) (file : ℕ) → ArePlain k (given_events o file)
+  given_plain h None file = plain_one k (what.DescriptorOpened file) h
+  given_plain h (Some closed) file = plain_more h (plain_one k (what.DescriptorOpened file) h)
+
+  closed_so : hides of_files k ≡ true → (file : ℕ) (s : Scene) → R s (descriptor_left file s).scene (descriptor_left file s).events
+  closed_so h file s = go (is_among file s.session.recent)
+    where
+      go : (b : Bool) → R s (where_so b (λ scene. record {
+        scene = record scene { session = record scene.session { recent = without file scene.session.recent } };
+        events = what.DescriptorClosed file ∷ [];
+      }) s).scene (where_so b (λ scene. record {
+        scene = record scene { session = record scene.session { recent = without file scene.session.recent } };
+        events = what.DescriptorClosed file ∷ [];
+      }) s).events
+      go true = but_files h s _ refl refl refl refl refl (plain_one k (what.DescriptorClosed file) h)
+      go false = but_files h s _ refl refl refl refl refl plain_none
+
+  pub files_hidden : hides of_files k ≡ true → FileLeaves R
+  files_hidden h = record {
+    used = λ file. record { so = λ s. but_files h s _ refl refl refl refl refl (plain_if k (is_among file s.session.recent) plain_none (given_plain h (loser (files s)) file)) };
+    closed = λ file. record { so = closed_so h file };
+  }
+
+  -- snapshots
+  but_stack : hides of_stack k ≡ true → (s t : Scene) {events : List What} → t.session.levels ≡ s.session.levels → t.session.locks ≡ s.session.locks → t.session.recent ≡ s.session.recent → t.around.descriptors ≡ s.around.descriptors → t.session.owners ≡ s.session.owners → t.session.next_owner ≡ s.session.next_owner → ArePlain k events → R s t events
+  but_stack h s t v l r d o x plain = sees.aside s t (same_but_stack k s t h v l r d o x) plain
+
+  pub pushed_hidden : hides of_stack k ≡ true → (snapshot : ℕ) → Keeps R (snapshot_pushed snapshot)
+  pushed_hidden h snapshot = record { so = λ s. but_stack h s _ refl refl refl refl refl refl (plain_one k (what.Push snapshot) h) }
+
+  popped_so : hides of_stack k ≡ true → (s : Scene) → R s (snapshot_popped s).scene (snapshot_popped s).events
+  popped_so h s = go (last_of s.session.snapshots)
+    where
+      go : (o : Option Active)
+          → R s (where_there o (λ entry. in_order (changes (λ session. record session { snapshots = take (length session.snapshots - 1) session.snapshots }) ∷ say (what.Pop entry.snapshot) ∷ [])) s).scene
+          (where_there o (λ entry. in_order (changes (λ session. record session { snapshots = take (length session.snapshots - 1) session.snapshots }) ∷ say (what.Pop entry.snapshot) ∷ [])) s).events
+      go None = but_stack h s _ refl refl refl refl refl refl plain_none
+      go (Some entry) = but_stack h s _ refl refl refl refl refl refl (plain_one k (what.Pop entry.snapshot) h)
+
+  pub popped_hidden : hides of_stack k ≡ true → Keeps R snapshot_popped
+  popped_hidden h = record { so = popped_so h }
+
+  pub stack_gone_hidden : hides of_stack k ≡ true → (level : ℕ) → Keeps R (stack_popped level)
+  stack_gone_hidden h level = record {
+    so = λ s. but_stack h s _ refl refl refl refl refl refl (plain_map k (λ (entry : Active). what.Pop entry.snapshot) (λ entry. h) (filter (is_deep level) (reverse s.session.snapshots)));
+  }
+
+  pub stack_passed_hidden : hides of_stack k ≡ true → (level : ℕ) → Keeps R (stack_lowered level)
+  stack_passed_hidden h level = record { so = λ s. but_stack h s _ refl refl refl refl refl refl plain_none }
+
+-- What follows where a law sees locks, files, snapshots, items or levels alone: it has all leaves, so elements, turns and the end of a session keep it.
+
+-- what a law owes for owners and their items, and besides for levels and the stack of snapshots
+pub record Least (k : Subject) (R : Law) : Type 0 where
+  pub sees : Sees k R
+  pub items : SeesItems R
+
+pub record Ending (k : Subject) (R : Law) : Type 0 where
+  pub least : Least k R
+  pub levels : (levels : List LevelState) (s : Scene) → R s (record s { session = record s.session { levels = levels } }) []
+  pub stack_gone : (level : ℕ) → Keeps R (stack_popped level)
+  pub stack_passed : (level : ℕ) → Keeps R (stack_lowered level)
+
+pub record Turns (k : Subject) (R : Law) : Type 0 where
+  pub ending : Ending k R
+  pub popped : Keeps R snapshot_popped
+
+-- the parts of a scene that it sees, and the events that pass it by
+abbrev pub seen_by : Part → Subject → Bool
+seen_by part.of_locks of_locks = true
+seen_by part.of_recent of_files = true
+seen_by part.of_descriptors of_files = true
+seen_by part.of_snapshots of_stack = true
+seen_by part.of_levels of_levels = true
+seen_by part.of_recent of_items = true
+seen_by part.of_owners of_items = true
+seen_by part.of_next_owner of_items = true
+seen_by other k = false
+
+abbrev pub sees_of : Subject → Part → Bool
+sees_of k part = seen_by part k
+
+abbrev pub passing : Subject → What → Bool
+passing k event = hides (subject event) k
+
+all_plain : (k : Subject) {events : List What} → AreSaid (passing k) events → ArePlain k events
+all_plain k said_none = plain_none
+all_plain k (said_more h hs) = plain_more h (all_plain k hs)
+
+same_of : (k : Subject) (s t : Scene) → part.Same (sees_of k) s t → Same k s t
+same_of of_none s t h = tt
+same_of of_locks s t h = h.so part.of_locks refl
+same_of of_files s t h = (h.so part.of_recent refl, h.so part.of_descriptors refl)
+same_of of_stack s t h = h.so part.of_snapshots refl
+same_of of_levels s t h = h.so part.of_levels refl
+same_of of_items s t h = (h.so part.of_recent refl, h.so part.of_owners refl, h.so part.of_next_owner refl)
+
+pub sight_of : (k : Subject) (R : Law) → Sees k R → Sight (sees_of k) (passing k) R
+sight_of k R sees = record { both = λ a b. sees.both a b; aside = λ s t same said. sees.aside s t (same_of k s t same) (all_plain k said) }
+
+level_plain : (k : Subject) (event : What) → is_level_word event ≡ true → passing k event ≡ true
+level_plain k (what.BeginLevel level) h = refl
+level_plain k (what.CommitLevel level) h = refl
+level_plain k (what.AbortLevel level) h = refl
+level_plain k (what.CleanupLevel level) h = refl
+level_plain k other h = absurd (cc h)
+
+-- what a law owes apart
+abbrev pub OwesApart : Law → Option ℕ → Element → Moment → Type 0
+OwesApart R w (e.InTurn name x) m = OwesApart R w x m
+OwesApart R w (e.MakeLevel name implicit) m = Follows R m.scene (does w (e.MakeLevel name implicit) m)
+OwesApart R w (e.MakeContext new) m = Follows R m.scene (does w (e.MakeContext new) m)
+OwesApart R w (e.MakeOwner role) m = Follows R m.scene (does w (e.MakeOwner role) m)
+OwesApart R w e.LevelStands m = Follows R m.scene (does w e.LevelStands m)
+OwesApart R w (e.TakeLock role object mode) m = Follows R m.scene (does w (e.TakeLock role object mode) m)
+OwesApart R w (e.Unlock object mode) m = Follows R m.scene (does w (e.Unlock object mode) m)
+OwesApart R w (e.PushSnapshot snapshot) m = Follows R m.scene (does w (e.PushSnapshot snapshot) m)
+OwesApart R w (e.Touch file) m = Follows R m.scene (does w (e.Touch file) m)
+OwesApart R w e.PopSnapshot m = Follows R m.scene (does w e.PopSnapshot m)
+OwesApart R w e.CommitTop m = Follows R m.scene (does w e.CommitTop m)
+OwesApart R w e.Subcommit m = Follows R m.scene (does w e.Subcommit m)
+OwesApart R w e.Abort m = Follows R m.scene (does w e.Abort m)
+OwesApart R w e.Cleanup m = Follows R m.scene (does w e.Cleanup m)
+OwesApart R w other m = Unit {0}
+
+module _ (k : Subject) (R : Law) (l : Least k R) where
+  contexts : ContextLeaves R
+  contexts = unseen_contexts (sees_of k) (passing k) R (sight_of k R l.sees) refl refl refl (λ word n. refl) (λ n. refl) (λ n. refl)
+
+  pub least_leaves : Leaves R
+  least_leaves = leaves_of (sees_of k) (passing k) R (sight_of k R l.sees) refl refl contexts (record { word = word_plain k; line = λ depth n name stats. refl; total = λ total. refl }) l.items.released
+
+  abbrev pub least_acts : Acts R
+  least_acts = least_leaves.acts
+
+  move_leaves : MoveLeaves R
+  move_leaves = record { hooked = hook_waits_so (sees_of k) (passing k) R (sight_of k R l.sees) refl refl refl (λ word n. refl); shifted = moves_context (sees_of k) (passing k) R (sight_of k R l.sees) refl refl refl (λ n parent. refl) }
+
+  pub unlock_owed : (w : Option ℕ) (object : ℕ) (mode : Mode) (m : Moment) → ((n : ℕ) → Keeps R (lock_given_back object mode n)) → Follows R m.scene (does w (e.Unlock object mode) m)
+  unfolding does
+  unlock_owed w object mode m h = unfailing_so R least_acts m (at_owner OfLevel (lock_given_back object mode)) (by_owner R least_acts OfLevel (lock_given_back object mode) h)
+
+  pub lock_owed : (w : Option ℕ) (role : OwnerRole) (object : ℕ) (mode : Mode) (m : Moment) → ((n : ℕ) → Keeps R (lock_taken object mode n)) → Follows R m.scene (does w (e.TakeLock role object mode) m)
+  unfolding does
+  lock_owed w role object mode m h = fallible_so R least_acts w m _ (at_owner role (lock_taken object mode)) (by_owner R least_acts role (lock_taken object mode) h)
+
+  pub touch_owed : (w : Option ℕ) (file : ℕ) (m : Moment) → Keeps R (descriptor_given file) → Follows R m.scene (does w (e.Touch file) m)
+  unfolding does
+  touch_owed w file m h = fallible_so R least_acts w m _ (descriptor_given file) h
+
+  apart_owed : (w : Option ℕ) (x : Element) (m : Moment) → OwesApart R w x m → Owes R w x m
+  unfolding does
+  apart_owed w (e.InTurn name x) m owed = apart_owed w x m owed
+  apart_owed w (e.Take role kind key) m owed = fallible_so R least_acts w m _ (at_owner role (λ owner. item_taken owner kind key)) (by_owner R least_acts role (λ owner. item_taken owner kind key) (λ owner. l.items.taken owner kind key))
+  apart_owed w (e.TakeNamed name key) m owed =
+      fallible_so R least_acts w m _ (at_kind name (λ kind. at_owner OfLevel (λ owner. item_taken owner kind key)))
+      (by_kind R least_acts name (λ kind. at_owner OfLevel (λ owner. item_taken owner kind key)) (λ kind. by_owner R least_acts OfLevel (λ owner. item_taken owner kind key) (λ owner. l.items.taken owner kind key)))
+  apart_owed w (e.EndPortal name) m owed = unfailing_so R least_acts m (at_portal name portal_ended) (by_portal_named R least_acts name portal_ended (portal_ends R least_acts l.items.phase l.items.released l.items.gone))
+  apart_owed w (e.MakePlan plan) m owed = fallible_so R least_acts w m _ (plan_made plan) (plans_one (sees_of k) (passing k) R (sight_of k R l.sees) refl refl (makes_context (sees_of k) (passing k) R (sight_of k R l.sees) refl refl refl (λ n parent name. refl)) plan)
+  apart_owed w (e.Register name) m owed = moves_owed R least_acts move_leaves w (e.Register name) m
+  apart_owed w (e.Reparent name parent) m owed = moves_owed R least_acts move_leaves w (e.Reparent name parent) m
+  apart_owed w other m owed = owed
+
+  -- An element keeps the law where what is owed for it holds.
+  pub element_keeps : (w : Option ℕ) (x : Element) (m : Moment) → IsSpoken false x → OwesApart R w x m → Follows R m.scene (does w x m)
+  element_keeps w x m spoken owed = element_follows R least_leaves false w x m spoken (apart_owed w x m owed)
+
+-- where all ends keep the law, in any scene, what is owed apart holds but for an owner that is made, a lock that is taken or given back, a file that is used and a snapshot that is pushed
+abbrev pub OwesUnlocks : Law → Option ℕ → Element → Moment → Type 0
+OwesUnlocks R w (e.InTurn name x) m = OwesUnlocks R w x m
+OwesUnlocks R w (e.MakeOwner role) m = Follows R m.scene (does w (e.MakeOwner role) m)
+OwesUnlocks R w (e.TakeLock role object mode) m = Follows R m.scene (does w (e.TakeLock role object mode) m)
+OwesUnlocks R w (e.Unlock object mode) m = Follows R m.scene (does w (e.Unlock object mode) m)
+OwesUnlocks R w (e.Touch file) m = Follows R m.scene (does w (e.Touch file) m)
+OwesUnlocks R w (e.PushSnapshot snapshot) m = Follows R m.scene (does w (e.PushSnapshot snapshot) m)
+OwesUnlocks R w other m = Unit {0}
+
+module _ (k : Subject) (R : Law) (law : Turns k R) where
+  abbrev l : Least k R
+  l = law.ending.least
+
+  -- all leaves of a law that is kept in any scene by all ends and by the snapshots that are popped
+  pub turn_ends : EndLeaves R
+  turn_ends = record {
+    levels = record {
+      leaves = least_leaves k R l;
+      levels = law.ending.levels;
+      level_word = λ event h. says (sees_of k) (passing k) R (sight_of k R l.sees) event (level_plain k event h);
+      popped = law.popped;
+      stack_gone = law.ending.stack_gone;
+      stack_passed = law.ending.stack_passed;
+    };
+    taken = l.items.taken;
+    phase = l.items.phase;
+    discarded = l.items.gone;
+    moved = l.items.moved;
+  }
+
+  abbrev a : Acts R
+  a = turn_ends.levels.leaves.acts
+
+  pub owner_owed : (w : Option ℕ) (role : OwnerRole) (m : Moment) → ((parent : Option ℕ) → Keeps R (owner_made parent)) → Follows R m.scene (does w (e.MakeOwner role) m)
+  unfolding does
+  owner_owed w role m made = fallible_so R a w m _ (new_owner_made role) (owner_is_made R turn_ends.levels made role)
+
+  others_owed : (w : Option ℕ) (x : Element) (m : Moment) → OwesUnlocks R w x m → OwesMakes R w x m
+  unfolding does
+  others_owed w (e.InTurn name x) m owed = others_owed w x m owed
+  others_owed w (e.MakeContext new) m owed = fallible_so R a w m _ (new_context_made new) (context_is_made R turn_ends.levels (makes_context (sees_of k) (passing k) R (sight_of k R l.sees) refl refl refl (λ n parent name. refl)) (places (sees_of k) (passing k) R (sight_of k R l.sees) refl refl) new)
+  others_owed w (e.MakePlan plan) m owed = fallible_so R a w m _ (plan_made plan) (plans_one (sees_of k) (passing k) R (sight_of k R l.sees) refl refl (makes_context (sees_of k) (passing k) R (sight_of k R l.sees) refl refl refl (λ n parent name. refl)) plan)
+  others_owed w (e.Register name) m owed = moves_owed R a (move_leaves k R l) w (e.Register name) m
+  others_owed w (e.Reparent name parent) m owed = moves_owed R a (move_leaves k R l) w (e.Reparent name parent) m
+  others_owed w other m owed = owed
+
+  pub turns_owed : (w : Option ℕ) (x : Element) (m : Moment) → OwesUnlocks R w x m → Owes R w x m
+  turns_owed w x m owed = levels_owed R turn_ends.levels w x m (ends_owed R turn_ends w x m (others_owed w x m owed))
+
+  turn_so : (s : Scene) (done : Done) (refusal : Option Error) → Follows R s done → R s (turn_of done refusal).moment.scene (turn_of done refusal).events
+  turn_so s done None h = h.so
+  turn_so s done (Some error) h = a.both h.so ((recovers R turn_ends error (says (sees_of k) (passing k) R (sight_of k R l.sees) (what.Error error) refl)).so done.moment.scene)
+
+  -- A turn keeps it where each owner that is made, each lock that is taken or given back, each file that is used and each snapshot that is pushed does.
+  pub ending_turn : (P : Element → Scene → Type 0) (w : Option ℕ) (line : Option Command) (m : Moment) → IsRun P w (line_elements line m.scene.session) m
+      → ((x : Element) (n : Moment) → P x n.scene → OwesUnlocks R w x n) → R m.scene (turn w line m).moment.scene (turn w line m).events
+  unfolding turn
+  ending_turn P w line m run owed =
+      let done : Done = does_all w (line_elements line m.scene.session) m in
+      turn_so m.scene done done.refusal
+      (run_follows R (least_leaves k R l) false P w (line_elements line m.scene.session) m (line_spoken false line m.scene.session (λ usual. absurd (cc usual))) run (λ x n p. turns_owed w x n (owed x n p)))
+
+  -- So does the end of a session.
+  pub session_exits : (s : Scene) → R s (exited s).scene (exited s).events
+  session_exits s = exit_follows R turn_ends (says (sees_of k) (passing k) R (sight_of k R l.sees) what.Exit refl) s
+
+  module _ (made : (parent : Option ℕ) → Keeps R (owner_made parent)) (locked : (object : ℕ) (mode : Mode) (n : ℕ) → Keeps R (lock_taken object mode n)) (unlocked : (object : ℕ) (mode : Mode) (n : ℕ) → Keeps R (lock_given_back object mode n)) (pushed : (snapshot : ℕ) → Keeps R (snapshot_pushed snapshot)) (used : (file : ℕ) → Keeps R (descriptor_given file)) where
+    unlocks_owed : (w : Option ℕ) (x : Element) (m : Moment) → OwesUnlocks R w x m
+    unfolding does
+    unlocks_owed w (e.InTurn name x) m = unlocks_owed w x m
+    unlocks_owed w (e.MakeOwner role) m = owner_owed w role m made
+    unlocks_owed w (e.TakeLock role object mode) m = lock_owed k R l w role object mode m (locked object mode)
+    unlocks_owed w (e.Unlock object mode) m = unlock_owed k R l w object mode m (unlocked object mode)
+    unlocks_owed w (e.Touch file) m = touch_owed k R l w file m (used file)
+    unlocks_owed w (e.PushSnapshot snapshot) m = fallible_so R a w m _ (snapshot_pushed snapshot) (pushed snapshot)
+    unlocks_owed w other m = tt
+
+    -- A turn keeps it where these do in any scene.
+    pub any_turn : (w : Option ℕ) (line : Option Command) (m : Moment) → R m.scene (turn w line m).moment.scene (turn w line m).events
+    any_turn w line m = ending_turn (λ x s. Unit {0}) w line m (runs_anyhow w (line_elements line m.scene.session) m) (λ x n p. unlocks_owed w x n)
+
+-- A law that sees no items keeps what becomes of owners and their items.
+
+-- what a law owes that sees no items
+pub record Base (k : Subject) (R : Law) : Type 0 where
+  pub sees : Sees k R
+  pub locks : LockLeaves R
+  pub files : FileLeaves R
+
+module _ (k : Subject) (R : Law) (b : Base k R) (h : hides of_items k ≡ true) where
+  but_items : (s t : Scene) {events : List What} → t.session.levels ≡ s.session.levels → t.session.locks ≡ s.session.locks → t.session.recent ≡ s.session.recent → t.around.descriptors ≡ s.around.descriptors
+      → t.session.snapshots ≡ s.session.snapshots → ArePlain k events → R s t events
+  but_items s t v l r d n plain = b.sees.aside s t (same_but_items k s t h v l r d n) plain
+
+  item_contexts : ContextLeaves R
+  item_contexts = unseen_contexts (sees_of k) (passing k) R (sight_of k R b.sees) refl refl refl (λ word n. refl) (λ n. refl) (λ n. refl)
+
+  keys : KeyLeaves R
+  keys = unseen_keys (sees_of k) (passing k) R (sight_of k R b.sees) refl
+
+  owners : OwnerLeaves R
+  owners = record {
+    releasing = λ item n. record { so = λ s. but_items s s refl refl refl refl refl (plain_one k (what.Release item n) h) };
+    warned = λ item n s. but_items s s refl refl refl refl refl (plain_more refl (plain_one k (what.Release item n) h));
+    remembered = λ n kind key. record { so = λ s. but_items s _ refl refl refl refl refl (plain_one k (what.Acquire _ n) h) };
+    swept = λ kinds phase n s. but_items s _ refl refl refl refl refl plain_none;
+  }
+
+  pub by_owner_made : (parent : Option ℕ) → Keeps R (owner_made parent)
+  by_owner_made None = record { so = λ s. but_items s _ refl refl refl refl refl (plain_one k (what.Owner s.session.next_owner) refl) }
+  by_owner_made (Some parent) = record { so = λ s. but_items s _ refl refl refl refl refl (plain_one k (what.OwnerIn s.session.next_owner parent) refl) }
+
+  pub least_of : Least k R
+  least_of = record {
+    sees = b.sees;
+    items = record {
+      taken = taken_so (sees_of k) (passing k) R (sight_of k R b.sees) refl refl owners b.files keys;
+      released = releases (sees_of k) (passing k) R (sight_of k R b.sees) refl refl item_contexts.gone item_contexts.children b.files.closed keys.closed (λ n kind key item s is. but_items s _ refl refl refl refl refl (plain_one k (what.Release item n) h));
+      phase = phase_so (sees_of k) (passing k) R (sight_of k R b.sees) refl refl item_contexts.gone item_contexts.children b.files.closed keys.closed owners b.locks;
+      gone = λ n. record { so = λ s. but_items s _ refl refl refl refl refl (plain_map k (λ (m : ℕ). what.OwnerGone m) (λ m. refl) (order_at n s.session.owners)) };
+      moved = λ n parent. record { so = λ s. but_items s _ refl refl refl refl refl (plain_one k (what.MoveOwner n parent) refl) };
+    };
+  }

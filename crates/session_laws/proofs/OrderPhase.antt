@@ -13,7 +13,6 @@ use Rattle.forest.specs.Walk.{all_changed, swept}
 use Rattle.forest.proofs.Trees.{Apart, apart_of, first_child_other, has_at, has_children}
 use Rattle.forest.proofs.Walks.{children_in, once_children}
 use Rattle.lifetime_laws.specs.Parents.{is_above}
-use Rattle.lifetime_laws.specs.Parents as replayed
 use Rattle.lifetime_laws.specs.Order.{Member, owner_of, place_of, place_of_phase}
 use Rattle.owner_items.specs.Next.{is_of_phase}
 use Rattle.owner_kinds.specs.KindTable.{KindTable}
@@ -27,11 +26,9 @@ use Rattle.session_rules.specs.Acts.{Ended, for_each}
 use Rattle.session_rules.specs.Releases.{owner_released, phase_released, step_done}
 use Rattle.session_rules.proofs.Guarded.{all_at, all_children}
 use Rattle.session_rules.proofs.Swept.{all_swept, has_swept, parent_swept}
-use Rattle.session_laws.proofs.OrderBatch.{Adds, AreApart, adds_both, adds_none}
-use Rattle.session_laws.proofs.OrderLists.{falling_filter}
-use Rattle.session_laws.proofs.OrderSteps.{Grows, IsOwn, Releases, each_both, own_release, releases_both, releases_none, releases_weaker}
-use Rattle.session_laws.proofs.OrderTree.{AreClear, AreWalked, Falls, IsClear, IsOf, Splits, below_release, may_release, owner_locks}
-use Rattle.session_laws.proofs.ParentsFit.{FitsTree, same_above}
+use Rattle.session_laws.proofs.OrderSteps.{Adds, AreApart, adds_both, adds_none, falling_filter, Grows, IsOwn, Releases, each_both, own_release, releases_both, releases_none, releases_weaker, AreClear, AreWalked, Falls, IsClear, IsOf, Splits, below_release, may_release, owner_locks}
+use Rattle.session_laws.proofs.Parents.{FitsTree, same_above}
+use Rattle.lifetime_laws.specs.Parents as replayed
 
 module _ {A : Type 0} (f : A → A) where
   times_all : (m : ℕ) (t : Forest A) → times m (all_changed f t) ≡ times m t

@@ -1,39 +1,260 @@
--- The steps of a release, one owner: its items in the order of the phase, or its locks.
-use Rattle.std.proofs.Common.{◌≡◌, ℕ, nat_lt, Bool, true, false, not, if◌then◌else◌, List, [], ◌∷◌, ◌++◌, map, All, Option, Some, None, refl, sym, subst, ap, ◌∙◌, inl, inr}
-use Rattle.std.specs.Prelude.{◌==◌, ◌&&◌, ◌-◌}
-use Rattle.std.proofs.lemmas.Bool.{and_from, eq-eqb, lt-ltb, or_left, or_right}
-use Rattle.std.proofs.lemmas.List.{append_assoc, append-nil}
-use Rattle.std.proofs.lemmas.List.Elements.{All-nil, All-append, All-cons, All-head, All-tail, All-weaker}
-use Rattle.pgs_step.specs.declared.events.What.{What}
-use Rattle.pgs_step.specs.declared.events.What.TheVariants as what
+-- The items that a phase releases, in order: by rising priority, and of one priority the newest first.
+use Rattle.std.proofs.Common.{◌≡◌, ℕ, ◌<◌, ◌≤◌, Bool, true, false, cond, nat_le, nat_lt, List, [], ◌∷◌, filter, All, refl, inl, inr, arith, not, ◌++◌, Option, Some, None, sym, subst, ap, ◌∙◌, if◌then◌else◌, map}
+use Rattle.std.specs.Prelude.{◌⊎◌, ◌==◌, ◌&&◌, ◌||◌, unwrap_or, ◌-◌}
+use Rattle.std.proofs.lemmas.Bool.{cases_Bool, and_from, eq-eqb, lt-ltb, not_from_false, or_left, or_right}
+use Rattle.std.proofs.lemmas.Bool.Decides.{nat_tests}
+use Rattle.std.proofs.lemmas.List.Elements.{All-nil, All-cons, All-head, All-tail, All-filter, All-append, All-weaker}
 use Rattle.pgs_step.specs.declared.ids.Item.{Item}
+use Rattle.owner_items.specs.ItemList.{AreFalling}
+use Rattle.owner_items.specs.Next.{with_item, by_rank, is_of_phase, is_phase, priority, release_order}
+use Rattle.std.specs.Option.{option_map, option_map_or}
+use Rattle.std.specs.List.{list_all}
+use Rattle.std.proofs.lemmas.List.Sums.{list_all-from_AllPass}
+use Rattle.pgs_step.specs.declared.events.What.{What}
 use Rattle.pgs_step.specs.declared.ids.Phase.{Phase}
 use Rattle.pgs_step.specs.declared.ids.Phase.TheVariants.{BeforeLocks, Locks, AfterLocks}
+use Rattle.pgs_step.specs.declared.lock_modes.Mode.{Mode}
 use Rattle.pgs_step.specs.Mode.{mode_number}
-use Rattle.owner_kinds.specs.KindTable.{KindTable}
+use Rattle.owner_kinds.specs.KindTable.{KindTable, row_of}
+use Rattle.owner_kinds.specs.declared.kind_row.KindRow.{KindRow}
+use Rattle.lifetime_laws.specs.Once.{same_item}
+use Rattle.lifetime_laws.specs.Order.{AnItem, ALock, Member, Owned, Releasing, goes_before, is_warned, may_precede, member_of, ordering, owner_of, place_of, with_member, place_of_phase}
+use Rattle.lifetime_laws.specs.Parents.{is_above}
+use Rattle.lifetime_laws.specs.Reading.{allows_all, seen_after}
+use Rattle.lifetime_laws.proofs.Readings.{allows_all-append, seen_after-append}
+use Rattle.session_rules.proofs.Said.{AreSaid, said_more, said_none, said_gone, said_one}
+use Rattle.session_laws.proofs.Warnings.{is_aside, same_itself}
+use Rattle.std.proofs.lemmas.List.{append_assoc, append-nil}
 use Rattle.owner_kinds.specs.KindShelf.{table_of}
 use Rattle.owner_kinds.proofs.Places.{table-closed}
-use Rattle.owner_items.specs.ItemList.{AreFalling}
-use Rattle.owner_items.specs.Next.{is_of_phase, priority, release_order}
-use Rattle.owner_core.specs.Owners.{Owner}
-use Rattle.owner_core.specs.Steps.{Step, Said, GivesBack, ReleasesLocks, PassesLocks, ReleasesAllLocks, own_steps, releases_of}
+use Rattle.owner_core.specs.Owners.{Owner, OwnerTree}
+use Rattle.owner_core.specs.Steps.{Step, Said, GivesBack, ReleasesLocks, PassesLocks, ReleasesAllLocks, own_steps, releases_of, lock_step, steps_below, top_locks}
 use Rattle.lock_local.specs.Locks.{Lock, IsInOrder, comes_before, has_owner, lock_total, owner_count}
-use Rattle.lock_local.specs.Changes as locks
 use Rattle.lock_local.proofs.OrderLemmas.{IsInOrder-filter, IsInOrder-map, KeepsLock}
 use Rattle.file_table.specs.Descriptors.{is_among, without}
-use Rattle.lifetime_laws.specs.Order.{ALock, Member, goes_before, may_precede, owner_of, place_of, place_of_phase}
-use Rattle.lifetime_laws.specs.Parents.{is_above}
-use Rattle.lifetime_laws.specs.Parents as replayed
-use Rattle.forest.specs.Forest.{subtree}
+use Rattle.forest.specs.Forest.{subtree, Empty, Node, AllNodes, has}
 use Rattle.session_rules.specs.State.{StandingPlan}
 use Rattle.session_rules.specs.World.{Scene}
 use Rattle.session_rules.specs.Lookup.{plan_at}
 use Rattle.session_rules.specs.Acts.{Ended, behind, for_each, nothing, where_so, where_there}
 use Rattle.session_rules.specs.Releases.{Keeper, NoOne, ThePlans, TheDescriptors, TheKind, given_back, keeper_of, left_to, plan_becomes, plan_settled, plan_stays, step_done}
-use Rattle.session_rules.proofs.Said.{AreSaid, said_gone, said_none, said_one}
-use Rattle.session_laws.proofs.OrderSaid.{is_aside}
-use Rattle.session_laws.proofs.OrderLists.{AreRanked, GoesBefore, order_passes, order_ranked}
-use Rattle.session_laws.proofs.OrderBatch.{Adds, MayFollow, adds_aside, adds_both, adds_none, adds_pass_lock, adds_release, adds_release_lock, adds_warned, item_member, same_phase}
+use Rattle.pgs_step.specs.declared.events.What.TheVariants as what
+use Rattle.lifetime_laws.specs.Parents as replayed
+use Rattle.lock_local.specs.Changes as locks
+
+-- one goes before another: it has the lower rank, or the same and is newer
+abbrev pub GoesBefore : (Item → ℕ) → Item → Item → Type 0
+GoesBefore rank x y = (rank x < rank y) ⊎ ((rank x ≡ rank y) × (y.serial < x.serial))
+
+-- each goes before those behind it
+abbrev pub AreRanked : (Item → ℕ) → List Item → Type 0
+AreRanked rank [] = Unit {0}
+AreRanked rank (x ∷ xs) = All (GoesBefore rank x) xs × AreRanked rank xs
+
+-- an item that is put among others is one of all
+pub All-with_item : (P : Item → Type 0) (rank : Item → ℕ) (x : Item) (zs : List Item) → P x → All P zs → All P (with_item rank x zs)
+All-with_item P rank x [] holds all = All-cons P x [] holds all
+All-with_item P rank x (z ∷ zs) holds all =
+    elim (nat_le (rank x) (rank z)) as (λ b. All P (cond b (x ∷ z ∷ zs) (z ∷ with_item rank x zs))) [
+      | true ↦ All-cons P x (z ∷ zs) holds all
+      | false ↦ All-cons P z (with_item rank x zs) (All-head P z zs all) (All-with_item P rank x zs holds (All-tail P z zs all))
+    ]
+
+pub All-by_rank : (P : Item → Type 0) (rank : Item → ℕ) (xs : List Item) → All P xs → All P (by_rank rank xs)
+All-by_rank P rank [] all = all
+All-by_rank P rank (x ∷ xs) all = All-with_item P rank x (by_rank rank xs) (All-head P x xs all) (All-by_rank P rank xs (All-tail P x xs all))
+
+-- an item goes before all that are older, from the first on whose rank is no lower
+front_goes : (rank : Item → ℕ) (x z : Item) (zs : List Item) → rank x ≤ rank z → All (GoesBefore rank z) zs → All (λ y. y.serial < x.serial) (z ∷ zs) → All (GoesBefore rank x) (z ∷ zs)
+front_goes rank x z zs low ranked older =
+    All-cons (GoesBefore rank x) z zs (by_cases z low (All-head (λ (y : Item). y.serial < x.serial) z zs older)) (rest zs ranked (All-tail (λ (y : Item). y.serial < x.serial) z zs older))
+  where
+    by_cases : (y : Item) → rank x ≤ rank y → y.serial < x.serial → GoesBefore rank x y
+    by_cases y l o = elim (cases_Bool (nat_lt (rank x) (rank y))) [
+      | inl e ↦ inl (grind (arith, nat_tests))
+      | inr e ↦ inr (grind (arith, nat_tests), o)
+    ]
+
+    rest : (ys : List Item) → All (GoesBefore rank z) ys → All (λ (y : Item). y.serial < x.serial) ys → All (GoesBefore rank x) ys
+    rest [] h k = All-nil (GoesBefore rank x)
+    rest (y ∷ ys) h k =
+        let first : GoesBefore rank z y = All-head (GoesBefore rank z) y ys h in
+        let behind : rank z ≤ rank y = elim first [
+          | inl l ↦ omega (arith, l)
+          | inr p ↦ omega (arith, p.0)
+        ] in
+        All-cons (GoesBefore rank x) y ys (by_cases y (omega (arith, low, behind)) (All-head (λ (y : Item). y.serial < x.serial) y ys k))
+        (rest ys (All-tail (GoesBefore rank z) y ys h) (All-tail (λ (y : Item). y.serial < x.serial) y ys k))
+
+ranked_with : (rank : Item → ℕ) (x : Item) (zs : List Item) → AreRanked rank zs → All (λ y. y.serial < x.serial) zs → AreRanked rank (with_item rank x zs)
+ranked_with rank x [] h older = (All-nil (GoesBefore rank x), tt)
+ranked_with rank x (z ∷ zs) h older = go (ranked_with rank x zs h.1 (All-tail (λ (y : Item). y.serial < x.serial) z zs older)) (nat_le (rank x) (rank z)) refl
+  where
+    go : AreRanked rank (with_item rank x zs) → (b : Bool) → nat_le (rank x) (rank z) ≡ b → AreRanked rank (cond b (x ∷ z ∷ zs) (z ∷ with_item rank x zs))
+    go rest true e = (front_goes rank x z zs (grind (arith, nat_tests)) h.0 older, h)
+    go rest false e = (All-with_item (GoesBefore rank z) rank x zs (inl (grind (arith, nat_tests))) h.0, rest)
+
+ranked_by : (rank : Item → ℕ) (xs : List Item) → AreFalling xs → AreRanked rank (by_rank rank xs)
+ranked_by rank [] h = tt
+ranked_by rank (x ∷ xs) h = ranked_with rank x (by_rank rank xs) (ranked_by rank xs h.1) (All-by_rank (λ (y : Item). y.serial < x.serial) rank xs h.0)
+
+pub falling_filter : (test : Item → Bool) (xs : List Item) → AreFalling xs → AreFalling (filter test xs)
+falling_filter test [] h = tt
+falling_filter test (x ∷ xs) h =
+    elim (test x) as (λ b. AreFalling (cond b (x ∷ filter test xs) (filter test xs))) [
+      | true ↦ (All-filter test (λ (y : Item). y.serial < x.serial) xs h.0, falling_filter test xs h.1)
+      | false ↦ falling_filter test xs h.1
+    ]
+
+-- The items of a test that stand newest first, by their rank.
+pub order_ranked : (test : Item → Bool) (rank : Item → ℕ) (xs : List Item) → AreFalling xs → AreRanked rank (by_rank rank (filter test xs))
+order_ranked test rank xs h = ranked_by rank (filter test xs) (falling_filter test xs h)
+
+-- each of them passes the test
+passes_filter : (test : Item → Bool) (xs : List Item) → All (λ x. test x ≡ true) (filter test xs)
+passes_filter test [] = All-nil (λ (x : Item). test x ≡ true)
+passes_filter test (x ∷ xs) = go (passes_filter test xs) (test x) refl
+  where
+    go : All (λ (y : Item). test y ≡ true) (filter test xs) → (b : Bool) → test x ≡ b → All (λ (y : Item). test y ≡ true) (cond b (x ∷ filter test xs) (filter test xs))
+    go rest true e = All-cons (λ (y : Item). test y ≡ true) x (filter test xs) e rest
+    go rest false e = rest
+
+pub order_passes : (test : Item → Bool) (rank : Item → ℕ) (xs : List Item) → All (λ x. test x ≡ true) (by_rank rank (filter test xs))
+order_passes test rank xs = All-by_rank (λ (x : Item). test x ≡ true) rank (filter test xs) (passes_filter test xs)
+
+-- What is read in a release that is going on: what it releases is in order, and all else is passed over.
+
+-- a release that is going on, with what was released so far, the newest first, and the warning directly before
+abbrev pub warned : Option Owned → List replayed.Node → Bool → List Member → Releasing
+warned warning nodes aborts members = record { owners = nodes; batch = Some (record { aborts = aborts; members = members }); warning = warning }
+
+abbrev pub in_batch : List replayed.Node → Bool → List Member → Releasing
+in_batch nodes aborts members = warned None nodes aborts members
+
+-- a member may come behind all these
+abbrev pub MayFollow : List replayed.Node → List Member → Member → Type 0
+MayFollow nodes members member = All (λ earlier. may_precede nodes earlier member ≡ true) members
+
+-- the numbers stand for owners of which the first isn't the second, nor above it
+pub record AreApart (nodes : List replayed.Node) (a b : ℕ) : Type 0 where
+  pub below : is_above a b nodes ≡ false
+  pub other : (a == b) ≡ false
+
+-- which member may come before which
+pub earlier_phase : (nodes : List replayed.Node) (a b : Member) → place_of a < place_of b → may_precede nodes a b ≡ true
+earlier_phase nodes a b h = or_left (nat_lt (place_of a) (place_of b)) _ (lt-ltb (place_of a) (place_of b) h)
+
+pub same_phase : (nodes : List replayed.Node) (a b : Member) → place_of a ≡ place_of b → is_above (owner_of a) (owner_of b) nodes ≡ false → ((owner_of a == owner_of b) ≡ false) ⊎ (goes_before a b ≡ true)
+    → may_precede nodes a b ≡ true
+same_phase nodes a b same out goes =
+    or_right (nat_lt (place_of a) (place_of b)) _
+    (and_from (place_of a == place_of b) _ (eq-eqb (place_of a) (place_of b) same)
+    (and_from (not (is_above (owner_of a) (owner_of b) nodes)) _ (not_from_false (is_above (owner_of a) (owner_of b) nodes) out)
+    (elim goes [
+      | inl other ↦ or_left (not (owner_of a == owner_of b)) (goes_before a b) (not_from_false (owner_of a == owner_of b) other)
+      | inr before ↦ or_right (not (owner_of a == owner_of b)) (goes_before a b) before
+    ])))
+
+module _ (kinds : KindTable) (nodes : List replayed.Node) (aborts : Bool) where
+  -- The events are in order behind what was released so far, and leave that and what they release.
+  pub record Adds (old new : List Member) (events : List What) : Type 0 where
+    pub allowed : allows_all (ordering kinds) (in_batch nodes aborts old) events ≡ true
+    pub behind : seen_after (ordering kinds) (in_batch nodes aborts old) events ≡ in_batch nodes aborts new
+
+  pub adds_none : (members : List Member) → Adds members members []
+  adds_none members = record { allowed = refl; behind = refl }
+
+  pub adds_both : {old mid new : List Member} {xs ys : List What} → Adds old mid xs → Adds mid new ys → Adds old new (xs ++ ys)
+  adds_both {old = old} {mid = mid} {new = new} {xs = xs} {ys = ys} a b = record {
+    allowed = allows_all-append (ordering kinds) (in_batch nodes aborts old) xs ys a.allowed
+        (subst (λ (seen : Releasing). allows_all (ordering kinds) seen ys ≡ true) (sym a.behind) b.allowed);
+    behind = seen_after-append (ordering kinds) (in_batch nodes aborts old) xs ys ∙ ap (λ (seen : Releasing). seen_after (ordering kinds) seen ys) a.behind ∙ b.behind;
+  }
+
+  -- what is said besides is passed over
+  aside_adds : (members : List Member) (event : What) → is_aside event ≡ true → Adds members members (event ∷ [])
+  aside_adds members (what.Callback word context) h = record { allowed = refl; behind = refl }
+  aside_adds members (what.Delete context) h = record { allowed = refl; behind = refl }
+  aside_adds members (what.DescriptorClosed file) h = record { allowed = refl; behind = refl }
+  aside_adds members (what.Pop snapshot) h = record { allowed = refl; behind = refl }
+  aside_adds members other h = absurd (cc h)
+
+  pub adds_aside : (members : List Member) {events : List What} → AreSaid is_aside events → Adds members members events
+  adds_aside members said_none = adds_none members
+  adds_aside members (said_more {event = event} {events = events} h hs) = adds_both (aside_adds members event h) (adds_aside members hs)
+
+  -- a lock that is released or passed
+  pub adds_release_lock : (members : List Member) (object : ℕ) (mode : Mode) (count owner : ℕ) → MayFollow nodes members (ALock object (mode_number mode) owner)
+      → Adds members (ALock object (mode_number mode) owner ∷ members) (what.ReleaseLock object mode count owner ∷ [])
+  adds_release_lock members object mode count owner may = record {
+    allowed = and_from (list_all (λ earlier. may_precede nodes earlier (ALock object (mode_number mode) owner)) members) true
+        (list_all-from_AllPass (λ earlier. may_precede nodes earlier (ALock object (mode_number mode) owner)) members may) refl;
+    behind = refl;
+  }
+
+  pub adds_pass_lock : (members : List Member) (object : ℕ) (mode : Mode) (count from to : ℕ) → MayFollow nodes members (ALock object (mode_number mode) from)
+      → Adds members (ALock object (mode_number mode) from ∷ members) (what.PassLock object mode count from to ∷ [])
+  adds_pass_lock members object mode count from to may = record {
+    allowed = and_from (list_all (λ earlier. may_precede nodes earlier (ALock object (mode_number mode) from)) members) true
+        (list_all-from_AllPass (λ earlier. may_precede nodes earlier (ALock object (mode_number mode) from)) members may) refl;
+    behind = refl;
+  }
+
+  -- an item that is released, where it counts
+  release_counts : (warning : Option Owned) (members : List Member) (item : Item) (n : ℕ) (member : Member)
+      → member_of kinds (aborts || is_warned warning (what.Release item n)) (what.Release item n) ≡ Some member → MayFollow nodes members member
+      → (allows_all (ordering kinds) (warned warning nodes aborts members) (what.Release item n ∷ []) ≡ true)
+      × (seen_after (ordering kinds) (warned warning nodes aborts members) (what.Release item n ∷ []) ≡ in_batch nodes aborts (member ∷ members))
+  release_counts warning members item n member is may = (
+    and_from _ true
+        (subst (λ (o : Option Member). option_map_or (λ member. list_all (λ earlier. may_precede nodes earlier member) members) o true ≡ true) (sym is)
+        (list_all-from_AllPass (λ earlier. may_precede nodes earlier member) members may)) refl,
+    subst (λ (o : Option Member). in_batch nodes aborts (with_member o members) ≡ in_batch nodes aborts (member ∷ members)) (sym is) refl,
+  )
+
+-- the member that an item is, where its phase releases it
+abbrev pub item_member : KindTable → Phase → ℕ → Item → Member
+item_member kinds phase n item = AnItem phase (priority kinds item) item.serial n
+
+one_phase : (a b : Phase) → is_phase a b ≡ true → b ≡ a
+one_phase BeforeLocks BeforeLocks h = refl
+one_phase Locks Locks h = refl
+one_phase AfterLocks AfterLocks h = refl
+one_phase BeforeLocks Locks h = absurd (cc h)
+one_phase BeforeLocks AfterLocks h = absurd (cc h)
+one_phase Locks BeforeLocks h = absurd (cc h)
+one_phase Locks AfterLocks h = absurd (cc h)
+one_phase AfterLocks BeforeLocks h = absurd (cc h)
+one_phase AfterLocks Locks h = absurd (cc h)
+
+pub member_is : (kinds : KindTable) (phase : Phase) (n : ℕ) (item : Item) → is_of_phase kinds phase item ≡ true
+    → option_map (λ row. AnItem row.phase row.priority item.serial n) (row_of kinds item.kind) ≡ Some (item_member kinds phase n item)
+member_is kinds phase n item h = go (row_of kinds item.kind) h
+  where
+    go : (o : Option KindRow) → unwrap_or (option_map (is_phase phase) (option_map (λ (r : KindRow). r.phase) o)) false ≡ true
+        → option_map (λ (row : KindRow). AnItem row.phase row.priority item.serial n) o ≡ Some (AnItem phase (unwrap_or (option_map (λ (r : KindRow). r.priority) o) 0) item.serial n)
+    go None e = absurd (cc e)
+    go (Some row) e = ap (λ (place : Phase). Some (AnItem place row.priority item.serial n)) (one_phase phase row.phase e)
+
+module _ (kinds : KindTable) (nodes : List replayed.Node) (phase : Phase) (n : ℕ) where
+  -- at abort a release counts as it stands
+  pub adds_release : (members : List Member) (item : Item) → is_of_phase kinds phase item ≡ true → MayFollow nodes members (item_member kinds phase n item)
+      → Adds kinds nodes true members (item_member kinds phase n item ∷ members) (what.Release item n ∷ [])
+  adds_release members item h may =
+      let all = release_counts kinds nodes true None members item n (item_member kinds phase n item) (member_is kinds phase n item h) may in
+      record { allowed = all.0; behind = all.1 }
+
+  -- at commit with its warning directly before it
+  pub adds_warned : (members : List Member) (item : Item) → is_of_phase kinds phase item ≡ true → MayFollow nodes members (item_member kinds phase n item)
+      → Adds kinds nodes false members (item_member kinds phase n item ∷ members) (what.NotClosed item n ∷ what.Release item n ∷ [])
+  adds_warned members item h may =
+      let same : (same_item item item && (n == n)) ≡ true = and_from (same_item item item) (n == n) (same_itself item) (eq-eqb n n refl) in
+      let is : member_of kinds (same_item item item && (n == n)) (what.Release item n) ≡ Some (item_member kinds phase n item) =
+      ap (λ (b : Bool). member_of kinds b (what.Release item n)) same ∙ member_is kinds phase n item h in
+      let all = release_counts kinds nodes false (Some (record { item = item; owner = n })) members item n (item_member kinds phase n item) is may in
+      record { allowed = all.0; behind = all.1 }
+
+-- The steps of a release, one owner: its items in the order of the phase, or its locks.
 
 -- What the steps of a release leave: the owners, the places of kinds, and the order of locks.
 pub record Stays (s t : Scene) : Type 0 where
@@ -323,3 +544,104 @@ module _ (kinds : KindTable) (nodes : List replayed.Node) (commit : Bool) (n : �
   own_release Locks owner h s old falling order may = locks_release h s old order may
   own_release BeforeLocks owner h s old falling order may = ordered_release kinds nodes BeforeLocks n out commit owner.items s old falling may
   own_release AfterLocks owner h s old falling order may = ordered_release kinds nodes AfterLocks n out commit owner.items s old falling may
+
+-- A phase of a release: each owner behind all below it.
+
+-- A member is of an earlier phase, or of this one and its owner isn't one of these, nor above one.
+abbrev pub IsClear : List replayed.Node → ℕ → (ℕ → Type 0) → Member → Type 0
+IsClear nodes place In m = (place_of m < place) ⊎ ((place_of m ≡ place) × ((w : ℕ) → In w → AreApart nodes (owner_of m) w))
+
+abbrev pub AreClear : List replayed.Node → ℕ → (ℕ → Type 0) → List Member → Type 0
+AreClear nodes place In members = All (IsClear nodes place In) members
+
+pub clear_weaker : (nodes : List replayed.Node) (place : ℕ) (In Out : ℕ → Type 0) (members : List Member) → ((w : ℕ) → Out w → In w) → AreClear nodes place In members → AreClear nodes place Out members
+clear_weaker nodes place In Out members f h = All-weaker (IsClear nodes place In) (IsClear nodes place Out) one members h
+  where
+    one : (m : Member) → IsClear nodes place In m → IsClear nodes place Out m
+    one m (inl l) = inl l
+    one m (inr p) = inr (p.0, λ w o. p.1 w (f w o))
+
+pub may_release : (nodes : List replayed.Node) (place n : ℕ) (members : List Member) → AreClear nodes place (λ w. w ≡ n) members → MayRelease nodes place n members
+may_release nodes place n members h = λ m own. All-weaker (IsClear nodes place (λ w. w ≡ n)) (λ e. may_precede nodes e m ≡ true) (λ e k. one m own e k) members h
+  where
+    one : (m : Member) → IsOwn place n m → (e : Member) → IsClear nodes place (λ w. w ≡ n) e → may_precede nodes e m ≡ true
+    one m own e (inl l) = earlier_phase nodes e m (subst (λ (p : ℕ). place_of e < p) (sym own.0) l)
+    one m own e (inr p) = let a : AreApart nodes (owner_of e) (owner_of m) = p.1 (owner_of m) own.1 in same_phase nodes e m (p.0 ∙ sym own.0) a.below (inl a.other)
+
+-- Of a node, what is below it and what stands behind it: no owner is above one that is released later.
+pub record Splits (nodes : List replayed.Node) (n : ℕ) (below beside : OwnerTree) : Type 0 where
+  pub self : is_above n n nodes ≡ false
+  pub up : (x : ℕ) → has x below ≡ true → AreApart nodes x n
+  pub own : (w : ℕ) → has w beside ≡ true → AreApart nodes n w
+  pub across : (x w : ℕ) → has x below ≡ true → has w beside ≡ true → AreApart nodes x w
+
+abbrev pub AreWalked : List replayed.Node → OwnerTree → Type 0
+AreWalked nodes Empty = Unit {0}
+AreWalked nodes (Node n owner below beside) = Splits nodes n below beside × AreWalked nodes below × AreWalked nodes beside
+
+-- the items of an owner stand newest first
+abbrev pub Falls : Owner → Type 0
+Falls owner = AreFalling owner.items
+
+-- what is released of a forest in a phase of this place
+abbrev pub IsOf : ℕ → OwnerTree → Member → Type 0
+IsOf place t m = (place_of m ≡ place) × (has (owner_of m) t ≡ true)
+
+below_locks : (commit top : Bool) (n parent : ℕ) → AreLockSteps n (if top then [] else lock_step commit n parent ∷ [])
+below_locks commit true n parent = locks_stay
+below_locks true false n parent = locks_pass parent
+below_locks false false n parent = locks_go
+
+pub owner_locks : (top commit : Bool) (n : ℕ) (parent : Option ℕ) → AreLockSteps n (top_locks top commit n parent)
+owner_locks true commit n parent = all_go
+owner_locks false commit n None = locks_stay
+owner_locks false true n (Some parent) = locks_pass parent
+owner_locks false false n (Some parent) = locks_go
+
+module _ (kinds : KindTable) (nodes : List replayed.Node) (phase : Phase) (commit top : Bool) where
+  -- a node behind all below it, and then what stands behind it
+  node_clear : (n : ℕ) (owner : Owner) (below beside : OwnerTree) (new old : List Member) → Splits nodes n below beside → All (IsOf (place_of_phase phase) below) new
+      → AreClear nodes (place_of_phase phase) (λ w. has w (Node n owner below beside) ≡ true) old → AreClear nodes (place_of_phase phase) (λ w. w ≡ n) (new ++ old)
+  node_clear n owner below beside new old s are clear =
+      let p : ℕ = place_of_phase phase in
+      All-append (IsClear nodes p (λ w. w ≡ n)) new old
+      (All-weaker (IsOf p below) (IsClear nodes p (λ w. w ≡ n)) (λ m o. inr (o.0, λ w is. subst (AreApart nodes (owner_of m)) (sym is) (s.up (owner_of m) o.1))) new are)
+      (clear_weaker nodes p (λ w. has w (Node n owner below beside) ≡ true) (λ w. w ≡ n) old (λ w is. or_left (n == w) (has w below || has w beside) (eq-eqb n w (sym is))) clear)
+
+  beside_clear : (n : ℕ) (owner : Owner) (below beside : OwnerTree) (own new old : List Member) → Splits nodes n below beside → All (IsOwn (place_of_phase phase) n) own → All (IsOf (place_of_phase phase) below) new
+      → AreClear nodes (place_of_phase phase) (λ w. has w (Node n owner below beside) ≡ true) old → AreClear nodes (place_of_phase phase) (λ w. has w beside ≡ true) (own ++ (new ++ old))
+  beside_clear n owner below beside own new old s mine are clear =
+      let p : ℕ = place_of_phase phase in
+      All-append (IsClear nodes p (λ w. has w beside ≡ true)) own (new ++ old)
+      (All-weaker (IsOwn p n) (IsClear nodes p (λ w. has w beside ≡ true)) (λ m o. inr (o.0, λ w is. subst (λ (x : ℕ). AreApart nodes x w) (sym o.1) (s.own w is))) own mine)
+      (All-append (IsClear nodes p (λ w. has w beside ≡ true)) new old
+      (All-weaker (IsOf p below) (IsClear nodes p (λ w. has w beside ≡ true)) (λ m o. inr (o.0, λ w is. s.across (owner_of m) w o.1 is)) new are)
+      (clear_weaker nodes p (λ w. has w (Node n owner below beside) ≡ true) (λ w. has w beside ≡ true) old (λ w is. or_right (n == w) (has w below || has w beside) (or_right (has w below) (has w beside) is)) clear))
+
+  pub below_release : (parent : ℕ) (t : OwnerTree) (s : Scene) (old : List Member) → AreWalked nodes t → AllNodes Falls t → AreClear nodes (place_of_phase phase) (λ w. has w t ≡ true) old → IsInOrder s.session.locks
+      → Releases kinds nodes (not commit) (IsOf (place_of_phase phase) t) old s (for_each step_done (steps_below kinds phase commit top parent t) s)
+  below_release parent Empty s old walked falls clear order = releases_none kinds nodes (not commit) (IsOf (place_of_phase phase) Empty) old s
+  below_release parent (Node n owner below beside) s old walked falls clear order =
+      let p : ℕ = place_of_phase phase in
+      let whole : OwnerTree = Node n owner below beside in
+      let xs : List Step = steps_below kinds phase commit top n below in
+      let ys : List Step = own_steps kinds phase commit n owner (if top then [] else lock_step commit n parent ∷ []) in
+      let zs : List Step = steps_below kinds phase commit top parent beside in
+      let mid : Scene = (for_each step_done xs s).scene in
+      let end : Scene = (for_each step_done ys mid).scene in
+      let a : Releases kinds nodes (not commit) (IsOf p below) old s (for_each step_done xs s) =
+      below_release n below s old walked.1 falls.1
+      (clear_weaker nodes p (λ w. has w whole ≡ true) (λ w. has w below ≡ true) old (λ w is. or_right (n == w) (has w below || has w beside) (or_left (has w below) (has w beside) is)) clear) order in
+      let b : Releases kinds nodes (not commit) (IsOwn p n) (a.grows.new ++ old) mid (for_each step_done ys mid) =
+      own_release kinds nodes commit n walked.0.self phase owner (below_locks commit top n parent) mid (a.grows.new ++ old) falls.0 (a.stays.locks order)
+      (may_release nodes p n (a.grows.new ++ old) (node_clear n owner below beside a.grows.new old walked.0 a.grows.are clear)) in
+      let c : Releases kinds nodes (not commit) (IsOf p beside) (b.grows.new ++ (a.grows.new ++ old)) end (for_each step_done zs end) =
+      below_release parent beside end (b.grows.new ++ (a.grows.new ++ old)) walked.2 falls.2 (beside_clear n owner below beside b.grows.new a.grows.new old walked.0 b.grows.are a.grows.are clear)
+      (b.stays.locks (a.stays.locks order)) in
+      subst (λ (e : Ended). Releases kinds nodes (not commit) (IsOf p whole) old s e)
+      (sym (each_both step_done xs (ys ++ zs) s ∙ ap (λ (e : Ended). behind (for_each step_done xs s).events e) (each_both step_done ys zs mid)))
+      (releases_both kinds nodes (not commit)
+      (releases_weaker kinds nodes (not commit) {Q = IsOf p whole} (λ m o. (o.0, or_right (n == owner_of m) (has (owner_of m) below || has (owner_of m) beside) (or_left (has (owner_of m) below) (has (owner_of m) beside) o.1))) a)
+      (releases_both kinds nodes (not commit)
+      (releases_weaker kinds nodes (not commit) {Q = IsOf p whole} (λ m o. (o.0, or_left (n == owner_of m) (has (owner_of m) below || has (owner_of m) beside) (eq-eqb n (owner_of m) (sym o.1)))) b)
+      (releases_weaker kinds nodes (not commit) {Q = IsOf p whole} (λ m o. (o.0, or_right (n == owner_of m) (has (owner_of m) below || has (owner_of m) beside) (or_right (has (owner_of m) below) (has (owner_of m) beside) o.1))) c)))

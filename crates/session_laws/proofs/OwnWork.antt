@@ -1,18 +1,36 @@
--- What an element owes that neither makes nor ends a level, where a law is kept by what it is made of.
-use Rattle.std.proofs.Common.{◌≡◌, ℕ, Bool, true, false, codes, Option, Some, refl}
-use Rattle.std.specs.Option.{option_and_then}
+-- Where a line stands between its elements. While the deepest level is aborted a line says nothing until it cleans that level up: an
+-- element is a check then, or a word at the line's end, or the cleanup.
+use Rattle.std.proofs.Common.{◌≡◌, ℕ, zero, suc, ◌+◌, ◌-◌, ◌≤◌, Bool, true, false, not, if◌then◌else◌, List, [], ◌∷◌, ◌++◌, map, length, replicate, flat_map, Option, Some, None, refl, sym, subst, inl, inr, arith, append_assoc, codes}
+use Rattle.std.proofs.lemmas.Bool.{le-ltb}
+use Rattle.std.specs.Prelude.{nat_lt, ◌&&◌, ◌==◌, ◌⊎◌}
+use Rattle.std.specs.Option.{option_map_or, option_and_then}
+use Rattle.pgs_step.specs.declared.errors.Error.{Error}
 use Rattle.pgs_step.specs.declared.events.What.{What}
-use Rattle.pgs_step.specs.declared.events.What.TheVariants as what
+use Rattle.pgs_command.specs.declared.commands.Command.{Command}
+use Rattle.pgs_command.specs.declared.commands.TransactionCommand.{TransactionCommand}
+use Rattle.pgs_command.specs.declared.commands.Work.{Work}
+use Rattle.pgs_command.specs.declared.commands.ContextCommand.{ContextCommand}
+use Rattle.pgs_command.specs.declared.commands.ChunkCommand.{ChunkCommand}
+use Rattle.pgs_command.specs.declared.commands.ItemCommand.{ItemCommand}
+use Rattle.pgs_command.specs.declared.commands.LockCommand.{LockCommand}
+use Rattle.pgs_command.specs.declared.commands.SnapshotCommand.{SnapshotCommand}
+use Rattle.pgs_command.specs.declared.commands.PlanCommand.{PlanCommand}
+use Rattle.pgs_command.specs.declared.commands.PortalCommand.{PortalCommand}
+use Rattle.pgs_command.specs.declared.commands.TellCommand.{TellCommand}
+use Rattle.exec_core.specs.declared.scan.Scan.{Scan}
+use Rattle.exec_core.specs.declared.steps.ScanStep.{ScanStep}
+use Rattle.session_rules.specs.State.{LevelState, OpenPortal, SessionState, is_aborted, level_owner}
+use Rattle.session_rules.specs.Elements.{Check, Element, LevelContext, NewContext, OfLevel, OwnerRole, Text}
+use Rattle.session_rules.specs.Lookup.{is_named, portal_named, context_named}
+use Rattle.session_rules.specs.Works.{after_turn, chunk_row, context_row, fallible_part, fetch_steps, item_row, lock_row, plan_row, portal_row, row_of, snapshot_row, tell_row, turn_steps, work_of}
+use Rattle.session_rules.specs.Commands.{at_savepoint, begin, commit, committed_to, elements_of, ends_aborted, in_transaction, is_end, refused, rollback, rolled_back_to, save, savepoint, start, then_ok, transaction_of, unaborted}
+use Rattle.session_rules.specs.World.{Scene, Moment}
+use Rattle.session_rules.specs.Standing.{AreOuter, FitLevels, Stands}
+use Rattle.session_rules.specs.Transcript.{line_elements}
 use Rattle.pgs_step.specs.declared.ids.KindId.{KindId}
 use Rattle.pgs_step.specs.declared.ids.Phase.{Phase}
 use Rattle.pgs_step.specs.declared.lock_modes.Mode.{Mode}
 use Rattle.any_ctx.specs.declared.any.CtxKind.{CtxKind}
-use Rattle.any_ctx.specs.declared.any.CtxKind.TheVariants as kind
-use Rattle.session_rules.specs.State.{level_owner}
-use Rattle.session_rules.specs.World.{Moment, Scene}
-use Rattle.session_rules.specs.Elements as e
-use Rattle.session_rules.specs.Elements.{Element, OfLevel, Text}
-use Rattle.session_rules.specs.Lookup.{context_named, portal_named}
 use Rattle.session_rules.specs.Releases.{owner_gone, phase_released}
 use Rattle.session_rules.specs.Portals.{portal_ended}
 use Rattle.session_rules.specs.Parts.{at_kind, at_owner, at_portal, lock_given_back, snapshot_popped}
@@ -22,7 +40,389 @@ use Rattle.session_rules.specs.Does.{does}
 use Rattle.session_rules.proofs.Leaves.{Acts, Follows, IsSpoken, Keeps, Law, Leaves, MoveLeaves, Owes, is_word, last, next}
 use Rattle.session_rules.proofs.Walk.{by_kind, by_order, by_owner, by_portal, by_portal_named, by_there, element_follows, fallible_at, fallible_so, moves_owed, unfailing_so}
 use Rattle.session_rules.proofs.WalkEnds.{portal_ends}
-use Rattle.session_laws.proofs.Hushed.{IsOwnContext, IsOwnOwner, IsOwnWork, IsSaid}
+use Rattle.pgs_step.specs.declared.errors.Error.TheVariants as error
+use Rattle.pgs_step.specs.declared.events.What.TheVariants as what
+use Rattle.pgs_command.specs.declared.commands.Command.TheVariants as command
+use Rattle.pgs_command.specs.declared.commands.TransactionCommand.TheVariants as transaction
+use Rattle.pgs_command.specs.declared.commands.Work.TheVariants as work
+use Rattle.pgs_command.specs.declared.commands.ContextCommand.TheVariants as context
+use Rattle.pgs_command.specs.declared.commands.ChunkCommand.TheVariants as chunk
+use Rattle.pgs_command.specs.declared.commands.ItemCommand.TheVariants as item
+use Rattle.pgs_command.specs.declared.commands.LockCommand.TheVariants as lock
+use Rattle.pgs_command.specs.declared.commands.SnapshotCommand.TheVariants as snapshot
+use Rattle.pgs_command.specs.declared.commands.PlanCommand.TheVariants as plan
+use Rattle.pgs_command.specs.declared.commands.PortalCommand.TheVariants as portal
+use Rattle.pgs_command.specs.declared.commands.TellCommand.TheVariants as tell
+use Rattle.exec_core.specs.declared.steps.ScanStep.TheVariants as step
+use Rattle.exec_core.specs.Turn as exec
+use Rattle.session_rules.specs.Elements as e
+use Rattle.any_ctx.specs.declared.any.CtxKind.TheVariants as kind
+
+-- where a line stands: in an active session or in none; behind a level that was pushed, whose context is made next; behind that, where
+-- its owner is made next; and where the deepest level is aborted
+pub data Stage : Type 0 where
+  Working : Stage
+  ContextNext : Stage
+  OwnerNext : Stage
+  Hushed : Stage
+
+-- what is made for a level
+abbrev pub IsOwnContext : NewContext → Type 0
+IsOwnContext LevelContext = ⊥
+IsOwnContext other = Unit {0}
+
+abbrev pub IsOwnOwner : OwnerRole → Type 0
+IsOwnOwner OfLevel = ⊥
+IsOwnOwner other = Unit {0}
+
+-- what elements say by themselves
+abbrev pub IsSaid : What → Type 0
+IsSaid (what.Fetched name rows) = Unit {0}
+IsSaid what.AlreadyInTransaction = Unit {0}
+IsSaid what.NotInTransaction = Unit {0}
+IsSaid what.Ok = Unit {0}
+IsSaid other = ⊥
+
+-- an element that neither makes nor ends a level, nor anything for one
+abbrev pub IsOwnWork : Element → Type 0
+IsOwnWork (e.Says event) = IsSaid event
+IsOwnWork (e.MakeLevel name implicit) = ⊥
+IsOwnWork (e.MakeContext new) = IsOwnContext new
+IsOwnWork (e.MakeOwner role) = IsOwnOwner role
+IsOwnWork e.LevelStands = ⊥
+IsOwnWork (e.InTurn name x) = IsOwnWork x
+IsOwnWork e.CommitTop = ⊥
+IsOwnWork e.Subcommit = ⊥
+IsOwnWork e.Abort = ⊥
+IsOwnWork e.Cleanup = ⊥
+IsOwnWork other = Unit {0}
+
+-- an element of an active session
+abbrev pub IsLively : Element → Type 0
+IsLively (e.Says event) = IsSaid event
+IsLively (e.MakeContext new) = IsOwnContext new
+IsLively (e.MakeOwner role) = IsOwnOwner role
+IsLively (e.InTurn name x) = IsOwnWork x
+IsLively e.Cleanup = ⊥
+IsLively other = Unit {0}
+
+-- an element of a session whose deepest level is aborted
+abbrev pub IsHushed : Element → Type 0
+IsHushed (e.Checks check) = Unit {0}
+IsHushed (e.Says event) = IsSaid event
+IsHushed e.Cleanup = Unit {0}
+IsHushed other = ⊥
+
+abbrev pub IsLevelContext : Element → Type 0
+IsLevelContext (e.MakeContext LevelContext) = Unit {0}
+IsLevelContext other = ⊥
+
+abbrev pub IsLevelOwner : Element → Type 0
+IsLevelOwner (e.MakeOwner OfLevel) = Unit {0}
+IsLevelOwner other = ⊥
+
+-- an element that may come where the line stands so
+abbrev pub IsDue : Stage → Element → Type 0
+IsDue Working x = IsLively x
+IsDue ContextNext x = IsLevelContext x
+IsDue OwnerNext x = IsLevelOwner x
+IsDue Hushed x = IsHushed x
+
+abbrev pub working_next : Element → Stage
+working_next (e.MakeLevel name implicit) = ContextNext
+working_next e.Abort = Hushed
+working_next other = Working
+
+abbrev pub hushed_next : Element → Stage
+hushed_next e.Cleanup = Working
+hushed_next other = Hushed
+
+-- where the line stands behind an element that was not refused
+abbrev pub stage_next : Stage → Element → Stage
+stage_next Working x = working_next x
+stage_next ContextNext x = OwnerNext
+stage_next OwnerNext x = Working
+stage_next Hushed x = hushed_next x
+
+-- a line doesn't end while a level is being made
+abbrev pub IsRest : Stage → Type 0
+IsRest ContextNext = ⊥
+IsRest OwnerNext = ⊥
+IsRest other = Unit {0}
+
+-- elements of which each may come where the line stands by then
+abbrev pub AreDue : Stage → List Element → Type 0
+AreDue stage [] = IsRest stage
+AreDue stage (x ∷ xs) = IsDue stage x × AreDue (stage_next stage x) xs
+
+-- where a line stands that begins with these levels
+abbrev pub stage_of : List LevelState → Stage
+stage_of levels = if is_aborted levels then Hushed else Working
+
+-- the levels above the deepest are active
+abbrev pub AreAbove : List LevelState → Type 0
+AreAbove [] = Unit {0}
+AreAbove (level ∷ levels) = AreOuter levels
+
+-- elements that neither make nor end levels
+abbrev pub AreWork : List Element → Type 0
+AreWork [] = Unit {0}
+AreWork (x ∷ xs) = IsOwnWork x × AreWork xs
+
+both_work : (xs ys : List Element) → AreWork xs → AreWork ys → AreWork (xs ++ ys)
+both_work [] ys h k = k
+both_work (x ∷ xs) ys h k = (h.0, both_work xs ys h.1 k)
+
+checks_work : (checks : List Check) → AreWork (map e.Checks checks)
+checks_work [] = tt
+checks_work (check ∷ checks) = (tt, checks_work checks)
+
+-- of a scan
+turned_work : (name : Text) (es : List Element) → AreWork es → AreWork (map (e.InTurn name) es)
+turned_work name [] h = tt
+turned_work name (x ∷ es) h = (h.0, turned_work name es h.1)
+
+part_work : (name : Text) (s : ScanStep) → AreWork (fallible_part name s)
+part_work name (step.Pin page) = (tt, (tt, tt))
+part_work name (step.Bad row) = (tt, tt)
+part_work name step.Alloc = (tt, tt)
+part_work name other = tt
+
+scans_work : (name : Text) (steps : List ScanStep) → AreWork (flat_map (λ s. map (e.InTurn name) (e.Scans name s ∷ fallible_part name s)) steps)
+scans_work name [] = tt
+scans_work name (s ∷ steps) =
+    both_work (map (e.InTurn name) (e.Scans name s ∷ fallible_part name s)) _
+    (turned_work name (e.Scans name s ∷ fallible_part name s) (tt, part_work name s)) (scans_work name steps)
+
+last_or_more : (b : Bool) (xs ys : List Element) → AreWork xs → AreWork ys → AreWork (elim b as (λ _. List Element) [ true ↦ xs | false ↦ ys ])
+last_or_more true xs ys h k = h
+last_or_more false xs ys h k = k
+
+fetch_work : (name : Text) (count : ℕ) (scan : Scan) (rows : ℕ) → AreWork (fetch_steps name count scan rows)
+fetch_work name zero scan rows = (tt, tt)
+fetch_work name (suc count) scan rows =
+    both_work (turn_steps name scan) _ (scans_work name (exec.turn scan))
+    (last_or_more (scan.at == scan.rows) (e.Says (what.Fetched name rows) ∷ []) (fetch_steps name count (after_turn scan) (rows + 1))
+    (tt, tt) (fetch_work name count (after_turn scan) (rows + 1)))
+
+fetches_work : (name : Text) (count : ℕ) (o : Option OpenPortal) → AreWork (option_map_or (λ portal. fetch_steps name count portal.scan 0) o [])
+fetches_work name count None = tt
+fetches_work name count (Some portal) = fetch_work name count portal.scan 0
+
+-- of what is done within a transaction
+chunks_work : (c : ChunkCommand) → AreWork (chunk_row c).steps
+chunks_work (chunk.Free name) = (tt, tt)
+chunks_work other = (tt, tt)
+
+contexts_work : (c : ContextCommand) → AreWork (context_row c).steps
+contexts_work (context.Create name parent kind) = (tt, tt)
+contexts_work other = (tt, tt)
+
+items_work : (c : ItemCommand) → AreWork (item_row c).steps
+items_work (item.Pin buffer) = (tt, (tt, tt))
+items_work (item.Open file) = (tt, (tt, tt))
+items_work (item.Reference class key) = (tt, (tt, tt))
+items_work (item.Acquire kind key) = (tt, (tt, tt))
+items_work (item.Snapshot key) = (tt, (tt, tt))
+items_work other = (tt, tt)
+
+locks_work : (c : LockCommand) → AreWork (lock_row c).steps
+locks_work (lock.Lock object mode) = (tt, tt)
+locks_work other = (tt, tt)
+
+snapshots_work : (c : SnapshotCommand) → AreWork (snapshot_row c).steps
+snapshots_work snapshot.Pop = (tt, tt)
+snapshots_work other = (tt, tt)
+
+plans_work : (c : PlanCommand) → AreWork (plan_row c).steps
+plans_work (plan.Reference number) = (tt, (tt, tt))
+plans_work other = (tt, tt)
+
+portals_work : (c : PortalCommand) (portals : List OpenPortal) → AreWork (portal_row c portals).steps
+portals_work (portal.Open name object rows bad) portals = (tt, (tt, (tt, (tt, (tt, (tt, (tt, (tt, (tt, (tt, (tt, tt)))))))))))
+portals_work (portal.Fetch name count) portals = (tt, fetches_work name count (portal_named name portals))
+portals_work other portals = (tt, tt)
+
+tells_work : (c : TellCommand) → AreWork (tell_row c).steps
+tells_work tell.Report = (tt, tt)
+tells_work other = (tt, tt)
+
+steps_work : (w : Work) (portals : List OpenPortal) → AreWork (row_of w portals).steps
+steps_work work.Raise portals = tt
+steps_work (work.Contexts c) portals = contexts_work c
+steps_work (work.Chunks c) portals = chunks_work c
+steps_work (work.Items c) portals = items_work c
+steps_work (work.Locks c) portals = locks_work c
+steps_work (work.Snapshots c) portals = snapshots_work c
+steps_work (work.Plans c) portals = plans_work c
+steps_work (work.Portals c) portals = portals_work c portals
+steps_work (work.Tells c) portals = tells_work c
+
+work_is_work : (w : Work) (session : SessionState) → AreWork (work_of w session)
+work_is_work w s = both_work (map e.Checks (row_of w s.portals).checks) (row_of w s.portals).steps (checks_work (row_of w s.portals).checks) (steps_work w s.portals)
+
+-- such work may come in an active session, and leaves it active
+own_due : (x : Element) → IsOwnWork x → IsLively x × (working_next x ≡ Working)
+own_due (e.MakeLevel name implicit) h = elim h [ ]
+own_due (e.Says event) h = (h, refl)
+own_due (e.MakeContext new) h = (h, refl)
+own_due (e.MakeOwner role) h = (h, refl)
+own_due (e.InTurn name x) h = (h, refl)
+own_due e.Abort h = elim h [ ]
+own_due e.Cleanup h = elim h [ ]
+own_due other h = (tt, refl)
+
+work_due : (xs ys : List Element) → AreWork xs → AreDue Working ys → AreDue Working (xs ++ ys)
+work_due [] ys h k = k
+work_due (x ∷ xs) ys h k =
+    let d : IsLively x × (working_next x ≡ Working) = own_due x h.0 in
+    (d.0, subst (λ (stage : Stage). AreDue stage (xs ++ ys)) (sym d.1) (work_due xs ys h.1 k))
+
+commits_due : (n : ℕ) (ys : List Element) → AreDue Working ys → AreDue Working (replicate n e.Subcommit ++ ys)
+commits_due zero ys k = k
+commits_due (suc n) ys k = (tt, commits_due n ys k)
+
+-- a refusal may come anywhere between two lines
+refused_due : (b : Bool) (x : Error) → AreDue (if b then Hushed else Working) (e.Checks (e.Refuse x) ∷ e.Says what.Ok ∷ [])
+refused_due true x = (tt, (tt, tt))
+refused_due false x = (tt, (tt, tt))
+
+refused_alone : (b : Bool) (x : Error) → AreDue (if b then Hushed else Working) (refused x)
+refused_alone true x = (tt, tt)
+refused_alone false x = (tt, tt)
+
+-- levels that are rolled back, of which none is aborted
+rolled_outer : (n : ℕ) (levels : List LevelState) (ys : List Element) → AreOuter levels → AreDue Working ys → AreDue Working (rolled_back_to n levels ++ ys)
+rolled_outer n [] ys h k = k
+rolled_outer n (level ∷ levels) ys h k =
+    subst (λ (b : Bool). AreDue Working ((if nat_lt (length levels + 1) n then [] else (if b then e.Cleanup ∷ [] else e.Abort ∷ e.Cleanup ∷ []) ++ rolled_back_to n levels) ++ ys))
+    (sym h.0.unaborted) (go (nat_lt (length levels + 1) n) (rolled_outer n levels ys h.2 k))
+  where
+    go : (b : Bool) → AreDue Working (rolled_back_to n levels ++ ys) → AreDue Working ((if b then [] else (e.Abort ∷ e.Cleanup ∷ []) ++ rolled_back_to n levels) ++ ys)
+    go true more = k
+    go false more = (tt, (tt, more))
+
+-- the deepest level and some above it
+rolled_due : (n : ℕ) (level : LevelState) (levels : List LevelState) (ys : List Element) → n ≤ length levels + 1 → AreOuter levels → AreDue Working ys
+    → AreDue (stage_of (level ∷ levels)) (rolled_back_to n (level ∷ levels) ++ ys)
+rolled_due n level levels ys l h k =
+    subst (λ (b : Bool). AreDue (stage_of (level ∷ levels)) ((if b then [] else (if level.aborted then e.Cleanup ∷ [] else e.Abort ∷ e.Cleanup ∷ []) ++ rolled_back_to n levels) ++ ys))
+    (sym (le-ltb (length levels + 1) n l)) (go level.aborted)
+  where
+    go : (b : Bool) → AreDue (if b then Hushed else Working) (((if b then e.Cleanup ∷ [] else e.Abort ∷ e.Cleanup ∷ []) ++ rolled_back_to n levels) ++ ys)
+    go true = (tt, rolled_outer n levels ys h k)
+    go false = (tt, (tt, rolled_outer n levels ys h k))
+
+-- the level of a savepoint is one of these
+savepoint_within : (name : Text) (levels : List LevelState) (n : ℕ) → savepoint name levels ≡ Some n → n ≤ length levels
+savepoint_within name [] n is = absurd (cc is)
+savepoint_within name (level ∷ levels) n is = go (nat_lt 0 (length levels) && is_named name level) (savepoint_within name levels n) is
+  where
+    go : (b : Bool) → (savepoint name levels ≡ Some n → n ≤ length levels) → (if b then Some (length levels + 1) else savepoint name levels) ≡ Some n → n ≤ length (level ∷ levels)
+    go true more h = let k : length levels + 1 ≡ n = cc h in omega (arith, k)
+    go false more h = let k : n ≤ length levels = more h in omega (arith, k)
+
+-- what is done at a savepoint
+at_due : (name : Text) (levels : List LevelState) (go_on : ℕ → List Element)
+    → ((n : ℕ) → savepoint name levels ≡ Some n → AreDue (stage_of levels) (go_on n ++ (e.Says what.Ok ∷ [])))
+    → AreDue (stage_of levels) (at_savepoint name levels go_on ++ (e.Says what.Ok ∷ []))
+at_due name [] go_on h = (tt, (tt, tt))
+at_due name (level ∷ levels) go_on h = go (savepoint name (level ∷ levels)) refl
+  where
+    go : (o : Option ℕ) → savepoint name (level ∷ levels) ≡ o → AreDue (stage_of (level ∷ levels)) (option_map_or go_on o (refused error.NoSuchSavepoint) ++ (e.Says what.Ok ∷ []))
+    go None is = refused_due level.aborted error.NoSuchSavepoint
+    go (Some n) is = h n is
+
+-- the ends of transactions, and back to a savepoint, in an aborted one too
+rollback_due : (levels : List LevelState) → AreAbove levels → AreDue (stage_of levels) (rollback levels ++ (e.Says what.Ok ∷ []))
+rollback_due [] h = (tt, (tt, tt))
+rollback_due (level ∷ levels) h = rolled_due 1 level levels (e.Says what.Ok ∷ []) (omega arith) h (tt, tt)
+
+commit_due : (levels : List LevelState) → AreAbove levels → AreDue (stage_of levels) (commit levels ++ (e.Says what.Ok ∷ []))
+commit_due [] h = (tt, (tt, tt))
+commit_due (level ∷ levels) h = go level.aborted refl
+  where
+    go : (b : Bool) → level.aborted ≡ b
+        → AreDue (if b then Hushed else Working) ((if b then rolled_back_to 1 (level ∷ levels) else committed_to 2 (level ∷ levels) ++ (e.CommitTop ∷ [])) ++ (e.Says what.Ok ∷ []))
+    go true is = subst (λ (b : Bool). AreDue (if b then Hushed else Working) (rolled_back_to 1 (level ∷ levels) ++ (e.Says what.Ok ∷ []))) is (rollback_due (level ∷ levels) h)
+    go false is = rw append_assoc (commits_due (length (level ∷ levels) + 1 - 2) _ (tt, (tt, tt)))
+
+back_due : (name : Text) (levels : List LevelState) → AreAbove levels
+    → AreDue (stage_of levels) (at_savepoint name levels (λ n. rolled_back_to n levels ++ start (Some name) false) ++ (e.Says what.Ok ∷ []))
+back_due name [] h = (tt, (tt, tt))
+back_due name (level ∷ levels) h =
+    at_due name (level ∷ levels) (λ n. rolled_back_to n (level ∷ levels) ++ start (Some name) false)
+    (λ n is.
+    let near : n ≤ length (level ∷ levels) = savepoint_within name (level ∷ levels) n is in
+    rw append_assoc (rolled_due n level levels _ (omega (arith, near)) h (tt, (tt, (tt, (tt, (tt, tt)))))))
+
+-- the other commands on transactions, in an active session or in none
+begin_due : (levels : List LevelState) → AreDue Working (begin levels ++ (e.Says what.Ok ∷ []))
+begin_due [] = (tt, (tt, (tt, (tt, (tt, tt)))))
+begin_due (level ∷ levels) = (tt, (tt, tt))
+
+save_due : (name : Text) (levels : List LevelState) → AreDue Working (save name levels ++ (e.Says what.Ok ∷ []))
+save_due name [] = (tt, (tt, tt))
+save_due name (level ∷ levels) = (tt, (tt, (tt, (tt, (tt, tt)))))
+
+release_due : (name : Text) (levels : List LevelState) → is_aborted levels ≡ false → AreDue (stage_of levels) (at_savepoint name levels (λ n. committed_to n levels) ++ (e.Says what.Ok ∷ []))
+release_due name levels un =
+    at_due name levels (λ n. committed_to n levels)
+    (λ n is. subst (λ (b : Bool). AreDue (if b then Hushed else Working) (committed_to n levels ++ (e.Says what.Ok ∷ []))) (sym un) (commits_due (length levels + 1 - n) _ (tt, tt)))
+
+-- a stage that is known
+active_due : (levels : List LevelState) (xs : List Element) → is_aborted levels ≡ false → AreDue Working xs → AreDue (stage_of levels) xs
+active_due levels xs un k = subst (λ (b : Bool). AreDue (if b then Hushed else Working) xs) (sym un) k
+
+transaction_due : (c : TransactionCommand) (levels : List LevelState) → AreAbove levels → ((is_aborted levels ≡ false) ⊎ (ends_aborted c ≡ true))
+    → AreDue (stage_of levels) (then_ok (transaction_of c levels))
+transaction_due transaction.Begin levels h (inl un) = active_due levels _ un (begin_due levels)
+transaction_due transaction.Begin levels h (inr an) = absurd (cc an)
+transaction_due transaction.Commit levels h either = commit_due levels h
+transaction_due transaction.Rollback levels h either = rollback_due levels h
+transaction_due (transaction.Savepoint name) levels h (inl un) = active_due levels _ un (save_due name levels)
+transaction_due (transaction.Savepoint name) levels h (inr an) = absurd (cc an)
+transaction_due (transaction.Release name) levels h (inl un) = release_due name levels un
+transaction_due (transaction.Release name) levels h (inr an) = absurd (cc an)
+transaction_due (transaction.RollbackTo name) levels h either = back_due name levels h
+
+in_transaction_due : (levels : List LevelState) (work : List Element) → AreWork work → AreDue Working (in_transaction levels work)
+in_transaction_due [] work h = (tt, (tt, (tt, (tt, work_due work _ h (tt, (tt, tt))))))
+in_transaction_due (level ∷ levels) work h = work_due work _ h (tt, tt)
+
+rest_of : (b : Bool) → IsRest (if b then Hushed else Working)
+rest_of true = tt
+rest_of false = tt
+
+unaborted_due : (c : Command) (session : SessionState) → AreAbove session.levels → ((is_aborted session.levels ≡ false) ⊎ (is_end c ≡ true)) → AreDue (stage_of session.levels) (unaborted c session)
+unaborted_due command.Nothing s h either = rest_of (is_aborted s.levels)
+unaborted_due (command.Transaction c) s h either = transaction_due c s.levels h either
+unaborted_due (command.Work w) s h (inl un) = active_due s.levels _ un (in_transaction_due s.levels (work_of w s) (work_is_work w s))
+unaborted_due (command.Work w) s h (inr an) = absurd (cc an)
+
+elements_due : (c : Command) (session : SessionState) → AreAbove session.levels → AreDue (stage_of session.levels) (elements_of c session)
+unfolding elements_of
+elements_due c s h = go (is_aborted s.levels) refl (is_end c) refl
+  where
+    go : (a : Bool) → is_aborted s.levels ≡ a → (b : Bool) → is_end c ≡ b
+        → AreDue (stage_of s.levels) (elim (a && not b) as (λ _. List Element) [ true ↦ refused error.TransactionAborted | false ↦ unaborted c s ])
+    go false is b also = unaborted_due c s h (inl is)
+    go true is false also = refused_alone (is_aborted s.levels) error.TransactionAborted
+    go true is true also = unaborted_due c s h (inr also)
+
+-- Each element of a line may come where the line stands by then.
+pub line_due : (line : Option Command) (session : SessionState) → AreAbove session.levels → AreDue (stage_of session.levels) (line_elements line session)
+line_due None s h = refused_alone (is_aborted s.levels) error.SyntaxError
+line_due (Some c) s h = elements_due c s h
+
+pub above_of : (levels : List LevelState) (s : Scene) → Stands s → s.session.levels ≡ levels → AreAbove levels
+above_of [] s h is = tt
+above_of (level ∷ levels) s h is =
+    let fit : FitLevels (level ∷ levels) s.session.contexts s.session.owners s.session.current =
+    subst (λ (ls : List LevelState). FitLevels ls s.session.contexts s.session.owners s.session.current) is h.fit in
+    fit.1
+
+-- What an element owes that neither makes nor ends a level, where a law is kept by what it is made of.
 
 pub record WorkLeaves (R : Law) : Type 0 where
   pub leaves : Leaves R

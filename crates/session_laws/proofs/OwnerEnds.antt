@@ -1,51 +1,198 @@
--- A law that asks of an owner that goes that it is there and holds nothing, and of one that moves where it goes: lines and exits keep it.
-use Rattle.std.proofs.Common.{◌≡◌, ℕ, ◌≤◌, Bool, true, false, not, List, [], ◌∷◌, length, Option, Some, None, refl, sym, ap, ◌∙◌, subst, arith}
+-- What follows the release of an item, and the steps of a phase, leave of a session; and that they acquire and release no item besides.
+use Rattle.std.proofs.Common.{◌≡◌, Bool, true, false, List, [], ◌∷◌, refl, ap, ◌∙◌, ℕ, ◌≤◌, length, Option, Some, None, sym, subst, inl, inr, not, arith}
+use Rattle.pgs_step.specs.declared.events.What.{What}
+use Rattle.pgs_step.specs.declared.ids.Item.{Item}
+use Rattle.owner_kinds.specs.KindShelf.{table_of}
+use Rattle.owner_kinds.proofs.Places.{table-closed}
+use Rattle.owner_core.specs.Owners.{OwnerTree, AllAt, HoldsNothing}
+use Rattle.owner_core.specs.Steps.{Step, Said, GivesBack, ReleasesLocks, PassesLocks, ReleasesAllLocks, release_steps}
+use Rattle.session_rules.specs.World.{Scene, Moment}
+use Rattle.session_rules.specs.Acts.{for_each, Ended, where_so, where_there, changes, context_gone, in_order, portal_gone, switched}
+use Rattle.session_rules.specs.Releases.{given_back, step_done, owner_moved, owner_gone, owner_released, phase_released}
+use Rattle.session_rules.proofs.Leaves.{Acts, Keeps, Law, AllKeep, Leaves, LevelLeaves, MakeLeaves, OwesEnds as OwesEndings, OwesMoves, last, next}
+use Rattle.session_rules.proofs.Said.{AreSaid, said_both, said_none}
+use Rattle.session_rules.proofs.Sight.{Part, Sight, acts_of, children_go, gives_back, goes, of_kinds, of_levels, of_next_owner, of_next_serial, of_owners, unseen_files}
 use Rattle.std.specs.Prelude.{◌==◌}
+use Rattle.forest.specs.Forest.{has, AllNodes}
+use Rattle.forest.proofs.Trees.{Moves}
+use Rattle.session_rules.specs.State.{LevelState, OpenPortal, first_of, owner_of, abort_context, deepest_changed, depth, level_owner, top_context}
+use Rattle.session_rules.specs.Checks.{has_failed}
+use Rattle.session_rules.specs.Ending.{Ending, gone_levels}
+use Rattle.session_rules.specs.Portals.{portal_aborted, portal_failed, portal_passed, portal_withdrawn, executor_ended, is_ready, portal_closed, portal_ended, portal_owner_ended}
+use Rattle.session_rules.specs.Standing.{IsAttached, IsOwner, IsPortal, HasItems, IsLive, IsWorking, Stands, active_depth}
+use Rattle.session_rules.proofs.Ending.{Leads, with_parts}
+use Rattle.session_rules.proofs.Passing.{above_owner, above_there, all_passed, passed_leads}
+use Rattle.session_rules.proofs.Replacing.{first_of_rest, all_closed}
+use Rattle.session_rules.proofs.Walk.{by_either, by_each, by_order, fallible_at, levels_owed, makes_owed}
+use Rattle.session_rules.proofs.WalkEnds.{portal_fails, portal_lowers, portal_returns, context_goes, empty_context_goes, executor_ends, level_context_goes, level_marks, level_pops, level_releases, owner_releases, portal_cleans, portal_closes, switches_up}
 use Rattle.std.specs.Option.{option_and_then}
 use Rattle.pgs_step.specs.declared.errors.Error.{Error}
-use Rattle.pgs_step.specs.declared.events.What.TheVariants as what
 use Rattle.pgs_step.specs.declared.ids.KindId.{KindId}
 use Rattle.pgs_step.specs.declared.ids.Phase.{Phase}
 use Rattle.pgs_step.specs.declared.ids.Phase.TheVariants.{BeforeLocks, Locks, AfterLocks}
-use Rattle.forest.specs.Forest.{has, AllNodes}
-use Rattle.forest.proofs.Trees.{Moves}
-use Rattle.owner_kinds.specs.KindShelf.{table_of}
 use Rattle.owner_kinds.specs.KindTable.{KindTable, IsSound as IsSoundTable}
-use Rattle.owner_core.specs.Owners.{OwnerTree, AllAt, HoldsNothing}
 use Rattle.owner_core.specs.Released.{released}
-use Rattle.owner_core.specs.Steps.{Step, release_steps}
-use Rattle.session_rules.specs.State.{LevelState, OpenPortal, abort_context, deepest_changed, depth, first_of, level_owner, owner_of, top_context}
-use Rattle.session_rules.specs.World.{Moment, Scene}
-use Rattle.session_rules.specs.Elements as e
 use Rattle.session_rules.specs.Elements.{Element, OfLevel, OfPortal, OwnerRole, Text}
 use Rattle.session_rules.specs.Lookup.{kind_named, owner_in, portal_named}
-use Rattle.session_rules.specs.Acts.{Ended, changes, context_gone, for_each, in_order, portal_gone, switched, where_so, where_there}
-use Rattle.session_rules.specs.Releases.{owner_gone, owner_moved, owner_released, phase_released, step_done}
-use Rattle.session_rules.specs.Portals.{executor_ended, is_ready, portal_aborted, portal_closed, portal_ended, portal_owner_ended, portal_passed}
 use Rattle.session_rules.specs.Ends.{aborted, cleaned_up, committed, empty_context_gone, level_context_gone, level_owner_gone, level_popped, level_released, level_rolled_back, stack_lowered, stack_popped, subcommitted, switched_up}
-use Rattle.session_rules.specs.Ending.{Ending, gone_levels}
 use Rattle.session_rules.specs.Parts.{at_kind, at_owner}
-use Rattle.session_rules.specs.Standing.{HasItems, IsLive, IsWorking, Stands, active_depth}
 use Rattle.session_rules.specs.Taking.{item_taken}
 use Rattle.session_rules.specs.Does.{does}
-use Rattle.session_rules.proofs.Ending.{Leads, with_parts}
 use Rattle.session_rules.proofs.EndsStand.{begins, is_settled, off_begins, owner_when_active, resettled, settled, switched_off}
 use Rattle.session_rules.proofs.Failing.{aborted_leads, all_aborted}
 use Rattle.session_rules.proofs.ItemsStand.{owner_there}
-use Rattle.session_rules.proofs.Leaves.{Acts, AllKeep, Keeps, Law, Leaves, LevelLeaves, MakeLeaves, OwesEnds as OwesEndings, OwesMoves, last, next}
 use Rattle.session_rules.proofs.LevelsKept.{left_nothing, no_value}
-use Rattle.session_rules.proofs.Passing.{all_passed, passed_leads}
 use Rattle.session_rules.proofs.PortalEnds.{executor_beside, owner_in as portal_owner_there}
 use Rattle.session_rules.proofs.PortalWorks.{Beside}
 use Rattle.session_rules.proofs.Releasing.{HasSwept, released_swept}
-use Rattle.session_rules.proofs.Replacing.{all_closed}
 use Rattle.session_rules.proofs.Swept.{has_swept}
 use Rattle.session_rules.proofs.TurnStands.{Meets}
-use Rattle.session_rules.proofs.Walk.{by_each, by_order, fallible_at, levels_owed, makes_owed}
-use Rattle.session_rules.proofs.WalkEnds.{context_goes, empty_context_goes, executor_ends, level_context_goes, level_marks, level_pops, level_releases, owner_releases, portal_cleans, portal_closes, switches_up}
-use Rattle.session_laws.proofs.ReaderLaws.{OwesEnds, OwesTurns}
-use Rattle.session_laws.proofs.PortalMoves.{aborted_reads, each_reads, passed_reads}
-use Rattle.session_laws.proofs.StepsRest.{Quiet, Stays, StaysBut, quiet_acts, steps_stay}
+use Rattle.session_laws.proofs.Lives.{OwesEnds, OwesTurns}
+use Rattle.pgs_step.specs.declared.events.What.TheVariants as what
+use Rattle.session_rules.specs.Elements as e
+
+-- an event that acquires no item and releases none
+abbrev pub is_still : What → Bool
+is_still (what.Acquire item owner) = false
+is_still (what.Release item owner) = false
+is_still other = true
+
+-- The owners are these then, and levels, numbers and what never changes of kinds are as they were.
+pub record StaysBut (now : OwnerTree) (s t : Scene) : Type 0 where
+  pub owners : t.session.owners ≡ now
+  pub next_owner : t.session.next_owner ≡ s.session.next_owner
+  pub next_serial : t.session.next_serial ≡ s.session.next_serial
+  pub levels : t.session.levels ≡ s.session.levels
+  pub kinds : table_of t.around.kinds ≡ table_of s.around.kinds
+
+-- the owners are as they were, too
+abbrev pub Stays : Scene → Scene → Type 0
+Stays s t = StaysBut s.session.owners s t
+
+pub stays : (s : Scene) → Stays s s
+stays s = record { owners = refl; next_owner = refl; next_serial = refl; levels = refl; kinds = refl }
+
+pub stays_both : {s t u : Scene} → Stays s t → Stays t u → Stays s u
+stays_both a b = record {
+  owners = b.owners ∙ a.owners;
+  next_owner = b.next_owner ∙ a.next_owner;
+  next_serial = b.next_serial ∙ a.next_serial;
+  levels = b.levels ∙ a.levels;
+  kinds = b.kinds ∙ a.kinds;
+}
+
+-- besides, nothing is said of items
+pub record Quiet (s t : Scene) (events : List What) : Type 0 where
+  pub stays : Stays s t
+  pub still : AreSaid is_still events
+
+abbrev sees_rest : Part → Bool
+sees_rest of_owners = true
+sees_rest of_next_owner = true
+sees_rest of_next_serial = true
+sees_rest of_levels = true
+sees_rest of_kinds = true
+sees_rest other = false
+
+sight : Sight sees_rest is_still Quiet
+sight = record {
+  both = λ h k. record { stays = stays_both h.stays k.stays; still = said_both h.still k.still };
+  aside = λ s t same said. record {
+    stays = record {
+      owners = same.so of_owners refl;
+      next_owner = same.so of_next_owner refl;
+      next_serial = same.so of_next_serial refl;
+      levels = same.so of_levels refl;
+      kinds = ap table_of (same.so of_kinds refl);
+    };
+    still = said;
+  };
+}
+
+-- acts that change contexts, portals and plans alone
+pub quiet_acts : Acts Quiet
+quiet_acts = acts_of sees_rest is_still Quiet sight refl refl (goes sees_rest is_still Quiet sight refl refl refl (λ word n. refl) (λ n. refl)) (children_go sees_rest is_still Quiet sight refl refl refl (λ word n. refl) (λ n. refl))
+
+pub given_quiet : (item : Item) → Keeps Quiet (given_back item)
+given_quiet item =
+    gives_back sees_rest is_still Quiet sight refl refl quiet_acts.gone quiet_acts.children (unseen_files sees_rest is_still Quiet sight refl (λ file. refl) (λ file. refl)).closed
+    (λ place key. record { so = λ s. record { stays = record { owners = refl; next_owner = refl; next_serial = refl; levels = refl; kinds = table-closed s.around.kinds place key }; still = said_none } }) item
+
+-- steps of a release leave owners to the phase
+step_stays : (step : Step) (s : Scene) → Stays s (step_done step s).scene
+step_stays (Said event) s = stays s
+step_stays (GivesBack item) s = ((given_quiet item).so s).stays
+step_stays (ReleasesLocks owner) s = record { owners = refl; next_owner = refl; next_serial = refl; levels = refl; kinds = refl }
+step_stays (PassesLocks from to) s = record { owners = refl; next_owner = refl; next_serial = refl; levels = refl; kinds = refl }
+step_stays (ReleasesAllLocks top) s = record { owners = refl; next_owner = refl; next_serial = refl; levels = refl; kinds = refl }
+
+pub steps_stay : (steps : List Step) (s : Scene) → Stays s (for_each step_done steps s).scene
+steps_stay [] s = stays s
+steps_stay (step ∷ steps) s = stays_both (step_stays step s) (steps_stay steps (step_done step s).scene)
+
+-- What the ends of levels make of portals, where a law asks of an owner that moves that it may.
+
+module _ (R : Law) (a : Acts R) (moved : (n p : ℕ) (s : Scene) → Moves n p s.session.owners → R s (owner_moved n p s).scene (owner_moved n p s).events) where
+  -- an owner moves, where there are two and where it may
+  passes : (b : Bool) (own above : Option ℕ) (s : Scene) → ((o q : ℕ) → own ≡ Some o → above ≡ Some q → Moves o q s.session.owners)
+      → R s (where_so b (where_there own (λ owner. where_there above (owner_moved owner))) s).scene (where_so b (where_there own (λ owner. where_there above (owner_moved owner))) s).events
+  passes false own above s may = a.none s
+  passes true None above s may = a.none s
+  passes true (Some o) None s may = a.none s
+  passes true (Some o) (Some q) s may = moved o q s (may o q refl refl)
+
+  -- acts for each portal
+  pub each_reads : (level : LevelState) (levels done : List LevelState) (act : OpenPortal → Scene → Ended)
+      → ((p : OpenPortal) (front back : List OpenPortal) (s : Scene) → Ending level levels done front (p ∷ back) s → Leads level levels done back s (act p s).scene)
+      → ((p : OpenPortal) (front back : List OpenPortal) (s : Scene) → Ending level levels done front (p ∷ back) s → R s (act p s).scene (act p s).events)
+      → (ps front : List OpenPortal) (s : Scene) → Ending level levels done front ps s → R s (for_each act ps s).scene (for_each act ps s).events
+  each_reads level levels done act leads reads [] front s k = a.none s
+  each_reads level levels done act leads reads (p ∷ ps) front s k =
+      let first : Leads level levels done ps s (act p s).scene = leads p front ps s k in
+      let z : Scene = with_parts first.goes.parts s in
+      a.both (reads p front ps s k)
+      (subst (λ (y : Scene). R y (for_each act ps y).scene (for_each act ps y).events) (sym first.goes.is) (each_reads level levels done act leads reads ps first.front z first.goes.ending))
+
+  -- a portal passes to the level above
+  pub passed_reads : (level : LevelState) (levels : List LevelState) → 1 ≤ length levels → (p : OpenPortal) (front back : List OpenPortal) (s : Scene) → Ending level levels levels front (p ∷ back) s
+      → R s (portal_passed (length (level ∷ levels)) (owner_of (first_of levels)) p s).scene (portal_passed (length (level ∷ levels)) (owner_of (first_of levels)) p s).events
+  passed_reads level levels some p front back s k =
+      let i : IsPortal p (level ∷ levels) s.session.contexts s.session.owners s.session.current = first_of_rest level levels levels p front back s k in
+      a.both
+      (passes (p.created == length (level ∷ levels)) p.owner (owner_of (first_of levels)) s
+      (λ o q owned up.
+      let at : IsAttached o p.created (level ∷ levels) s.session.owners = i.owner o owned in
+      record {
+        node = at.there;
+        parent = above_there level levels some s.session.contexts s.session.owners q k.all.1 up;
+        other = λ z. at.other (inr (subst (λ (j : ℕ). IsOwner j levels) z (above_owner level levels some q up)));
+        apart = ap (has q) at.lone;
+      }))
+      (a.both ((portal_lowers R a (length (level ∷ levels)) p).so _) (a.none _))
+
+  -- a portal fails or is withdrawn
+  withdrawn_reads : (level : LevelState) (levels : List LevelState) (p : OpenPortal) (front back : List OpenPortal) (s : Scene) → Ending level levels (gone_levels level levels) front (p ∷ back) s
+      → R s (portal_withdrawn (length (level ∷ levels)) level.owner p s).scene (portal_withdrawn (length (level ∷ levels)) level.owner p s).events
+  withdrawn_reads level levels p front back s k =
+      let i : IsPortal p (level ∷ levels) s.session.contexts s.session.owners s.session.current = first_of_rest level levels (gone_levels level levels) p front back s k in
+      a.both
+      (passes (has_failed p.state) p.owner level.owner s
+      (λ o lo owned is.
+      let at : IsAttached o p.created (level ∷ levels) s.session.owners = i.owner o owned in
+      record { node = at.there; parent = (k.all.0.owner lo is).there; other = λ z. at.other (inl (is ∙ ap (λ (j : ℕ). Some j) z)); apart = ap (has lo) at.lone }))
+      (a.both ((portal_returns R a (length (level ∷ levels)) p).so _) (a.none _))
+
+  pub aborted_reads : (level : LevelState) (levels : List LevelState) (p : OpenPortal) (front back : List OpenPortal) (s : Scene) → Ending level levels (gone_levels level levels) front (p ∷ back) s
+      → R s (portal_aborted (length (level ∷ levels)) level.owner p s).scene (portal_aborted (length (level ∷ levels)) level.owner p s).events
+  aborted_reads level levels p front back s k =
+      let n : ℕ = length (level ∷ levels) in
+      by_either R a (p.created == n) (portal_failed p s) (where_so (p.active == n) (portal_withdrawn n level.owner p) s) ((portal_fails R a p).so s) (active (p.active == n))
+    where
+      active : (b : Bool) → R s (where_so b (portal_withdrawn (length (level ∷ levels)) level.owner p) s).scene (where_so b (portal_withdrawn (length (level ∷ levels)) level.owner p) s).events
+      active false = a.none s
+      active true = withdrawn_reads level levels p front back s k
+
+-- A law that asks of an owner that goes that it is there and holds nothing, and of one that moves where it goes: lines and exits keep it.
 
 -- Kinds are sound, and each item is of a known one.
 pub record Known (s : Scene) : Type 0 where

@@ -1,10 +1,9 @@
--- A warning of what was not closed stands directly before the release of its item.
-use Rattle.std.proofs.Common.{◌≡◌, ℕ, Bool, true, false, not, List, [], ◌∷◌, Option, Some, None, refl, subst, sym}
+-- Which events open a release, warn, or stand beside what a release releases.
+use Rattle.std.proofs.Common.{Bool, true, false, ◌≡◌, ℕ, not, List, [], ◌∷◌, Option, Some, None, refl, subst, sym}
+use Rattle.pgs_step.specs.declared.events.What.{What}
 use Rattle.std.specs.Prelude.{◌==◌, ◌&&◌}
 use Rattle.std.proofs.lemmas.Bool.{and_from, eq-eqb}
 use Rattle.pgs_step.specs.declared.errors.Error.{Error}
-use Rattle.pgs_step.specs.declared.events.What.{What}
-use Rattle.pgs_step.specs.declared.events.What.TheVariants as what
 use Rattle.pgs_step.specs.declared.ids.Item.{Item}
 use Rattle.pgs_command.specs.declared.commands.Command.{Command}
 use Rattle.owner_kinds.specs.KindTable.{KindTable}
@@ -25,8 +24,29 @@ use Rattle.session_rules.proofs.Said.{AreSaid, said_more, said_none, said_one}
 use Rattle.session_rules.proofs.Sight.{FileLeaves, Sight, end_leaves_of, hook_waits_so, item_comes, item_goes, locks_one, makes_context, moves_context, no_part, owner_goes, owner_makes, owner_moves, places, plans_one, pushes, unlocks, unseen_contexts, unseen_files, unseen_keys, unseen_locks, unseen_stack}
 use Rattle.session_rules.proofs.WalkEnds.{all_owed, exit_follows, recovery_follows}
 use Rattle.session_rules.proofs.Spoken.{line_spoken}
-use Rattle.session_laws.proofs.ReaderLaws.{IsLife, IsRead, Reads, read_both}
-use Rattle.session_laws.proofs.OrderSaid.{is_warning}
+use Rattle.session_laws.proofs.Lives.{IsLife, IsRead, Reads, read_both}
+use Rattle.pgs_step.specs.declared.events.What.TheVariants as what
+
+-- what is said beside what a release releases: of contexts that go, of descriptors and of snapshots
+abbrev pub is_aside : What → Bool
+is_aside (what.Callback word context) = true
+is_aside (what.Delete context) = true
+is_aside (what.DescriptorClosed file) = true
+is_aside (what.Pop snapshot) = true
+is_aside other = false
+
+-- what opens a release
+abbrev pub is_line : What → Bool
+is_line (what.CommitLevel level) = true
+is_line (what.AbortLevel level) = true
+is_line other = false
+
+-- what warns
+abbrev pub is_warning : What → Bool
+is_warning (what.NotClosed item owner) = true
+is_warning other = false
+
+-- A warning of what was not closed stands directly before the release of its item.
 
 -- between two steps of a session no warning waits for its release
 abbrev pub IsSettled : Option Owned → Scene → Type 0
