@@ -1,50 +1,22 @@
 -- Callbacks that wait by what was said, context by context, and what is said of them where contexts go.
-use Rattle.std.proofs.Common.{◌≡◌, ◌≢◌, ℕ, Bool, true, false, cond, Option, Some, None, List, [], ◌∷◌, ◌++◌, map, refl, sym, ap, ◌∙◌, subst, inl, inr, arith, ◌+◌, ◌≤◌, not}
-use Rattle.std.specs.Prelude.{◌==◌, ◌||◌}
-use Rattle.std.specs.Option.{option_map_or}
-use Rattle.std.proofs.lemmas.Bool.{cases_Bool, cases_eq, eq-eqb, ne_eqb, eqb-true, both_ways, cond-true, cond-false, false_from_ne_true, or_parts, and_from}
-use Rattle.pgs_step.specs.declared.events.What.{What}
-use Rattle.forest.specs.Forest.{Empty, Node, Once, at, children, either, has, removed, subtree, times, with_children, changed, is_above, put}
-use Rattle.forest.proofs.Trees.{Apart, apart_of, at_absent, at_some, has_none, removed_absent, times_none, times_removed, times_some, Moves, changed_absent, put_absent}
-use Rattle.reset_callbacks.specs.Hook.{Hook, AreDistinct}
-use Rattle.context_rules.specs.Contexts.{Context, Contexts, is_child, move_events, new_context, placed_under}
-use Rattle.context_rules.specs.Ends.{callbacks, gone_events, cleared_alone, emptied, gone, waiting}
-use Rattle.lifetime_laws.specs.Reading.{allows_all, seen_after, events_of, is_one_of}
+use Rattle.session_laws.proofs.Words.{◌≡◌, ◌≢◌, ℕ, Bool, true, false, cond, Option, Some, None, List, [], ◌∷◌, ◌++◌, map, refl, sym, ap, ◌∙◌, subst, inl, inr, arith, ◌+◌, ◌≤◌, not, ◌==◌, ◌||◌, option_map_or, cases_Bool, cases_eq, eq-eqb, ne_eqb, eqb-true, both_ways, cond-true, cond-false, false_from_ne_true, or_parts, and_from, Empty, Node, Once, at, children, either, has, removed, subtree, times, with_children, changed, is_above, put, Apart, apart_of, at_absent, at_some, has_none, removed_absent, times_none, times_removed, times_some, Moves, changed_absent, put_absent, nat_tests, sum_by-append}
+use Rattle.session_laws.proofs.Scenes.{What, Hook, AreDistinct, Context, Contexts, is_child, move_events, new_context, placed_under, callbacks, gone_events, cleared_alone, emptied, gone, waiting, Error, KindTable, IsSound, CtxKind, opening, Around, Scene, Moment, Options, World, moment, with_scene, Ended, children_gone, context_cleared, context_cleared_alone, context_gone, say, Text, context_made, context_moved, hook_waits, table_of, exited, Reading, course_by, ended, of_session, transcript_by, turn}
+use Rattle.session_laws.proofs.Rules.{allows_all, seen_after, events_of, is_one_of, allows_all-append, seen_after-append, at_children, at_emptied, at_left, times_emptied, at_put, at_put_other, EndLeaves, Keeps, Law, AreSaid, said_more, said_none, ContextLeaves, Sight, of_contexts, of_next_context}
 use Rattle.lifetime_laws.specs.Called.{Waiting, calling, is_awaited, is_next, without_next, CallsBack, all_differ, words_in}
 use Rattle.lifetime_laws.specs.Once.{none_left}
-use Rattle.lifetime_laws.proofs.Readings.{allows_all-append, seen_after-append}
-use Rattle.session_rules.proofs.Forests.{at_children, at_emptied, at_left, times_emptied, at_put, at_put_other}
-use Rattle.std.proofs.lemmas.Bool.Decides.{nat_tests}
-use Rattle.pgs_step.specs.declared.errors.Error.{Error}
 use Rattle.forest.proofs.Moved.{at_moved}
 use Rattle.forest.proofs.Mapped.{at_changed, at_changed_other}
-use Rattle.owner_kinds.specs.KindTable.{KindTable, IsSound}
-use Rattle.any_ctx.specs.declared.any.CtxKind.{CtxKind}
 use Rattle.context_rules.specs.Refusals.{is_within}
-use Rattle.session_rules.specs.State.{opening}
-use Rattle.session_rules.specs.World.{Around, Scene, Moment, Options, World, moment, with_scene}
-use Rattle.session_rules.specs.Acts.{Ended, children_gone, context_cleared, context_cleared_alone, context_gone, say}
-use Rattle.session_rules.specs.Elements.{Text}
-use Rattle.session_rules.specs.Making.{context_made}
-use Rattle.session_rules.specs.Parts.{context_moved}
-use Rattle.session_rules.specs.Taking.{hook_waits}
 use Rattle.session_rules.proofs.Chunked.{LeavesHooks}
 use Rattle.session_rules.proofs.HookSteps.{AreNumbered, IsNumbered, counted_alone, counted_children, counted_gone, counted_moved, numbered_changed, numbered_put}
 use Rattle.session_rules.proofs.NamesStand.{named_there}
-use Rattle.session_rules.proofs.Leaves.{EndLeaves, Keeps, Law}
 use Rattle.session_laws.proofs.Lives.{IsLife, IsRead, OwesTurns, Reads, read_both, life_by, owes_by}
 use Rattle.session_rules.proofs.Aside.{ContextLaw, context_ends, context_makes, is_apart, is_of_contexts}
 use Rattle.session_rules.proofs.Meeting.{StandingMoves, standing_moves}
-use Rattle.session_rules.proofs.Said.{AreSaid, said_more, said_none}
-use Rattle.session_rules.proofs.Sight.{ContextLeaves, Sight, of_contexts, of_next_context}
-use Rattle.std.proofs.lemmas.List.Sums.{sum_by-append}
 use Rattle.pgs_step.specs.declared.events.Event.{Event}
 use Rattle.owner_kinds.specs.Kind.{Kind}
-use Rattle.owner_kinds.specs.KindShelf.{table_of}
 use Rattle.reset_callbacks.specs.ShelfState.{ShelfState, held}
-use Rattle.session_rules.specs.Ends.{exited}
 use Rattle.session_rules.specs.HookCounts.{HooksCounted, hooks_of, is_registered, registered_of}
-use Rattle.session_rules.specs.Transcript.{Reading, course_by, ended, of_session, transcript_by, turn}
 use Rattle.session_rules.proofs.HookLaws.{exited_counts_hooks, turn_counts_hooks}
 use Rattle.session_rules.proofs.HookSums.{registered_cons}
 use Rattle.session_rules.proofs.HooksKept.{distinct_times, times_append}

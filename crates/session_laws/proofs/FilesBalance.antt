@@ -1,25 +1,9 @@
 -- Where each item is released once, so are the items of a file together.
-use Rattle.std.proofs.Common.{◌≡◌, ℕ, ◌+◌, ◌-◌, ◌≤◌, Bool, true, false, cond, if◌then◌else◌, List, [], ◌∷◌, ◌++◌, length, Option, Some, None, refl, sym, ap, ◌∙◌, arith, subst}
-use Rattle.std.specs.Prelude.{◌==◌, ◌&&◌, sum_by, nat_le}
-use Rattle.std.specs.Option.{option_map_or}
-use Rattle.std.proofs.lemmas.Bool.{and_from, and_parts, both_ways, eq-eqb, eqb-true, leb-true}
-use Rattle.std.proofs.lemmas.List.Sums.{sum_by-cons}
-use Rattle.pgs_step.specs.declared.events.What.{What}
-use Rattle.pgs_step.specs.declared.ids.Item.{Item}
-use Rattle.lifetime_laws.specs.Reading.{allows_all, seen_after, Reader}
-use Rattle.lifetime_laws.specs.Balance.{BalancesFrom, count, covers, left}
+use Rattle.session_laws.proofs.Words.{◌≡◌, ℕ, ◌+◌, ◌-◌, ◌≤◌, Bool, true, false, cond, if◌then◌else◌, List, [], ◌∷◌, ◌++◌, length, Option, Some, None, refl, sym, ap, ◌∙◌, arith, subst, ◌==◌, ◌&&◌, sum_by, nat_le, option_map_or, and_from, and_parts, both_ways, eq-eqb, eqb-true, leb-true, sum_by-cons}
+use Rattle.session_laws.proofs.Scenes.{What, Item, is_of, file_kind, SessionState, opening, Error, Command, table_of, KindTable, Around, Moment, Scene, exited, StandsBetweenLines, turn}
+use Rattle.session_laws.proofs.Rules.{allows_all, seen_after, Reader, BalancesFrom, count, covers, left}
 use Rattle.lifetime_laws.specs.Once.{acquires, one_where, releases, same_item, closes, opens}
-use Rattle.owner_items.specs.ItemList.{is_of}
-use Rattle.session_rules.specs.State.{file_kind, SessionState, opening}
 use Rattle.session_laws.proofs.FilesHeld.{item_reader, leaves_file, takes_file, ItemFits, items_seen, items_exit, items_turn}
-use Rattle.pgs_step.specs.declared.errors.Error.{Error}
-use Rattle.pgs_command.specs.declared.commands.Command.{Command}
-use Rattle.owner_kinds.specs.KindShelf.{table_of}
-use Rattle.owner_kinds.specs.KindTable.{KindTable}
-use Rattle.session_rules.specs.World.{Around, Moment, Scene}
-use Rattle.session_rules.specs.Ends.{exited}
-use Rattle.session_rules.specs.Standing.{StandsBetweenLines}
-use Rattle.session_rules.specs.Transcript.{turn}
 use Rattle.session_laws.proofs.Lives.{IsRead, Reads}
 use Rattle.session_laws.proofs.Lifts.{IsLifeAmong}
 use Rattle.session_laws.proofs.LocksSight.{of_items, plain_one}

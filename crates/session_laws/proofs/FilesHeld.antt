@@ -1,60 +1,20 @@
 -- What becomes of owners makes them hold no more, and leaves each number once.
-use Rattle.std.proofs.Common.{◌≡◌, ℕ, ◌≤◌, true, Some, List, [], ◌∷◌, refl, ap, inl, inr, arith, ◌+◌, ◌-◌, Bool, false, cond, nat_eq, if◌then◌else◌, ◌++◌, Option, None, sym, subst, ◌∙◌, zero, suc, find, take}
-use Rattle.std.specs.Prelude.{◌==◌, ◌&&◌, nat_le, nat_lt}
-use Rattle.std.specs.List.{list_any}
-use Rattle.std.proofs.lemmas.Bool.{cases_Bool, and_from, eqb-true, le-leb}
+use Rattle.session_laws.proofs.Words.{◌≡◌, ℕ, ◌≤◌, true, Some, List, [], ◌∷◌, refl, ap, inl, inr, arith, ◌+◌, ◌-◌, Bool, false, cond, nat_eq, if◌then◌else◌, ◌++◌, Option, None, sym, subst, ◌∙◌, zero, suc, find, take, ◌==◌, ◌&&◌, nat_le, nat_lt, list_any, cases_Bool, and_from, eqb-true, le-leb, Empty, Node, Once, at, children, has, moved, put, removed, times as node_times, parent_of, subtree, size, all_changed, swept, order_at, at_absent, at_some, once_removed, put_absent, removed_absent, times_put, times_removed, changed_absent, once_changed, option_map_or}
+use Rattle.session_laws.proofs.Scenes.{Item, KindId, is_of, uses, without_newest, Owner, OwnerTree, held, created, forgotten, remembered, What, Phase, BeforeLocks, Locks, AfterLocks, Lock, owner_count, KindTable, release_order, Step, Said, GivesBack, ReleasesLocks, PassesLocks, ReleasesAllLocks, lock_step, own_steps, release_of, release_steps, releases_of, steps_below, top_locks, StandingPlan, file_kind, level_above, level_owner, owner_of, opening, Scene, Around, Moment, plan_at, newest, Ended, for_each, where_so, where_there, changes, in_order, say, NoOne, TheDescriptors, TheKind, ThePlans, given_back, left_to, plan_becomes, plan_settled, plan_stays, step_done, item_released, keeper_of, owner_gone, owner_moved, phase_released, table_of, own_released, released, OfLevel, OfPortal, OwnerRole, Element, new_owner_made, owner_made, limit, descriptor_given, files, item_taken, remembers, taken_by, snapshot_pushed, Error, Command, failure, unless, refused_call, unless_refused, does, exited, Stands, StandsBetweenLines, line_elements, turn}
+use Rattle.session_laws.proofs.Rules.{Reader, allows_all, seen_after, count, allows_all-append, seen_after-append, Law, Follows, IsRun, Meets, line_runs, fallible_at, fallible_so}
 use Rattle.std.proofs.lemmas.Grind.{common_steps}
-use Rattle.pgs_step.specs.declared.ids.Item.{Item}
-use Rattle.pgs_step.specs.declared.ids.KindId.{KindId}
-use Rattle.forest.specs.Forest.{Empty, Node, Once, at, children, has, moved, put, removed, times as node_times, parent_of, subtree, size}
-use Rattle.forest.specs.Walk.{all_changed, swept, order_at}
-use Rattle.forest.proofs.Trees.{at_absent, at_some, once_removed, put_absent, removed_absent, times_put, times_removed, changed_absent, once_changed}
-use Rattle.owner_items.specs.ItemList.{is_of, uses, without_newest}
-use Rattle.owner_core.specs.Owners.{Owner, OwnerTree, held, created, forgotten, remembered}
 use Rattle.owner_core.specs.Sound.{total}
 use Rattle.owner_core.proofs.Sounds.{total_put, total_removed, once_of, sound_created}
 use Rattle.session_rules.specs.Counts.{all_items, holds}
-use Rattle.std.specs.Option.{option_map_or}
-use Rattle.pgs_step.specs.declared.events.What.{What}
-use Rattle.pgs_step.specs.declared.ids.Phase.{Phase}
-use Rattle.pgs_step.specs.declared.ids.Phase.TheVariants.{BeforeLocks, Locks, AfterLocks}
-use Rattle.lifetime_laws.specs.Reading.{Reader, allows_all, seen_after}
-use Rattle.lifetime_laws.specs.Balance.{count}
-use Rattle.lifetime_laws.proofs.Readings.{allows_all-append, seen_after-append}
-use Rattle.lock_local.specs.Locks.{Lock, owner_count}
-use Rattle.owner_kinds.specs.KindTable.{KindTable}
-use Rattle.owner_items.specs.Next.{release_order}
-use Rattle.owner_core.specs.Steps.{Step, Said, GivesBack, ReleasesLocks, PassesLocks, ReleasesAllLocks, lock_step, own_steps, release_of, release_steps, releases_of, steps_below, top_locks}
 use Rattle.session_rules.proofs.HeldItems.{gives, gives_phase, held_created, held_forgotten, held_remembered}
 use Rattle.file_table.specs.Descriptors.{is_among, without}
 use Rattle.file_table.proofs.FileCounts.{times, times_none, times_without}
-use Rattle.session_rules.specs.State.{StandingPlan, file_kind, level_above, level_owner, owner_of, opening}
-use Rattle.session_rules.specs.World.{Scene, Around, Moment}
-use Rattle.session_rules.specs.Lookup.{plan_at, newest}
-use Rattle.session_rules.specs.Acts.{Ended, for_each, where_so, where_there, changes, in_order, say}
-use Rattle.session_rules.specs.Releases.{NoOne, TheDescriptors, TheKind, ThePlans, given_back, left_to, plan_becomes, plan_settled, plan_stays, step_done, item_released, keeper_of, owner_gone, owner_moved, phase_released}
 use Rattle.session_laws.proofs.LocksSight.{ArePlain, gone_plain, hides, of_items, plain_flat, plain_if, plain_map, plain_more, plain_none, plain_one, subject, Sees, popped_hidden, stack_gone_hidden, stack_passed_hidden, Turns, locked_hidden, pushed_hidden, unlocked_hidden, Least, OwesUnlocks, ending_turn, least_acts, lock_owed, session_exits, unlock_owed}
 use Rattle.session_laws.proofs.FilesLife.{mark, mark_swapped, times_more}
 use Rattle.file_table.specs.Files.{given_events, given_file, loser, touch_events, touched_file}
-use Rattle.owner_kinds.specs.KindShelf.{table_of}
-use Rattle.owner_core.specs.Released.{own_released, released}
-use Rattle.session_rules.specs.Elements.{OfLevel, OfPortal, OwnerRole, Element}
-use Rattle.session_rules.specs.Making.{new_owner_made, owner_made, limit}
-use Rattle.session_rules.specs.Taking.{descriptor_given, files, item_taken, remembers, taken_by, snapshot_pushed}
-use Rattle.session_rules.proofs.Leaves.{Law, Follows, IsRun}
 use Rattle.session_laws.proofs.Lives.{IsRead, Reads, read_both}
 use Rattle.session_laws.proofs.OwnerEnds.{steps_stay}
-use Rattle.pgs_step.specs.declared.errors.Error.{Error}
-use Rattle.pgs_command.specs.declared.commands.Command.{Command}
-use Rattle.session_rules.specs.Checks.{failure, unless}
-use Rattle.session_rules.specs.Calls.{refused_call, unless_refused}
-use Rattle.session_rules.specs.Does.{does}
-use Rattle.session_rules.specs.Ends.{exited}
-use Rattle.session_rules.specs.Standing.{Stands, StandsBetweenLines}
-use Rattle.session_rules.specs.Transcript.{line_elements, turn}
 use Rattle.session_rules.proofs.StepsStand.{below_limit, own_refusal}
-use Rattle.session_rules.proofs.TurnStands.{Meets, line_runs}
-use Rattle.session_rules.proofs.Walk.{fallible_at, fallible_so}
 use Rattle.session_laws.proofs.LocksChecked.{IsChecked, line_checked}
 use Rattle.pgs_step.specs.declared.events.What.TheVariants as what
 use Rattle.lock_local.specs.Changes as locks

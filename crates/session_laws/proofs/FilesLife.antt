@@ -1,29 +1,15 @@
 -- Descriptors are opened and closed in turns: what a reader has seen of a file fits how often it is among those that have one.
-use Rattle.std.proofs.Common.{◌≡◌, ℕ, zero, suc, ◌+◌, ◌-◌, ◌≤◌, Bool, true, false, cond, nat_eq, if◌then◌else◌, List, [], ◌∷◌, length, take, Option, Some, None, refl, sym, ap, subst, ◌∙◌, arith}
-use Rattle.std.specs.Prelude.{slice_get}
-use Rattle.std.proofs.lemmas.Bool.{and_from, and_parts, le-leb, eqb-true}
-use Rattle.std.proofs.lemmas.Bool.Decides.{nat_tests}
-use Rattle.std.proofs.lemmas.List.Sums.{sum_by-cons}
+use Rattle.session_laws.proofs.Words.{◌≡◌, ℕ, zero, suc, ◌+◌, ◌-◌, ◌≤◌, Bool, true, false, cond, nat_eq, if◌then◌else◌, List, [], ◌∷◌, length, take, Option, Some, None, refl, sym, ap, subst, ◌∙◌, arith, slice_get, and_from, and_parts, le-leb, eqb-true, nat_tests, sum_by-cons}
+use Rattle.session_laws.proofs.Scenes.{What, Scene, Around, Moment, where_so, descriptor_left, descriptor_given, files, Error, Command, SessionState, opening, exited, turn}
+use Rattle.session_laws.proofs.Rules.{Reader, count}
 use Rattle.std.proofs.lemmas.Option.{slice_get_within}
-use Rattle.pgs_step.specs.declared.events.What.{What}
-use Rattle.lifetime_laws.specs.Reading.{Reader}
-use Rattle.lifetime_laws.specs.Balance.{count}
 use Rattle.lifetime_laws.specs.Once.{closes, opens}
 use Rattle.file_table.specs.Descriptors.{is_among, without}
 use Rattle.file_table.specs.Files.{given_events, given_file, loser}
 use Rattle.file_table.proofs.FileLists.{length-without_among, not_among_take}
 use Rattle.file_table.proofs.FileCounts.{times, times_none, times_without}
-use Rattle.session_rules.specs.World.{Scene, Around, Moment}
-use Rattle.session_rules.specs.Acts.{where_so}
-use Rattle.session_rules.specs.Releases.{descriptor_left}
-use Rattle.session_rules.specs.Taking.{descriptor_given, files}
 use Rattle.session_laws.proofs.Lives.{IsRead, Reads, read_both}
 use Rattle.session_laws.proofs.LocksSight.{ArePlain, PassesOver, Same, Sees, Subject, hides, of_files, plain_none, read_plain, subject, locks_hidden, stack_gone_hidden, stack_passed_hidden, Ending, Base, least_of, plain_one, locked_hidden, popped_hidden, pushed_hidden, unlocked_hidden, any_turn, session_exits, by_owner_made}
-use Rattle.pgs_step.specs.declared.errors.Error.{Error}
-use Rattle.pgs_command.specs.declared.commands.Command.{Command}
-use Rattle.session_rules.specs.State.{SessionState, opening}
-use Rattle.session_rules.specs.Ends.{exited}
-use Rattle.session_rules.specs.Transcript.{turn}
 use Rattle.pgs_step.specs.declared.events.What.TheVariants as what
 
 -- 1 where two files are one

@@ -1,32 +1,13 @@
 -- A level that aborts names nothing outside it.
-use Rattle.std.proofs.Common.{◌≡◌, ℕ, ◌-◌, ◌≤◌, Bool, true, false, if◌then◌else◌, List, [], ◌∷◌, ◌++◌, map, length, reverse, Option, Some, None, refl, sym, ap, ◌∙◌, subst, inl, arith, append-nil, ◌+◌, not, inr}
-use Rattle.std.specs.Prelude.{◌==◌, ◌&&◌, All, filter, option_to_list, ◌⊎◌, drop, is_none, unwrap_or}
-use Rattle.std.specs.Option.{option_map_or}
-use Rattle.std.proofs.lemmas.Bool.{and_from, eqb-true, or_right, both_ways, cases_Bool, eq-eqb, or_left}
-use Rattle.std.proofs.lemmas.List.Elements.{All-head, All-tail}
-use Rattle.pgs_step.specs.declared.events.What.{What}
-use Rattle.forest.specs.Forest.{Empty, Node, Once, at, children, has, moved, subtree, Forest, removed}
-use Rattle.forest.specs.Walk.{order, order_at}
-use Rattle.forest.proofs.Trees.{Moves}
-use Rattle.context_rules.specs.Contexts.{Context, Contexts}
-use Rattle.context_rules.specs.Ends.{gone_events}
+use Rattle.session_laws.proofs.Words.{◌≡◌, ℕ, ◌-◌, ◌≤◌, Bool, true, false, if◌then◌else◌, List, [], ◌∷◌, ◌++◌, map, length, reverse, Option, Some, None, refl, sym, ap, ◌∙◌, subst, inl, arith, append-nil, ◌+◌, not, inr, ◌==◌, ◌&&◌, All, filter, option_to_list, ◌⊎◌, drop, is_none, unwrap_or, option_map_or, and_from, eqb-true, or_right, both_ways, cases_Bool, eq-eqb, or_left, All-head, All-tail, Empty, Node, Once, at, children, has, moved, subtree, Forest, removed, order, order_at, Moves}
+use Rattle.session_laws.proofs.Scenes.{What, Context, Contexts, gone_events, LevelState, OpenPortal, StandingPlan, top_context, level_above, abort_context, context_of, deepest_changed, first_of, level_context, level_owner, owner_of, Scene, has_failed, Ended, children_gone, context_gone, for_each, in_order, portal_becomes, where_so, where_there, changes, portal_gone, switched, owner_moved, owner_released, owner_gone, portal_aborted, portal_failed, portal_withdrawn, stack_popped, aborted, cleaned_up, level_context_gone, level_owner_gone, level_popped, level_released, switched_up, IsAttached, IsPlan, IsPortal, active_depth, Stands}
+use Rattle.session_laws.proofs.Rules.{is_one_of, seen_after, allows_all, allows_all-append, seen_after-append, aborted_leads, all_aborted, off_begins, owner_when_active, resettled, settled, switched_off, Keeps, last, next, by_each, by_order, by_there, level_context_goes, level_releases, portal_aborts, portal_cleans}
 use Rattle.snap_table.specs.declared.active.Active.{Active}
 use Rattle.snap_table.specs.Snapshots.{is_deep}
-use Rattle.lifetime_laws.specs.Reading.{is_one_of, seen_after, allows_all}
 use Rattle.lifetime_laws.specs.Parents.{Node as Replayed, contexts_behind, is_there, placed_where}
 use Rattle.lifetime_laws.specs.Inside.{Begun, Leaving, level_begun, staying, Awaited, ItsOwner, Neither, awaited_behind, contexts_inside, ends_behind, ends_with, owners_inside}
-use Rattle.lifetime_laws.proofs.Readings.{allows_all-append, seen_after-append}
-use Rattle.session_rules.specs.State.{LevelState, OpenPortal, StandingPlan, top_context, level_above, abort_context, context_of, deepest_changed, first_of, level_context, level_owner, owner_of}
-use Rattle.session_rules.specs.World.{Scene}
-use Rattle.session_rules.specs.Checks.{has_failed}
-use Rattle.session_rules.specs.Acts.{Ended, children_gone, context_gone, for_each, in_order, portal_becomes, where_so, where_there, changes, portal_gone, switched}
-use Rattle.session_rules.specs.Releases.{owner_moved, owner_released, owner_gone}
-use Rattle.session_rules.specs.Portals.{portal_aborted, portal_failed, portal_withdrawn}
-use Rattle.session_rules.specs.Ends.{stack_popped, aborted, cleaned_up, level_context_gone, level_owner_gone, level_popped, level_released, switched_up}
-use Rattle.session_rules.specs.Standing.{IsAttached, IsPlan, IsPortal, active_depth, Stands}
 use Rattle.session_rules.specs.Ending.{Ending, gone_levels}
 use Rattle.session_rules.proofs.Ending.{Leads, with_parts}
-use Rattle.session_rules.proofs.Failing.{aborted_leads, all_aborted}
 use Rattle.session_laws.proofs.Lives.{IsRead, Reads, read_both, read_none}
 use Rattle.session_laws.proofs.Parents.{FitsContexts, FitsTree, fits_moved, Growth, growing_contexts}
 use Rattle.session_laws.proofs.ParentsLife.{HasContexts, KeepsContexts, contexts_end_leaves}
@@ -34,10 +15,6 @@ use Rattle.session_laws.proofs.InsidePhases.{Confined, GoInside, below_inside, c
 use Rattle.session_laws.proofs.InsideWalk.{AreKnown, AreSeen, AreBegun, Lessens, Sees, nothing_ends, number_of, by_discarded, by_moved, by_switch, inside_acts, inside_phase, inside_stack}
 use Rattle.session_laws.proofs.InsideHooks.{AreQuiet, no_hooks, quiet_emptied, quiet_removed}
 use Rattle.session_rules.proofs.ContextsKept.{protected_has}
-use Rattle.session_rules.proofs.EndsStand.{off_begins, owner_when_active, resettled, settled, switched_off}
-use Rattle.session_rules.proofs.Leaves.{Keeps, last, next}
-use Rattle.session_rules.proofs.Walk.{by_each, by_order, by_there}
-use Rattle.session_rules.proofs.WalkEnds.{level_context_goes, level_releases, portal_aborts, portal_cleans}
 use Rattle.pgs_step.specs.declared.events.What.TheVariants as what
 use Rattle.portal_store.specs.declared.portal.PortalState.TheVariants as portal
 

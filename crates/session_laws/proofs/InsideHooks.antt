@@ -1,30 +1,13 @@
 -- No hook waits on a context of the session itself below the one for caches.
-use Rattle.std.proofs.Common.{◌≡◌, ℕ, Bool, true, false, if◌then◌else◌, [], Option, Some, None, refl, sym, ap, ◌∙◌, subst, inl, inr, ◌≢◌, not, List, ◌∷◌, ◌++◌, codes, reverse, arith}
-use Rattle.std.specs.Prelude.{◌==◌, ◌&&◌, ◌||◌, ◌⊎◌}
-use Rattle.std.specs.Option.{option_map_or}
-use Rattle.std.proofs.lemmas.Bool.{both_ways, cases_Bool, cond-false, eqb-true, false_from_ne_true, eq-eqb, ne_eqb}
-use Rattle.forest.specs.Forest.{Empty, Node, Once, at, changed, children, either, has, is_root, moved, parent_of, put, removed, with_children}
-use Rattle.forest.proofs.Trees.{Apart, Below, Beside, Here, at_absent, at_some, apart_of, changed_absent, has_at, where_is}
+use Rattle.session_laws.proofs.Words.{◌≡◌, ℕ, Bool, true, false, if◌then◌else◌, [], Option, Some, None, refl, sym, ap, ◌∙◌, subst, inl, inr, ◌≢◌, not, List, ◌∷◌, ◌++◌, codes, reverse, arith, ◌==◌, ◌&&◌, ◌||◌, ◌⊎◌, option_map_or, both_ways, cases_Bool, cond-false, eqb-true, false_from_ne_true, eq-eqb, ne_eqb, Empty, Node, Once, at, changed, children, either, has, is_root, moved, parent_of, put, removed, with_children, Apart, Below, Beside, Here, at_absent, at_some, apart_of, changed_absent, has_at, where_is, reverse-append}
+use Rattle.session_laws.proofs.Scenes.{Context, Contexts, Found, found, is_child, is_protected, new_context, placed_under, emptied, reset_of, unchanged, cache_context, LevelState, context_of, first_of, last_of, level_context, top_context, What, CtxKind, Hook, Scene, Text, context_named, hook_waits, AreLevels, Stands}
+use Rattle.session_laws.proofs.Rules.{ContextLeaves, of_contexts, EndLeaves}
 use Rattle.forest.proofs.Neighbours.{parent_root, root_absent}
-use Rattle.context_rules.specs.Contexts.{Context, Contexts, Found, found, is_child, is_protected, new_context, placed_under}
-use Rattle.context_rules.specs.Ends.{emptied, reset_of, unchanged}
-use Rattle.session_rules.specs.State.{cache_context, LevelState, context_of, first_of, last_of, level_context, top_context}
-use Rattle.std.proofs.lemmas.List.{reverse-append}
-use Rattle.pgs_step.specs.declared.events.What.{What}
 use Rattle.pgs_command.specs.Words.{is_text}
-use Rattle.any_ctx.specs.declared.any.CtxKind.{CtxKind}
-use Rattle.reset_callbacks.specs.Hook.{Hook}
 use Rattle.context_rules.specs.Names.{same_name}
-use Rattle.session_rules.specs.World.{Scene}
-use Rattle.session_rules.specs.Elements.{Text}
-use Rattle.session_rules.specs.Lookup.{context_named}
-use Rattle.session_rules.specs.Taking.{hook_waits}
-use Rattle.session_rules.specs.Standing.{AreLevels, Stands}
 use Rattle.session_rules.proofs.Aside.{ContextLaw, context_ends, context_makes}
 use Rattle.session_rules.proofs.Meeting.{StandingMoves, standing_moves}
-use Rattle.session_rules.proofs.Sight.{ContextLeaves, of_contexts}
 use Rattle.session_rules.proofs.Guarded.{top_parent}
-use Rattle.session_rules.proofs.Leaves.{EndLeaves}
 use Rattle.session_rules.proofs.LevelsKept.{IsContext}
 use Rattle.session_rules.proofs.PlansAmong.{above_other, some_is}
 use Rattle.session_laws.proofs.Lives.{OwesTurns, owes_by}

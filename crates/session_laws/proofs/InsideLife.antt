@@ -1,26 +1,9 @@
 -- A line is read: its elements one by one, and what a recovery does.
-use Rattle.std.proofs.Common.{◌≡◌, ℕ, ◌+◌, Bool, true, false, not, if◌then◌else◌, List, [], ◌∷◌, ◌++◌, length, Option, Some, None, refl, sym, ap, ◌∙◌, subst, inl, inr}
-use Rattle.std.proofs.lemmas.Bool.{and_from, both_ways}
-use Rattle.pgs_step.specs.declared.errors.Error.{Error}
-use Rattle.pgs_step.specs.declared.events.What.{What}
-use Rattle.pgs_command.specs.declared.commands.Command.{Command}
-use Rattle.lifetime_laws.specs.Reading.{allows_all, seen_after}
+use Rattle.session_laws.proofs.Words.{◌≡◌, ℕ, ◌+◌, Bool, true, false, not, if◌then◌else◌, List, [], ◌∷◌, ◌++◌, length, Option, Some, None, refl, sym, ap, ◌∙◌, subst, inl, inr, and_from, both_ways}
+use Rattle.session_laws.proofs.Scenes.{Error, What, Command, LevelState, first_of, is_aborted, SessionState, opening, top_context, Moment, Scene, Around, Element, Ended, in_order, where_so, where_there, context_gone, for_each, say, switched, aborted, cleaned_up, given_up, level_rolled_back, recovered, exited, Done, does, does_all, then_done, Stands, StandsBetweenLines, line_elements, turn, turn_of, KindTable, table_of}
+use Rattle.session_laws.proofs.Rules.{allows_all, seen_after, allows_all-append, seen_after-append, rolled_stands, settled, AreSpoken, IsRun, Keeps, last, next, line_spoken, Meets, Runs, command_leads, refused_leads, aborts, by_order}
 use Rattle.lifetime_laws.specs.Inside.{Leaving, awaited_behind, ends_behind, level_begun, staying, nothing_leaving}
-use Rattle.lifetime_laws.proofs.Readings.{allows_all-append, seen_after-append}
-use Rattle.session_rules.specs.State.{LevelState, first_of, is_aborted, SessionState, opening, top_context}
-use Rattle.session_rules.specs.World.{Moment, Scene, Around}
-use Rattle.session_rules.specs.Elements.{Element}
-use Rattle.session_rules.specs.Acts.{Ended, in_order, where_so, where_there, context_gone, for_each, say, switched}
-use Rattle.session_rules.specs.Ends.{aborted, cleaned_up, given_up, level_rolled_back, recovered, exited}
-use Rattle.session_rules.specs.Calls.{Done}
-use Rattle.session_rules.specs.Does.{does, does_all, then_done}
-use Rattle.session_rules.specs.Standing.{Stands, StandsBetweenLines}
-use Rattle.session_rules.specs.Transcript.{line_elements, turn, turn_of}
-use Rattle.session_rules.proofs.EndsStand.{Leaves as LeavesLevels, rolled_stands, settled}
-use Rattle.session_rules.proofs.Leaves.{AreSpoken, IsRun, Keeps, last, next}
-use Rattle.session_rules.proofs.Spoken.{line_spoken}
-use Rattle.session_rules.proofs.TurnStands.{Meets, Runs, command_leads, refused_leads}
-use Rattle.session_rules.proofs.WalkEnds.{aborts}
+use Rattle.session_rules.proofs.EndsStand.{Leaves as LeavesLevels}
 use Rattle.session_laws.proofs.Lives.{Reads, turn_keeps, IsLife}
 use Rattle.session_laws.proofs.Parents.{FitsContexts}
 use Rattle.session_laws.proofs.ParentsLife.{KeepsContexts, contexts_end_leaves, KeepsOwners, contexts_owed, owners_owed, HasContexts, HasOwners, contexts_life, opening_contexts, opening_owners, owners_life}
@@ -30,9 +13,6 @@ use Rattle.session_laws.proofs.InsideWalk.{nothing_ends, AreBegun, Lessens, by_s
 use Rattle.session_laws.proofs.InsideHooks.{KeepsQuiet, quiet_ends, quiet_owed, AreQuiet}
 use Rattle.session_laws.proofs.InsideEnds.{contexts_fit, AbortRead, CleanRead, Halted, IsSoon}
 use Rattle.session_laws.proofs.InsideSteps.{Active, AwaitsNothing, OneRead, At, KeepsTrees, Stepped, Trees, aborts_at, cleans_at, step_read, trees_behind, trees_element, word_stays, lessened}
-use Rattle.owner_kinds.specs.KindTable.{KindTable}
-use Rattle.owner_kinds.specs.KindShelf.{table_of}
-use Rattle.session_rules.proofs.Walk.{by_order}
 use Rattle.pgs_step.specs.declared.errors.Error.TheVariants as error
 use Rattle.pgs_step.specs.declared.events.What.TheVariants as what
 use Rattle.context_rules.specs.Opening as contexts

@@ -1,41 +1,14 @@
 -- The end of one level, read by itself: what each event of it may name, and the events of contexts and owners that go.
-use Rattle.std.proofs.Common.{◌≡◌, ℕ, zero, suc, ◌+◌, ◌<◌, Bool, true, false, not, List, [], ◌∷◌, ◌++◌, map, Option, Some, refl, sym, ap, ◌∙◌, subst, inl, inr, arith, append-nil, append_assoc, ◌≢◌, ◌-◌, if◌then◌else◌, None}
-use Rattle.std.specs.Prelude.{◌==◌, ◌&&◌, ◌||◌, filter, option_to_list, ◌⊎◌, nat_lt}
-use Rattle.std.specs.Option.{option_map_or}
-use Rattle.std.specs.List.{list_all}
-use Rattle.std.proofs.lemmas.Bool.{and_from, and_parts, cases_Bool, cases_eq, cond-false, cond-true, eq-eqb, eqb-true, or_cases, or_left, or_right}
-use Rattle.pgs_step.specs.declared.events.What.{What}
-use Rattle.forest.specs.Forest.{Forest, Empty, Node, Once, children, has, is_above, removed, size, at, parent_of, subtree}
-use Rattle.forest.specs.Walk.{lead, order, order_at}
-use Rattle.forest.proofs.Trees.{has_children, size_removed, at_absent, children_absent, left_apart, removed_absent}
+use Rattle.session_laws.proofs.Words.{◌≡◌, ℕ, zero, suc, ◌+◌, ◌<◌, Bool, true, false, not, List, [], ◌∷◌, ◌++◌, map, Option, Some, refl, sym, ap, ◌∙◌, subst, inl, inr, arith, append-nil, append_assoc, ◌≢◌, ◌-◌, if◌then◌else◌, None, ◌==◌, ◌&&◌, ◌||◌, filter, option_to_list, ◌⊎◌, nat_lt, option_map_or, list_all, and_from, and_parts, cases_Bool, cases_eq, cond-false, cond-true, eq-eqb, eqb-true, or_cases, or_left, or_right, Forest, Empty, Node, Once, children, has, is_above, removed, size, at, parent_of, subtree, lead, order, order_at, has_children, size_removed, at_absent, children_absent, left_apart, removed_absent}
+use Rattle.session_laws.proofs.Scenes.{What, Hook, Contexts, Context, callbacks, gone_events, Item, Phase, BeforeLocks, Locks, AfterLocks, Lock, owner_count, table_of, KindTable, release_order, Owner, OwnerTree, own_released, released, Step, Said, GivesBack, ReleasesLocks, ReleasesAllLocks, lock_step, own_steps, release_steps, releases_of, steps_below, top_locks, StandingPlan, Scene, plan_at, plan_changed, plans_but, Ended, for_each, where_there, Keeper, NoOne, TheDescriptors, TheKind, ThePlans, descriptor_left, given_back, left_to, owner_released, phase_released, plan_becomes, plan_left, plan_settled, plan_stays, step_done}
+use Rattle.session_laws.proofs.Rules.{Reader, allows_all, is_one_of, seen_after, allows_all-append, seen_after-append, at_left, once_left}
 use Rattle.forest.proofs.Walks.{children_in, children_removed, lead_leaf, lead_of_node, once_children, order_lead}
-use Rattle.reset_callbacks.specs.Hook.{Hook}
-use Rattle.context_rules.specs.Contexts.{Contexts, Context}
-use Rattle.context_rules.specs.Ends.{callbacks, gone_events}
-use Rattle.lifetime_laws.specs.Reading.{Reader, allows_all, is_one_of, seen_after}
 use Rattle.lifetime_laws.specs.Parents.{Node as Kept, is_there, is_within, placed, placed_where, without}
 use Rattle.lifetime_laws.proofs.Replays.{is_there-placed_other, is_there-placed_same, is_there-without_other}
 use Rattle.lifetime_laws.specs.Inside.{Awaited, Begun, Leaving, Neither, awaited_behind, begun_behind, contexts_inside, ends_behind, ends_with, is_plan_left, is_within_some, owners_inside, plans_behind, staying, with_end}
-use Rattle.lifetime_laws.proofs.Readings.{allows_all-append, seen_after-append}
 use Rattle.session_laws.proofs.Parents.{FitsTree, fits_gone, same_within, alike_swept}
-use Rattle.pgs_step.specs.declared.ids.Item.{Item}
-use Rattle.pgs_step.specs.declared.ids.Phase.{Phase}
-use Rattle.pgs_step.specs.declared.ids.Phase.TheVariants.{BeforeLocks, Locks, AfterLocks}
 use Rattle.pgs_step.specs.declared.ids.TheConstants.KindId.{PLAN_REFERENCE, FILE, FIRST_EXTENSION}
-use Rattle.lock_local.specs.Locks.{Lock, owner_count}
 use Rattle.file_table.specs.Descriptors.{is_among}
-use Rattle.owner_kinds.specs.KindShelf.{table_of}
-use Rattle.owner_kinds.specs.KindTable.{KindTable}
-use Rattle.owner_items.specs.Next.{release_order}
-use Rattle.owner_core.specs.Owners.{Owner, OwnerTree}
-use Rattle.owner_core.specs.Released.{own_released, released}
-use Rattle.owner_core.specs.Steps.{Step, Said, GivesBack, ReleasesLocks, ReleasesAllLocks, lock_step, own_steps, release_steps, releases_of, steps_below, top_locks}
-use Rattle.session_rules.specs.State.{StandingPlan}
-use Rattle.session_rules.specs.World.{Scene}
-use Rattle.session_rules.specs.Lookup.{plan_at, plan_changed, plans_but}
-use Rattle.session_rules.specs.Acts.{Ended, for_each, where_there}
-use Rattle.session_rules.specs.Releases.{Keeper, NoOne, TheDescriptors, TheKind, ThePlans, descriptor_left, given_back, left_to, owner_released, phase_released, plan_becomes, plan_left, plan_settled, plan_stays, step_done}
-use Rattle.session_rules.proofs.Forests.{at_left, once_left}
 use Rattle.session_rules.proofs.Lone.{lone_left}
 use Rattle.session_laws.proofs.Lives.{IsRead, Reads, read_both, read_none}
 use Rattle.session_laws.proofs.ParentsLife.{fits_alike}

@@ -1,36 +1,15 @@
 -- What is seen of a level that is being made.
-use Rattle.std.proofs.Common.{◌≡◌, ◌≢◌, ℕ, ◌+◌, ◌<◌, Bool, true, false, not, List, [], ◌∷◌, map, length, Option, Some, None, refl, sym, ap, ◌∙◌, subst, inl, inr, arith}
-use Rattle.std.specs.Prelude.{◌==◌, ◌||◌, codes, filter, drop}
-use Rattle.std.proofs.lemmas.Bool.{and_from, cases_Bool, cases_eq, cond-false, cond-true, eq-eqb, eqb-true, ne_eqb, or_left}
-use Rattle.pgs_step.specs.declared.events.What.{What}
-use Rattle.lifetime_laws.specs.Reading.{allows_all, is_one_of, seen_after}
+use Rattle.session_laws.proofs.Words.{◌≡◌, ◌≢◌, ℕ, ◌+◌, ◌<◌, Bool, true, false, not, List, [], ◌∷◌, map, length, Option, Some, None, refl, sym, ap, ◌∙◌, subst, inl, inr, arith, ◌==◌, ◌||◌, codes, filter, drop, and_from, cases_Bool, cases_eq, cond-false, cond-true, eq-eqb, eqb-true, ne_eqb, or_left}
+use Rattle.session_laws.proofs.Scenes.{What, LevelState, OpenPortal, StandingPlan, deepest_changed, level_above, owner_of, depth, level_context, top_context, Scene, Moment, LevelContext, OfLevel, Text, Element, NewContext, OwnerRole, level_context_name, level_made, level_parent, new_context_made, new_owner_made, made_event, Error, failure, Ended, changes, for_each, in_order, nothing, say, switched, where_there, level_stands, portal_closed, portal_passed, aborted, cleaned_up, committed, empty_context_gone, level_context_gone, level_owner_gone, level_released, stack_lowered, stack_popped, subcommitted, switched_up, Done, fallible, refused_call, unfailing, unless_refused, does, Stands}
+use Rattle.session_laws.proofs.Rules.{allows_all, is_one_of, seen_after, settled, Follows, IsSpoken, Keeps, last, next, Meets, by_each, by_order, element_follows, empty_context_goes, level_context_goes, level_releases, portal_closes, portal_passes}
 use Rattle.lifetime_laws.specs.Inside.{Awaited, Begun, ItsContext, ItsOwner, Leaving, Neither, awaited_behind, bare_level, ends_behind, is_named, last_changed, level_begun, plans_behind, staying, with_context, with_owner, with_portal}
-use Rattle.session_rules.specs.State.{LevelState, OpenPortal, StandingPlan, deepest_changed, level_above, owner_of, depth, level_context, top_context}
-use Rattle.session_rules.specs.World.{Scene, Moment}
-use Rattle.session_rules.specs.Elements.{LevelContext, OfLevel, Text, Element, NewContext, OwnerRole}
-use Rattle.session_rules.specs.Making.{level_context_name, level_made, level_parent, new_context_made, new_owner_made}
-use Rattle.owner_core.specs.Steps.{made_event}
 use Rattle.session_laws.proofs.InsideWalk.{AreBegun, AreKnown, AreSeen, Grows, Sees, begun_still, grows_either, has_begun, known_still, level_here, level_later, nothing_ends, plans_grow, seen_still, AreLow, Calming, Kept, Lessens, Seen, Works, calm_all, lessens_sees, by_moved, by_said, by_switch, inside_acts, inside_phase, inside_released, inside_stack, unmoved, element_works, low_of}
-use Rattle.pgs_step.specs.declared.errors.Error.{Error}
 use Rattle.lifetime_laws.specs.Parents.{Node as Replayed, owners_behind}
-use Rattle.session_rules.specs.Checks.{failure}
-use Rattle.session_rules.specs.Acts.{Ended, changes, for_each, in_order, nothing, say, switched, where_there}
-use Rattle.session_rules.specs.Parts.{level_stands}
-use Rattle.session_rules.specs.Portals.{portal_closed, portal_passed}
-use Rattle.session_rules.specs.Ends.{aborted, cleaned_up, committed, empty_context_gone, level_context_gone, level_owner_gone, level_released, stack_lowered, stack_popped, subcommitted, switched_up}
-use Rattle.session_rules.specs.Calls.{Done, fallible, refused_call, unfailing, unless_refused}
-use Rattle.session_rules.specs.Does.{does}
-use Rattle.session_rules.specs.Standing.{Stands}
-use Rattle.session_rules.proofs.EndsStand.{settled}
-use Rattle.session_rules.proofs.Leaves.{Follows, IsSpoken, Keeps, last, next}
-use Rattle.session_rules.proofs.TurnStands.{Meets}
-use Rattle.session_rules.proofs.Walk.{by_each, by_order, element_follows}
 use Rattle.session_laws.proofs.Lives.{IsRead}
 use Rattle.session_laws.proofs.Parents.{FitsContexts, FitsOwners, FitsTree, Growth, growing_owners}
 use Rattle.session_laws.proofs.ParentsLife.{KeepsContexts, HasOwners, KeepsOwners, contexts_owed, owners_owed}
 use Rattle.session_laws.proofs.OwnWork.{ContextNext, Hushed, IsDue, IsHushed, IsLevelContext, IsLevelOwner, IsLively, IsSaid, OwnerNext, Stage, Working, hushed_next, stage_next, working_next}
 use Rattle.session_laws.proofs.InsidePhases.{InEnd, IsOver, Stayed, confined, confined_stays}
-use Rattle.session_rules.proofs.WalkEnds.{empty_context_goes, level_context_goes, level_releases, portal_closes, portal_passes}
 use Rattle.session_laws.proofs.InsideHooks.{AreQuiet, KeepsQuiet, quiet_owed}
 use Rattle.session_laws.proofs.InsideEnds.{contexts_fit, AbortRead, CleanRead, Halted, IsSoon, MayEnd, aborts_read, cleans_read, level_owner_goes, switches_up}
 use Rattle.pgs_step.specs.declared.events.What.TheVariants as what

@@ -1,35 +1,13 @@
 -- What the reader of levels has seen fits the levels, the portals and the plans of a session, and what says nothing of levels keeps that.
-use Rattle.std.proofs.Common.{◌≡◌, ℕ, codes, ◌+◌, ◌≤◌, Bool, true, false, if◌then◌else◌, List, [], ◌∷◌, ◌++◌, map, length, Option, Some, refl, sym, ap, ◌∙◌, subst, inl, inr, ◌-◌, not, None, arith}
-use Rattle.std.specs.Prelude.{◌==◌, ◌&&◌, ◌||◌, find, unwrap_or, filter, ◌⊎◌, All}
-use Rattle.std.specs.List.{list_all, list_any}
-use Rattle.std.proofs.lemmas.Bool.{and_from, cases_Bool, cond-false, cond-true, eq-eqb, eqb-true, or_left, or_right, cases_eq}
-use Rattle.pgs_step.specs.declared.events.What.{What}
-use Rattle.lifetime_laws.specs.Reading.{allows_all, is_one_of, seen_after}
+use Rattle.session_laws.proofs.Words.{◌≡◌, ℕ, codes, ◌+◌, ◌≤◌, Bool, true, false, if◌then◌else◌, List, [], ◌∷◌, ◌++◌, map, length, Option, Some, refl, sym, ap, ◌∙◌, subst, inl, inr, ◌-◌, not, None, arith, ◌==◌, ◌&&◌, ◌||◌, find, unwrap_or, filter, ◌⊎◌, All, list_all, list_any, and_from, cases_Bool, cond-false, cond-true, eq-eqb, eqb-true, or_left, or_right, cases_eq, All-head, All-tail}
+use Rattle.session_laws.proofs.Scenes.{What, LevelState, OpenPortal, StandingPlan, portals_context, Scene, Moment, KindId, Phase, Text, Element, PortalContext, plan_at, plan_changed, plans_but, portal_changed, Ended, changes, portal_becomes, say, switched, where_there, Keeper, NoOne, TheDescriptors, TheKind, ThePlans, item_released, keeper_of, owner_gone, owner_moved, phase_released, plan_becomes, plan_left, plan_settled, plan_stays, plan_made, portal_made, new_context_made, chunk_resized, memory_taken, taken_by, contexts_become, tells, does, IsDead, IsLive, IsPortal, Stands}
+use Rattle.session_laws.proofs.Rules.{allows_all, is_one_of, seen_after, Acts, Keeps, Lowers, is_word, last, next, Follows, OwnerLeaves, item_releases, phase_keeps, AreSaid, said_more, said_none, said_report, ContextLeaves, FileLeaves, KeyLeaves, Part, Sight, StackLeaves, children_go, goes, hook_waits_so, item_comes, item_goes, locks_one, makes_context, moves_context, of_levels, of_plans, of_portals, owner_goes, owner_makes, owner_moves, pushes, says, unlocks, unseen_contexts, unseen_files, unseen_keys, unseen_locks, unseen_owners, unseen_stack, by_either, by_order}
 use Rattle.lifetime_laws.specs.Inside.{Awaited, Begun, Leaving, Neither, awaited_behind, bare_level, begun_behind, contexts_inside, ends_behind, is_named, level_begun, owners_inside, plans_behind, staying, with_portal, with_context}
-use Rattle.session_rules.specs.State.{LevelState, OpenPortal, StandingPlan, portals_context}
-use Rattle.session_rules.specs.World.{Scene, Moment}
 use Rattle.session_laws.proofs.Lives.{Reads, read_both, read_none}
-use Rattle.pgs_step.specs.declared.ids.KindId.{KindId}
-use Rattle.pgs_step.specs.declared.ids.Phase.{Phase}
 use Rattle.context_rules.specs.Reports.{report}
 use Rattle.context_rules.specs.Chunks.{freed, written}
-use Rattle.session_rules.specs.Elements.{Text, Element, PortalContext}
-use Rattle.session_rules.specs.Lookup.{plan_at, plan_changed, plans_but, portal_changed}
-use Rattle.session_rules.specs.Acts.{Ended, changes, portal_becomes, say, switched, where_there}
-use Rattle.session_rules.specs.Releases.{Keeper, NoOne, TheDescriptors, TheKind, ThePlans, item_released, keeper_of, owner_gone, owner_moved, phase_released, plan_becomes, plan_left, plan_settled, plan_stays}
-use Rattle.session_rules.specs.Making.{plan_made, portal_made, new_context_made}
-use Rattle.session_rules.specs.Taking.{chunk_resized, memory_taken, taken_by}
-use Rattle.session_rules.specs.Parts.{contexts_become, tells}
-use Rattle.session_rules.proofs.Leaves.{Acts, Keeps, Lowers, is_word, last, next, Follows}
-use Rattle.session_rules.proofs.ReleaseSteps.{OwnerLeaves, item_releases, phase_keeps}
-use Rattle.session_rules.proofs.Said.{AreSaid, said_more, said_none, said_report}
-use Rattle.session_rules.proofs.Sight.{ContextLeaves, FileLeaves, KeyLeaves, Part, Sight, StackLeaves, children_go, goes, hook_waits_so, item_comes, item_goes, locks_one, makes_context, moves_context, of_levels, of_plans, of_portals, owner_goes, owner_makes, owner_moves, pushes, says, unlocks, unseen_contexts, unseen_files, unseen_keys, unseen_locks, unseen_owners, unseen_stack}
-use Rattle.session_rules.proofs.Walk.{by_either, by_order}
 use Rattle.session_laws.proofs.OwnWork.{WorkLeaves, IsOwnWork, own_follows}
-use Rattle.std.proofs.lemmas.List.Elements.{All-head, All-tail}
 use Rattle.pgs_command.specs.Words.{is_text}
-use Rattle.session_rules.specs.Does.{does}
-use Rattle.session_rules.specs.Standing.{IsDead, IsLive, IsPortal, Stands}
 use Rattle.session_rules.proofs.Stacked.{depth_small}
 use Rattle.pgs_step.specs.declared.events.What.TheVariants as what
 

@@ -1,29 +1,12 @@
 -- Items are numbered as they are acquired.
-use Rattle.std.proofs.Common.{◌≡◌, ℕ, ◌+◌, true, List, refl, sym, ap, ◌∙◌, arith}
-use Rattle.std.specs.Prelude.{◌==◌, Bool, false}
-use Rattle.std.proofs.lemmas.Bool.{and_from, eq-eqb}
-use Rattle.pgs_step.specs.declared.events.What.{What}
-use Rattle.pgs_step.specs.declared.ids.KindId.{KindId}
-use Rattle.lifetime_laws.specs.Reading.{allows_all, seen_after}
+use Rattle.session_laws.proofs.Words.{◌≡◌, ℕ, ◌+◌, true, List, refl, sym, ap, ◌∙◌, arith, ◌==◌, Bool, false, and_from, eq-eqb, has}
+use Rattle.session_laws.proofs.Scenes.{What, KindId, Scene, Around, say, remembers, item_taken, taken_by, Item, SessionState, opening, Keeper, NoOne, TheDescriptors, TheKind, ThePlans, keeper_of, HasExited, KindTable}
+use Rattle.session_laws.proofs.Rules.{allows_all, seen_after, EndLeaves, Keeps, Law, MakeLeaves, MoveLeaves, is_level_word, is_word, LevelLeaves, AreSaid, said_more, said_none, said_one, FileLeaves, Part, Sight, end_leaves_of, hook_waits_so, item_goes, locks_one, makes_context, moves_context, of_next_serial, owner_goes, owner_makes, owner_moves, places, plans_one, pushes, unlocks, unseen_contexts, unseen_files, unseen_keys, unseen_locks, unseen_owners, unseen_stack, ContextLeaves, KeyLeaves, level_leaves_of, of_next_owner, of_owners, releases as item_releases, takes, moves_owed, BalancesFrom, covers, left}
 use Rattle.lifetime_laws.specs.Once.{numbering, acquires, releases}
-use Rattle.session_rules.specs.World.{Scene, Around}
-use Rattle.session_rules.specs.Acts.{say}
-use Rattle.session_rules.specs.Taking.{remembers, item_taken, taken_by}
-use Rattle.session_rules.proofs.Leaves.{EndLeaves, Keeps, Law, MakeLeaves, MoveLeaves, is_level_word, is_word, LevelLeaves}
-use Rattle.session_rules.proofs.Said.{AreSaid, said_more, said_none, said_one}
-use Rattle.session_rules.proofs.Sight.{FileLeaves, Part, Sight, end_leaves_of, hook_waits_so, item_goes, locks_one, makes_context, moves_context, of_next_serial, owner_goes, owner_makes, owner_moves, places, plans_one, pushes, unlocks, unseen_contexts, unseen_files, unseen_keys, unseen_locks, unseen_owners, unseen_stack, ContextLeaves, KeyLeaves, level_leaves_of, of_next_owner, of_owners, releases as item_releases, takes}
-use Rattle.session_rules.proofs.Walk.{moves_owed}
 use Rattle.session_laws.proofs.Lives.{OwesTurns, Reads, read_both, owes_by, IsLife, life_by}
-use Rattle.pgs_step.specs.declared.ids.Item.{Item}
-use Rattle.forest.specs.Forest.{has}
-use Rattle.session_rules.specs.State.{SessionState, opening}
-use Rattle.session_rules.specs.Releases.{Keeper, NoOne, TheDescriptors, TheKind, ThePlans, keeper_of}
-use Rattle.session_rules.specs.Standing.{HasExited}
 use Rattle.session_laws.proofs.ItemsCounted.{Counted, Counts, aside_reads, discarded_reads, forgotten_reads, made_reads, moved_reads, phase_reads, reader, remembered_reads, has_it}
 use Rattle.session_laws.proofs.OwnerEnds.{owes_where, is_still}
 use Rattle.session_laws.proofs.ParentsLife.{sees_owners}
-use Rattle.owner_kinds.specs.KindTable.{KindTable}
-use Rattle.lifetime_laws.specs.Balance.{BalancesFrom, covers, left}
 use Rattle.pgs_step.specs.declared.events.What.TheVariants as what
 
 -- an event that acquires no item

@@ -1,40 +1,10 @@
 -- How often the owner of a number has an item, behind each change of the owners, and how often a phase of a release says that it releases it.
-use Rattle.std.proofs.Common.{◌≡◌, ℕ, ◌+◌, count_by, find, Bool, true, false, cond, Option, Some, None, List, [], ◌∷◌, ◌++◌, refl, ap, ◌∙◌, inl, inr, arith, ◌-◌, ◌<◌, ◌≤◌, sym, subst}
-use Rattle.std.specs.Prelude.{◌==◌, ◌&&◌, ◌||◌, if◌then◌else◌, nat_le}
-use Rattle.std.proofs.lemmas.Bool.{cases_Bool, or_parts, and_from, cases_eq, false_from_ne_true, le-leb, ne_eqb}
-use Rattle.std.proofs.lemmas.List.Sums.{sum_by-cons}
-use Rattle.pgs_step.specs.declared.ids.Item.{Item}
-use Rattle.pgs_step.specs.declared.ids.KindId.{KindId}
-use Rattle.pgs_step.specs.declared.ids.Phase.{Phase}
-use Rattle.pgs_step.specs.declared.ids.Phase.TheVariants.{BeforeLocks, Locks, AfterLocks}
-use Rattle.forest.specs.Forest.{Empty, Node, Once, either, has, at, changed, children, moved, parent_of, put, removed, AllNodes, times}
-use Rattle.forest.specs.Walk.{all_changed, swept, order_at}
-use Rattle.forest.proofs.Trees.{Apart, Below, Beside, Here, Moves, apart_of, at_absent, at_some, changed_absent, has_at, once_removed, parent_stays, put_absent, removed_absent, where_is, has_changed, has_of_removed, has_some, once_changed, once_front, once_put, times_moved, times_some}
-use Rattle.owner_kinds.specs.KindTable.{KindTable}
-use Rattle.owner_items.specs.ItemList.{is_of, without_newest}
-use Rattle.owner_items.specs.Next.{is_of_phase, priority, release_order}
+use Rattle.session_laws.proofs.Words.{◌≡◌, ℕ, ◌+◌, count_by, find, Bool, true, false, cond, Option, Some, None, List, [], ◌∷◌, ◌++◌, refl, ap, ◌∙◌, inl, inr, arith, ◌-◌, ◌<◌, ◌≤◌, sym, subst, ◌==◌, ◌&&◌, ◌||◌, if◌then◌else◌, nat_le, cases_Bool, or_parts, and_from, cases_eq, false_from_ne_true, le-leb, ne_eqb, sum_by-cons, Empty, Node, Once, either, has, at, changed, children, moved, parent_of, put, removed, AllNodes, times, all_changed, swept, order_at, Apart, Below, Beside, Here, Moves, apart_of, at_absent, at_some, changed_absent, has_at, once_removed, parent_stays, put_absent, removed_absent, where_is, has_changed, has_of_removed, has_some, once_changed, once_front, once_put, times_moved, times_some, option_map_or}
+use Rattle.session_laws.proofs.Scenes.{Item, KindId, Phase, BeforeLocks, Locks, AfterLocks, KindTable, is_of, without_newest, is_of_phase, priority, release_order, Owner, OwnerTree, AllAt, HoldsNothing, created, forgotten, remembered, left_of, own_released, released, Said, Step, lock_step, own_steps, release_steps, releases_of, steps_below, top_locks, GivesBack, ReleasesLocks, PassesLocks, ReleasesAllLocks, made_event, What, table_of, Scene, newest, for_each, owner_made, given_back, owner_gone, owner_moved, phase_released, step_done, remembers}
+use Rattle.session_laws.proofs.Rules.{Reader, allows_all, seen_after, count, allows_all-append, seen_after-append, has_put_other, once_left, has_swept, AreReleaseSteps, IsReleaseStep, is_release, no_step, phase_release, then_step, warned_step, AreSaid, said_all_locks, said_lock_passes, said_lock_releases, said_map, said_more, said_none, said_one}
 use Rattle.owner_items.proofs.Uses.{count-parts, count-without}
-use Rattle.owner_core.specs.Owners.{Owner, OwnerTree, AllAt, HoldsNothing, created, forgotten, remembered}
-use Rattle.owner_core.specs.Released.{left_of, own_released, released}
-use Rattle.owner_core.specs.Steps.{Said, Step, lock_step, own_steps, release_steps, releases_of, steps_below, top_locks, GivesBack, ReleasesLocks, PassesLocks, ReleasesAllLocks, made_event}
 use Rattle.lifetime_laws.specs.Once.{releases, same_item, acquires}
-use Rattle.std.specs.Option.{option_map_or}
-use Rattle.pgs_step.specs.declared.events.What.{What}
-use Rattle.owner_kinds.specs.KindShelf.{table_of}
-use Rattle.lifetime_laws.specs.Reading.{Reader, allows_all, seen_after}
-use Rattle.lifetime_laws.specs.Balance.{count}
-use Rattle.lifetime_laws.proofs.Readings.{allows_all-append, seen_after-append}
-use Rattle.session_rules.specs.World.{Scene}
-use Rattle.session_rules.specs.Lookup.{newest}
-use Rattle.session_rules.specs.Acts.{for_each}
-use Rattle.session_rules.specs.Making.{owner_made}
-use Rattle.session_rules.specs.Releases.{given_back, owner_gone, owner_moved, phase_released, step_done}
-use Rattle.session_rules.specs.Taking.{remembers}
-use Rattle.session_rules.proofs.Forests.{has_put_other, once_left}
-use Rattle.session_rules.proofs.Swept.{has_swept}
 use Rattle.session_laws.proofs.Lives.{Reads}
-use Rattle.session_rules.proofs.ReleaseSteps.{AreReleaseSteps, IsReleaseStep, is_release, no_step, phase_release, then_step, warned_step}
-use Rattle.session_rules.proofs.Said.{AreSaid, said_all_locks, said_lock_passes, said_lock_releases, said_map, said_more, said_none, said_one}
 use Rattle.session_laws.proofs.OwnerEnds.{Quiet, Stays, given_quiet, is_still, steps_stay}
 use Rattle.pgs_step.specs.declared.events.What.TheVariants as what
 

@@ -1,3 +1,6 @@
+pub mod Words
+pub mod Scenes
+pub mod Rules
 pub mod Lives
 pub mod Lifts
 pub mod OwnWork

@@ -1,50 +1,23 @@
 -- A line and an exit leave what never changes around a session: the names of the extension kinds, when their items are released, and how many descriptors there are.
-use Rattle.std.proofs.Common.{◌≡◌, ℕ, ◌∙◌, true, false, Bool, Option, Some, None, List, ap, refl, ◌≢◌, zero, suc, ◌+◌, ◌≤◌, ◌⊎◌, inl, inr, cond, [], ◌∷◌, ◌++◌, length, sym, subst, arith, ◌-◌, ◌<◌, Result, Ok, Err}
-use Rattle.pgs_step.specs.declared.events.What.{What}
-use Rattle.pgs_step.specs.declared.errors.Error.{Error}
-use Rattle.pgs_command.specs.declared.commands.Command.{Command}
-use Rattle.owner_kinds.specs.KindShelf.{table_of}
+use Rattle.session_laws.proofs.Words.{◌≡◌, ℕ, ◌∙◌, true, false, Bool, Option, Some, None, List, ap, refl, ◌≢◌, zero, suc, ◌+◌, ◌≤◌, ◌⊎◌, inl, inr, cond, [], ◌∷◌, ◌++◌, length, sym, subst, arith, ◌-◌, ◌<◌, Result, Ok, Err, ◌==◌, replicate, slice_get, slice_set, slice_index_or, flat_map, sum_by, get_or-le-sum_by, sum_by-cons, sum_by-set, cases_eq, cases_lt, cond-false, ne_eqb, append-nil, length-set, length-replicate}
+use Rattle.session_laws.proofs.Scenes.{What, Error, Command, table_of, Moment, Scene, Around, Options, World, around, moment, opened, session_at, with_scene, Done, does_all, exited, recovered, level_rolled_back, line_elements, turn, turn_of, Course, Reading, Turn, after_command, after_exit, after_line, after_read, at_start, course_by, ended, exits, goes_on, missing, of_session, transcript_by, AreDistinct, Hook, waiting, SessionState, opening, top_context, AreHooks, StandsBetweenLines, IsSound, KindTable, Ended, context_gone, for_each, switched}
+use Rattle.session_laws.proofs.Rules.{EndLeaves, Follows, MakeLeaves, MoveLeaves, runs_anyhow, moves_owed, run_follows, FileLeaves, KeyLeaves, Part, Sight, end_leaves_of, hook_waits_so, item_comes, item_goes, locks_one, makes_context, moves_context, of_descriptors, of_kinds, owner_goes, owner_makes, owner_moves, places, plans_one, pushes, unlocks, unseen_contexts, unseen_files, unseen_locks, unseen_owners, unseen_stack, all_owed, exit_follows, recovery_follows, line_spoken, Reader, allows_all, events_of, seen_after, allows_all-append, events_of-append, events_of-other, events_of-own, seen_after-append, turn_stands, AreSaid, said_more, said_none}
 use Rattle.owner_kinds.proofs.Places.{table-closed, table-opened}
-use Rattle.session_rules.specs.World.{Moment, Scene, Around, Options, World, around, moment, opened, session_at, with_scene}
-use Rattle.session_rules.specs.Calls.{Done}
-use Rattle.session_rules.specs.Does.{does_all}
-use Rattle.session_rules.specs.Ends.{exited, recovered, level_rolled_back}
-use Rattle.session_rules.specs.Transcript.{line_elements, turn, turn_of, Course, Reading, Turn, after_command, after_exit, after_line, after_read, at_start, course_by, ended, exits, goes_on, missing, of_session, transcript_by}
-use Rattle.session_rules.proofs.Leaves.{EndLeaves, Follows, MakeLeaves, MoveLeaves, runs_anyhow}
-use Rattle.session_rules.proofs.Walk.{moves_owed, run_follows}
-use Rattle.session_rules.proofs.Sight.{FileLeaves, KeyLeaves, Part, Sight, end_leaves_of, hook_waits_so, item_comes, item_goes, locks_one, makes_context, moves_context, of_descriptors, of_kinds, owner_goes, owner_makes, owner_moves, places, plans_one, pushes, unlocks, unseen_contexts, unseen_files, unseen_locks, unseen_owners, unseen_stack}
-use Rattle.session_rules.proofs.WalkEnds.{all_owed, exit_follows, recovery_follows}
-use Rattle.session_rules.proofs.Spoken.{line_spoken}
-use Rattle.std.specs.Prelude.{◌==◌, replicate, slice_get, slice_set, slice_index_or}
-use Rattle.std.specs.List.{flat_map, sum_by}
 use Rattle.std.proofs.lemmas.List.Concat.{flat_map-cons, length-flat_map}
-use Rattle.std.proofs.lemmas.List.Sums.{get_or-le-sum_by, sum_by-cons, sum_by-set}
 use Rattle.std.proofs.lemmas.Option.{get_or_from_slice_get, slice_get_within, slice_get_cases}
-use Rattle.reset_callbacks.specs.Hook.{AreDistinct, Hook}
 use Rattle.reset_callbacks.specs.ShelfState.{ShelfState, held}
-use Rattle.context_rules.specs.Ends.{waiting}
-use Rattle.session_rules.specs.State.{SessionState, opening, top_context}
-use Rattle.session_rules.specs.Standing.{AreHooks, StandsBetweenLines}
 use Rattle.session_rules.specs.HookCounts.{HooksCounted, hooks_of}
 use Rattle.session_rules.proofs.HooksKept.{distinct_times, times_append, times_distinct, word_times}
-use Rattle.std.proofs.lemmas.Bool.{cases_eq, cases_lt, cond-false, ne_eqb}
-use Rattle.std.proofs.lemmas.List.{append-nil, length-set, length-replicate}
 use Rattle.pgs_step.specs.declared.events.Event.{Event}
 use Rattle.pgs_command.specs.declared.lines.Line.{Line}
 use Rattle.pgs_command.specs.declared.lines.BadLine.{BadLine}
 use Rattle.owner_kinds.specs.Kind.{Kind}
-use Rattle.owner_kinds.specs.KindTable.{IsSound, KindTable}
-use Rattle.lifetime_laws.specs.Reading.{Reader, allows_all, events_of, seen_after}
-use Rattle.lifetime_laws.proofs.Readings.{allows_all-append, events_of-append, events_of-other, events_of-own, seen_after-append}
-use Rattle.session_rules.specs.Acts.{Ended, context_gone, for_each, switched}
 use Rattle.session_rules.proofs.HookLaws.{exited_counts_hooks, turn_counts_hooks}
 use Rattle.session_rules.proofs.OpeningStands.{opening_stands}
 use Rattle.session_rules.proofs.Standings.{stands_between_elsewhere}
-use Rattle.session_rules.proofs.TurnStands.{turn_stands}
 use Rattle.session_laws.proofs.Lives.{IsLife, IsRead, Reads, read_both}
 use Rattle.lifetime_laws.specs.Once.{ending}
 use Rattle.session_rules.proofs.Ordinary.{elements_ordinary, gone_ordinary, is_ordinary, recovery_ordinary, rollback_ordinary}
-use Rattle.session_rules.proofs.Said.{AreSaid, said_more, said_none}
 use Rattle.pgs_step.specs.declared.events.What.TheVariants as what
 
 -- The law: the table of the kinds is the same behind, and so is how many descriptors there are.

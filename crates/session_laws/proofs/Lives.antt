@@ -1,27 +1,8 @@
 -- What a reader of events owes for one session, from its opening to its exit.
-use Rattle.std.proofs.Common.{◌≡◌, ℕ, true, false, List, [], ◌∷◌, ◌++◌, Option, refl, subst, sym, Bool, not, Some, None}
-use Rattle.pgs_step.specs.declared.errors.Error.{Error}
-use Rattle.pgs_step.specs.declared.events.What.{What}
-use Rattle.pgs_command.specs.declared.commands.Command.{Command}
-use Rattle.owner_kinds.specs.KindTable.{KindTable}
-use Rattle.owner_kinds.specs.KindShelf.{table_of}
-use Rattle.lifetime_laws.specs.Reading.{Reader, allows_all, seen_after}
-use Rattle.lifetime_laws.proofs.Readings.{allows_all-append, seen_after-append}
-use Rattle.session_rules.specs.State.{LevelState, SessionState, opening, first_of, is_aborted, top_context}
-use Rattle.session_rules.specs.World.{Around, Moment, Scene}
-use Rattle.session_rules.specs.Elements.{Element}
-use Rattle.session_rules.specs.Ends.{aborted, cleaned_up, exited, level_rolled_back, given_up, recovered}
-use Rattle.session_rules.specs.Standing.{Stands, StandsBetweenLines, AreOuter, HasExited}
-use Rattle.session_rules.specs.Transcript.{turn, line_elements, turn_of}
-use Rattle.session_rules.proofs.Leaves.{Law, Leaves, Owes, EndLeaves, Follows, Keeps, MakeLeaves, OwesMoves, last, next}
-use Rattle.session_rules.proofs.TurnStands.{Meets, Runs, command_leads, refused_leads}
-use Rattle.session_rules.specs.Acts.{Ended, context_gone, for_each, in_order, say, switched, where_so, where_there}
-use Rattle.session_rules.specs.Calls.{Done}
-use Rattle.session_rules.specs.Does.{does_all}
-use Rattle.session_rules.proofs.EndsStand.{Leaves as Leaving, at_settled, behind_rollback, exited_left, is_left, rolled_stands, settled}
-use Rattle.session_rules.proofs.Walk.{by_order, run_follows}
-use Rattle.session_rules.proofs.WalkEnds.{aborts, all_owed, cleans_up, rolls_back}
-use Rattle.session_rules.proofs.Spoken.{line_spoken}
+use Rattle.session_laws.proofs.Words.{◌≡◌, ℕ, true, false, List, [], ◌∷◌, ◌++◌, Option, refl, subst, sym, Bool, not, Some, None}
+use Rattle.session_laws.proofs.Scenes.{Error, What, Command, KindTable, table_of, LevelState, SessionState, opening, first_of, is_aborted, top_context, Around, Moment, Scene, Element, aborted, cleaned_up, exited, level_rolled_back, given_up, recovered, Stands, StandsBetweenLines, AreOuter, HasExited, turn, line_elements, turn_of, Ended, context_gone, for_each, in_order, say, switched, where_so, where_there, Done, does_all}
+use Rattle.session_laws.proofs.Rules.{Reader, allows_all, seen_after, allows_all-append, seen_after-append, Law, Leaves, Owes, EndLeaves, Follows, Keeps, MakeLeaves, OwesMoves, last, next, Meets, Runs, command_leads, refused_leads, at_settled, behind_rollback, exited_left, is_left, rolled_stands, settled, by_order, run_follows, aborts, all_owed, cleans_up, rolls_back, line_spoken}
+use Rattle.session_rules.proofs.EndsStand.{Leaves as Leaving}
 use Rattle.pgs_step.specs.declared.events.What.TheVariants as what
 use Rattle.pgs_step.specs.declared.errors.Error.TheVariants as error
 

@@ -1,8 +1,7 @@
 -- What is checked before a lock is given back, a file is used and a lock is taken holds where these come.
-use Rattle.std.proofs.Common.{◌≡◌, ℕ, zero, suc, ◌+◌, ◌-◌, Bool, true, false, not, if◌then◌else◌, List, [], ◌∷◌, ◌++◌, map, length, replicate, flat_map, Option, Some, None, refl, inl, inr, ◌∙◌, ◌<◌, arith}
-use Rattle.std.specs.Prelude.{nat_lt, ◌&&◌, ◌==◌, ◌⊎◌}
-use Rattle.std.specs.Option.{option_map_or}
-use Rattle.pgs_command.specs.declared.commands.Command.{Command}
+use Rattle.session_laws.proofs.Words.{◌≡◌, ℕ, zero, suc, ◌+◌, ◌-◌, Bool, true, false, not, if◌then◌else◌, List, [], ◌∷◌, ◌++◌, map, length, replicate, flat_map, Option, Some, None, refl, inl, inr, ◌∙◌, ◌<◌, arith, nat_lt, ◌&&◌, ◌==◌, ◌⊎◌, option_map_or, ltb-true}
+use Rattle.session_laws.proofs.Scenes.{Command, LevelState, OpenPortal, SessionState, deepest_changed, is_aborted, level_context, level_owner, Check, Element, LevelContext, OfLevel, OfPortal, OwnerRole, PortalContext, Text, portal_named, line_elements, turn, Error, Mode, Moment, Scene, Ended, nothing, switched, where_there, failure, lock_count, unless, level_made, new_context_made, new_owner_made, portal_made, fallible, refused_call, unless_refused, does, count_of, at_owner, lock_given_back, snapshot_pushed, exited}
+use Rattle.session_laws.proofs.Rules.{IsRun, fallible_so}
 use Rattle.pgs_command.specs.declared.commands.TransactionCommand.{TransactionCommand}
 use Rattle.pgs_command.specs.declared.commands.Work.{Work}
 use Rattle.pgs_command.specs.declared.commands.ContextCommand.{ContextCommand}
@@ -15,28 +14,9 @@ use Rattle.pgs_command.specs.declared.commands.PortalCommand.{PortalCommand}
 use Rattle.pgs_command.specs.declared.commands.TellCommand.{TellCommand}
 use Rattle.exec_core.specs.declared.scan.Scan.{Scan}
 use Rattle.exec_core.specs.declared.steps.ScanStep.{ScanStep}
-use Rattle.session_rules.specs.State.{LevelState, OpenPortal, SessionState, deepest_changed, is_aborted, level_context, level_owner}
-use Rattle.session_rules.specs.Elements.{Check, Element, LevelContext, OfLevel, OfPortal, OwnerRole, PortalContext, Text}
-use Rattle.session_rules.specs.Lookup.{portal_named}
 use Rattle.session_rules.specs.Works.{Row, after_turn, elements, chunk_row, context_row, fallible_part, fetch_steps, item_row, lock_row, plan_row, portal_row, snapshot_row, tell_row, turn_steps, work_of}
 use Rattle.session_rules.specs.Commands.{at_savepoint, begin, commit, committed_to, elements_of, in_transaction, is_end, refused, rollback, rolled_back_to, save, savepoint, start, then_ok, transaction_of, unaborted}
-use Rattle.session_rules.specs.Transcript.{line_elements, turn}
-use Rattle.pgs_step.specs.declared.errors.Error.{Error}
-use Rattle.pgs_step.specs.declared.lock_modes.Mode.{Mode}
-use Rattle.session_rules.specs.World.{Moment, Scene}
-use Rattle.session_rules.specs.Acts.{Ended, nothing, switched, where_there}
-use Rattle.session_rules.specs.Checks.{failure, lock_count, unless}
-use Rattle.session_rules.specs.Making.{level_made, new_context_made, new_owner_made, portal_made}
-use Rattle.session_rules.specs.Calls.{fallible, refused_call, unless_refused}
-use Rattle.session_rules.specs.Does.{does}
-use Rattle.session_rules.proofs.Leaves.{IsRun}
-use Rattle.std.proofs.lemmas.Bool.{ltb-true}
-use Rattle.lock_local.specs.Locks.{count_of}
-use Rattle.session_rules.specs.Parts.{at_owner, lock_given_back}
-use Rattle.session_rules.specs.Taking.{snapshot_pushed}
-use Rattle.session_rules.specs.Ends.{exited}
 use Rattle.session_laws.proofs.LocksSight.{of_locks, files_hidden, pushed_hidden, OwesUnlocks, ending_turn, least_acts, lock_owed, owner_owed, session_exits, touch_owed, by_owner_made}
-use Rattle.session_rules.proofs.Walk.{fallible_so}
 use Rattle.session_laws.proofs.LocksRead.{ReadsLocks, given_back_so, locks_base, locks_law, locks_seen, taken_so}
 use Rattle.pgs_step.specs.declared.errors.Error.TheVariants as error
 use Rattle.pgs_step.specs.declared.events.What.TheVariants as what

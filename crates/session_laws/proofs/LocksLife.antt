@@ -1,57 +1,18 @@
 -- Where no lock is held, none is behind what doesn't take one; and behind the end of level 1 none is held.
-use Rattle.std.proofs.Common.{◌≡◌, ℕ, Bool, true, List, [], ◌∷◌, ◌++◌, Option, refl, ap, ◌∙◌, false, not, Some, None, sym, arith, ◌+◌, ◌≤◌, subst, inl, inr}
-use Rattle.std.specs.Option.{option_map_or, option_and_then}
-use Rattle.pgs_step.specs.declared.events.What.{What}
-use Rattle.pgs_step.specs.declared.lock_modes.Mode.{Mode}
-use Rattle.pgs_step.specs.declared.ids.Phase.TheVariants.{BeforeLocks, Locks, AfterLocks}
-use Rattle.forest.specs.Forest.{children, has}
-use Rattle.forest.proofs.Trees.{at_some}
+use Rattle.session_laws.proofs.Words.{◌≡◌, ℕ, Bool, true, List, [], ◌∷◌, ◌++◌, Option, refl, ap, ◌∙◌, false, not, Some, None, sym, arith, ◌+◌, ◌≤◌, subst, inl, inr, option_map_or, option_and_then, children, has, at_some, ◌&&◌, is_some, ◌⊎◌, length, All, both_ways, All-head, All-tail, All-nil}
+use Rattle.session_laws.proofs.Scenes.{What, Mode, BeforeLocks, Locks, AfterLocks, table_of, KindTable, Owner, OwnerTree, own_released, ReleasesAllLocks, Step, own_steps, release_steps, steps_below, Scene, Moment, Around, for_each, where_so, where_there, Ended, switched, in_order, owner_released, phase_released, step_done, lock_given_back, at_owner, snapshot_popped, LevelState, OpenPortal, deepest_changed, first_of, is_aborted, level_context, owner_of, opening, portal_aborted, portal_closed, aborted, cleaned_up, committed, level_released, level_rolled_back, exited, given_up, recovered, IsLive, Stands, active_depth, AreOuter, FitLevels, IsDead, IsPortal, IsOpen, StandsBetweenLines, Contexts, Error, Element, LevelContext, NewContext, OfLevel, OfPortal, OwnerRole, PortalContext, RowContext, ScriptContext, Text, context_named, owner_in, portal_named, level_made, new_context_made, new_owner_made, lock_taken, snapshot_pushed, Done, fallible, refused_call, unless_refused, does, failing_turn, does_all, then_done, Command, AreLocks, has_owner, line_elements, turn, turn_of}
+use Rattle.session_laws.proofs.Rules.{Keeps, Follows, IsSpoken, AreSpoken, IsRun, has_swept, all_aborted, begins, off_begins, owner_when_active, resettled, settled, switched_off, aborted_stands, at_settled, is_left, rolled_stands, by_each, element_follows, fallible_so, unfailing_so, behind_commit, cleans_up, portal_aborts, portal_closes, Meets, command_leads, line_runs, refused_leads, allows_all, seen_after, line_spoken}
 use Rattle.lock_local.specs.Changes.{given_back, passed, released}
-use Rattle.owner_kinds.specs.KindShelf.{table_of}
-use Rattle.owner_kinds.specs.KindTable.{KindTable}
-use Rattle.owner_core.specs.Owners.{Owner, OwnerTree}
-use Rattle.owner_core.specs.Released.{own_released}
-use Rattle.owner_core.specs.Steps.{ReleasesAllLocks, Step, own_steps, release_steps, steps_below}
-use Rattle.session_rules.specs.World.{Scene, Moment, Around}
-use Rattle.session_rules.specs.Acts.{for_each, where_so, where_there, Ended, switched, in_order}
-use Rattle.session_rules.specs.Releases.{owner_released, phase_released, step_done}
-use Rattle.session_rules.specs.Parts.{lock_given_back, at_owner, snapshot_popped}
-use Rattle.session_rules.proofs.Leaves.{Keeps, Follows, IsSpoken, AreSpoken, IsRun}
-use Rattle.session_rules.proofs.Swept.{has_swept}
 use Rattle.session_laws.proofs.OwnerEnds.{steps_stay}
 use Rattle.session_laws.proofs.LocksSight.{Sees, of_locks, plain_none, files_hidden, popped_hidden, stack_gone_hidden, stack_passed_hidden, Least, Turns, Base, least_of, least_acts, turn_ends, of_levels, locked_hidden, locks_hidden, pushed_hidden, unlocked_hidden, OwesApart, OwesUnlocks, element_keeps, least_leaves, lock_owed, owner_owed, touch_owed, turns_owed, unlock_owed, by_owner_made, plain_one}
-use Rattle.std.specs.Prelude.{◌&&◌, is_some, ◌⊎◌, length, All}
-use Rattle.session_rules.specs.State.{LevelState, OpenPortal, deepest_changed, first_of, is_aborted, level_context, owner_of, opening}
-use Rattle.session_rules.specs.Portals.{portal_aborted, portal_closed}
-use Rattle.session_rules.specs.Ends.{aborted, cleaned_up, committed, level_released, level_rolled_back, exited, given_up, recovered}
-use Rattle.session_rules.specs.Standing.{IsLive, Stands, active_depth, AreOuter, FitLevels, IsDead, IsPortal, IsOpen, StandsBetweenLines}
 use Rattle.session_rules.proofs.Ending.{Leads, with_parts}
 use Rattle.session_rules.proofs.Replacing.{all_closed}
-use Rattle.session_rules.proofs.Failing.{all_aborted}
-use Rattle.session_rules.proofs.EndsStand.{begins, off_begins, owner_when_active, resettled, settled, switched_off, Leaves, aborted_stands, at_settled, is_left, rolled_stands}
+use Rattle.session_rules.proofs.EndsStand.{Leaves}
 use Rattle.session_rules.specs.Ending.{gone_levels}
-use Rattle.session_rules.proofs.Walk.{by_each, element_follows, fallible_so, unfailing_so}
-use Rattle.session_rules.proofs.WalkEnds.{behind_commit, cleans_up, portal_aborts, portal_closes}
-use Rattle.std.proofs.lemmas.Bool.{both_ways}
-use Rattle.std.proofs.lemmas.List.Elements.{All-head, All-tail, All-nil}
-use Rattle.context_rules.specs.Contexts.{Contexts}
-use Rattle.pgs_step.specs.declared.errors.Error.{Error}
-use Rattle.session_rules.specs.Elements.{Element, LevelContext, NewContext, OfLevel, OfPortal, OwnerRole, PortalContext, RowContext, ScriptContext, Text}
-use Rattle.session_rules.specs.Lookup.{context_named, owner_in, portal_named}
-use Rattle.session_rules.specs.Making.{level_made, new_context_made, new_owner_made}
-use Rattle.session_rules.specs.Taking.{lock_taken, snapshot_pushed}
-use Rattle.session_rules.specs.Calls.{Done, fallible, refused_call, unless_refused}
-use Rattle.session_rules.specs.Does.{does, failing_turn, does_all, then_done}
 use Rattle.session_rules.proofs.StepsStand.{abort_stands, cleanup_stands, merge_stands, settled_as}
 use Rattle.session_rules.proofs.PortalsStand.{Named, named_in}
-use Rattle.session_rules.proofs.TurnStands.{Meets, command_leads, line_runs, refused_leads}
 use Rattle.session_laws.proofs.LocksChecked.{IsChecked, line_checked, locks_exit, locks_turn}
-use Rattle.pgs_command.specs.declared.commands.Command.{Command}
-use Rattle.lifetime_laws.specs.Reading.{allows_all, seen_after}
-use Rattle.lock_local.specs.Locks.{AreLocks, has_owner}
 use Rattle.lock_local.proofs.ChangeLemmas.{WellCounted}
-use Rattle.session_rules.specs.Transcript.{line_elements, turn, turn_of}
-use Rattle.session_rules.proofs.Spoken.{line_spoken}
 use Rattle.session_laws.proofs.Lives.{IsLife, IsRead, Reads}
 use Rattle.session_laws.proofs.LocksRead.{LocksFit, lock_reader, locks_seen, there}
 use Rattle.session_rules.specs.Elements as e

@@ -1,28 +1,15 @@
 -- Locks are released as often as they are acquired: what a reader has seen of a lock fits how often owners hold it.
-use Rattle.std.proofs.Common.{◌≡◌, ℕ, ◌+◌, ◌<◌, Bool, true, false, cond, List, [], ◌∷◌, map, filter, refl, sym, ap, ◌∙◌, arith, ◌-◌, if◌then◌else◌, ◌++◌, subst}
-use Rattle.std.specs.Prelude.{◌==◌, ◌&&◌, sum_by, All, nat_le}
-use Rattle.std.proofs.lemmas.Bool.{and_parts, eqb-true, and_from, le-leb}
-use Rattle.std.proofs.lemmas.List.Elements.{All-head, All-tail, All-weaker, All-nil}
-use Rattle.std.proofs.lemmas.List.Sums.{sum_by-cons}
+use Rattle.session_laws.proofs.Words.{◌≡◌, ℕ, ◌+◌, ◌<◌, Bool, true, false, cond, List, [], ◌∷◌, map, filter, refl, sym, ap, ◌∙◌, arith, ◌-◌, if◌then◌else◌, ◌++◌, subst, ◌==◌, ◌&&◌, sum_by, All, nat_le, and_parts, eqb-true, and_from, le-leb, All-head, All-tail, All-weaker, All-nil, sum_by-cons}
+use Rattle.session_laws.proofs.Scenes.{Mode, IsInOrder, Lock, comes_before, count_of, has_owner, is_lock, lock_total, owner_count, AreLocks, What, Scene, step_done, lock_given_back, lock_taken, ReleasesLocks, PassesLocks, ReleasesAllLocks}
+use Rattle.session_laws.proofs.Rules.{Reader, allows_all, seen_after, count, Law}
 use Rattle.std.proofs.lemmas.List.Folds.{map_fixed}
-use Rattle.pgs_step.specs.declared.lock_modes.Mode.{Mode}
 use Rattle.pgs_step.specs.Mode.{mode_number}
 use Rattle.lock_local.specs.declared.local_lock.OwnerCount.{OwnerCount}
-use Rattle.lock_local.specs.Locks.{IsInOrder, Lock, comes_before, count_of, has_owner, is_lock, lock_total, owner_count, AreLocks}
 use Rattle.lock_local.specs.Changes.{acquired, counted_down, counted_up, new_lock, passed, passed_lock, without, released, releases, releases_of_all}
 use Rattle.lock_local.proofs.OwnerLemmas.{counts-added, counts-others}
 use Rattle.lock_local.proofs.ChangeLemmas.{WellCounted, by_passing, down, none_like, passes_some, AreLocks-acquired, AreLocks-filtered, AreLocks-passed, AreLocks-released, counted-down, keeps-down}
 use Rattle.lock_local.proofs.TotalLemmas.{no_total, sum_kept, sum_same, total_down, total_without}
-use Rattle.pgs_step.specs.declared.events.What.{What}
-use Rattle.lifetime_laws.specs.Reading.{Reader, allows_all, seen_after}
-use Rattle.lifetime_laws.specs.Balance.{count}
 use Rattle.lifetime_laws.specs.Once.{locks, unlocks}
-use Rattle.session_rules.specs.World.{Scene}
-use Rattle.session_rules.specs.Releases.{step_done}
-use Rattle.session_rules.specs.Parts.{lock_given_back}
-use Rattle.session_rules.specs.Taking.{lock_taken}
-use Rattle.owner_core.specs.Steps.{ReleasesLocks, PassesLocks, ReleasesAllLocks}
-use Rattle.session_rules.proofs.Leaves.{Law}
 use Rattle.session_laws.proofs.Lives.{Reads, read_both}
 use Rattle.session_laws.proofs.LocksSight.{PassesOver, Sees, hides, of_locks, plain_none, read_plain, subject, files_hidden, passes_plain, popped_hidden, stack_gone_hidden, stack_passed_hidden, Base, least_of, Turns}
 use Rattle.session_laws.proofs.FilesLife.{count_over}

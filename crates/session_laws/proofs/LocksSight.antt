@@ -1,45 +1,12 @@
 -- Laws that see locks alone, files alone, the stack of snapshots alone or levels alone, and what passes them by.
-use Rattle.std.proofs.Common.{◌≡◌, ℕ, Bool, true, false, if◌then◌else◌, List, [], ◌∷◌, ◌++◌, map, flat_map, refl, sym, subst, ◌-◌, reverse, Option, Some, None}
-use Rattle.std.proofs.lemmas.Bool.{and_from}
-use Rattle.pgs_step.specs.declared.events.What.{What}
-use Rattle.pgs_step.specs.declared.ids.KindId.{KindId}
-use Rattle.pgs_step.specs.declared.ids.Phase.{Phase}
-use Rattle.forest.specs.Forest.{Empty, Node}
-use Rattle.reset_callbacks.specs.Hook.{Hook}
-use Rattle.context_rules.specs.Contexts.{Contexts}
-use Rattle.context_rules.specs.Ends.{gone_events}
-use Rattle.lifetime_laws.specs.Reading.{Reader, allows_all}
-use Rattle.session_rules.specs.World.{Scene, Moment}
-use Rattle.session_rules.specs.Releases.{item_released, owner_gone, owner_moved, phase_released, descriptor_left}
-use Rattle.session_rules.specs.Taking.{item_taken, files, lock_taken, snapshot_pushed, descriptor_given}
-use Rattle.session_rules.proofs.Leaves.{Keeps, Law, is_word, Acts, EndLeaves, Follows, IsRun, IsSpoken, Leaves, MoveLeaves, Owes, OwesMakes, is_level_word, runs_anyhow}
+use Rattle.session_laws.proofs.Words.{◌≡◌, ℕ, Bool, true, false, if◌then◌else◌, List, [], ◌∷◌, ◌++◌, map, flat_map, refl, sym, subst, ◌-◌, reverse, Option, Some, None, and_from, Empty, Node, ◌==◌, filter, length, take, order_at}
+use Rattle.session_laws.proofs.Scenes.{What, KindId, Phase, Hook, Contexts, gone_events, Scene, Moment, item_released, owner_gone, owner_moved, phase_released, descriptor_left, item_taken, files, lock_taken, snapshot_pushed, descriptor_given, Mode, Lock, owner_count, last_of, LevelState, changes, in_order, say, where_so, where_there, lock_given_back, snapshot_popped, at_kind, at_owner, at_portal, stack_lowered, stack_popped, exited, Error, Command, Element, OfLevel, OwnerRole, new_context_made, new_owner_made, owner_made, plan_made, portal_ended, Done, does, does_all, line_elements, turn, turn_of}
+use Rattle.session_laws.proofs.Rules.{Reader, allows_all, Keeps, Law, is_word, Acts, EndLeaves, Follows, IsRun, IsSpoken, Leaves, MoveLeaves, Owes, OwesMakes, is_level_word, runs_anyhow, LockLeaves, OwnerLeaves, FileLeaves, ContextLeaves, Part, Sight, hook_waits_so, leaves_of, makes_context, moves_context, places, plans_one, says, unseen_contexts, KeyLeaves, phase_so, releases, taken_so, unseen_keys, AreSaid, said_more, said_none, line_spoken, by_kind, by_owner, by_portal_named, context_is_made, element_follows, fallible_so, levels_owed, moves_owed, owner_is_made, run_follows, unfailing_so, ends_owed, exit_follows, portal_ends, recovers}
 use Rattle.session_laws.proofs.Lives.{IsRead}
-use Rattle.std.specs.Prelude.{◌==◌, filter, length, take}
-use Rattle.pgs_step.specs.declared.lock_modes.Mode.{Mode}
-use Rattle.lock_local.specs.Locks.{Lock, owner_count}
 use Rattle.file_table.specs.Descriptors.{is_among, without}
 use Rattle.file_table.specs.Files.{given_events, loser}
 use Rattle.snap_table.specs.declared.active.Active.{Active}
 use Rattle.snap_table.specs.Snapshots.{is_deep}
-use Rattle.session_rules.specs.State.{last_of, LevelState}
-use Rattle.session_rules.specs.Acts.{changes, in_order, say, where_so, where_there}
-use Rattle.session_rules.specs.Parts.{lock_given_back, snapshot_popped, at_kind, at_owner, at_portal}
-use Rattle.session_rules.specs.Ends.{stack_lowered, stack_popped, exited}
-use Rattle.session_rules.proofs.ReleaseSteps.{LockLeaves, OwnerLeaves}
-use Rattle.session_rules.proofs.Sight.{FileLeaves, ContextLeaves, Part, Sight, hook_waits_so, leaves_of, makes_context, moves_context, places, plans_one, says, unseen_contexts, KeyLeaves, phase_so, releases, taken_so, unseen_keys}
-use Rattle.pgs_step.specs.declared.errors.Error.{Error}
-use Rattle.pgs_command.specs.declared.commands.Command.{Command}
-use Rattle.session_rules.specs.Elements.{Element, OfLevel, OwnerRole}
-use Rattle.session_rules.specs.Making.{new_context_made, new_owner_made, owner_made, plan_made}
-use Rattle.session_rules.specs.Portals.{portal_ended}
-use Rattle.session_rules.specs.Calls.{Done}
-use Rattle.session_rules.specs.Does.{does, does_all}
-use Rattle.session_rules.specs.Transcript.{line_elements, turn, turn_of}
-use Rattle.session_rules.proofs.Said.{AreSaid, said_more, said_none}
-use Rattle.session_rules.proofs.Spoken.{line_spoken}
-use Rattle.session_rules.proofs.Walk.{by_kind, by_owner, by_portal_named, context_is_made, element_follows, fallible_so, levels_owed, moves_owed, owner_is_made, run_follows, unfailing_so}
-use Rattle.session_rules.proofs.WalkEnds.{ends_owed, exit_follows, portal_ends, recovers}
-use Rattle.forest.specs.Walk.{order_at}
 use Rattle.pgs_step.specs.declared.events.What.TheVariants as what
 use Rattle.lock_local.specs.Changes as locks
 use Rattle.session_rules.specs.Elements as e

@@ -1,48 +1,17 @@
 -- Only elements that make something say that something is made.
-use Rattle.std.proofs.Common.{◌≡◌, ℕ, Bool, true, false, List, Option, refl, ◌+◌, ◌<◌, ◌≤◌, All, [], ◌∷◌, ◌++◌, Some, None, ap, ◌∙◌, subst, inl, inr, arith, ◌≢◌, zero, suc, ◌-◌, nat_le, IsTrue, sym}
-use Rattle.pgs_step.specs.declared.errors.Error.{Error}
-use Rattle.pgs_step.specs.declared.events.What.{What}
-use Rattle.session_rules.specs.World.{Moment, Scene}
-use Rattle.session_rules.specs.Elements.{Element, OfLevel, LevelContext, NewContext, OfPortal, OwnerRole, PortalContext, RowContext, ScriptContext, Text}
-use Rattle.session_rules.specs.Parts.{at_owner, lock_given_back}
-use Rattle.session_rules.specs.Taking.{descriptor_given, lock_taken, snapshot_pushed}
-use Rattle.session_rules.specs.Does.{does, does_all, failing_turn, then_done}
-use Rattle.session_rules.specs.Ends.{exited, recovered}
-use Rattle.session_rules.proofs.Leaves.{Acts, EndLeaves, Follows, IsSpoken, MoveLeaves, OwesMakes, is_level_word, is_word, AreSpoken, IsRun}
-use Rattle.session_rules.proofs.Walk.{by_owner, element_follows, fallible_so, levels_owed, moves_owed, unfailing_so}
-use Rattle.session_rules.proofs.WalkEnds.{ends_owed, exit_follows, recovers}
-use Rattle.session_rules.proofs.Said.{AreSaid, said_both, said_one, said_more, said_none}
-use Rattle.session_rules.proofs.Sight.{FileLeaves, Sight, end_leaves_of, hook_waits_so, item_comes, item_goes, locks_one, moves_context, no_part, owner_goes, owner_moves, pushes, unlocks, unseen_contexts, unseen_files, unseen_keys, unseen_locks, unseen_owners, unseen_stack}
-use Rattle.std.specs.Prelude.{drop, ◌==◌, ◌&&◌}
-use Rattle.std.specs.Option.{option_and_then, option_map_or}
-use Rattle.std.proofs.lemmas.Bool.{and_from, cases_Bool, and_parts, both_ways, cases_eq, eq-eqb, eqb-true, ne_eqb, or_cases}
-use Rattle.std.proofs.lemmas.List.Elements.{All-head, All-tail}
-use Rattle.pgs_command.specs.declared.commands.Command.{Command}
-use Rattle.forest.specs.Forest.{has}
-use Rattle.owner_kinds.specs.KindTable.{KindTable}
-use Rattle.session_rules.specs.State.{LevelState, OpenPortal, cache_context, first_of, level_above, level_owner, owner_of, portals_context, top_context}
-use Rattle.session_rules.specs.Lookup.{context_named, portal_named}
-use Rattle.session_rules.specs.Acts.{Ended, where_there}
-use Rattle.session_rules.specs.Making.{context_made, level_parent, new_context_made, new_owner_made, owner_made, plan_made}
-use Rattle.session_rules.specs.Calls.{Done, fallible, refused_call, unless_refused}
-use Rattle.session_rules.specs.Standing.{AreLevels, IsPortal, Stands, StandsBetweenLines}
-use Rattle.session_rules.specs.Transcript.{line_elements, turn, turn_of}
+use Rattle.session_laws.proofs.Words.{◌≡◌, ℕ, Bool, true, false, List, Option, refl, ◌+◌, ◌<◌, ◌≤◌, All, [], ◌∷◌, ◌++◌, Some, None, ap, ◌∙◌, subst, inl, inr, arith, ◌≢◌, zero, suc, ◌-◌, nat_le, IsTrue, sym, drop, ◌==◌, ◌&&◌, option_and_then, option_map_or, and_from, cases_Bool, and_parts, both_ways, cases_eq, eq-eqb, eqb-true, ne_eqb, or_cases, All-head, All-tail, has}
+use Rattle.session_laws.proofs.Scenes.{Error, What, Moment, Scene, Element, OfLevel, LevelContext, NewContext, OfPortal, OwnerRole, PortalContext, RowContext, ScriptContext, Text, at_owner, lock_given_back, descriptor_given, lock_taken, snapshot_pushed, does, does_all, failing_turn, then_done, exited, recovered, Command, KindTable, LevelState, OpenPortal, cache_context, first_of, level_above, level_owner, owner_of, portals_context, top_context, context_named, portal_named, Ended, where_there, context_made, level_parent, new_context_made, new_owner_made, owner_made, plan_made, Done, fallible, refused_call, unless_refused, AreLevels, IsPortal, Stands, StandsBetweenLines, line_elements, turn, turn_of, table_of}
+use Rattle.session_laws.proofs.Rules.{Acts, EndLeaves, Follows, IsSpoken, MoveLeaves, OwesMakes, is_level_word, is_word, AreSpoken, IsRun, by_owner, element_follows, fallible_so, levels_owed, moves_owed, unfailing_so, ends_owed, exit_follows, recovers, AreSaid, said_both, said_one, said_more, said_none, FileLeaves, Sight, end_leaves_of, hook_waits_so, item_comes, item_goes, locks_one, moves_context, no_part, owner_goes, owner_moves, pushes, unlocks, unseen_contexts, unseen_files, unseen_keys, unseen_locks, unseen_owners, unseen_stack, line_spoken, Meets, line_runs, Reader, allows_all, seen_after, allows_all-append, BalancesFrom, count, covers, left}
 use Rattle.session_rules.proofs.ContextsKept.{protected_has, top_protected}
 use Rattle.session_rules.proofs.NamesStand.{named_there}
 use Rattle.session_rules.proofs.PortalsStand.{Named, named_in}
-use Rattle.session_rules.proofs.Spoken.{line_spoken}
-use Rattle.session_rules.proofs.TurnStands.{Meets, line_runs}
 use Rattle.lifetime_laws.specs.Once.{Parents, first_parents, parents_behind, shedding, deletes, discards, happens, has_context, is_first_context, makes_context, makes_owner, nothing, one_where}
 use Rattle.lifetime_laws.specs.Parents.{is_there, Node as Kept, contexts_behind, owners_behind, placed, placed_where, without}
-use Rattle.lifetime_laws.specs.Reading.{Reader, allows_all, seen_after}
-use Rattle.lifetime_laws.proofs.Readings.{allows_all-append}
 use Rattle.session_laws.proofs.Lives.{IsLife, IsRead, Reads, read_both, read_none}
 use Rattle.session_laws.proofs.ParentsLife.{KeepsContexts, contexts_owed, KeepsOwners, owners_owed, opening_contexts, opening_owners}
 use Rattle.session_laws.proofs.MadeOnce.{FitsParents, NoneLeft, shed_reads, shedding_life, HasFollowed, IsFollowed, IsPaired, Pair, followed, pair_reads, paired, first_small, leaf_there, none_allowed, one_allowed, there_moved, there_placed}
-use Rattle.lifetime_laws.specs.Balance.{BalancesFrom, count, covers, left}
 use Rattle.lifetime_laws.proofs.Replays.{is_there-placed_other, is_there-placed_same, is_there-without_other, is_there-without_same}
 use Rattle.session_laws.proofs.Parents.{Growth, growing_contexts, growing_owners}
-use Rattle.owner_kinds.specs.KindShelf.{table_of}
 use Rattle.pgs_step.specs.declared.events.What.TheVariants as what
 use Rattle.session_rules.specs.Elements as e
 

@@ -1,19 +1,12 @@
 -- A reader that allows what another one allows, by what both have seen.
-use Rattle.std.proofs.Common.{◌≡◌, true, List, [], ◌∷◌, refl, ℕ, not, sym, ap, ◌∙◌, subst, ◌≢◌, ◌+◌, ◌-◌, ◌<◌, ◌≤◌, Bool, false, Option, Some, None, nat_le, inl, inr, arith}
-use Rattle.std.specs.Prelude.{◌&&◌, ◌==◌}
-use Rattle.std.proofs.lemmas.Bool.{and_from, and_parts, both_ways, cases_Bool, cases_eq, eqb-false, eqb-true, false_from_ne_true, le-leb}
-use Rattle.pgs_step.specs.declared.events.What.{What}
-use Rattle.lifetime_laws.specs.Reading.{Reader, allows_all, seen_after}
-use Rattle.session_rules.specs.World.{Scene}
-use Rattle.owner_kinds.specs.KindTable.{KindTable}
+use Rattle.session_laws.proofs.Words.{◌≡◌, true, List, [], ◌∷◌, refl, ℕ, not, sym, ap, ◌∙◌, subst, ◌≢◌, ◌+◌, ◌-◌, ◌<◌, ◌≤◌, Bool, false, Option, Some, None, nat_le, inl, inr, arith, ◌&&◌, ◌==◌, and_from, and_parts, both_ways, cases_Bool, cases_eq, eqb-false, eqb-true, false_from_ne_true, le-leb, nat_tests}
+use Rattle.session_laws.proofs.Scenes.{What, Scene, KindTable, exited}
+use Rattle.session_laws.proofs.Rules.{Reader, allows_all, seen_after, count}
 use Rattle.lifetime_laws.specs.Parents.{Node as Kept, contexts_behind, has_child, is_there, owners_behind, placed_where, without}
 use Rattle.lifetime_laws.specs.Once.{Parents, first_parents, shedding, deletes, discards, is_first_context, makes_context, makes_owner, nothing, one_where}
-use Rattle.session_rules.specs.Ends.{exited}
 use Rattle.session_laws.proofs.Lives.{IsLife, IsRead, Reads}
 use Rattle.session_laws.proofs.Parents.{FitsContexts, FitsOwners, Growth, growing_contexts, growing_owners, is_leaf}
 use Rattle.session_laws.proofs.ParentsLife.{HasContexts, KeepsContexts, HasOwners, KeepsOwners, contexts_life, opening_contexts, opening_owners, owners_life}
-use Rattle.std.proofs.lemmas.Bool.Decides.{nat_tests}
-use Rattle.lifetime_laws.specs.Balance.{count}
 use Rattle.lifetime_laws.specs.Made.{IsMadeOnce}
 use Rattle.lifetime_laws.proofs.Replays.{is_there-placed_other, is_there-without_other, is_there-without_same}
 use Rattle.pgs_step.specs.declared.events.What.TheVariants as what

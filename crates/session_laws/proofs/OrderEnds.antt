@@ -1,60 +1,23 @@
 -- A reader of releases, where none is open, as one opens, and as it closes.
-use Rattle.std.proofs.Common.{◌≡◌, ℕ, Bool, true, false, not, List, [], ◌∷◌, ◌++◌, map, Option, Some, None, refl, sym, subst, codes, ◌∙◌, ◌+◌, ◌<◌, cond, All, ap, arith, ◌≤◌, length}
-use Rattle.std.specs.Prelude.{option_and_then, ◌==◌}
-use Rattle.std.specs.Option.{option_map_or}
-use Rattle.std.specs.List.{list_all}
-use Rattle.std.proofs.lemmas.Bool.{and_from}
-use Rattle.pgs_step.specs.declared.events.What.{What}
-use Rattle.owner_kinds.specs.KindTable.{KindTable}
+use Rattle.session_laws.proofs.Words.{◌≡◌, ℕ, Bool, true, false, not, List, [], ◌∷◌, ◌++◌, map, Option, Some, None, refl, sym, subst, codes, ◌∙◌, ◌+◌, ◌<◌, cond, All, ap, arith, ◌≤◌, length, option_and_then, ◌==◌, option_map_or, list_all, and_from, All-cons, All-filter, All-nil, All-weaker, Empty, Node, AllNodes, children, order}
+use Rattle.session_laws.proofs.Scenes.{What, KindTable, portals_context, opening, LevelState, OpenPortal, deepest_changed, depth, first_of, level_owner, owner_of, top_context, Moment, Scene, Around, Element, Text, new_context_made, owner_made, owner_gone, descriptor_left, owner_moved, owner_released, does, Item, Phase, BeforeLocks, Locks, AfterLocks, table_of, is_of, without_newest, is_of_phase, Owner, OwnerTree, remembered, own_released, IsInOrder, Lock, has_owner, Ended, changes, context_gone, for_each, in_order, portal_gone, switched, where_so, where_there, portal_aborted, portal_closed, portal_passed, aborted, cleaned_up, committed, empty_context_gone, level_context_gone, level_owner_gone, level_popped, level_released, stack_lowered, stack_popped, subcommitted, switched_up, Stands, active_depth}
+use Rattle.session_laws.proofs.Rules.{allows_all, seen_after, allows_all-append, seen_after-append, AreSaid, said_more, said_none, said_both, said_one, said_pops, Acts, Follows, Keeps, is_word, last, next, EndLeaves, Law, MakeLeaves, MoveLeaves, Leaves, OwnerLeaves, ContextLeaves, FileLeaves, KeyLeaves, Part, Sight, acts_of, children_go, goes, hook_waits_so, item_comes, item_goes, leaves_of, locks_one, makes_context, moves_context, of_levels, owner_goes, owner_makes, phase_so, places, plans_one, pushes, releases, taken_so, unlocks, unseen_contexts, unseen_files, unseen_keys, unseen_locks, unseen_owners, unseen_stack, end_leaves_of, of_kinds, of_locks, of_next_serial, of_owners, owner_moves, by_order, moves_owed, by_each, by_so, by_there, all_swept, begins, off_begins, owner_when_active, resettled, settled, switched_off, aborted_leads, empty_context_goes, level_context_goes, portal_aborts, portal_cleans, portal_closes, portal_passes}
 use Rattle.lifetime_laws.specs.Order.{Batch, Member, Owned, Releasing, batch_behind, may_precede, member_in, member_now, members_so_far, ordering}
 use Rattle.lifetime_laws.specs.Parents.{owners_behind}
-use Rattle.lifetime_laws.specs.Reading.{allows_all, seen_after}
-use Rattle.lifetime_laws.proofs.Readings.{allows_all-append, seen_after-append}
 use Rattle.session_laws.proofs.Parents.{Growth, growing_owners, FitsOwners}
-use Rattle.session_rules.proofs.Said.{AreSaid, said_more, said_none, said_both, said_one, said_pops}
 use Rattle.session_laws.proofs.Warnings.{is_aside, is_line}
 use Rattle.session_laws.proofs.OrderSteps.{Adds, adds_aside, in_batch, falling_filter, Falls}
-use Rattle.session_rules.specs.State.{portals_context, opening, LevelState, OpenPortal, deepest_changed, depth, first_of, level_owner, owner_of, top_context}
-use Rattle.session_rules.specs.World.{Moment, Scene, Around}
-use Rattle.session_rules.specs.Elements.{Element, Text}
-use Rattle.session_rules.specs.Making.{new_context_made, owner_made}
-use Rattle.session_rules.specs.Releases.{owner_gone, descriptor_left, owner_moved, owner_released}
-use Rattle.session_rules.specs.Does.{does}
-use Rattle.session_rules.proofs.Leaves.{Acts, Follows, Keeps, is_word, last, next, EndLeaves, Law, MakeLeaves, MoveLeaves, Leaves}
-use Rattle.session_rules.proofs.ReleaseSteps.{OwnerLeaves}
-use Rattle.session_rules.proofs.Sight.{ContextLeaves, FileLeaves, KeyLeaves, Part, Sight, acts_of, children_go, goes, hook_waits_so, item_comes, item_goes, leaves_of, locks_one, makes_context, moves_context, of_levels, owner_goes, owner_makes, phase_so, places, plans_one, pushes, releases, taken_so, unlocks, unseen_contexts, unseen_files, unseen_keys, unseen_locks, unseen_owners, unseen_stack, end_leaves_of, of_kinds, of_locks, of_next_serial, of_owners, owner_moves}
-use Rattle.session_rules.proofs.Walk.{by_order, moves_owed, by_each, by_so, by_there}
 use Rattle.session_laws.proofs.OwnWork.{IsOwnWork, WorkLeaves, own_follows}
-use Rattle.std.proofs.lemmas.List.Elements.{All-cons, All-filter, All-nil, All-weaker}
-use Rattle.pgs_step.specs.declared.ids.Item.{Item}
-use Rattle.pgs_step.specs.declared.ids.Phase.{Phase}
-use Rattle.pgs_step.specs.declared.ids.Phase.TheVariants.{BeforeLocks, Locks, AfterLocks}
-use Rattle.forest.specs.Forest.{Empty, Node, AllNodes, children}
-use Rattle.owner_kinds.specs.KindShelf.{table_of}
 use Rattle.owner_kinds.proofs.Places.{table-closed, table-opened}
-use Rattle.owner_items.specs.ItemList.{is_of, without_newest}
-use Rattle.owner_items.specs.Next.{is_of_phase}
 use Rattle.owner_items.proofs.Order.{All-without, falling-without}
-use Rattle.owner_core.specs.Owners.{Owner, OwnerTree, remembered}
-use Rattle.owner_core.specs.Released.{own_released}
-use Rattle.lock_local.specs.Locks.{IsInOrder, Lock, has_owner}
 use Rattle.lock_local.specs.Changes.{passed_lock, without}
 use Rattle.lock_local.proofs.ChangeLemmas.{IsInOrder-acquired, down, keeps-down, keeps-passed, keeps-without}
 use Rattle.lock_local.proofs.OrderLemmas.{IsInOrder-filter, IsInOrder-map}
 use Rattle.session_rules.proofs.Guarded.{all_changed, all_moved, all_put, all_removed}
-use Rattle.session_rules.proofs.Swept.{all_swept}
 use Rattle.session_laws.proofs.Lives.{owes_by, OwesTurns, IsRead}
-use Rattle.forest.specs.Walk.{order}
 use Rattle.file_table.specs.Descriptors.{is_among}
-use Rattle.session_rules.specs.Acts.{Ended, changes, context_gone, for_each, in_order, portal_gone, switched, where_so, where_there}
-use Rattle.session_rules.specs.Portals.{portal_aborted, portal_closed, portal_passed}
-use Rattle.session_rules.specs.Ends.{aborted, cleaned_up, committed, empty_context_gone, level_context_gone, level_owner_gone, level_popped, level_released, stack_lowered, stack_popped, subcommitted, switched_up}
-use Rattle.session_rules.specs.Standing.{Stands, active_depth}
 use Rattle.session_rules.specs.Ending.{gone_levels}
-use Rattle.session_rules.proofs.EndsStand.{begins, off_begins, owner_when_active, resettled, settled, switched_off}
-use Rattle.session_rules.proofs.Failing.{aborted_leads}
 use Rattle.session_rules.proofs.Passing.{passed_leads}
-use Rattle.session_rules.proofs.WalkEnds.{empty_context_goes, level_context_goes, portal_aborts, portal_cleans, portal_closes, portal_passes}
 use Rattle.session_laws.proofs.ParentsLife.{HasOwners, KeepsOwners, owner_level_leaves, owners_moved}
 use Rattle.session_laws.proofs.OwnerEnds.{released_levels, aborted_reads, each_reads, passed_reads}
 use Rattle.session_laws.proofs.OrderPhase.{HasBatch, owner_release}

@@ -1,39 +1,16 @@
 -- In each session's life the end of a level releases descendants first, by phase and priority.
-use Rattle.std.proofs.Common.{◌≡◌, ℕ, ◌+◌, Bool, true, false, List, [], ◌∷◌, ◌++◌, Option, Some, None, refl, sym, ap, ◌∙◌, subst, inl, inr, not}
-use Rattle.std.specs.Prelude.{◌⊎◌, is_some, option_and_then, if◌then◌else◌}
-use Rattle.std.proofs.lemmas.Bool.{and_from, both_ways}
-use Rattle.pgs_step.specs.declared.errors.Error.{Error}
-use Rattle.pgs_step.specs.declared.events.What.{What}
-use Rattle.owner_kinds.specs.KindTable.{KindTable}
+use Rattle.session_laws.proofs.Words.{◌≡◌, ℕ, ◌+◌, Bool, true, false, List, [], ◌∷◌, ◌++◌, Option, Some, None, refl, sym, ap, ◌∙◌, subst, inl, inr, not, ◌⊎◌, is_some, option_and_then, if◌then◌else◌, and_from, both_ways, subtree}
+use Rattle.session_laws.proofs.Scenes.{Error, What, KindTable, LevelState, deepest_changed, is_aborted, level_above, level_context, owner_of, first_of, opening, top_context, Moment, Scene, Around, Element, failure, Ended, nothing, switched, where_there, for_each, in_order, where_so, context_gone, say, aborted, cleaned_up, committed, subcommitted, given_up, level_rolled_back, recovered, exited, level_made, new_context_made, new_owner_made, owner_made, Done, fallible, refused_call, unless_refused, does, does_all, then_done, AreOuter, IsOpen, Stands, AreOpen, FitLevels, StandsBetweenLines, Command, table_of, line_elements, turn, turn_of}
+use Rattle.session_laws.proofs.Rules.{allows_all, seen_after, aborted_stands, at_settled, is_left, rolled_stands, settled, AreSpoken, Follows, IsRun, IsSpoken, Meets, Runs, command_leads, refused_leads, element_follows, AreSaid, said_both, said_none, said_one, said_gone, line_spoken}
 use Rattle.lifetime_laws.specs.Order.{Batch, Releasing, member_in, ordering, nothing_releasing}
 use Rattle.lifetime_laws.specs.Parents.{Node}
-use Rattle.lifetime_laws.specs.Reading.{allows_all, seen_after}
-use Rattle.session_rules.specs.State.{LevelState, deepest_changed, is_aborted, level_above, level_context, owner_of, first_of, opening, top_context}
-use Rattle.session_rules.specs.World.{Moment, Scene, Around}
-use Rattle.session_rules.specs.Elements.{Element}
-use Rattle.session_rules.specs.Checks.{failure}
-use Rattle.session_rules.specs.Acts.{Ended, nothing, switched, where_there, for_each, in_order, where_so, context_gone, say}
-use Rattle.session_rules.specs.Ends.{aborted, cleaned_up, committed, subcommitted, given_up, level_rolled_back, recovered, exited}
-use Rattle.session_rules.specs.Making.{level_made, new_context_made, new_owner_made, owner_made}
-use Rattle.session_rules.specs.Calls.{Done, fallible, refused_call, unless_refused}
-use Rattle.session_rules.specs.Does.{does, does_all, then_done}
-use Rattle.session_rules.specs.Standing.{AreOuter, IsOpen, Stands, AreOpen, FitLevels, StandsBetweenLines}
-use Rattle.session_rules.proofs.EndsStand.{Leaves as Leaving, aborted_stands, at_settled, is_left, rolled_stands, settled}
-use Rattle.session_rules.proofs.Leaves.{AreSpoken, Follows, IsRun, IsSpoken}
+use Rattle.session_rules.proofs.EndsStand.{Leaves as Leaving}
 use Rattle.session_rules.proofs.LevelsKept.{is_there}
 use Rattle.session_rules.proofs.StepsStand.{abort_stands, cleanup_stands, commit_stands, merge_stands, settled_as}
-use Rattle.session_rules.proofs.TurnStands.{Meets, Runs, command_leads, refused_leads}
-use Rattle.session_rules.proofs.Walk.{element_follows}
 use Rattle.session_laws.proofs.Lives.{OwesTurns, level_keeps, IsLife, Reads, turn_keeps}
 use Rattle.session_laws.proofs.OwnWork.{AreDue, ContextNext, Hushed, IsDue, IsHushed, IsLevelContext, IsLevelOwner, IsLively, IsOwnWork, IsRest, IsSaid, OwnerNext, Stage, Working, above_of, hushed_next, stage_next, working_next, line_due, stage_of}
 use Rattle.session_laws.proofs.ParentsLife.{KeepsOwners, owners_owed, HasOwners, opening_owners, owners_life}
-use Rattle.session_rules.proofs.Said.{AreSaid, said_both, said_none, said_one, said_gone}
 use Rattle.session_laws.proofs.OrderEnds.{Mild, own_mild, KeepsBase, base_owed, Fit, abort_goes, clean_goes, commit_goes, keeps_fit, merge_goes, Goes, IsClosed, closed_goes, goes_both, goes_none, goes_weaker, lone_allows, is_unlined, nodes_after, ordered_nodes, by_error, closes, opening_based}
-use Rattle.pgs_command.specs.declared.commands.Command.{Command}
-use Rattle.owner_kinds.specs.KindShelf.{table_of}
-use Rattle.forest.specs.Forest.{subtree}
-use Rattle.session_rules.specs.Transcript.{line_elements, turn, turn_of}
-use Rattle.session_rules.proofs.Spoken.{line_spoken}
 use Rattle.pgs_step.specs.declared.events.What.TheVariants as what
 use Rattle.session_rules.specs.Elements as e
 use Rattle.pgs_step.specs.declared.errors.Error.TheVariants as error

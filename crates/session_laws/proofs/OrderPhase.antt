@@ -1,31 +1,11 @@
 -- The three phases of a release, of an owner and all below it.
-use Rattle.std.proofs.Common.{◌≡◌, ℕ, ◌<◌, Bool, true, false, not, if◌then◌else◌, List, [], ◌++◌, All, Option, Some, None, refl, sym, subst, ap, ◌∙◌, inl, inr, arith}
-use Rattle.std.specs.Prelude.{◌==◌, ◌||◌}
-use Rattle.std.specs.Option.{option_map_or}
-use Rattle.std.proofs.lemmas.Bool.{cases_Bool, cond-false, cond-true, both_ways, eq-eqb, false_from_ne_true, ne_eqb, or_left, or_right}
-use Rattle.std.proofs.lemmas.List.{append-nil}
-use Rattle.std.proofs.lemmas.List.Elements.{All-append, All-nil, All-weaker}
-use Rattle.pgs_step.specs.declared.events.What.{What}
-use Rattle.pgs_step.specs.declared.ids.Phase.{Phase}
-use Rattle.pgs_step.specs.declared.ids.Phase.TheVariants.{BeforeLocks, Locks, AfterLocks}
-use Rattle.forest.specs.Forest.{Forest, Empty, Node, Once, AllNodes, at, children, has, parent_of, size, times}
-use Rattle.forest.specs.Walk.{all_changed, swept}
-use Rattle.forest.proofs.Trees.{Apart, apart_of, first_child_other, has_at, has_children}
+use Rattle.session_laws.proofs.Words.{◌≡◌, ℕ, ◌<◌, Bool, true, false, not, if◌then◌else◌, List, [], ◌++◌, All, Option, Some, None, refl, sym, subst, ap, ◌∙◌, inl, inr, arith, ◌==◌, ◌||◌, option_map_or, cases_Bool, cond-false, cond-true, both_ways, eq-eqb, false_from_ne_true, ne_eqb, or_left, or_right, append-nil, All-append, All-nil, All-weaker, Forest, Empty, Node, Once, AllNodes, at, children, has, parent_of, size, times, all_changed, swept, Apart, apart_of, first_child_other, has_at, has_children}
+use Rattle.session_laws.proofs.Scenes.{What, Phase, BeforeLocks, Locks, AfterLocks, is_of_phase, KindTable, table_of, Owner, OwnerTree, own_released, Step, own_steps, release_steps, steps_below, top_locks, IsInOrder, Scene, Ended, for_each, owner_released, phase_released, step_done}
+use Rattle.session_laws.proofs.Rules.{all_swept, has_swept, parent_swept}
 use Rattle.forest.proofs.Walks.{children_in, once_children}
 use Rattle.lifetime_laws.specs.Parents.{is_above}
 use Rattle.lifetime_laws.specs.Order.{Member, owner_of, place_of, place_of_phase}
-use Rattle.owner_items.specs.Next.{is_of_phase}
-use Rattle.owner_kinds.specs.KindTable.{KindTable}
-use Rattle.owner_kinds.specs.KindShelf.{table_of}
-use Rattle.owner_core.specs.Owners.{Owner, OwnerTree}
-use Rattle.owner_core.specs.Released.{own_released}
-use Rattle.owner_core.specs.Steps.{Step, own_steps, release_steps, steps_below, top_locks}
-use Rattle.lock_local.specs.Locks.{IsInOrder}
-use Rattle.session_rules.specs.World.{Scene}
-use Rattle.session_rules.specs.Acts.{Ended, for_each}
-use Rattle.session_rules.specs.Releases.{owner_released, phase_released, step_done}
 use Rattle.session_rules.proofs.Guarded.{all_at, all_children}
-use Rattle.session_rules.proofs.Swept.{all_swept, has_swept, parent_swept}
 use Rattle.session_laws.proofs.OrderSteps.{Adds, AreApart, adds_both, adds_none, falling_filter, Grows, IsOwn, Releases, each_both, own_release, releases_both, releases_none, releases_weaker, AreClear, AreWalked, Falls, IsClear, IsOf, Splits, below_release, may_release, owner_locks}
 use Rattle.session_laws.proofs.Parents.{FitsTree, same_above}
 use Rattle.lifetime_laws.specs.Parents as replayed

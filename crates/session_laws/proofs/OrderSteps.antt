@@ -1,43 +1,16 @@
 -- The items that a phase releases, in order: by rising priority, and of one priority the newest first.
-use Rattle.std.proofs.Common.{◌≡◌, ℕ, ◌<◌, ◌≤◌, Bool, true, false, cond, nat_le, nat_lt, List, [], ◌∷◌, filter, All, refl, inl, inr, arith, not, ◌++◌, Option, Some, None, sym, subst, ap, ◌∙◌, if◌then◌else◌, map}
-use Rattle.std.specs.Prelude.{◌⊎◌, ◌==◌, ◌&&◌, ◌||◌, unwrap_or, ◌-◌}
-use Rattle.std.proofs.lemmas.Bool.{cases_Bool, and_from, eq-eqb, lt-ltb, not_from_false, or_left, or_right}
-use Rattle.std.proofs.lemmas.Bool.Decides.{nat_tests}
-use Rattle.std.proofs.lemmas.List.Elements.{All-nil, All-cons, All-head, All-tail, All-filter, All-append, All-weaker}
-use Rattle.pgs_step.specs.declared.ids.Item.{Item}
-use Rattle.owner_items.specs.ItemList.{AreFalling}
-use Rattle.owner_items.specs.Next.{with_item, by_rank, is_of_phase, is_phase, priority, release_order}
-use Rattle.std.specs.Option.{option_map, option_map_or}
-use Rattle.std.specs.List.{list_all}
-use Rattle.std.proofs.lemmas.List.Sums.{list_all-from_AllPass}
-use Rattle.pgs_step.specs.declared.events.What.{What}
-use Rattle.pgs_step.specs.declared.ids.Phase.{Phase}
-use Rattle.pgs_step.specs.declared.ids.Phase.TheVariants.{BeforeLocks, Locks, AfterLocks}
-use Rattle.pgs_step.specs.declared.lock_modes.Mode.{Mode}
+use Rattle.session_laws.proofs.Words.{◌≡◌, ℕ, ◌<◌, ◌≤◌, Bool, true, false, cond, nat_le, nat_lt, List, [], ◌∷◌, filter, All, refl, inl, inr, arith, not, ◌++◌, Option, Some, None, sym, subst, ap, ◌∙◌, if◌then◌else◌, map, ◌⊎◌, ◌==◌, ◌&&◌, ◌||◌, unwrap_or, ◌-◌, cases_Bool, and_from, eq-eqb, lt-ltb, not_from_false, or_left, or_right, nat_tests, All-nil, All-cons, All-head, All-tail, All-filter, All-append, All-weaker, option_map, option_map_or, list_all, list_all-from_AllPass, append_assoc, append-nil, subtree, Empty, Node, AllNodes, has}
+use Rattle.session_laws.proofs.Scenes.{Item, AreFalling, with_item, by_rank, is_of_phase, is_phase, priority, release_order, What, Phase, BeforeLocks, Locks, AfterLocks, Mode, KindTable, row_of, table_of, Owner, OwnerTree, Step, Said, GivesBack, ReleasesLocks, PassesLocks, ReleasesAllLocks, own_steps, releases_of, lock_step, steps_below, top_locks, Lock, IsInOrder, comes_before, has_owner, lock_total, owner_count, StandingPlan, Scene, plan_at, Ended, behind, for_each, nothing, where_so, where_there, Keeper, NoOne, ThePlans, TheDescriptors, TheKind, given_back, keeper_of, left_to, plan_becomes, plan_settled, plan_stays, step_done}
+use Rattle.session_laws.proofs.Rules.{allows_all, seen_after, allows_all-append, seen_after-append, AreSaid, said_more, said_none, said_gone, said_one}
 use Rattle.pgs_step.specs.Mode.{mode_number}
-use Rattle.owner_kinds.specs.KindTable.{KindTable, row_of}
 use Rattle.owner_kinds.specs.declared.kind_row.KindRow.{KindRow}
 use Rattle.lifetime_laws.specs.Once.{same_item}
 use Rattle.lifetime_laws.specs.Order.{AnItem, ALock, Member, Owned, Releasing, goes_before, is_warned, may_precede, member_of, ordering, owner_of, place_of, with_member, place_of_phase}
 use Rattle.lifetime_laws.specs.Parents.{is_above}
-use Rattle.lifetime_laws.specs.Reading.{allows_all, seen_after}
-use Rattle.lifetime_laws.proofs.Readings.{allows_all-append, seen_after-append}
-use Rattle.session_rules.proofs.Said.{AreSaid, said_more, said_none, said_gone, said_one}
 use Rattle.session_laws.proofs.Warnings.{is_aside, same_itself}
-use Rattle.std.proofs.lemmas.List.{append_assoc, append-nil}
-use Rattle.owner_kinds.specs.KindShelf.{table_of}
 use Rattle.owner_kinds.proofs.Places.{table-closed}
-use Rattle.owner_core.specs.Owners.{Owner, OwnerTree}
-use Rattle.owner_core.specs.Steps.{Step, Said, GivesBack, ReleasesLocks, PassesLocks, ReleasesAllLocks, own_steps, releases_of, lock_step, steps_below, top_locks}
-use Rattle.lock_local.specs.Locks.{Lock, IsInOrder, comes_before, has_owner, lock_total, owner_count}
 use Rattle.lock_local.proofs.OrderLemmas.{IsInOrder-filter, IsInOrder-map, KeepsLock}
 use Rattle.file_table.specs.Descriptors.{is_among, without}
-use Rattle.forest.specs.Forest.{subtree, Empty, Node, AllNodes, has}
-use Rattle.session_rules.specs.State.{StandingPlan}
-use Rattle.session_rules.specs.World.{Scene}
-use Rattle.session_rules.specs.Lookup.{plan_at}
-use Rattle.session_rules.specs.Acts.{Ended, behind, for_each, nothing, where_so, where_there}
-use Rattle.session_rules.specs.Releases.{Keeper, NoOne, ThePlans, TheDescriptors, TheKind, given_back, keeper_of, left_to, plan_becomes, plan_settled, plan_stays, step_done}
 use Rattle.pgs_step.specs.declared.events.What.TheVariants as what
 use Rattle.lifetime_laws.specs.Parents as replayed
 use Rattle.lock_local.specs.Changes as locks

@@ -1,12 +1,8 @@
 -- Where a line stands between its elements. While the deepest level is aborted a line says nothing until it cleans that level up: an
 -- element is a check then, or a word at the line's end, or the cleanup.
-use Rattle.std.proofs.Common.{◌≡◌, ℕ, zero, suc, ◌+◌, ◌-◌, ◌≤◌, Bool, true, false, not, if◌then◌else◌, List, [], ◌∷◌, ◌++◌, map, length, replicate, flat_map, Option, Some, None, refl, sym, subst, inl, inr, arith, append_assoc, codes}
-use Rattle.std.proofs.lemmas.Bool.{le-ltb}
-use Rattle.std.specs.Prelude.{nat_lt, ◌&&◌, ◌==◌, ◌⊎◌}
-use Rattle.std.specs.Option.{option_map_or, option_and_then}
-use Rattle.pgs_step.specs.declared.errors.Error.{Error}
-use Rattle.pgs_step.specs.declared.events.What.{What}
-use Rattle.pgs_command.specs.declared.commands.Command.{Command}
+use Rattle.session_laws.proofs.Words.{◌≡◌, ℕ, zero, suc, ◌+◌, ◌-◌, ◌≤◌, Bool, true, false, not, if◌then◌else◌, List, [], ◌∷◌, ◌++◌, map, length, replicate, flat_map, Option, Some, None, refl, sym, subst, inl, inr, arith, append_assoc, codes, le-ltb, nat_lt, ◌&&◌, ◌==◌, ◌⊎◌, option_map_or, option_and_then}
+use Rattle.session_laws.proofs.Scenes.{Error, What, Command, LevelState, OpenPortal, SessionState, is_aborted, level_owner, Check, Element, LevelContext, NewContext, OfLevel, OwnerRole, Text, is_named, portal_named, context_named, Scene, Moment, AreOuter, FitLevels, Stands, line_elements, KindId, Phase, Mode, CtxKind, owner_gone, phase_released, portal_ended, at_kind, at_owner, at_portal, lock_given_back, snapshot_popped, context_made, new_context_made, new_owner_made, owner_made, plan_made, descriptor_given, item_taken, lock_taken, snapshot_pushed, does}
+use Rattle.session_laws.proofs.Rules.{Acts, Follows, IsSpoken, Keeps, Law, Leaves, MoveLeaves, Owes, is_word, last, next, by_kind, by_order, by_owner, by_portal, by_portal_named, by_there, element_follows, fallible_at, fallible_so, moves_owed, unfailing_so, portal_ends}
 use Rattle.pgs_command.specs.declared.commands.TransactionCommand.{TransactionCommand}
 use Rattle.pgs_command.specs.declared.commands.Work.{Work}
 use Rattle.pgs_command.specs.declared.commands.ContextCommand.{ContextCommand}
@@ -19,27 +15,8 @@ use Rattle.pgs_command.specs.declared.commands.PortalCommand.{PortalCommand}
 use Rattle.pgs_command.specs.declared.commands.TellCommand.{TellCommand}
 use Rattle.exec_core.specs.declared.scan.Scan.{Scan}
 use Rattle.exec_core.specs.declared.steps.ScanStep.{ScanStep}
-use Rattle.session_rules.specs.State.{LevelState, OpenPortal, SessionState, is_aborted, level_owner}
-use Rattle.session_rules.specs.Elements.{Check, Element, LevelContext, NewContext, OfLevel, OwnerRole, Text}
-use Rattle.session_rules.specs.Lookup.{is_named, portal_named, context_named}
 use Rattle.session_rules.specs.Works.{after_turn, chunk_row, context_row, fallible_part, fetch_steps, item_row, lock_row, plan_row, portal_row, row_of, snapshot_row, tell_row, turn_steps, work_of}
 use Rattle.session_rules.specs.Commands.{at_savepoint, begin, commit, committed_to, elements_of, ends_aborted, in_transaction, is_end, refused, rollback, rolled_back_to, save, savepoint, start, then_ok, transaction_of, unaborted}
-use Rattle.session_rules.specs.World.{Scene, Moment}
-use Rattle.session_rules.specs.Standing.{AreOuter, FitLevels, Stands}
-use Rattle.session_rules.specs.Transcript.{line_elements}
-use Rattle.pgs_step.specs.declared.ids.KindId.{KindId}
-use Rattle.pgs_step.specs.declared.ids.Phase.{Phase}
-use Rattle.pgs_step.specs.declared.lock_modes.Mode.{Mode}
-use Rattle.any_ctx.specs.declared.any.CtxKind.{CtxKind}
-use Rattle.session_rules.specs.Releases.{owner_gone, phase_released}
-use Rattle.session_rules.specs.Portals.{portal_ended}
-use Rattle.session_rules.specs.Parts.{at_kind, at_owner, at_portal, lock_given_back, snapshot_popped}
-use Rattle.session_rules.specs.Making.{context_made, new_context_made, new_owner_made, owner_made, plan_made}
-use Rattle.session_rules.specs.Taking.{descriptor_given, item_taken, lock_taken, snapshot_pushed}
-use Rattle.session_rules.specs.Does.{does}
-use Rattle.session_rules.proofs.Leaves.{Acts, Follows, IsSpoken, Keeps, Law, Leaves, MoveLeaves, Owes, is_word, last, next}
-use Rattle.session_rules.proofs.Walk.{by_kind, by_order, by_owner, by_portal, by_portal_named, by_there, element_follows, fallible_at, fallible_so, moves_owed, unfailing_so}
-use Rattle.session_rules.proofs.WalkEnds.{portal_ends}
 use Rattle.pgs_step.specs.declared.errors.Error.TheVariants as error
 use Rattle.pgs_step.specs.declared.events.What.TheVariants as what
 use Rattle.pgs_command.specs.declared.commands.Command.TheVariants as command

@@ -1,52 +1,17 @@
 -- What follows the release of an item, and the steps of a phase, leave of a session; and that they acquire and release no item besides.
-use Rattle.std.proofs.Common.{◌≡◌, Bool, true, false, List, [], ◌∷◌, refl, ap, ◌∙◌, ℕ, ◌≤◌, length, Option, Some, None, sym, subst, inl, inr, not, arith}
-use Rattle.pgs_step.specs.declared.events.What.{What}
-use Rattle.pgs_step.specs.declared.ids.Item.{Item}
-use Rattle.owner_kinds.specs.KindShelf.{table_of}
+use Rattle.session_laws.proofs.Words.{◌≡◌, Bool, true, false, List, [], ◌∷◌, refl, ap, ◌∙◌, ℕ, ◌≤◌, length, Option, Some, None, sym, subst, inl, inr, not, arith, ◌==◌, has, AllNodes, Moves, option_and_then}
+use Rattle.session_laws.proofs.Scenes.{What, Item, table_of, OwnerTree, AllAt, HoldsNothing, Step, Said, GivesBack, ReleasesLocks, PassesLocks, ReleasesAllLocks, release_steps, Scene, Moment, for_each, Ended, where_so, where_there, changes, context_gone, in_order, portal_gone, switched, given_back, step_done, owner_moved, owner_gone, owner_released, phase_released, LevelState, OpenPortal, first_of, owner_of, abort_context, deepest_changed, depth, level_owner, top_context, has_failed, portal_aborted, portal_failed, portal_passed, portal_withdrawn, executor_ended, is_ready, portal_closed, portal_ended, portal_owner_ended, IsAttached, IsOwner, IsPortal, HasItems, IsLive, IsWorking, Stands, active_depth, Error, KindId, Phase, BeforeLocks, Locks, AfterLocks, KindTable, IsSound as IsSoundTable, released, Element, OfLevel, OfPortal, OwnerRole, Text, kind_named, owner_in, portal_named, aborted, cleaned_up, committed, empty_context_gone, level_context_gone, level_owner_gone, level_popped, level_released, level_rolled_back, stack_lowered, stack_popped, subcommitted, switched_up, at_kind, at_owner, item_taken, does}
+use Rattle.session_laws.proofs.Rules.{Acts, Keeps, Law, AllKeep, Leaves, LevelLeaves, MakeLeaves, OwesEnds as OwesEndings, OwesMoves, last, next, AreSaid, said_both, said_none, Part, Sight, acts_of, children_go, gives_back, goes, of_kinds, of_levels, of_next_owner, of_next_serial, of_owners, unseen_files, by_either, by_each, by_order, fallible_at, levels_owed, makes_owed, portal_fails, portal_lowers, portal_returns, context_goes, empty_context_goes, executor_ends, level_context_goes, level_marks, level_pops, level_releases, owner_releases, portal_cleans, portal_closes, switches_up, begins, is_settled, off_begins, owner_when_active, resettled, settled, switched_off, aborted_leads, all_aborted, has_swept, Meets}
 use Rattle.owner_kinds.proofs.Places.{table-closed}
-use Rattle.owner_core.specs.Owners.{OwnerTree, AllAt, HoldsNothing}
-use Rattle.owner_core.specs.Steps.{Step, Said, GivesBack, ReleasesLocks, PassesLocks, ReleasesAllLocks, release_steps}
-use Rattle.session_rules.specs.World.{Scene, Moment}
-use Rattle.session_rules.specs.Acts.{for_each, Ended, where_so, where_there, changes, context_gone, in_order, portal_gone, switched}
-use Rattle.session_rules.specs.Releases.{given_back, step_done, owner_moved, owner_gone, owner_released, phase_released}
-use Rattle.session_rules.proofs.Leaves.{Acts, Keeps, Law, AllKeep, Leaves, LevelLeaves, MakeLeaves, OwesEnds as OwesEndings, OwesMoves, last, next}
-use Rattle.session_rules.proofs.Said.{AreSaid, said_both, said_none}
-use Rattle.session_rules.proofs.Sight.{Part, Sight, acts_of, children_go, gives_back, goes, of_kinds, of_levels, of_next_owner, of_next_serial, of_owners, unseen_files}
-use Rattle.std.specs.Prelude.{◌==◌}
-use Rattle.forest.specs.Forest.{has, AllNodes}
-use Rattle.forest.proofs.Trees.{Moves}
-use Rattle.session_rules.specs.State.{LevelState, OpenPortal, first_of, owner_of, abort_context, deepest_changed, depth, level_owner, top_context}
-use Rattle.session_rules.specs.Checks.{has_failed}
 use Rattle.session_rules.specs.Ending.{Ending, gone_levels}
-use Rattle.session_rules.specs.Portals.{portal_aborted, portal_failed, portal_passed, portal_withdrawn, executor_ended, is_ready, portal_closed, portal_ended, portal_owner_ended}
-use Rattle.session_rules.specs.Standing.{IsAttached, IsOwner, IsPortal, HasItems, IsLive, IsWorking, Stands, active_depth}
 use Rattle.session_rules.proofs.Ending.{Leads, with_parts}
 use Rattle.session_rules.proofs.Passing.{above_owner, above_there, all_passed, passed_leads}
 use Rattle.session_rules.proofs.Replacing.{first_of_rest, all_closed}
-use Rattle.session_rules.proofs.Walk.{by_either, by_each, by_order, fallible_at, levels_owed, makes_owed}
-use Rattle.session_rules.proofs.WalkEnds.{portal_fails, portal_lowers, portal_returns, context_goes, empty_context_goes, executor_ends, level_context_goes, level_marks, level_pops, level_releases, owner_releases, portal_cleans, portal_closes, switches_up}
-use Rattle.std.specs.Option.{option_and_then}
-use Rattle.pgs_step.specs.declared.errors.Error.{Error}
-use Rattle.pgs_step.specs.declared.ids.KindId.{KindId}
-use Rattle.pgs_step.specs.declared.ids.Phase.{Phase}
-use Rattle.pgs_step.specs.declared.ids.Phase.TheVariants.{BeforeLocks, Locks, AfterLocks}
-use Rattle.owner_kinds.specs.KindTable.{KindTable, IsSound as IsSoundTable}
-use Rattle.owner_core.specs.Released.{released}
-use Rattle.session_rules.specs.Elements.{Element, OfLevel, OfPortal, OwnerRole, Text}
-use Rattle.session_rules.specs.Lookup.{kind_named, owner_in, portal_named}
-use Rattle.session_rules.specs.Ends.{aborted, cleaned_up, committed, empty_context_gone, level_context_gone, level_owner_gone, level_popped, level_released, level_rolled_back, stack_lowered, stack_popped, subcommitted, switched_up}
-use Rattle.session_rules.specs.Parts.{at_kind, at_owner}
-use Rattle.session_rules.specs.Taking.{item_taken}
-use Rattle.session_rules.specs.Does.{does}
-use Rattle.session_rules.proofs.EndsStand.{begins, is_settled, off_begins, owner_when_active, resettled, settled, switched_off}
-use Rattle.session_rules.proofs.Failing.{aborted_leads, all_aborted}
 use Rattle.session_rules.proofs.ItemsStand.{owner_there}
 use Rattle.session_rules.proofs.LevelsKept.{left_nothing, no_value}
 use Rattle.session_rules.proofs.PortalEnds.{executor_beside, owner_in as portal_owner_there}
 use Rattle.session_rules.proofs.PortalWorks.{Beside}
 use Rattle.session_rules.proofs.Releasing.{HasSwept, released_swept}
-use Rattle.session_rules.proofs.Swept.{has_swept}
-use Rattle.session_rules.proofs.TurnStands.{Meets}
 use Rattle.session_laws.proofs.Lives.{OwesEnds, OwesTurns}
 use Rattle.pgs_step.specs.declared.events.What.TheVariants as what
 use Rattle.session_rules.specs.Elements as e

@@ -1,26 +1,15 @@
 -- Replayed parents that fit the trees of a session.
-use Rattle.std.proofs.Common.{◌≡◌, ◌≢◌, ℕ, zero, suc, ◌+◌, ◌<◌, ◌≤◌, Bool, true, false, not, List, [], ◌∷◌, length, Option, Some, None, refl, sym, ap, ◌∙◌, subst, unwrap_or, inl, inr, arith, ◌++◌, append-nil, if◌then◌else◌}
-use Rattle.std.specs.Prelude.{◌==◌, ◌||◌, ◌&&◌}
-use Rattle.std.specs.Option.{option_map_or}
-use Rattle.std.proofs.lemmas.Bool.{both_ways, cases_Bool, cases_eq, cond-false, cond-true, eq-eqb, eqb-true, false_from_ne_true, ne_eqb, or_from, or_parts, and_from}
-use Rattle.forest.specs.Forest.{Forest, Empty, Node, Once, children, has, is_above, moved, parent_of, put, removed, size, times, with_children, at, changed, mapped}
+use Rattle.session_laws.proofs.Words.{◌≡◌, ◌≢◌, ℕ, zero, suc, ◌+◌, ◌<◌, ◌≤◌, Bool, true, false, not, List, [], ◌∷◌, length, Option, Some, None, refl, sym, ap, ◌∙◌, subst, unwrap_or, inl, inr, arith, ◌++◌, append-nil, if◌then◌else◌, ◌==◌, ◌||◌, ◌&&◌, option_map_or, both_ways, cases_Bool, cases_eq, cond-false, cond-true, eq-eqb, eqb-true, false_from_ne_true, ne_eqb, or_from, or_parts, and_from, Forest, Empty, Node, Once, children, has, is_above, moved, parent_of, put, removed, size, times, with_children, at, changed, mapped, Moves, at_some, has_at, has_none, has_some, once_front, once_moved, once_put, parent_stays, removed_has, size_moved, size_put, size_removed, times_moved, times_none, times_some, Apart, apart_of, first_child_other, has_children, once_removed, removed_absent, lead, order, order_at, all_changed, swept}
+use Rattle.session_laws.proofs.Scenes.{Scene, Context, Contexts, callbacks, emptied, What}
+use Rattle.session_laws.proofs.Rules.{at_put, children_put, has_left, has_put_other, once_left, parent_left, parent_put, parent_put_other, emptied_absent, has_emptied, is_one_of, Reader, allows_all, seen_after, AreSaid, said_more, said_none}
 use Rattle.forest.specs.Preorder.{level}
 use Rattle.forest.proofs.Moved.{above_by_parent, above_none, below_parent, level_up}
 use Rattle.forest.proofs.Neighbours.{parent_absent}
 use Rattle.forest.proofs.Preorders.{level_small}
-use Rattle.forest.proofs.Trees.{Moves, at_some, has_at, has_none, has_some, once_front, once_moved, once_put, parent_stays, removed_has, size_moved, size_put, size_removed, times_moved, times_none, times_some, Apart, apart_of, first_child_other, has_children, once_removed, removed_absent}
 use Rattle.forest.proofs.Walks.{parent_in, children_in, children_removed, lead_leaf, lead_of_node, once_children, order_lead}
-use Rattle.session_rules.specs.World.{Scene}
-use Rattle.session_rules.proofs.Forests.{at_put, children_put, has_left, has_put_other, once_left, parent_left, parent_put, parent_put_other, emptied_absent, has_emptied}
 use Rattle.lifetime_laws.specs.Parents.{Node as Kept, above, has_child, is_there, is_within, node, placed, without, contexts_behind, owners_behind}
-use Rattle.lifetime_laws.specs.Reading.{is_one_of, Reader, allows_all, seen_after}
 use Rattle.lifetime_laws.proofs.Replays.{IsLine, above-line, is_there-placed_other, is_there-placed_same, is_there-without_other, is_there-without_same, parent_of-placed_other, parent_of-placed_same, parent_of-without_other, parent_of-without_same}
-use Rattle.forest.specs.Walk.{lead, order, order_at, all_changed, swept}
 use Rattle.session_rules.proofs.Lone.{own_emptied}
-use Rattle.context_rules.specs.Contexts.{Context, Contexts}
-use Rattle.context_rules.specs.Ends.{callbacks, emptied}
-use Rattle.pgs_step.specs.declared.events.What.{What}
-use Rattle.session_rules.proofs.Said.{AreSaid, said_more, said_none}
 use Rattle.lifetime_laws.specs.Parents as replayed
 use Rattle.pgs_step.specs.declared.events.What.TheVariants as what
 use Rattle.context_rules.specs.Ends as ends

@@ -1,43 +1,14 @@
 -- The replayed contexts are those of the session, whatever a line does.
-use Rattle.std.proofs.Common.{◌≡◌, ℕ, ◌+◌, ◌<◌, Bool, true, false, List, [], ◌∷◌, Some, None, refl, sym, ap, ◌∙◌, subst, inl, inr, arith, zero, suc, length, map, Option}
-use Rattle.std.specs.Prelude.{◌==◌, ◌&&◌, ◌||◌}
-use Rattle.std.proofs.lemmas.Bool.{and_from, cases_Bool, cases_eq, eq-eqb, false_from_ne_true, ne_eqb}
-use Rattle.pgs_step.specs.declared.events.What.{What}
-use Rattle.any_ctx.specs.declared.any.CtxKind.{CtxKind}
-use Rattle.forest.specs.Forest.{Forest, Empty, Node, Once, at, children, has, moved, parent_of, put, size, times, with_children, removed}
-use Rattle.forest.specs.Walk.{order, order_at}
+use Rattle.session_laws.proofs.Words.{◌≡◌, ℕ, ◌+◌, ◌<◌, Bool, true, false, List, [], ◌∷◌, Some, None, refl, sym, ap, ◌∙◌, subst, inl, inr, arith, zero, suc, length, map, Option, ◌==◌, ◌&&◌, ◌||◌, and_from, cases_Bool, cases_eq, eq-eqb, false_from_ne_true, ne_eqb, Forest, Empty, Node, Once, at, children, has, moved, parent_of, put, size, times, with_children, removed, order, order_at, Moves, at_absent, at_some, has_of_removed, has_some, put_absent, removed_absent, times_moved, times_some, nat_tests}
+use Rattle.session_laws.proofs.Scenes.{What, CtxKind, Hook, Context, Contexts, is_child, move_events, new_context, placed_under, callbacks, gone_events, Scene, Around, Text, children_gone, context_cleared, context_cleared_alone, context_gone, context_moved, context_made, owner_made, hook_waits, item_taken, KindTable, opening, KindId, Phase, Owner, OwnerTree, own_released, owner_gone, owner_moved, phase_released}
+use Rattle.session_laws.proofs.Rules.{has_put_other, times_emptied, EndLeaves, Keeps, Law, LevelLeaves, MakeLeaves, MoveLeaves, is_level_word, is_word, AreSaid, said_alone, said_map, said_weaker, said_more, said_none, said_one, of_contexts, of_next_context, ContextLeaves, FileLeaves, KeyLeaves, Part, Sight, hook_waits_so, level_leaves_of, locks_one, makes_context, moves_context, of_next_owner, of_owners, phase_so, places, plans_one, pushes, releases, taken_so, unlocks, unseen_contexts, unseen_files, unseen_keys, unseen_locks, unseen_stack, seen_after, OwnerLeaves, moves_owed}
 use Rattle.forest.proofs.Mapped.{mapped-has, mapped-parent, mapped-size, mapped-times}
-use Rattle.forest.proofs.Trees.{Moves, at_absent, at_some, has_of_removed, has_some, put_absent, removed_absent, times_moved, times_some}
-use Rattle.reset_callbacks.specs.Hook.{Hook}
-use Rattle.context_rules.specs.Contexts.{Context, Contexts, is_child, move_events, new_context, placed_under}
-use Rattle.context_rules.specs.Ends.{callbacks, gone_events}
-use Rattle.session_rules.specs.World.{Scene, Around}
-use Rattle.session_rules.specs.Elements.{Text}
-use Rattle.session_rules.specs.Acts.{children_gone, context_cleared, context_cleared_alone, context_gone}
-use Rattle.session_rules.specs.Parts.{context_moved}
-use Rattle.session_rules.specs.Making.{context_made, owner_made}
-use Rattle.session_rules.specs.Taking.{hook_waits, item_taken}
-use Rattle.session_rules.proofs.Forests.{has_put_other, times_emptied}
 use Rattle.session_rules.proofs.Aside.{ContextLaw, context_ends, is_apart, context_makes}
-use Rattle.session_rules.proofs.Leaves.{EndLeaves, Keeps, Law, LevelLeaves, MakeLeaves, MoveLeaves, is_level_word, is_word}
-use Rattle.session_rules.proofs.Said.{AreSaid, said_alone, said_map, said_weaker, said_more, said_none, said_one}
-use Rattle.session_rules.proofs.Sight.{of_contexts, of_next_context, ContextLeaves, FileLeaves, KeyLeaves, Part, Sight, hook_waits_so, level_leaves_of, locks_one, makes_context, moves_context, of_next_owner, of_owners, phase_so, places, plans_one, pushes, releases, taken_so, unlocks, unseen_contexts, unseen_files, unseen_keys, unseen_locks, unseen_stack}
 use Rattle.lifetime_laws.specs.Parents.{Node as Kept, is_there, placed_where, first_contexts}
-use Rattle.lifetime_laws.specs.Reading.{seen_after}
 use Rattle.session_laws.proofs.Lives.{Reads, read_both, IsLife, OwesTurns, life_by, owes_by}
 use Rattle.session_laws.proofs.Parents.{FitsContexts, FitsTree, fits_moved, fits_put, Plucked, plucked_children, plucked_gone, AreAlike, alike_alone, alike_changed, alike_same, bare, AreRead, Growth, IsPruned, Takes, growing_contexts, is_not_of_contexts, passed_context, pruned, read_past, taken_context, takes_both, takes_none, takes_one, takes_past, takes_quiet, FitsOwners, fits_front, alike_swept, growing_owners, is_not_of_owners, passed_owner, taken_owner}
-use Rattle.std.proofs.lemmas.Bool.Decides.{nat_tests}
-use Rattle.owner_kinds.specs.KindTable.{KindTable}
-use Rattle.session_rules.specs.State.{opening}
 use Rattle.session_rules.proofs.ContextsKept.{moves_by}
 use Rattle.session_rules.proofs.Meeting.{StandingMoves, standing_moves}
-use Rattle.pgs_step.specs.declared.ids.KindId.{KindId}
-use Rattle.pgs_step.specs.declared.ids.Phase.{Phase}
-use Rattle.owner_core.specs.Owners.{Owner, OwnerTree}
-use Rattle.owner_core.specs.Released.{own_released}
-use Rattle.session_rules.specs.Releases.{owner_gone, owner_moved, phase_released}
-use Rattle.session_rules.proofs.ReleaseSteps.{OwnerLeaves}
-use Rattle.session_rules.proofs.Walk.{moves_owed}
 use Rattle.session_laws.proofs.OwnerEnds.{OwnerEnds, owes_where}
 use Rattle.pgs_step.specs.declared.events.What.TheVariants as what
 use Rattle.context_rules.specs.Ends as ends

@@ -1,33 +1,13 @@
 -- The stack of active snapshots: each pop is of the newest one.
-use Rattle.std.proofs.Common.{◌≡◌, ℕ, zero, suc, ◌+◌, ◌-◌, ◌≤◌, Bool, true, false, List, [], ◌∷◌, ◌++◌, length, map, reverse, take, Some, refl, sym, ap, ◌∙◌, inl, inr, arith, drop, Option, None, subst}
-use Rattle.std.specs.Prelude.{◌==◌, ◌⊎◌, filter, nat_lt, if◌then◌else◌}
-use Rattle.std.proofs.lemmas.Bool.{cases_Bool, eqb-true, eqb-false, lt-leb, le-leb, ltb-true, ltb-false, le-ltb, and_from, eq-eqb}
-use Rattle.std.proofs.lemmas.List.{append-nil, append_assoc, map-append, reverse-append, reverse-reverse, length-append, take_at}
-use Rattle.std.proofs.lemmas.List.Elements.{filter-append}
+use Rattle.session_laws.proofs.Words.{◌≡◌, ℕ, zero, suc, ◌+◌, ◌-◌, ◌≤◌, Bool, true, false, List, [], ◌∷◌, ◌++◌, length, map, reverse, take, Some, refl, sym, ap, ◌∙◌, inl, inr, arith, drop, Option, None, subst, ◌==◌, ◌⊎◌, filter, nat_lt, if◌then◌else◌, cases_Bool, eqb-true, eqb-false, lt-leb, le-leb, ltb-true, ltb-false, le-ltb, and_from, eq-eqb, append-nil, append_assoc, map-append, reverse-append, reverse-reverse, length-append, take_at, filter-append}
+use Rattle.session_laws.proofs.Scenes.{first_of, last_of, opening, AreStacked, HasExited, Stands, StandsBetweenLines, active_depth, What, Command, KindTable, Around, Moment, Scene, Element, changes, in_order, say, where_there, snapshot_popped, snapshot_pushed, does, exited, stack_lowered, stack_popped, turn}
+use Rattle.session_laws.proofs.Rules.{allows_all, seen_after, Law, exited_stands, Meets, line_runs, fallible_at}
 use Rattle.snap_table.specs.declared.active.Active.{Active}
 use Rattle.snap_table.specs.Snapshots.{is_deep, kept_below, lowered, pops}
-use Rattle.session_rules.specs.State.{first_of, last_of, opening}
-use Rattle.session_rules.specs.Standing.{AreStacked, HasExited, Stands, StandsBetweenLines, active_depth}
-use Rattle.pgs_step.specs.declared.events.What.{What}
-use Rattle.pgs_command.specs.declared.commands.Command.{Command}
-use Rattle.owner_kinds.specs.KindTable.{KindTable}
-use Rattle.lifetime_laws.specs.Reading.{allows_all, seen_after}
 use Rattle.lifetime_laws.specs.Once.{is_newest, none_left, stacking}
-use Rattle.session_rules.specs.World.{Around, Moment, Scene}
-use Rattle.session_rules.specs.Elements.{Element}
-use Rattle.session_rules.specs.Acts.{changes, in_order, say, where_there}
-use Rattle.session_rules.specs.Parts.{snapshot_popped}
-use Rattle.session_rules.specs.Taking.{snapshot_pushed}
-use Rattle.session_rules.specs.Does.{does}
-use Rattle.session_rules.specs.Ends.{exited, stack_lowered, stack_popped}
-use Rattle.session_rules.specs.Transcript.{turn}
 use Rattle.session_rules.proofs.Stacked.{depth_small}
-use Rattle.session_rules.proofs.Leaves.{Law}
-use Rattle.session_rules.proofs.EndsStand.{exited_stands}
-use Rattle.session_rules.proofs.TurnStands.{Meets, line_runs}
 use Rattle.session_laws.proofs.Lives.{IsLife, IsRead, Reads, read_both}
 use Rattle.session_laws.proofs.LocksSight.{PassesOver, Sees, hides, of_stack, plain_none, plain_one, read_plain, subject, files_hidden, locked_hidden, locks_hidden, unlocked_hidden, Ending, OwesUnlocks, Turns, ending_turn, least_acts, lock_owed, owner_owed, session_exits, touch_owed, unlock_owed, Base, by_owner_made, least_of}
-use Rattle.session_rules.proofs.Walk.{fallible_at}
 use Rattle.pgs_step.specs.declared.events.What.TheVariants as what
 use Rattle.session_rules.specs.Elements as e
 

@@ -1,29 +1,9 @@
 -- Which events open a release, warn, or stand beside what a release releases.
-use Rattle.std.proofs.Common.{Bool, true, false, ◌≡◌, ℕ, not, List, [], ◌∷◌, Option, Some, None, refl, subst, sym}
-use Rattle.pgs_step.specs.declared.events.What.{What}
-use Rattle.std.specs.Prelude.{◌==◌, ◌&&◌}
-use Rattle.std.proofs.lemmas.Bool.{and_from, eq-eqb}
-use Rattle.pgs_step.specs.declared.errors.Error.{Error}
-use Rattle.pgs_step.specs.declared.ids.Item.{Item}
-use Rattle.pgs_command.specs.declared.commands.Command.{Command}
-use Rattle.owner_kinds.specs.KindTable.{KindTable}
+use Rattle.session_laws.proofs.Words.{Bool, true, false, ◌≡◌, ℕ, not, List, [], ◌∷◌, Option, Some, None, refl, subst, sym, ◌==◌, ◌&&◌, and_from, eq-eqb}
+use Rattle.session_laws.proofs.Scenes.{What, Error, Item, Command, KindTable, is_aborted, Moment, Scene, in_order, where_so, Done, does_all, exited, given_up, recovered, line_elements, turn, turn_of}
+use Rattle.session_laws.proofs.Rules.{allows_all, seen_after, EndLeaves, Follows, Law, MakeLeaves, MoveLeaves, is_level_word, is_word, runs_anyhow, moves_owed, run_follows, OwnerLeaves, AreSaid, said_more, said_none, said_one, FileLeaves, Sight, end_leaves_of, hook_waits_so, item_comes, item_goes, locks_one, makes_context, moves_context, no_part, owner_goes, owner_makes, owner_moves, places, plans_one, pushes, unlocks, unseen_contexts, unseen_files, unseen_keys, unseen_locks, unseen_stack, all_owed, exit_follows, recovery_follows, line_spoken}
 use Rattle.lifetime_laws.specs.Once.{same_item}
 use Rattle.lifetime_laws.specs.Order.{Owned, warning, warning_behind}
-use Rattle.lifetime_laws.specs.Reading.{allows_all, seen_after}
-use Rattle.session_rules.specs.State.{is_aborted}
-use Rattle.session_rules.specs.World.{Moment, Scene}
-use Rattle.session_rules.specs.Acts.{in_order, where_so}
-use Rattle.session_rules.specs.Calls.{Done}
-use Rattle.session_rules.specs.Does.{does_all}
-use Rattle.session_rules.specs.Ends.{exited, given_up, recovered}
-use Rattle.session_rules.specs.Transcript.{line_elements, turn, turn_of}
-use Rattle.session_rules.proofs.Leaves.{EndLeaves, Follows, Law, MakeLeaves, MoveLeaves, is_level_word, is_word, runs_anyhow}
-use Rattle.session_rules.proofs.Walk.{moves_owed, run_follows}
-use Rattle.session_rules.proofs.ReleaseSteps.{OwnerLeaves}
-use Rattle.session_rules.proofs.Said.{AreSaid, said_more, said_none, said_one}
-use Rattle.session_rules.proofs.Sight.{FileLeaves, Sight, end_leaves_of, hook_waits_so, item_comes, item_goes, locks_one, makes_context, moves_context, no_part, owner_goes, owner_makes, owner_moves, places, plans_one, pushes, unlocks, unseen_contexts, unseen_files, unseen_keys, unseen_locks, unseen_stack}
-use Rattle.session_rules.proofs.WalkEnds.{all_owed, exit_follows, recovery_follows}
-use Rattle.session_rules.proofs.Spoken.{line_spoken}
 use Rattle.session_laws.proofs.Lives.{IsLife, IsRead, Reads, read_both}
 use Rattle.pgs_step.specs.declared.events.What.TheVariants as what
 
