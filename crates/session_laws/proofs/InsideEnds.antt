@@ -241,8 +241,8 @@ module _ (entry : Begun) where
 -- one part of an end and then another
 pub read_then : {F G : Leaving → Scene → Type 0} (entry : Begun) (leaving : Leaving) (t u : Scene) (xs ys : List What) → IsRead (confined entry) F leaving t xs
     → (F (seen_after (confined entry) leaving xs) t → IsRead (confined entry) G (seen_after (confined entry) leaving xs) u ys) → IsRead (confined entry) G leaving u (xs ++ ys)
-read_then {G = G} entry leaving t u xs ys a next =
-    let b : IsRead (confined entry) G (seen_after (confined entry) leaving xs) u ys = next a.fits in
+read_then {G = G} entry leaving t u xs ys a more =
+    let b : IsRead (confined entry) G (seen_after (confined entry) leaving xs) u ys = more a.fits in
     record {
       allowed = allows_all-append (confined entry) leaving xs ys a.allowed b.allowed;
       fits = subst (λ (l : Leaving). G l u) (sym (seen_after-append (confined entry) leaving xs ys)) b.fits;

@@ -111,8 +111,8 @@ rest_at leaving s r = go r.stage r.rest r.at
 
 -- one part after another
 pub one_then : {F G : Leaving → Scene → Type 0} (leaving : Leaving) (t u : Scene) (xs ys : List What) → OneRead F leaving t xs → (F (seen_after staying leaving xs) t → OneRead G (seen_after staying leaving xs) u ys) → OneRead G leaving u (xs ++ ys)
-one_then {G = G} leaving t u xs ys a next =
-    let b : OneRead G (seen_after staying leaving xs) u ys = next a.fits in
+one_then {G = G} leaving t u xs ys a more =
+    let b : OneRead G (seen_after staying leaving xs) u ys = more a.fits in
     record {
       allowed = allows_all-append staying leaving xs ys a.allowed b.allowed;
       fits = subst (λ (l : Leaving). G l u) (sym (seen_after-append staying leaving xs ys)) b.fits;

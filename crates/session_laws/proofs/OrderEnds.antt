@@ -62,8 +62,8 @@ module _ (kinds : KindTable) where
   goes_none seen P h = record { allowed = refl; behind = h }
 
   pub goes_both : {seen : Releasing} {xs ys : List What} {P Q : Releasing → Type 0} → Goes seen xs P → ((mid : Releasing) → P mid → Goes mid ys Q) → Goes seen (xs ++ ys) Q
-  goes_both {seen = seen} {xs = xs} {ys = ys} {Q = Q} a next =
-      let b : Goes (seen_after (ordering kinds) seen xs) ys Q = next (seen_after (ordering kinds) seen xs) a.behind in
+  goes_both {seen = seen} {xs = xs} {ys = ys} {Q = Q} a more =
+      let b : Goes (seen_after (ordering kinds) seen xs) ys Q = more (seen_after (ordering kinds) seen xs) a.behind in
       record {
         allowed = allows_all-append (ordering kinds) seen xs ys a.allowed b.allowed;
         behind = subst Q (sym (seen_after-append (ordering kinds) seen xs ys)) b.behind;
@@ -301,8 +301,8 @@ module _ (kinds : KindTable) where
     aside = λ s t alike said. same s t _ (alike.so of_locks refl) (alike.so of_owners refl) (alike.so of_next_serial refl) (ap table_of (alike.so of_kinds refl));
   }
 
-  new_recalls : (next : ℕ) → Recalls next (record { begun = false; items = [] })
-  new_recalls next = record { falls = tt; older = All-nil (λ (item : Item). item.serial < next) }
+  new_recalls : (bound : ℕ) → Recalls bound (record { begun = false; items = [] })
+  new_recalls bound = record { falls = tt; older = All-nil (λ (item : Item). item.serial < bound) }
 
   owner_so : (parent : Option ℕ) (s : Scene) → R s (owner_made parent s).scene (owner_made parent s).events
   owner_so None s = record { so = λ h. record { places = h.places; locks = h.locks; items = (new_recalls s.session.next_serial, tt, h.items) } }
@@ -314,12 +314,12 @@ module _ (kinds : KindTable) where
     };
   }
 
-  forget : (next : ℕ) (test : Item → Bool) (owner : Owner) → Recalls next owner → Recalls next (record owner { items = without_newest test owner.items })
-  forget next test owner h = record { falls = falling-without test owner.items h.falls; older = All-without (λ (item : Item). item.serial < next) test owner.items h.older }
+  forget : (bound : ℕ) (test : Item → Bool) (owner : Owner) → Recalls bound owner → Recalls bound (record owner { items = without_newest test owner.items })
+  forget bound test owner h = record { falls = falling-without test owner.items h.falls; older = All-without (λ (item : Item). item.serial < bound) test owner.items h.older }
 
   -- an owner remembers the next item
-  later : (next : ℕ) (owner : Owner) → Recalls next owner → Recalls (next + 1) owner
-  later next owner h = record { falls = h.falls; older = All-weaker (λ (item : Item). item.serial < next) (λ (item : Item). item.serial < next + 1) (λ item l. omega (arith, l)) owner.items h.older }
+  later : (bound : ℕ) (owner : Owner) → Recalls bound owner → Recalls (bound + 1) owner
+  later bound owner h = record { falls = h.falls; older = All-weaker (λ (item : Item). item.serial < bound) (λ (item : Item). item.serial < bound + 1) (λ item l. omega (arith, l)) owner.items h.older }
 
   recall : (item : Item) (owner : Owner) → Recalls item.serial owner → Recalls (item.serial + 1) (record owner { items = item ∷ owner.items })
   recall item owner h = record {
@@ -335,15 +335,15 @@ module _ (kinds : KindTable) where
       go true = recall item owner h.0
       go false = later item.serial owner h.0
 
-  released_recalls : (places : KindTable) (phase : Phase) (next : ℕ) (owner : Owner) → Recalls next owner → Recalls next (own_released places phase owner)
-  released_recalls places Locks next owner h = record { falls = h.falls; older = h.older }
-  released_recalls places BeforeLocks next owner h = record {
+  released_recalls : (places : KindTable) (phase : Phase) (bound : ℕ) (owner : Owner) → Recalls bound owner → Recalls bound (own_released places phase owner)
+  released_recalls places Locks bound owner h = record { falls = h.falls; older = h.older }
+  released_recalls places BeforeLocks bound owner h = record {
     falls = falling_filter (λ item. not (is_of_phase places BeforeLocks item)) owner.items h.falls;
-    older = All-filter (λ item. not (is_of_phase places BeforeLocks item)) (λ (item : Item). item.serial < next) owner.items h.older;
+    older = All-filter (λ item. not (is_of_phase places BeforeLocks item)) (λ (item : Item). item.serial < bound) owner.items h.older;
   }
-  released_recalls places AfterLocks next owner h = record {
+  released_recalls places AfterLocks bound owner h = record {
     falls = falling_filter (λ item. not (is_of_phase places AfterLocks item)) owner.items h.falls;
-    older = All-filter (λ item. not (is_of_phase places AfterLocks item)) (λ (item : Item). item.serial < next) owner.items h.older;
+    older = All-filter (λ item. not (is_of_phase places AfterLocks item)) (λ (item : Item). item.serial < bound) owner.items h.older;
   }
 
   owners_change : (s : Scene) (owners : OwnerTree) {events : List What} → (AllNodes (Recalls s.session.next_serial) s.session.owners → AllNodes (Recalls s.session.next_serial) owners) → R s (record s { session = record s.session { owners = owners } }) events
