@@ -1,6 +1,6 @@
 -- Callbacks that wait by what was said, context by context, and what is said of them where contexts go.
 use Rattle.session_laws.proofs.Words.{◌≡◌, ◌≢◌, ℕ, Bool, true, false, cond, Option, Some, None, List, [], ◌∷◌, ◌++◌, map, refl, sym, ap, ◌∙◌, subst, inl, inr, arith, ◌+◌, ◌≤◌, not, ◌==◌, ◌||◌, option_map_or, cases_Bool, cases_eq, eq-eqb, ne_eqb, eqb-true, both_ways, cond-true, cond-false, false_from_ne_true, or_parts, and_from, Empty, Node, Once, at, children, either, has, removed, subtree, times, with_children, changed, is_above, put, Apart, apart_of, at_absent, at_some, has_none, removed_absent, times_none, times_removed, times_some, Moves, changed_absent, put_absent, nat_tests, sum_by-append}
-use Rattle.session_laws.proofs.Scenes.{What, Hook, AreDistinct, Context, Contexts, is_child, move_events, new_context, placed_under, callbacks, gone_events, cleared_alone, emptied, gone, waiting, Error, KindTable, IsSound, CtxKind, opening, Around, Scene, Moment, Options, World, moment, with_scene, Ended, children_gone, context_cleared, context_cleared_alone, context_gone, say, Text, context_made, context_moved, hook_waits, table_of, exited, Reading, course_by, ended, of_session, transcript_by, turn}
+use Rattle.session_laws.proofs.Scenes.{What, Hook, AreDistinct, Context, Contexts, is_child, move_events, new_context, placed_under, callbacks, gone_events, emptied, gone, waiting, Error, KindTable, IsSound, CtxKind, opening, Around, Scene, Moment, Options, World, moment, with_scene, Ended, children_gone, context_cleared, context_cleared_alone, context_gone, say, Text, context_made, context_moved, hook_waits, table_of, exited, Reading, course_by, ended, of_session, transcript_by, turn}
 use Rattle.session_laws.proofs.Rules.{allows_all, seen_after, events_of, is_one_of, allows_all-append, seen_after-append, at_children, at_emptied, at_left, times_emptied, at_put, at_put_other, EndLeaves, Keeps, Law, AreSaid, said_more, said_none, ContextLeaves, Sight, of_contexts, of_next_context}
 use Rattle.lifetime_laws.specs.Called.{Waiting, calling, is_awaited, is_next, without_next, CallsBack, all_differ, words_in}
 use Rattle.lifetime_laws.specs.Once.{none_left}

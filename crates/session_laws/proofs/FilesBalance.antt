@@ -1,12 +1,11 @@
 -- Where each item is released once, so are the items of a file together.
 use Rattle.session_laws.proofs.Words.{◌≡◌, ℕ, ◌+◌, ◌-◌, ◌≤◌, Bool, true, false, cond, if◌then◌else◌, List, [], ◌∷◌, ◌++◌, length, Option, Some, None, refl, sym, ap, ◌∙◌, arith, subst, ◌==◌, ◌&&◌, sum_by, nat_le, option_map_or, and_from, and_parts, both_ways, eq-eqb, eqb-true, leb-true, sum_by-cons}
 use Rattle.session_laws.proofs.Scenes.{What, Item, is_of, file_kind, SessionState, opening, Error, Command, table_of, KindTable, Around, Moment, Scene, exited, StandsBetweenLines, turn}
-use Rattle.session_laws.proofs.Rules.{allows_all, seen_after, Reader, BalancesFrom, count, covers, left}
+use Rattle.session_laws.proofs.Rules.{allows_all, seen_after, Reader, BalancesFrom, count, covers, left, said_one}
 use Rattle.lifetime_laws.specs.Once.{acquires, one_where, releases, same_item, closes, opens}
-use Rattle.session_laws.proofs.FilesHeld.{item_reader, leaves_file, takes_file, ItemFits, items_seen, items_exit, items_turn}
+use Rattle.session_laws.proofs.FilesHeld.{item_reader, leaves_file, takes_file, ItemFits, items_exit, items_turn, items_aside}
 use Rattle.session_laws.proofs.Lives.{IsRead, Reads}
 use Rattle.session_laws.proofs.Lifts.{IsLifeAmong}
-use Rattle.session_laws.proofs.LocksSight.{of_items, plain_one}
 use Rattle.session_laws.proofs.MadeOnce.{FitsPair, IsPaired, Pair, pair_reads, paired}
 use Rattle.session_laws.proofs.FilesLife.{AreOpened, FilesFit, opening_turns, files_elsewhere, files_error, files_exit, files_open, files_turn}
 use Rattle.file_table.proofs.FileCounts.{times}
@@ -292,7 +291,7 @@ items_cover file = record {
   few = λ n s fit. fit.covered;
   opens = items_open file;
   elsewhere = λ n session a b table descriptors fit. record { few = fit.few; covered = fit.covered; covers = fit.covers; once = fit.once };
-  error = λ error s. (items_seen file).aside s s (refl, refl, refl) (plain_one of_items (what.Error error) refl);
+  error = λ error s. items_aside file s s refl refl (said_one (what.Error error) refl);
   turns = items_turn file;
   exits = λ s h. items_exit file s;
 }

@@ -1,7 +1,7 @@
 -- What becomes of owners makes them hold no more, and leaves each number once.
 use Rattle.session_laws.proofs.Words.{◌≡◌, ℕ, ◌≤◌, true, Some, List, [], ◌∷◌, refl, ap, inl, inr, arith, ◌+◌, ◌-◌, Bool, false, cond, nat_eq, if◌then◌else◌, ◌++◌, Option, None, sym, subst, ◌∙◌, zero, suc, find, take, ◌==◌, ◌&&◌, nat_le, nat_lt, list_any, cases_Bool, and_from, eqb-true, le-leb, Empty, Node, Once, at, children, has, moved, put, removed, times as node_times, parent_of, subtree, size, all_changed, swept, order_at, at_absent, at_some, once_removed, put_absent, removed_absent, times_put, times_removed, changed_absent, once_changed, option_map_or}
-use Rattle.session_laws.proofs.Scenes.{Item, KindId, is_of, uses, without_newest, Owner, OwnerTree, held, created, forgotten, remembered, What, Phase, BeforeLocks, Locks, AfterLocks, Lock, owner_count, KindTable, release_order, Step, Said, GivesBack, ReleasesLocks, PassesLocks, ReleasesAllLocks, lock_step, own_steps, release_of, release_steps, releases_of, steps_below, top_locks, StandingPlan, file_kind, level_above, level_owner, owner_of, opening, Scene, Around, Moment, plan_at, newest, Ended, for_each, where_so, where_there, changes, in_order, say, NoOne, TheDescriptors, TheKind, ThePlans, given_back, left_to, plan_becomes, plan_settled, plan_stays, step_done, item_released, keeper_of, owner_gone, owner_moved, phase_released, table_of, own_released, released, OfLevel, OfPortal, OwnerRole, Element, new_owner_made, owner_made, limit, descriptor_given, files, item_taken, remembers, taken_by, snapshot_pushed, Error, Command, failure, unless, refused_call, unless_refused, does, exited, Stands, StandsBetweenLines, line_elements, turn}
-use Rattle.session_laws.proofs.Rules.{Reader, allows_all, seen_after, count, allows_all-append, seen_after-append, Law, Follows, IsRun, Meets, line_runs, fallible_at, fallible_so}
+use Rattle.session_laws.proofs.Scenes.{Item, KindId, is_of, uses, without_newest, Owner, OwnerTree, held, created, forgotten, remembered, What, Phase, BeforeLocks, Locks, AfterLocks, KindTable, release_order, Step, Said, GivesBack, ReleasesLocks, PassesLocks, ReleasesAllLocks, lock_step, own_steps, release_of, release_steps, releases_of, steps_below, top_locks, StandingPlan, file_kind, level_above, level_owner, owner_of, opening, Scene, Around, Moment, plan_at, newest, Ended, for_each, where_so, where_there, changes, in_order, say, NoOne, TheDescriptors, TheKind, ThePlans, given_back, left_to, plan_becomes, plan_settled, plan_stays, step_done, item_released, keeper_of, owner_gone, owner_moved, phase_released, table_of, own_released, released, OfLevel, OfPortal, OwnerRole, Element, new_owner_made, owner_made, limit, descriptor_given, files, item_taken, remembers, taken_by, snapshot_pushed, Error, Command, failure, unless, refused_call, unless_refused, does, exited, Stands, StandsBetweenLines, line_elements, turn}
+use Rattle.session_laws.proofs.Rules.{Reader, allows_all, seen_after, count, allows_all-append, seen_after-append, Law, Follows, IsRun, Meets, line_runs, fallible_at, fallible_so, said_none, said_more, said_map, said_gone, said_lock_releases, said_lock_passes, said_all_locks, of_recent, of_owners}
 use Rattle.std.proofs.lemmas.Grind.{common_steps}
 use Rattle.owner_core.specs.Sound.{total}
 use Rattle.owner_core.proofs.Sounds.{total_put, total_removed, once_of, sound_created}
@@ -9,7 +9,7 @@ use Rattle.session_rules.specs.Counts.{all_items, holds}
 use Rattle.session_rules.proofs.HeldItems.{gives, gives_phase, held_created, held_forgotten, held_remembered}
 use Rattle.file_table.specs.Descriptors.{is_among, without}
 use Rattle.file_table.proofs.FileCounts.{times, times_none, times_without}
-use Rattle.session_laws.proofs.LocksSight.{ArePlain, gone_plain, hides, of_items, plain_flat, plain_if, plain_map, plain_more, plain_none, plain_one, subject, Sees, popped_hidden, stack_gone_hidden, stack_passed_hidden, Turns, locked_hidden, pushed_hidden, unlocked_hidden, Least, OwesUnlocks, ending_turn, least_acts, lock_owed, session_exits, unlock_owed}
+use Rattle.session_laws.proofs.LocksSight.{ArePlain, hides, of_items, subject, Sees, Turns, locked_hidden, pushed_hidden, unlocked_hidden, Least, OwesUnlocks, ending_turn, least_acts, lock_owed, session_exits, unlock_owed, stack_hidden}
 use Rattle.session_laws.proofs.FilesLife.{mark, mark_swapped, times_more}
 use Rattle.file_table.specs.Files.{given_events, given_file, loser, touch_events, touched_file}
 use Rattle.session_laws.proofs.Lives.{IsRead, Reads, read_both}
@@ -17,7 +17,6 @@ use Rattle.session_laws.proofs.OwnerEnds.{steps_stay}
 use Rattle.session_rules.proofs.StepsStand.{below_limit, own_refusal}
 use Rattle.session_laws.proofs.LocksChecked.{IsChecked, line_checked}
 use Rattle.pgs_step.specs.declared.events.What.TheVariants as what
-use Rattle.lock_local.specs.Changes as locks
 use Rattle.session_rules.specs.Elements as e
 
 module _ (kind : KindId) (key : ℕ) where
@@ -108,16 +107,6 @@ abbrev pub leaves_file : ℕ → What → ℕ
 leaves_file f (what.Release item owner) = cond (is_of file_kind f item) 1 0
 leaves_file f other = 0
 
-let_go_plain : (owner : ℕ) (all : List Lock) → ArePlain of_items (locks.releases owner all)
-let_go_plain owner all =
-    plain_flat of_items (locks.release_of owner)
-    (λ lock. plain_if of_items (owner_count owner lock == 0) plain_none (plain_one of_items (what.ReleaseLock lock.object lock.mode (owner_count owner lock) owner) refl)) all
-
-handed_plain : (from to : ℕ) (all : List Lock) → ArePlain of_items (locks.passes from to all)
-handed_plain from to all =
-    plain_flat of_items (locks.pass_of from to)
-    (λ lock. plain_if of_items (owner_count from lock == 0) plain_none (plain_one of_items (what.PassLock lock.object lock.mode (owner_count from lock) from to) refl)) all
-
 module _ (f : ℕ) where
   abbrev pub item_reader : Reader ℕ
   item_reader = count (takes_file f) (leaves_file f)
@@ -148,8 +137,8 @@ module _ (f : ℕ) where
   plain_leaves other h = refl
 
   pub plain_still : {events : List What} → ArePlain of_items events → AreStill events
-  plain_still plain_none = still_none
-  plain_still (plain_more {event = event} h hs) = still_more (record { takes = plain_takes event h; leaves = plain_leaves event h }) (plain_still hs)
+  plain_still said_none = still_none
+  plain_still (said_more {event = event} h hs) = still_more (record { takes = plain_takes event h; leaves = plain_leaves event h }) (plain_still hs)
 
   pub still_allowed : (m : ℕ) {events : List What} → AreStill events → allows_all item_reader m events ≡ true
   still_allowed m still_none = refl
@@ -187,7 +176,7 @@ module _ (f : ℕ) where
   plan_events plan s = go (plan.discarded && (plan.references == 0))
     where
       go : (b : Bool) → AreStill (elim b as (λ _. Ended) [ true ↦ plan_settled plan s | false ↦ plan_stays plan s ]).events
-      go true = still_both (plain_still (gone_plain of_items (subtree plan.context s.session.contexts))) still_none
+      go true = still_both (plain_still (said_gone (λ word n. refl) (λ n. refl) (subtree plan.context s.session.contexts))) still_none
       go false = still_none
 
   plan_recent : (plan : StandingPlan) (s : Scene) → (plan_becomes plan s).scene.session.recent ≡ s.session.recent
@@ -318,15 +307,15 @@ module _ (f : ℕ) where
       falls_both first (units_fall h s K (seen_after item_reader m (event ∷ [])) first.few first.covered first.left)
   units_fall (unit_let_go {owner = owner} {steps = steps} h) s K m few covered more =
       let first : Falls (gives file_kind f steps + K) m (step_done (ReleasesLocks owner) s).scene (step_done (ReleasesLocks owner) s).events =
-      falls_still (gives file_kind f steps + K) m (step_done (ReleasesLocks owner) s).scene (plain_still (let_go_plain owner s.session.locks)) few covered (omega (arith, more)) in
+      falls_still (gives file_kind f steps + K) m (step_done (ReleasesLocks owner) s).scene (plain_still (said_lock_releases (λ object mode count owner. refl) owner s.session.locks)) few covered (omega (arith, more)) in
       falls_both first (units_fall h (step_done (ReleasesLocks owner) s).scene K _ first.few first.covered first.left)
   units_fall (unit_passed {from = from} {to = to} {steps = steps} h) s K m few covered more =
       let first : Falls (gives file_kind f steps + K) m (step_done (PassesLocks from to) s).scene (step_done (PassesLocks from to) s).events =
-      falls_still (gives file_kind f steps + K) m (step_done (PassesLocks from to) s).scene (plain_still (handed_plain from to s.session.locks)) few covered (omega (arith, more)) in
+      falls_still (gives file_kind f steps + K) m (step_done (PassesLocks from to) s).scene (plain_still (said_lock_passes (λ object mode count from to. refl) from to s.session.locks)) few covered (omega (arith, more)) in
       falls_both first (units_fall h (step_done (PassesLocks from to) s).scene K _ first.few first.covered first.left)
   units_fall (unit_all {top = top} {steps = steps} h) s K m few covered more =
       let first : Falls (gives file_kind f steps + K) m (step_done (ReleasesAllLocks top) s).scene (step_done (ReleasesAllLocks top) s).events =
-      falls_still (gives file_kind f steps + K) m (step_done (ReleasesAllLocks top) s).scene (plain_still (plain_map of_items (locks.release_whole top) (λ lock. refl) s.session.locks)) few covered (omega (arith, more)) in
+      falls_still (gives file_kind f steps + K) m (step_done (ReleasesAllLocks top) s).scene (plain_still (said_all_locks (λ object mode count owner. refl) top s.session.locks)) few covered (omega (arith, more)) in
       falls_both first (units_fall h (step_done (ReleasesAllLocks top) s).scene K _ first.few first.covered first.left)
   units_fall (unit_item {item = item} {n = n} {steps = steps} h) s K m few covered more =
       let r : ℕ = of_file item in
@@ -354,15 +343,15 @@ module _ (f : ℕ) where
   fallen : {K m : ℕ} {t : Scene} {events : List What} → Falls f K m t events → held file_kind f t.session.owners ≤ K → Once t.session.owners → IsRead (item_reader f) ItemFits m t events
   fallen a less once = record { allowed = a.allowed; fits = record { few = a.few; covered = a.covered; covers = omega (arith, less, a.left); once = once } }
 
-  pub items_seen : Sees of_items ReadsItems
-  items_seen = record {
-    both = λ a b. read_both (item_reader f) ItemFits a b;
-    aside = λ s t same plain. record {
-      so = λ m h.
-          fallen (falls_still f m m t (plain_still f plain) (subst (λ (xs : List ℕ). times f xs ≤ 1) (sym same.0) h.few) (subst (λ (xs : List ℕ). times f xs ≤ m) (sym same.0) h.covered) (omega arith))
-          (subst (λ (x : OwnerTree). held file_kind f x ≤ m) (sym same.1) h.covers) (subst Once (sym same.1) h.once);
-    };
+  pub items_aside : (s t : Scene) {events : List What} → t.session.recent ≡ s.session.recent → t.session.owners ≡ s.session.owners → ArePlain of_items events → ReadsItems s t events
+  items_aside s t recent owners plain = record {
+    so = λ m h.
+        fallen (falls_still f m m t (plain_still f plain) (subst (λ (xs : List ℕ). times f xs ≤ 1) (sym recent) h.few) (subst (λ (xs : List ℕ). times f xs ≤ m) (sym recent) h.covered) (omega arith))
+        (subst (λ (x : OwnerTree). held file_kind f x ≤ m) (sym owners) h.covers) (subst Once (sym owners) h.once);
   }
+
+  pub items_seen : Sees of_items ReadsItems
+  items_seen = record { both = λ a b. read_both (item_reader f) ItemFits a b; aside = λ s t same plain. items_aside s t (same.so of_recent refl) (same.so of_owners refl) plain }
 
   -- an item is released
   released_so : (owner : ℕ) (kind : KindId) (key : ℕ) (s : Scene) → ReadsItems s (item_released owner kind key s).scene (item_released owner kind key s).events
@@ -421,7 +410,7 @@ module _ (f : ℕ) where
   gone_so : (n : ℕ) (s : Scene) → ReadsItems s (owner_gone n s).scene (owner_gone n s).events
   gone_so n s = record {
     so = λ m h.
-        fallen (falls_still f m m (owner_gone n s).scene (plain_still f (plain_map of_items (λ (k : ℕ). what.OwnerGone k) (λ k. refl) (order_at n s.session.owners))) h.few h.covered (omega arith))
+        fallen (falls_still f m m (owner_gone n s).scene (plain_still f (said_map (λ (k : ℕ). what.OwnerGone k) (λ k. refl) (order_at n s.session.owners))) h.few h.covered (omega arith))
         (omega (arith, h.covers, held_less_removed file_kind f n s.session.owners h.once)) (once_less_removed n s.session.owners h.once);
   }
 
@@ -548,27 +537,23 @@ module _ (f : ℕ) where
   }
 
   pub role_so : (role : OwnerRole) (s : Scene) → ((parent : Option ℕ) → Once (created parent s.session.next_owner s.session.owners)) → ReadsItems s (new_owner_made role s).scene (new_owner_made role s).events
-  role_so OfLevel s once = items_seen.both (made_so (owner_of (level_above s.session)) s (once (owner_of (level_above s.session)))) (items_seen.aside _ _ (refl, refl, refl) plain_none)
-  role_so (OfPortal name) s once = items_seen.both (made_so (level_owner s.session) s (once (level_owner s.session))) (items_seen.aside _ _ (refl, refl, refl) plain_none)
+  role_so OfLevel s once = items_seen.both (made_so (owner_of (level_above s.session)) s (once (owner_of (level_above s.session)))) (items_aside _ _ refl refl said_none)
+  role_so (OfPortal name) s once = items_seen.both (made_so (level_owner s.session) s (once (level_owner s.session))) (items_aside _ _ refl refl said_none)
 
   pub items_law : Turns of_items ReadsItems
   items_law = record {
-    ending = record {
-      least = record {
-        sees = items_seen;
-        items = record {
-          taken = λ owner kind key. record { so = taken_so owner kind key };
-          released = λ owner kind key. record { so = released_so owner kind key };
-          phase = λ commit top n phase. record { so = phase_so commit top n phase };
-          gone = λ n. record { so = gone_so n };
-          moved = λ n parent. record { so = moved_so n parent };
-        };
+    least = record {
+      sees = items_seen;
+      items = record {
+        taken = λ owner kind key. record { so = taken_so owner kind key };
+        released = λ owner kind key. record { so = released_so owner kind key };
+        phase = λ commit top n phase. record { so = phase_so commit top n phase };
+        gone = λ n. record { so = gone_so n };
+        moved = λ n parent. record { so = moved_so n parent };
       };
-      levels = λ levels s. items_seen.aside s _ (refl, refl, refl) plain_none;
-      stack_gone = stack_gone_hidden of_items ReadsItems items_seen refl;
-      stack_passed = stack_passed_hidden of_items ReadsItems items_seen refl;
     };
-    popped = popped_hidden of_items ReadsItems items_seen refl;
+    levels = λ levels s. items_aside s _ refl refl said_none;
+    stack = stack_hidden of_items ReadsItems items_seen refl;
   }
 
 -- A line keeps the law of the items of a file, and so does the end of a session.
@@ -584,7 +569,7 @@ passed_unless false error e = absurd (cc e)
 
 module _ (f : ℕ) where
   abbrev least : Least of_items (ReadsItems f)
-  least = (items_law f).ending.least
+  least = (items_law f).least
 
   -- an owner is made where there are not too many
   made_owed : (w : Option ℕ) (role : OwnerRole) (m : Moment) → Stands m.scene → Follows (ReadsItems f) m.scene (does w (e.MakeOwner role) m)

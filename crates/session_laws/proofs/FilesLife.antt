@@ -1,7 +1,7 @@
 -- Descriptors are opened and closed in turns: what a reader has seen of a file fits how often it is among those that have one.
 use Rattle.session_laws.proofs.Words.{◌≡◌, ℕ, zero, suc, ◌+◌, ◌-◌, ◌≤◌, Bool, true, false, cond, nat_eq, if◌then◌else◌, List, [], ◌∷◌, length, take, Option, Some, None, refl, sym, ap, subst, ◌∙◌, arith, slice_get, and_from, and_parts, le-leb, eqb-true, nat_tests, sum_by-cons}
 use Rattle.session_laws.proofs.Scenes.{What, Scene, Around, Moment, where_so, descriptor_left, descriptor_given, files, Error, Command, SessionState, opening, exited, turn}
-use Rattle.session_laws.proofs.Rules.{Reader, count}
+use Rattle.session_laws.proofs.Rules.{Reader, count, said_none, said_one, of_recent, of_descriptors}
 use Rattle.std.proofs.lemmas.Option.{slice_get_within}
 use Rattle.lifetime_laws.specs.Once.{closes, opens}
 use Rattle.file_table.specs.Descriptors.{is_among, without}
@@ -9,7 +9,7 @@ use Rattle.file_table.specs.Files.{given_events, given_file, loser}
 use Rattle.file_table.proofs.FileLists.{length-without_among, not_among_take}
 use Rattle.file_table.proofs.FileCounts.{times, times_none, times_without}
 use Rattle.session_laws.proofs.Lives.{IsRead, Reads, read_both}
-use Rattle.session_laws.proofs.LocksSight.{ArePlain, PassesOver, Same, Sees, Subject, hides, of_files, plain_none, read_plain, subject, locks_hidden, stack_gone_hidden, stack_passed_hidden, Ending, Base, least_of, plain_one, locked_hidden, popped_hidden, pushed_hidden, unlocked_hidden, any_turn, session_exits, by_owner_made}
+use Rattle.session_laws.proofs.LocksSight.{ArePlain, PassesOver, Sees, Subject, hides, of_files, read_plain, subject, locks_hidden, Base, least_of, locked_hidden, pushed_hidden, unlocked_hidden, any_turn, session_exits, by_owner_made, stack_hidden, Turns}
 use Rattle.pgs_step.specs.declared.events.What.TheVariants as what
 
 -- 1 where two files are one
@@ -128,14 +128,14 @@ module _ (f : ℕ) (reader : Reader ℕ) (Counted : ℕ → ℕ → Type 0) (tur
           shuts n s (without file s.session.recent) file (omega (arith, times_without f file s.session.recent e, mark_swapped f file)) (omega (arith, length-without_among file s.session.recent e)) h
       go n h false e = record { allowed = refl; fits = h }
 
-  aside_so : (s t : Scene) {events : List What} → Same of_files s t → ArePlain of_files events → Reads reader Fits s t events
-  aside_so s t same plain = record {
+  pub aside_so : (s t : Scene) {events : List What} → t.session.recent ≡ s.session.recent → t.around.descriptors ≡ s.around.descriptors → ArePlain of_files events → Reads reader Fits s t events
+  aside_so s t recent descriptors plain = record {
     so = λ n h. read_plain of_files reader Fits turning.over n t plain
-        (record { counted = subst (λ (xs : List ℕ). Counted n (times f xs)) (sym same.0) h.counted; within = rw (same.0, same.1) h.within });
+        (record { counted = subst (λ (xs : List ℕ). Counted n (times f xs)) (sym recent) h.counted; within = rw (recent, descriptors) h.within });
   }
 
   pub files_seen : Sees of_files (Reads reader Fits)
-  files_seen = record { both = λ a b. read_both reader Fits a b; aside = aside_so }
+  files_seen = record { both = λ a b. read_both reader Fits a b; aside = λ s t same plain. aside_so s t (same.so of_recent refl) (same.so of_descriptors refl) plain }
 
   pub files_base : Base of_files (Reads reader Fits)
   files_base = record {
@@ -144,12 +144,11 @@ module _ (f : ℕ) (reader : Reader ℕ) (Counted : ℕ → ℕ → Type 0) (tur
     files = record { used = λ file. record { so = used_so file }; closed = λ file. record { so = closed_so file } };
   }
 
-  pub files_ending : Ending of_files (Reads reader Fits)
+  pub files_ending : Turns of_files (Reads reader Fits)
   files_ending = record {
     least = least_of of_files (Reads reader Fits) files_base refl;
-    levels = λ levels s. aside_so s _ (refl, refl) plain_none;
-    stack_gone = stack_gone_hidden of_files (Reads reader Fits) files_seen refl;
-    stack_passed = stack_passed_hidden of_files (Reads reader Fits) files_seen refl;
+    levels = λ levels s. aside_so s _ refl refl said_none;
+    stack = stack_hidden of_files (Reads reader Fits) files_seen refl;
   }
 
 -- a counter passes over what it doesn't count
@@ -209,16 +208,16 @@ files_elsewhere f Counted n session a b same h = record { counted = h.counted; w
 
 module _ (f : ℕ) (reader : Reader ℕ) (Counted : ℕ → ℕ → Type 0) (turning : Turning f reader Counted) where
   pub files_error : (error : Error) (s : Scene) → Reads reader (FilesFit f Counted) s s (what.Error error ∷ [])
-  files_error error s = (files_seen f reader Counted turning).aside s s (refl, refl) (plain_one of_files (what.Error error) refl)
+  files_error error s = aside_so f reader Counted turning s s refl refl (said_one (what.Error error) refl)
 
   -- Each line keeps it, in any session.
   pub files_turn : (w : Option ℕ) (line : Option Command) (m : Moment) → Reads reader (FilesFit f Counted) m.scene (turn w line m).moment.scene (turn w line m).events
   files_turn w line m =
       let seen = files_seen f reader Counted turning in
       let R = Reads reader (FilesFit f Counted) in
-      any_turn of_files R (record { ending = files_ending f reader Counted turning; popped = popped_hidden of_files R seen refl })
+      any_turn of_files R (files_ending f reader Counted turning)
       (by_owner_made of_files R (files_base f reader Counted turning) refl) (locked_hidden of_files R seen refl) (unlocked_hidden of_files R seen refl) (pushed_hidden of_files R seen refl) (λ file. record { so = used_so f reader Counted turning file }) w line m
 
   -- So does the end of a session.
   pub files_exit : (s : Scene) → Reads reader (FilesFit f Counted) s (exited s).scene (exited s).events
-  files_exit s = session_exits of_files (Reads reader (FilesFit f Counted)) (record { ending = files_ending f reader Counted turning; popped = popped_hidden of_files (Reads reader (FilesFit f Counted)) (files_seen f reader Counted turning) refl }) s
+  files_exit s = session_exits of_files (Reads reader (FilesFit f Counted)) (files_ending f reader Counted turning) s

@@ -371,12 +371,12 @@ module _ (object mode : ℕ) where
   locks_owed w (e.InTurn name x) m checked = locks_owed w x m checked
   locks_owed w (e.MakeOwner role) m checked = owner_owed of_locks (ReadsLocks object mode) (locks_law object mode) w role m (by_owner_made of_locks (ReadsLocks object mode) (locks_base object mode) refl)
   locks_owed w (e.TakeLock role o mo) m checked =
-      lock_owed of_locks (ReadsLocks object mode) (locks_law object mode).ending.least w role o mo m (λ n. record { so = taken_so object mode o mo n })
+      lock_owed of_locks (ReadsLocks object mode) (locks_law object mode).least w role o mo m (λ n. record { so = taken_so object mode o mo n })
   locks_owed w (e.Unlock o mo) m checked = record { so = unlock_so o mo m.scene checked }
   locks_owed w (e.Touch file) m checked =
-      touch_owed of_locks (ReadsLocks object mode) (locks_law object mode).ending.least w file m ((files_hidden of_locks (ReadsLocks object mode) (locks_seen object mode) refl).used file)
+      touch_owed of_locks (ReadsLocks object mode) (locks_law object mode).least w file m ((files_hidden of_locks (ReadsLocks object mode) (locks_seen object mode) refl).used file)
   locks_owed w (e.PushSnapshot snapshot) m checked =
-      fallible_so (ReadsLocks object mode) (least_acts of_locks (ReadsLocks object mode) (locks_law object mode).ending.least) w m _ (snapshot_pushed snapshot) (pushed_hidden of_locks (ReadsLocks object mode) (locks_seen object mode) refl snapshot)
+      fallible_so (ReadsLocks object mode) (least_acts of_locks (ReadsLocks object mode) (locks_law object mode).least) w m _ (snapshot_pushed snapshot) (pushed_hidden of_locks (ReadsLocks object mode) (locks_seen object mode) refl snapshot)
   locks_owed w other m checked = tt
 
   -- Each line keeps it, in any session.

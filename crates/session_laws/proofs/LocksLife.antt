@@ -1,10 +1,11 @@
 -- Where no lock is held, none is behind what doesn't take one; and behind the end of level 1 none is held.
 use Rattle.session_laws.proofs.Words.{◌≡◌, ℕ, Bool, true, List, [], ◌∷◌, ◌++◌, Option, refl, ap, ◌∙◌, false, not, Some, None, sym, arith, ◌+◌, ◌≤◌, subst, inl, inr, option_map_or, option_and_then, children, has, at_some, ◌&&◌, is_some, ◌⊎◌, length, All, both_ways, All-head, All-tail, All-nil}
 use Rattle.session_laws.proofs.Scenes.{What, Mode, BeforeLocks, Locks, AfterLocks, table_of, KindTable, Owner, OwnerTree, own_released, ReleasesAllLocks, Step, own_steps, release_steps, steps_below, Scene, Moment, Around, for_each, where_so, where_there, Ended, switched, in_order, owner_released, phase_released, step_done, lock_given_back, at_owner, snapshot_popped, LevelState, OpenPortal, deepest_changed, first_of, is_aborted, level_context, owner_of, opening, portal_aborted, portal_closed, aborted, cleaned_up, committed, level_released, level_rolled_back, exited, given_up, recovered, IsLive, Stands, active_depth, AreOuter, FitLevels, IsDead, IsPortal, IsOpen, StandsBetweenLines, Contexts, Error, Element, LevelContext, NewContext, OfLevel, OfPortal, OwnerRole, PortalContext, RowContext, ScriptContext, Text, context_named, owner_in, portal_named, level_made, new_context_made, new_owner_made, lock_taken, snapshot_pushed, Done, fallible, refused_call, unless_refused, does, failing_turn, does_all, then_done, Command, AreLocks, has_owner, line_elements, turn, turn_of}
-use Rattle.session_laws.proofs.Rules.{Keeps, Follows, IsSpoken, AreSpoken, IsRun, has_swept, all_aborted, begins, off_begins, owner_when_active, resettled, settled, switched_off, aborted_stands, at_settled, is_left, rolled_stands, by_each, element_follows, fallible_so, unfailing_so, behind_commit, cleans_up, portal_aborts, portal_closes, Meets, command_leads, line_runs, refused_leads, allows_all, seen_after, line_spoken}
+use Rattle.session_laws.proofs.Rules.{Keeps, Follows, IsSpoken, AreSpoken, IsRun, has_swept, all_aborted, begins, off_begins, owner_when_active, resettled, settled, switched_off, aborted_stands, at_settled, is_left, rolled_stands, by_each, element_follows, fallible_so, unfailing_so, behind_commit, cleans_up, portal_aborts, portal_closes, Meets, command_leads, line_runs, refused_leads, allows_all, seen_after, line_spoken, said_one}
 use Rattle.lock_local.specs.Changes.{given_back, passed, released}
 use Rattle.session_laws.proofs.OwnerEnds.{steps_stay}
-use Rattle.session_laws.proofs.LocksSight.{Sees, of_locks, plain_none, files_hidden, popped_hidden, stack_gone_hidden, stack_passed_hidden, Least, Turns, Base, least_of, least_acts, turn_ends, of_levels, locked_hidden, locks_hidden, pushed_hidden, unlocked_hidden, OwesApart, OwesUnlocks, element_keeps, least_leaves, lock_owed, owner_owed, touch_owed, turns_owed, unlock_owed, by_owner_made, plain_one}
+use Rattle.session_rules.proofs.Sight as part
+use Rattle.session_laws.proofs.LocksSight.{Sees, of_locks, files_hidden, Least, Turns, Base, least_of, least_acts, turn_ends, of_levels, locked_hidden, locks_hidden, pushed_hidden, unlocked_hidden, OwesApart, OwesUnlocks, element_keeps, least_leaves, lock_owed, owner_owed, touch_owed, turns_owed, unlock_owed, by_owner_made, stack_hidden}
 use Rattle.session_rules.proofs.Ending.{Leads, with_parts}
 use Rattle.session_rules.proofs.Replacing.{all_closed}
 use Rattle.session_rules.proofs.EndsStand.{Leaves}
@@ -14,7 +15,7 @@ use Rattle.session_rules.proofs.PortalsStand.{Named, named_in}
 use Rattle.session_laws.proofs.LocksChecked.{IsChecked, line_checked, locks_exit, locks_turn}
 use Rattle.lock_local.proofs.ChangeLemmas.{WellCounted}
 use Rattle.session_laws.proofs.Lives.{IsLife, IsRead, Reads}
-use Rattle.session_laws.proofs.LocksRead.{LocksFit, lock_reader, locks_seen, there}
+use Rattle.session_laws.proofs.LocksRead.{LocksFit, lock_reader, there, locks_aside}
 use Rattle.session_rules.specs.Elements as e
 use Rattle.pgs_step.specs.declared.errors.Error.TheVariants as error
 use Rattle.pgs_step.specs.declared.events.What.TheVariants as what
@@ -24,10 +25,7 @@ pub record KeepsNone (s t : Scene) (events : List What) : Type 0 where
   pub so : s.session.locks ≡ [] → t.session.locks ≡ []
 
 pub none_seen : Sees of_locks KeepsNone
-none_seen = record {
-  both = λ a b. record { so = λ h. b.so (a.so h) };
-  aside = λ s t same plain. record { so = λ h. same ∙ h };
-}
+none_seen = record { both = λ a b. record { so = λ h. b.so (a.so h) }; aside = λ s t same plain. record { so = λ h. same.so part.of_locks refl ∙ h } }
 
 pub none_base : Base of_locks KeepsNone
 none_base = record {
@@ -42,13 +40,9 @@ none_base = record {
 
 pub none_law : Turns of_locks KeepsNone
 none_law = record {
-  ending = record {
-    least = least_of of_locks KeepsNone none_base refl;
-    levels = λ levels s. none_seen.aside s _ refl plain_none;
-    stack_gone = stack_gone_hidden of_locks KeepsNone none_seen refl;
-    stack_passed = stack_passed_hidden of_locks KeepsNone none_seen refl;
-  };
-  popped = popped_hidden of_locks KeepsNone none_seen refl;
+  least = least_of of_locks KeepsNone none_base refl;
+  levels = λ levels s. record { so = λ h. h };
+  stack = stack_hidden of_locks KeepsNone none_seen refl;
 }
 
 pub none_unlocked : (object : ℕ) (mode : Mode) (n : ℕ) → Keeps KeepsNone (lock_given_back object mode n)
@@ -78,7 +72,7 @@ locks_phase commit n s there =
 -- The release of the owner of level 1 leaves none.
 pub released_none : (commit : Bool) (n : ℕ) (s : Scene) → has n s.session.owners ≡ true → (owner_released commit true n s).scene.session.locks ≡ []
 released_none commit n s there =
-    let l : Least of_locks KeepsNone = none_law.ending.least in
+    let l : Least of_locks KeepsNone = none_law.least in
     let first : Scene = (phase_released commit true n BeforeLocks s).scene in
     let second : Scene = (phase_released commit true n Locks first).scene in
     ((l.items.phase commit true n AfterLocks).so second).so (locks_phase commit n first (phase_has commit true n s there))
@@ -113,7 +107,7 @@ committed_none level s stands bare =
     let st : Scene = settled (level ∷ []) s in
     let made : (p : OpenPortal) → IsLive p (level ∷ []) → (lo : ℕ) × (level.owner ≡ Some lo) = λ p l. owner_when_active level [] stands.fit.0.made (omega (arith, l.some, l.within, l.active)) in
     let loop : Leads level [] [] [] st (for_each portal_closed s.session.portals st).scene = all_closed level made s.session.portals st (resettled level [] [] [] s.session.portals s (begins level [] [] s stands)) in
-    let kept : KeepsNone st (for_each portal_closed s.session.portals st).scene _ = (by_each KeepsNone (least_acts of_locks KeepsNone none_law.ending.least) portal_closed (portal_closes KeepsNone (least_acts of_locks KeepsNone none_law.ending.least) none_law.ending.least.items.released) s.session.portals).so st in
+    let kept : KeepsNone st (for_each portal_closed s.session.portals st).scene _ = (by_each KeepsNone (least_acts of_locks KeepsNone none_law.least) portal_closed (portal_closes KeepsNone (least_acts of_locks KeepsNone none_law.least) none_law.least.items.released) s.session.portals).so st in
     let z : Scene = with_parts loop.goes.parts st in
     let none : (level_released true true z).scene.session.locks ≡ [] =
     level_none true level.owner z (λ e. sym (ap (λ (y : Scene). y.session.locks) loop.goes.is) ∙ kept.so (bare_owner level s bare e)) (λ n e. (loop.goes.ending.all.0.owner n e).there) in
@@ -130,7 +124,7 @@ aborted_none level s stands bare =
     let loop : Leads level [] done [] st (for_each (portal_aborted 1 level.owner) s.session.portals st).scene =
     all_aborted level [] made s.session.portals st (resettled level [] done [] s.session.portals (switched_off s) (off_begins level [] done s stands)) in
     let kept : KeepsNone st (for_each (portal_aborted 1 level.owner) s.session.portals st).scene _ =
-    (by_each KeepsNone (least_acts of_locks KeepsNone none_law.ending.least) (portal_aborted 1 level.owner) (portal_aborts KeepsNone (least_acts of_locks KeepsNone none_law.ending.least) none_law.ending.least.items.moved 1 level.owner) s.session.portals).so st in
+    (by_each KeepsNone (least_acts of_locks KeepsNone none_law.least) (portal_aborted 1 level.owner) (portal_aborts KeepsNone (least_acts of_locks KeepsNone none_law.least) none_law.least.items.moved 1 level.owner) s.session.portals).so st in
     let z : Scene = with_parts loop.goes.parts st in
     ap (λ (y : Scene). (level_released false true y).scene.session.locks) loop.goes.is
     ∙ level_none false level.owner z (λ e. sym (ap (λ (y : Scene). y.session.locks) loop.goes.is) ∙ kept.so (bare_owner level s bare e)) (λ n e. (loop.goes.ending.all.0.owner n e).there)
@@ -156,7 +150,7 @@ record KeepsLevels (s t : Scene) (events : List What) : Type 0 where
   so : t.session.levels ≡ s.session.levels
 
 levels_seen : Sees of_levels KeepsLevels
-levels_seen = record { both = λ a b. record { so = b.so ∙ a.so }; aside = λ s t same plain. record { so = same } }
+levels_seen = record { both = λ a b. record { so = b.so ∙ a.so }; aside = λ s t same plain. record { so = same.so part.of_levels refl } }
 
 levels_least : Least of_levels KeepsLevels
 levels_least = least_of of_levels KeepsLevels (record { sees = levels_seen; locks = locks_hidden of_levels KeepsLevels levels_seen refl; files = files_hidden of_levels KeepsLevels levels_seen refl }) refl
@@ -189,7 +183,7 @@ steady_owed w (e.TakeLock role object mode) m h = lock_owed of_levels KeepsLevel
 steady_owed w (e.Unlock object mode) m h = unlock_owed of_levels KeepsLevels levels_least w object mode m (unlocked_hidden of_levels KeepsLevels levels_seen refl object mode)
 steady_owed w (e.Touch file) m h = touch_owed of_levels KeepsLevels levels_least w file m ((files_hidden of_levels KeepsLevels levels_seen refl).used file)
 steady_owed w (e.PushSnapshot snapshot) m h = fallible_so KeepsLevels (least_acts of_levels KeepsLevels levels_least) w m _ (snapshot_pushed snapshot) (pushed_hidden of_levels KeepsLevels levels_seen refl snapshot)
-steady_owed w e.PopSnapshot m h = unfailing_so KeepsLevels (least_acts of_levels KeepsLevels levels_least) m snapshot_popped (popped_hidden of_levels KeepsLevels levels_seen refl)
+steady_owed w e.PopSnapshot m h = unfailing_so KeepsLevels (least_acts of_levels KeepsLevels levels_least) m snapshot_popped (stack_hidden of_levels KeepsLevels levels_seen refl).popped
 steady_owed w other m h = tt
 
 steady_levels : (w : Option ℕ) (x : Element) (m : Moment) → IsSpoken false x → IsSteady x → (does w x m).moment.scene.session.levels ≡ m.scene.session.levels
@@ -206,14 +200,14 @@ unfolding does
 none_owed w (e.InTurn name x) m h = none_owed w x m h
 none_owed w (e.TakeLock role object mode) m h = absurd h
 none_owed w (e.MakeOwner role) m h = owner_owed of_locks KeepsNone none_law w role m (by_owner_made of_locks KeepsNone none_base refl)
-none_owed w (e.Unlock object mode) m h = unlock_owed of_locks KeepsNone none_law.ending.least w object mode m (none_unlocked object mode)
-none_owed w (e.Touch file) m h = touch_owed of_locks KeepsNone none_law.ending.least w file m ((files_hidden of_locks KeepsNone none_seen refl).used file)
-none_owed w (e.PushSnapshot snapshot) m h = fallible_so KeepsNone (least_acts of_locks KeepsNone none_law.ending.least) w m _ (snapshot_pushed snapshot) (pushed_hidden of_locks KeepsNone none_seen refl snapshot)
+none_owed w (e.Unlock object mode) m h = unlock_owed of_locks KeepsNone none_law.least w object mode m (none_unlocked object mode)
+none_owed w (e.Touch file) m h = touch_owed of_locks KeepsNone none_law.least w file m ((files_hidden of_locks KeepsNone none_seen refl).used file)
+none_owed w (e.PushSnapshot snapshot) m h = fallible_so KeepsNone (least_acts of_locks KeepsNone none_law.least) w m _ (snapshot_pushed snapshot) (pushed_hidden of_locks KeepsNone none_seen refl snapshot)
 none_owed w other m h = tt
 
 none_behind : (w : Option ℕ) (x : Element) (m : Moment) → IsSpoken false x → TakesNone x → m.scene.session.locks ≡ [] → (does w x m).moment.scene.session.locks ≡ []
 none_behind w x m spoken h none =
-    let all : Follows KeepsNone m.scene (does w x m) = element_follows KeepsNone (least_leaves of_locks KeepsNone none_law.ending.least) false w x m spoken (turns_owed of_locks KeepsNone none_law w x m (none_owed w x m h)) in
+    let all : Follows KeepsNone m.scene (does w x m) = element_follows KeepsNone (least_leaves of_locks KeepsNone none_law.least) false w x m spoken (turns_owed of_locks KeepsNone none_law w x m (none_owed w x m h)) in
     all.so.so none
 
 -- levels above another one may hold locks
@@ -510,7 +504,7 @@ module _ (object mode : ℕ) where
     elsewhere = λ n session a b same f. record { fit = record { counted = f.fit.counted; sound = f.fit.sound }; bare = record { so = f.bare.so } };
     error = λ error s. record {
       so = λ n f.
-          let read : IsRead (lock_reader object mode) (LocksFit object mode) n s (what.Error error ∷ []) = ((locks_seen object mode).aside s s refl (plain_one of_locks (what.Error error) refl)).so n f.fit in
+          let read : IsRead (lock_reader object mode) (LocksFit object mode) n s (what.Error error ∷ []) = (locks_aside object mode s s refl (said_one (what.Error error) refl)).so n f.fit in
           record { allowed = read.allowed; fits = record { fit = read.fits; bare = f.bare } };
     };
     turns = turns_so;

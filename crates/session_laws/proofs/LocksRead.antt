@@ -1,7 +1,7 @@
 -- Locks are released as often as they are acquired: what a reader has seen of a lock fits how often owners hold it.
 use Rattle.session_laws.proofs.Words.{◌≡◌, ℕ, ◌+◌, ◌<◌, Bool, true, false, cond, List, [], ◌∷◌, map, filter, refl, sym, ap, ◌∙◌, arith, ◌-◌, if◌then◌else◌, ◌++◌, subst, ◌==◌, ◌&&◌, sum_by, All, nat_le, and_parts, eqb-true, and_from, le-leb, All-head, All-tail, All-weaker, All-nil, sum_by-cons}
 use Rattle.session_laws.proofs.Scenes.{Mode, IsInOrder, Lock, comes_before, count_of, has_owner, is_lock, lock_total, owner_count, AreLocks, What, Scene, step_done, lock_given_back, lock_taken, ReleasesLocks, PassesLocks, ReleasesAllLocks}
-use Rattle.session_laws.proofs.Rules.{Reader, allows_all, seen_after, count, Law}
+use Rattle.session_laws.proofs.Rules.{Reader, allows_all, seen_after, count, Law, said_none, said_lock_passes}
 use Rattle.std.proofs.lemmas.List.Folds.{map_fixed}
 use Rattle.pgs_step.specs.Mode.{mode_number}
 use Rattle.lock_local.specs.declared.local_lock.OwnerCount.{OwnerCount}
@@ -11,7 +11,8 @@ use Rattle.lock_local.proofs.ChangeLemmas.{WellCounted, by_passing, down, none_l
 use Rattle.lock_local.proofs.TotalLemmas.{no_total, sum_kept, sum_same, total_down, total_without}
 use Rattle.lifetime_laws.specs.Once.{locks, unlocks}
 use Rattle.session_laws.proofs.Lives.{Reads, read_both}
-use Rattle.session_laws.proofs.LocksSight.{PassesOver, Sees, hides, of_locks, plain_none, read_plain, subject, files_hidden, passes_plain, popped_hidden, stack_gone_hidden, stack_passed_hidden, Base, least_of, Turns}
+use Rattle.session_rules.proofs.Sight as part
+use Rattle.session_laws.proofs.LocksSight.{PassesOver, Sees, hides, of_locks, read_plain, subject, files_hidden, Base, least_of, Turns, ArePlain, stack_hidden}
 use Rattle.session_laws.proofs.FilesLife.{count_over}
 use Rattle.pgs_step.specs.declared.events.What.TheVariants as what
 
@@ -142,14 +143,13 @@ module _ (object mode : ℕ) where
   lock_over : PassesOver of_locks lock_reader
   lock_over = count_over of_locks (locks object mode) (unlocks object mode) locks_none unlocks_none
 
-  pub locks_seen : Sees of_locks ReadsLocks
-  locks_seen = record {
-    both = λ a b. read_both lock_reader LocksFit a b;
-    aside = λ s t same plain. record {
-      so = λ n h. read_plain of_locks lock_reader LocksFit lock_over n t plain
-          (record { counted = h.counted ∙ ap (there object mode) (sym same); sound = subst AreLocks (sym same) h.sound });
-    };
+  pub locks_aside : (s t : Scene) {events : List What} → t.session.locks ≡ s.session.locks → ArePlain of_locks events → ReadsLocks s t events
+  locks_aside s t same plain = record {
+    so = λ n h. read_plain of_locks lock_reader LocksFit lock_over n t plain (record { counted = h.counted ∙ ap (there object mode) (sym same); sound = subst AreLocks (sym same) h.sound });
   }
+
+  pub locks_seen : Sees of_locks ReadsLocks
+  locks_seen = record { both = λ a b. read_both lock_reader LocksFit a b; aside = λ s t same plain. locks_aside s t (same.so part.of_locks refl) plain }
 
   -- a lock is taken
   pub taken_so : (o : ℕ) (m : Mode) (owner : ℕ) (s : Scene) → ReadsLocks s (lock_taken o m owner s).scene (lock_taken o m owner s).events
@@ -223,7 +223,7 @@ module _ (object mode : ℕ) where
   passed_so : (from to : ℕ) (s : Scene) → ReadsLocks s (step_done (PassesLocks from to) s).scene (step_done (PassesLocks from to) s).events
   passed_so from to s = record {
     so = λ n h.
-        read_plain of_locks lock_reader LocksFit lock_over n (step_done (PassesLocks from to) s).scene (passes_plain of_locks ReadsLocks locks_seen from to s.session.locks)
+        read_plain of_locks lock_reader LocksFit lock_over n (step_done (PassesLocks from to) s).scene (said_lock_passes (λ o m count from to. refl) from to s.session.locks)
         (record { counted = h.counted ∙ sym (there_passed object mode from to s.session.locks); sound = AreLocks-passed from to s.session.locks h.sound });
   }
 
@@ -269,11 +269,7 @@ module _ (object mode : ℕ) where
 
   pub locks_law : Turns of_locks ReadsLocks
   locks_law = record {
-    ending = record {
-      least = least_of of_locks ReadsLocks locks_base refl;
-      levels = λ levels s. locks_seen.aside s _ refl plain_none;
-      stack_gone = stack_gone_hidden of_locks ReadsLocks locks_seen refl;
-      stack_passed = stack_passed_hidden of_locks ReadsLocks locks_seen refl;
-    };
-    popped = popped_hidden of_locks ReadsLocks locks_seen refl;
+    least = least_of of_locks ReadsLocks locks_base refl;
+    levels = λ levels s. locks_aside s _ refl said_none;
+    stack = stack_hidden of_locks ReadsLocks locks_seen refl;
   }

@@ -1,14 +1,9 @@
 -- Laws that see locks alone, files alone, the stack of snapshots alone or levels alone, and what passes them by.
-use Rattle.session_laws.proofs.Words.{◌≡◌, ℕ, Bool, true, false, if◌then◌else◌, List, [], ◌∷◌, ◌++◌, map, flat_map, refl, sym, subst, ◌-◌, reverse, Option, Some, None, and_from, Empty, Node, ◌==◌, filter, length, take, order_at}
-use Rattle.session_laws.proofs.Scenes.{What, KindId, Phase, Hook, Contexts, gone_events, Scene, Moment, item_released, owner_gone, owner_moved, phase_released, descriptor_left, item_taken, files, lock_taken, snapshot_pushed, descriptor_given, Mode, Lock, owner_count, last_of, LevelState, changes, in_order, say, where_so, where_there, lock_given_back, snapshot_popped, at_kind, at_owner, at_portal, stack_lowered, stack_popped, exited, Error, Command, Element, OfLevel, OwnerRole, new_context_made, new_owner_made, owner_made, plan_made, portal_ended, Done, does, does_all, line_elements, turn, turn_of}
-use Rattle.session_laws.proofs.Rules.{Reader, allows_all, Keeps, Law, is_word, Acts, EndLeaves, Follows, IsRun, IsSpoken, Leaves, MoveLeaves, Owes, OwesMakes, is_level_word, runs_anyhow, LockLeaves, OwnerLeaves, FileLeaves, ContextLeaves, Part, Sight, hook_waits_so, leaves_of, makes_context, moves_context, places, plans_one, says, unseen_contexts, KeyLeaves, phase_so, releases, taken_so, unseen_keys, AreSaid, said_more, said_none, line_spoken, by_kind, by_owner, by_portal_named, context_is_made, element_follows, fallible_so, levels_owed, moves_owed, owner_is_made, run_follows, unfailing_so, ends_owed, exit_follows, portal_ends, recovers}
+use Rattle.session_laws.proofs.Words.{◌≡◌, ℕ, Bool, true, false, List, [], refl, sym, subst, Option, Some, None, and_from}
+use Rattle.session_laws.proofs.Scenes.{What, KindId, Phase, Scene, Moment, item_released, owner_gone, owner_moved, phase_released, item_taken, files, lock_taken, snapshot_pushed, descriptor_given, Mode, LevelState, lock_given_back, at_kind, at_owner, at_portal, exited, Error, Command, Element, OfLevel, OwnerRole, new_context_made, new_owner_made, owner_made, plan_made, portal_ended, Done, does, does_all, line_elements, turn, turn_of}
+use Rattle.session_laws.proofs.Rules.{Reader, allows_all, Keeps, Law, is_word, Acts, EndLeaves, Follows, IsRun, IsSpoken, Leaves, MoveLeaves, Owes, OwesMakes, is_level_word, runs_anyhow, LockLeaves, OwnerLeaves, FileLeaves, ContextLeaves, Part, Sight, hook_waits_so, leaves_of, makes_context, moves_context, places, plans_one, says, unseen_contexts, KeyLeaves, phase_so, releases, taken_so, unseen_keys, AreSaid, said_more, said_none, line_spoken, by_kind, by_owner, by_portal_named, context_is_made, element_follows, fallible_so, levels_owed, moves_owed, owner_is_made, run_follows, unfailing_so, ends_owed, exit_follows, portal_ends, recovers, StackLeaves, unseen_locks, unseen_stack, unseen_files, unlocks, locks_one, pushes, unseen_owners, item_comes, owner_makes, item_goes, owner_goes, owner_moves}
 use Rattle.session_laws.proofs.Lives.{IsRead}
-use Rattle.file_table.specs.Descriptors.{is_among, without}
-use Rattle.file_table.specs.Files.{given_events, loser}
-use Rattle.snap_table.specs.declared.active.Active.{Active}
-use Rattle.snap_table.specs.Snapshots.{is_deep}
 use Rattle.pgs_step.specs.declared.events.What.TheVariants as what
-use Rattle.lock_local.specs.Changes as locks
 use Rattle.session_rules.specs.Elements as e
 use Rattle.session_rules.proofs.Sight as part
 
@@ -34,249 +29,14 @@ subject other = of_none
 
 -- whether what is about the first passes by a law that sees the second
 abbrev pub hides : Subject → Subject → Bool
-hides of_none k = true
-hides of_locks of_none = true
 hides of_locks of_locks = false
-hides of_locks of_files = true
-hides of_locks of_stack = true
-hides of_locks of_levels = true
-hides of_locks of_items = true
-hides of_files of_none = true
-hides of_files of_locks = true
 hides of_files of_files = false
-hides of_files of_stack = true
-hides of_files of_levels = true
 hides of_files of_items = false
-hides of_stack of_none = true
-hides of_stack of_locks = true
-hides of_stack of_files = true
 hides of_stack of_stack = false
-hides of_stack of_levels = true
-hides of_stack of_items = true
-hides of_levels k = true
-hides of_items of_none = true
-hides of_items of_locks = true
-hides of_items of_files = true
-hides of_items of_stack = true
-hides of_items of_levels = true
 hides of_items of_items = false
+hides other k = true
 
--- events that all pass by
-pub data ArePlain (k : Subject) : List What → Type 0 where
-  plain_none : ArePlain k []
-  plain_more : {event : What} {events : List What} → hides (subject event) k ≡ true → ArePlain k events → ArePlain k (event ∷ events)
-
-module _ (k : Subject) where
-  pub plain_one : (event : What) → hides (subject event) k ≡ true → ArePlain k (event ∷ [])
-  plain_one event h = plain_more h plain_none
-
-  pub plain_both : {xs ys : List What} → ArePlain k xs → ArePlain k ys → ArePlain k (xs ++ ys)
-  plain_both plain_none p = p
-  plain_both (plain_more h hs) p = plain_more h (plain_both hs p)
-
-  pub plain_map : {A : Type 0} (f : A → What) → ((a : A) → hides (subject (f a)) k ≡ true) → (xs : List A) → ArePlain k (map f xs)
-  plain_map f h [] = plain_none
-  plain_map f h (x ∷ xs) = plain_more (h x) (plain_map f h xs)
-
-  pub plain_flat : {A : Type 0} (f : A → List What) → ((a : A) → ArePlain k (f a)) → (xs : List A) → ArePlain k (flat_map f xs)
-  plain_flat f h [] = plain_none
-  plain_flat f h (x ∷ xs) = plain_both (h x) (plain_flat f h xs)
-
-  pub plain_if : (b : Bool) {xs ys : List What} → ArePlain k xs → ArePlain k ys → ArePlain k (if b then xs else ys)
-  plain_if true p q = p
-  plain_if false p q = q
-
-  pub word_plain : (event : What) → is_word event ≡ true → hides (subject event) k ≡ true
-  word_plain (what.AcquireLock object mode owner) h = absurd (cc h)
-  word_plain (what.ReleaseLock object mode count owner) h = absurd (cc h)
-  word_plain (what.DescriptorOpened file) h = absurd (cc h)
-  word_plain (what.DescriptorClosed file) h = absurd (cc h)
-  word_plain (what.Push snapshot) h = absurd (cc h)
-  word_plain (what.Pop snapshot) h = absurd (cc h)
-  word_plain (what.Acquire item owner) h = absurd (cc h)
-  word_plain (what.Release item owner) h = absurd (cc h)
-  word_plain other h = refl
-
-  -- what contexts say
-  pub gone_plain : (t : Contexts) → ArePlain k (gone_events t)
-  gone_plain Empty = plain_none
-  gone_plain (Node n c below beside) =
-      plain_both (gone_plain below)
-      (plain_both (plain_map (λ (hook : Hook). what.Callback hook.word n) (λ hook. refl) c.hooks) (plain_more refl (gone_plain beside)))
-
--- what a law sees is the same in two scenes
-abbrev pub Same : Subject → Scene → Scene → Type 0
-Same of_none s t = Unit {0}
-Same of_locks s t = t.session.locks ≡ s.session.locks
-Same of_files s t = (t.session.recent ≡ s.session.recent) × (t.around.descriptors ≡ s.around.descriptors)
-Same of_stack s t = t.session.snapshots ≡ s.session.snapshots
-Same of_levels s t = t.session.levels ≡ s.session.levels
-Same of_items s t = (t.session.recent ≡ s.session.recent) × (t.session.owners ≡ s.session.owners) × (t.session.next_owner ≡ s.session.next_owner)
-
--- all of these are the same in two scenes
-pub same_but_locks : (k : Subject) (s t : Scene) → hides of_locks k ≡ true → t.session.levels ≡ s.session.levels → t.session.recent ≡ s.session.recent → t.around.descriptors ≡ s.around.descriptors → t.session.snapshots ≡ s.session.snapshots → t.session.owners ≡ s.session.owners → t.session.next_owner ≡ s.session.next_owner → Same k s t
-same_but_locks of_none s t h v r d n o x = tt
-same_but_locks of_locks s t h v r d n o x = absurd (cc h)
-same_but_locks of_files s t h v r d n o x = (r, d)
-same_but_locks of_stack s t h v r d n o x = n
-same_but_locks of_levels s t h v r d n o x = v
-same_but_locks of_items s t h v r d n o x = (r, o, x)
-
-pub same_but_files : (k : Subject) (s t : Scene) → hides of_files k ≡ true → t.session.levels ≡ s.session.levels → t.session.locks ≡ s.session.locks → t.session.snapshots ≡ s.session.snapshots → t.session.owners ≡ s.session.owners → t.session.next_owner ≡ s.session.next_owner → Same k s t
-same_but_files of_none s t h v l n o x = tt
-same_but_files of_locks s t h v l n o x = l
-same_but_files of_files s t h v l n o x = absurd (cc h)
-same_but_files of_stack s t h v l n o x = n
-same_but_files of_levels s t h v l n o x = v
-same_but_files of_items s t h v l n o x = absurd (cc h)
-
-pub same_but_stack : (k : Subject) (s t : Scene) → hides of_stack k ≡ true → t.session.levels ≡ s.session.levels → t.session.locks ≡ s.session.locks → t.session.recent ≡ s.session.recent → t.around.descriptors ≡ s.around.descriptors → t.session.owners ≡ s.session.owners → t.session.next_owner ≡ s.session.next_owner → Same k s t
-same_but_stack of_none s t h v l r d o x = tt
-same_but_stack of_locks s t h v l r d o x = l
-same_but_stack of_files s t h v l r d o x = (r, d)
-same_but_stack of_stack s t h v l r d o x = absurd (cc h)
-same_but_stack of_levels s t h v l r d o x = v
-same_but_stack of_items s t h v l r d o x = (r, o, x)
-
-pub same_but_items : (k : Subject) (s t : Scene) → hides of_items k ≡ true → t.session.levels ≡ s.session.levels → t.session.locks ≡ s.session.locks → t.session.recent ≡ s.session.recent → t.around.descriptors ≡ s.around.descriptors → t.session.snapshots ≡ s.session.snapshots → Same k s t
-same_but_items of_none s t h v l r d n = tt
-same_but_items of_locks s t h v l r d n = l
-same_but_items of_files s t h v l r d n = (r, d)
-same_but_items of_stack s t h v l r d n = n
-same_but_items of_levels s t h v l r d n = v
-same_but_items of_items s t h v l r d n = absurd (cc h)
-
--- What a law owes for what passes it by.
-pub record Sees (k : Subject) (R : Law) : Type 0 where
-  pub both : {s t u : Scene} {xs ys : List What} → R s t xs → R t u ys → R s u (xs ++ ys)
-  pub aside : (s t : Scene) {events : List What} → Same k s t → ArePlain k events → R s t events
-
--- what a law owes for owners and their items
-pub record SeesItems (R : Law) : Type 0 where
-  pub taken : (owner : ℕ) (kind : KindId) (key : ℕ) → Keeps R (item_taken owner kind key)
-  pub released : (owner : ℕ) (kind : KindId) (key : ℕ) → Keeps R (item_released owner kind key)
-  pub phase : (commit top : Bool) (n : ℕ) (phase : Phase) → Keeps R (phase_released commit top n phase)
-  pub gone : (n : ℕ) → Keeps R (owner_gone n)
-  pub moved : (n parent : ℕ) → Keeps R (owner_moved n parent)
-
--- a reader that passes over what is not about its subject
-pub record PassesOver (k : Subject) {Seen : Type 0} (reader : Reader Seen) : Type 0 where
-  pub next : (event : What) → hides (subject event) k ≡ true → (seen : Seen) → reader.next event seen ≡ seen
-  pub allows : (event : What) → hides (subject event) k ≡ true → (seen : Seen) → reader.allows event seen ≡ true
-
-module _ (k : Subject) {Seen : Type 0} (reader : Reader Seen) (Fits : Seen → Scene → Type 0) (over : PassesOver k reader) where
-  pub read_plain : (seen : Seen) (t : Scene) {events : List What} → ArePlain k events → Fits seen t → IsRead reader Fits seen t events
-  read_plain seen t plain_none h = record { allowed = refl; fits = h }
-  read_plain seen t (plain_more {event = event} {events = events} p ps) h =
-      let same : reader.next event seen ≡ seen = over.next event p seen in
-      let rest : IsRead reader Fits (reader.next event seen) t events = read_plain (reader.next event seen) t ps (subst (λ (now : Seen). Fits now t) (sym same) h) in
-      record {
-        allowed = and_from (reader.allows event seen) (allows_all reader (reader.next event seen) events) (over.allows event p seen) rest.allowed;
-        fits = rest.fits;
-      }
-
--- What passes by a law that sees something else: locks, files, or the stack of snapshots.
-
-module _ (k : Subject) (R : Law) (sees : Sees k R) where
-  -- locks
-  but_locks : hides of_locks k ≡ true → (s t : Scene) {events : List What} → t.session.levels ≡ s.session.levels → t.session.recent ≡ s.session.recent → t.around.descriptors ≡ s.around.descriptors → t.session.snapshots ≡ s.session.snapshots → t.session.owners ≡ s.session.owners → t.session.next_owner ≡ s.session.next_owner → ArePlain k events → R s t events
-  but_locks h s t v r d n o x plain = sees.aside s t (same_but_locks k s t h v r d n o x) plain
-
-  releases_plain : hides of_locks k ≡ true → (owner : ℕ) (all : List Lock) → ArePlain k (locks.releases owner all)
-  releases_plain h owner all =
-      plain_flat k (locks.release_of owner)
-      (λ lock. plain_if k (owner_count owner lock == 0) plain_none (plain_one k (what.ReleaseLock lock.object lock.mode (owner_count owner lock) owner) h)) all
-
-  pub passes_plain : (from to : ℕ) (all : List Lock) → ArePlain k (locks.passes from to all)
-  passes_plain from to all =
-      plain_flat k (locks.pass_of from to)
-      (λ lock. plain_if k (owner_count from lock == 0) plain_none (plain_one k (what.PassLock lock.object lock.mode (owner_count from lock) from to) refl)) all
-
-  pub locks_hidden : hides of_locks k ≡ true → LockLeaves R
-  locks_hidden h = record {
-    let_go = λ owner. record { so = λ s. but_locks h s _ refl refl refl refl refl refl (releases_plain h owner s.session.locks) };
-    passed = λ from to. record { so = λ s. but_locks h s _ refl refl refl refl refl refl (passes_plain from to s.session.locks) };
-    all_gone = λ top. record { so = λ s. but_locks h s _ refl refl refl refl refl refl (plain_map k (locks.release_whole top) (λ lock. h) s.session.locks) };
-  }
-
-  pub locked_hidden : hides of_locks k ≡ true → (object : ℕ) (mode : Mode) (n : ℕ) → Keeps R (lock_taken object mode n)
-  locked_hidden h object mode n = record { so = λ s. but_locks h s _ refl refl refl refl refl refl (plain_one k (what.AcquireLock object mode n) h) }
-
-  pub unlocked_hidden : hides of_locks k ≡ true → (object : ℕ) (mode : Mode) (n : ℕ) → Keeps R (lock_given_back object mode n)
-  unlocked_hidden h object mode n = record { so = λ s. but_locks h s _ refl refl refl refl refl refl (plain_one k (what.ReleaseLock object mode 1 n) h) }
-
-  -- files
-  but_files : hides of_files k ≡ true → (s t : Scene) {events : List What} → t.session.levels ≡ s.session.levels → t.session.locks ≡ s.session.locks → t.session.snapshots ≡ s.session.snapshots → t.session.owners ≡ s.session.owners → t.session.next_owner ≡ s.session.next_owner → ArePlain k events → R s t events
-  but_files h s t v l n o x plain = sees.aside s t (same_but_files k s t h v l n o x) plain
-
-  given_plain : hides of_files k ≡ true → (o : Option ℕ) (file : ℕ) → ArePlain k (given_events o file)
-  given_plain h None file = plain_one k (what.DescriptorOpened file) h
-  given_plain h (Some closed) file = plain_more h (plain_one k (what.DescriptorOpened file) h)
-
-  closed_so : hides of_files k ≡ true → (file : ℕ) (s : Scene) → R s (descriptor_left file s).scene (descriptor_left file s).events
-  closed_so h file s = go (is_among file s.session.recent)
-    where
-      go : (b : Bool) → R s (where_so b (λ scene. record {
-        scene = record scene { session = record scene.session { recent = without file scene.session.recent } };
-        events = what.DescriptorClosed file ∷ [];
-      }) s).scene (where_so b (λ scene. record {
-        scene = record scene { session = record scene.session { recent = without file scene.session.recent } };
-        events = what.DescriptorClosed file ∷ [];
-      }) s).events
-      go true = but_files h s _ refl refl refl refl refl (plain_one k (what.DescriptorClosed file) h)
-      go false = but_files h s _ refl refl refl refl refl plain_none
-
-  pub files_hidden : hides of_files k ≡ true → FileLeaves R
-  files_hidden h = record {
-    used = λ file. record { so = λ s. but_files h s _ refl refl refl refl refl (plain_if k (is_among file s.session.recent) plain_none (given_plain h (loser (files s)) file)) };
-    closed = λ file. record { so = closed_so h file };
-  }
-
-  -- snapshots
-  but_stack : hides of_stack k ≡ true → (s t : Scene) {events : List What} → t.session.levels ≡ s.session.levels → t.session.locks ≡ s.session.locks → t.session.recent ≡ s.session.recent → t.around.descriptors ≡ s.around.descriptors → t.session.owners ≡ s.session.owners → t.session.next_owner ≡ s.session.next_owner → ArePlain k events → R s t events
-  but_stack h s t v l r d o x plain = sees.aside s t (same_but_stack k s t h v l r d o x) plain
-
-  pub pushed_hidden : hides of_stack k ≡ true → (snapshot : ℕ) → Keeps R (snapshot_pushed snapshot)
-  pushed_hidden h snapshot = record { so = λ s. but_stack h s _ refl refl refl refl refl refl (plain_one k (what.Push snapshot) h) }
-
-  popped_so : hides of_stack k ≡ true → (s : Scene) → R s (snapshot_popped s).scene (snapshot_popped s).events
-  popped_so h s = go (last_of s.session.snapshots)
-    where
-      go : (o : Option Active)
-          → R s (where_there o (λ entry. in_order (changes (λ session. record session { snapshots = take (length session.snapshots - 1) session.snapshots }) ∷ say (what.Pop entry.snapshot) ∷ [])) s).scene
-          (where_there o (λ entry. in_order (changes (λ session. record session { snapshots = take (length session.snapshots - 1) session.snapshots }) ∷ say (what.Pop entry.snapshot) ∷ [])) s).events
-      go None = but_stack h s _ refl refl refl refl refl refl plain_none
-      go (Some entry) = but_stack h s _ refl refl refl refl refl refl (plain_one k (what.Pop entry.snapshot) h)
-
-  pub popped_hidden : hides of_stack k ≡ true → Keeps R snapshot_popped
-  popped_hidden h = record { so = popped_so h }
-
-  pub stack_gone_hidden : hides of_stack k ≡ true → (level : ℕ) → Keeps R (stack_popped level)
-  stack_gone_hidden h level = record {
-    so = λ s. but_stack h s _ refl refl refl refl refl refl (plain_map k (λ (entry : Active). what.Pop entry.snapshot) (λ entry. h) (filter (is_deep level) (reverse s.session.snapshots)));
-  }
-
-  pub stack_passed_hidden : hides of_stack k ≡ true → (level : ℕ) → Keeps R (stack_lowered level)
-  stack_passed_hidden h level = record { so = λ s. but_stack h s _ refl refl refl refl refl refl plain_none }
-
--- What follows where a law sees locks, files, snapshots, items or levels alone: it has all leaves, so elements, turns and the end of a session keep it.
-
--- what a law owes for owners and their items, and besides for levels and the stack of snapshots
-pub record Least (k : Subject) (R : Law) : Type 0 where
-  pub sees : Sees k R
-  pub items : SeesItems R
-
-pub record Ending (k : Subject) (R : Law) : Type 0 where
-  pub least : Least k R
-  pub levels : (levels : List LevelState) (s : Scene) → R s (record s { session = record s.session { levels = levels } }) []
-  pub stack_gone : (level : ℕ) → Keeps R (stack_popped level)
-  pub stack_passed : (level : ℕ) → Keeps R (stack_lowered level)
-
-pub record Turns (k : Subject) (R : Law) : Type 0 where
-  pub ending : Ending k R
-  pub popped : Keeps R snapshot_popped
-
--- the parts of a scene that it sees, and the events that pass it by
+-- the parts of a scene that a law sees, and the events that pass it by
 abbrev pub seen_by : Part → Subject → Bool
 seen_by part.of_locks of_locks = true
 seen_by part.of_recent of_files = true
@@ -294,27 +54,95 @@ sees_of k part = seen_by part k
 abbrev pub passing : Subject → What → Bool
 passing k event = hides (subject event) k
 
-all_plain : (k : Subject) {events : List What} → AreSaid (passing k) events → ArePlain k events
-all_plain k said_none = plain_none
-all_plain k (said_more h hs) = plain_more h (all_plain k hs)
+abbrev pub ArePlain : Subject → List What → Type 0
+ArePlain k = AreSaid (passing k)
 
-same_of : (k : Subject) (s t : Scene) → part.Same (sees_of k) s t → Same k s t
-same_of of_none s t h = tt
-same_of of_locks s t h = h.so part.of_locks refl
-same_of of_files s t h = (h.so part.of_recent refl, h.so part.of_descriptors refl)
-same_of of_stack s t h = h.so part.of_snapshots refl
-same_of of_levels s t h = h.so part.of_levels refl
-same_of of_items s t h = (h.so part.of_recent refl, h.so part.of_owners refl, h.so part.of_next_owner refl)
+-- What a law owes for what passes it by.
+abbrev pub Sees : Subject → Law → Type 0
+Sees k R = Sight (sees_of k) (passing k) R
 
-pub sight_of : (k : Subject) (R : Law) → Sees k R → Sight (sees_of k) (passing k) R
-sight_of k R sees = record { both = λ a b. sees.both a b; aside = λ s t same said. sees.aside s t (same_of k s t same) (all_plain k said) }
+word_plain : (k : Subject) (event : What) → is_word event ≡ true → passing k event ≡ true
+word_plain k (what.AcquireLock object mode owner) h = absurd (cc h)
+word_plain k other h = cc
 
 level_plain : (k : Subject) (event : What) → is_level_word event ≡ true → passing k event ≡ true
 level_plain k (what.BeginLevel level) h = refl
-level_plain k (what.CommitLevel level) h = refl
-level_plain k (what.AbortLevel level) h = refl
-level_plain k (what.CleanupLevel level) h = refl
-level_plain k other h = absurd (cc h)
+level_plain k other h = cc
+
+-- what a law owes for owners and their items
+pub record SeesItems (R : Law) : Type 0 where
+  pub taken : (owner : ℕ) (kind : KindId) (key : ℕ) → Keeps R (item_taken owner kind key)
+  pub released : (owner : ℕ) (kind : KindId) (key : ℕ) → Keeps R (item_released owner kind key)
+  pub phase : (commit top : Bool) (n : ℕ) (phase : Phase) → Keeps R (phase_released commit top n phase)
+  pub gone : (n : ℕ) → Keeps R (owner_gone n)
+  pub moved : (n parent : ℕ) → Keeps R (owner_moved n parent)
+
+-- a reader that passes over what is not about its subject
+pub record PassesOver (k : Subject) {Seen : Type 0} (reader : Reader Seen) : Type 0 where
+  pub next : (event : What) → hides (subject event) k ≡ true → (seen : Seen) → reader.next event seen ≡ seen
+  pub allows : (event : What) → hides (subject event) k ≡ true → (seen : Seen) → reader.allows event seen ≡ true
+
+module _ (k : Subject) {Seen : Type 0} (reader : Reader Seen) (Fits : Seen → Scene → Type 0) (over : PassesOver k reader) where
+  pub read_plain : (seen : Seen) (t : Scene) {events : List What} → ArePlain k events → Fits seen t → IsRead reader Fits seen t events
+  read_plain seen t said_none h = record { allowed = refl; fits = h }
+  read_plain seen t (said_more {event = event} {events = events} p ps) h =
+      let same : reader.next event seen ≡ seen = over.next event p seen in
+      let rest : IsRead reader Fits (reader.next event seen) t events = read_plain (reader.next event seen) t ps (subst (λ (now : Seen). Fits now t) (sym same) h) in
+      record {
+        allowed = and_from (reader.allows event seen) (allows_all reader (reader.next event seen) events) (over.allows event p seen) rest.allowed;
+        fits = rest.fits;
+      }
+
+-- What passes by a law that sees something else: locks, files, or the stack of snapshots.
+
+-- what is not seen then
+hidden_locks : (k : Subject) → hides of_locks k ≡ true → sees_of k part.of_locks ≡ false
+hidden_locks of_locks h = absurd (cc h)
+hidden_locks other h = refl
+
+hidden_recent : (k : Subject) → hides of_files k ≡ true → sees_of k part.of_recent ≡ false
+hidden_recent of_files h = absurd (cc h)
+hidden_recent of_items h = absurd (cc h)
+hidden_recent other h = refl
+
+hidden_stack : (k : Subject) → hides of_stack k ≡ true → sees_of k part.of_snapshots ≡ false
+hidden_stack of_stack h = absurd (cc h)
+hidden_stack other h = refl
+
+hidden_owners : (k : Subject) → hides of_items k ≡ true → (sees_of k part.of_owners ≡ false) × (sees_of k part.of_next_owner ≡ false)
+hidden_owners of_items h = absurd (cc h)
+hidden_owners other h = (refl, refl)
+
+module _ (k : Subject) (R : Law) (sees : Sees k R) where
+  pub locks_hidden : hides of_locks k ≡ true → LockLeaves R
+  locks_hidden h = unseen_locks (sees_of k) (passing k) R sees (hidden_locks k h) (λ object mode count owner. h) (λ object mode count from to. refl)
+
+  pub locked_hidden : hides of_locks k ≡ true → (object : ℕ) (mode : Mode) (n : ℕ) → Keeps R (lock_taken object mode n)
+  locked_hidden h = locks_one (sees_of k) (passing k) R sees (hidden_locks k h) (λ object mode count owner. h) (λ object mode owner. h)
+
+  pub unlocked_hidden : hides of_locks k ≡ true → (object : ℕ) (mode : Mode) (n : ℕ) → Keeps R (lock_given_back object mode n)
+  unlocked_hidden h = unlocks (sees_of k) (passing k) R sees (hidden_locks k h) (λ object mode count owner. h)
+
+  pub files_hidden : hides of_files k ≡ true → FileLeaves R
+  files_hidden h = unseen_files (sees_of k) (passing k) R sees (hidden_recent k h) (λ file. h) (λ file. h)
+
+  pub pushed_hidden : hides of_stack k ≡ true → (snapshot : ℕ) → Keeps R (snapshot_pushed snapshot)
+  pushed_hidden h = pushes (sees_of k) (passing k) R sees (hidden_stack k h) (λ snapshot. h)
+
+  pub stack_hidden : hides of_stack k ≡ true → StackLeaves R
+  stack_hidden h = unseen_stack (sees_of k) (passing k) R sees (hidden_stack k h) (λ snapshot. h)
+
+-- What follows where a law sees locks, files, snapshots, items or levels alone: it has all leaves, so elements, turns and the end of a session keep it.
+
+-- what a law owes for owners and their items, and besides for levels and the stack of snapshots
+pub record Least (k : Subject) (R : Law) : Type 0 where
+  pub sees : Sees k R
+  pub items : SeesItems R
+
+pub record Turns (k : Subject) (R : Law) : Type 0 where
+  pub least : Least k R
+  pub levels : (levels : List LevelState) (s : Scene) → R s (record s { session = record s.session { levels = levels } }) []
+  pub stack : StackLeaves R
 
 -- what a law owes apart
 abbrev pub OwesApart : Law → Option ℕ → Element → Moment → Type 0
@@ -336,16 +164,16 @@ OwesApart R w other m = Unit {0}
 
 module _ (k : Subject) (R : Law) (l : Least k R) where
   contexts : ContextLeaves R
-  contexts = unseen_contexts (sees_of k) (passing k) R (sight_of k R l.sees) refl refl refl (λ word n. refl) (λ n. refl) (λ n. refl)
+  contexts = unseen_contexts (sees_of k) (passing k) R l.sees refl refl refl (λ word n. refl) (λ n. refl) (λ n. refl)
 
   pub least_leaves : Leaves R
-  least_leaves = leaves_of (sees_of k) (passing k) R (sight_of k R l.sees) refl refl contexts (record { word = word_plain k; line = λ depth n name stats. refl; total = λ total. refl }) l.items.released
+  least_leaves = leaves_of (sees_of k) (passing k) R l.sees refl refl contexts (record { word = word_plain k; line = λ depth n name stats. refl; total = λ total. refl }) l.items.released
 
   abbrev pub least_acts : Acts R
   least_acts = least_leaves.acts
 
   move_leaves : MoveLeaves R
-  move_leaves = record { hooked = hook_waits_so (sees_of k) (passing k) R (sight_of k R l.sees) refl refl refl (λ word n. refl); shifted = moves_context (sees_of k) (passing k) R (sight_of k R l.sees) refl refl refl (λ n parent. refl) }
+  move_leaves = record { hooked = hook_waits_so (sees_of k) (passing k) R l.sees refl refl refl (λ word n. refl); shifted = moves_context (sees_of k) (passing k) R l.sees refl refl refl (λ n parent. refl) }
 
   pub unlock_owed : (w : Option ℕ) (object : ℕ) (mode : Mode) (m : Moment) → ((n : ℕ) → Keeps R (lock_given_back object mode n)) → Follows R m.scene (does w (e.Unlock object mode) m)
   unfolding does
@@ -367,7 +195,7 @@ module _ (k : Subject) (R : Law) (l : Least k R) where
       fallible_so R least_acts w m _ (at_kind name (λ kind. at_owner OfLevel (λ owner. item_taken owner kind key)))
       (by_kind R least_acts name (λ kind. at_owner OfLevel (λ owner. item_taken owner kind key)) (λ kind. by_owner R least_acts OfLevel (λ owner. item_taken owner kind key) (λ owner. l.items.taken owner kind key)))
   apart_owed w (e.EndPortal name) m owed = unfailing_so R least_acts m (at_portal name portal_ended) (by_portal_named R least_acts name portal_ended (portal_ends R least_acts l.items.phase l.items.released l.items.gone))
-  apart_owed w (e.MakePlan plan) m owed = fallible_so R least_acts w m _ (plan_made plan) (plans_one (sees_of k) (passing k) R (sight_of k R l.sees) refl refl (makes_context (sees_of k) (passing k) R (sight_of k R l.sees) refl refl refl (λ n parent name. refl)) plan)
+  apart_owed w (e.MakePlan plan) m owed = fallible_so R least_acts w m _ (plan_made plan) (plans_one (sees_of k) (passing k) R l.sees refl refl (makes_context (sees_of k) (passing k) R l.sees refl refl refl (λ n parent name. refl)) plan)
   apart_owed w (e.Register name) m owed = moves_owed R least_acts move_leaves w (e.Register name) m
   apart_owed w (e.Reparent name parent) m owed = moves_owed R least_acts move_leaves w (e.Reparent name parent) m
   apart_owed w other m owed = owed
@@ -388,18 +216,18 @@ OwesUnlocks R w other m = Unit {0}
 
 module _ (k : Subject) (R : Law) (law : Turns k R) where
   abbrev l : Least k R
-  l = law.ending.least
+  l = law.least
 
   -- all leaves of a law that is kept in any scene by all ends and by the snapshots that are popped
   pub turn_ends : EndLeaves R
   turn_ends = record {
     levels = record {
       leaves = least_leaves k R l;
-      levels = law.ending.levels;
-      level_word = λ event h. says (sees_of k) (passing k) R (sight_of k R l.sees) event (level_plain k event h);
-      popped = law.popped;
-      stack_gone = law.ending.stack_gone;
-      stack_passed = law.ending.stack_passed;
+      levels = law.levels;
+      level_word = λ event h. says (sees_of k) (passing k) R l.sees event (level_plain k event h);
+      popped = law.stack.popped;
+      stack_gone = law.stack.stack_gone;
+      stack_passed = law.stack.stack_passed;
     };
     taken = l.items.taken;
     phase = l.items.phase;
@@ -417,8 +245,8 @@ module _ (k : Subject) (R : Law) (law : Turns k R) where
   others_owed : (w : Option ℕ) (x : Element) (m : Moment) → OwesUnlocks R w x m → OwesMakes R w x m
   unfolding does
   others_owed w (e.InTurn name x) m owed = others_owed w x m owed
-  others_owed w (e.MakeContext new) m owed = fallible_so R a w m _ (new_context_made new) (context_is_made R turn_ends.levels (makes_context (sees_of k) (passing k) R (sight_of k R l.sees) refl refl refl (λ n parent name. refl)) (places (sees_of k) (passing k) R (sight_of k R l.sees) refl refl) new)
-  others_owed w (e.MakePlan plan) m owed = fallible_so R a w m _ (plan_made plan) (plans_one (sees_of k) (passing k) R (sight_of k R l.sees) refl refl (makes_context (sees_of k) (passing k) R (sight_of k R l.sees) refl refl refl (λ n parent name. refl)) plan)
+  others_owed w (e.MakeContext new) m owed = fallible_so R a w m _ (new_context_made new) (context_is_made R turn_ends.levels (makes_context (sees_of k) (passing k) R l.sees refl refl refl (λ n parent name. refl)) (places (sees_of k) (passing k) R l.sees refl refl) new)
+  others_owed w (e.MakePlan plan) m owed = fallible_so R a w m _ (plan_made plan) (plans_one (sees_of k) (passing k) R l.sees refl refl (makes_context (sees_of k) (passing k) R l.sees refl refl refl (λ n parent name. refl)) plan)
   others_owed w (e.Register name) m owed = moves_owed R a (move_leaves k R l) w (e.Register name) m
   others_owed w (e.Reparent name parent) m owed = moves_owed R a (move_leaves k R l) w (e.Reparent name parent) m
   others_owed w other m owed = owed
@@ -428,7 +256,7 @@ module _ (k : Subject) (R : Law) (law : Turns k R) where
 
   turn_so : (s : Scene) (done : Done) (refusal : Option Error) → Follows R s done → R s (turn_of done refusal).moment.scene (turn_of done refusal).events
   turn_so s done None h = h.so
-  turn_so s done (Some error) h = a.both h.so ((recovers R turn_ends error (says (sees_of k) (passing k) R (sight_of k R l.sees) (what.Error error) refl)).so done.moment.scene)
+  turn_so s done (Some error) h = a.both h.so ((recovers R turn_ends error (says (sees_of k) (passing k) R l.sees (what.Error error) refl)).so done.moment.scene)
 
   -- A turn keeps it where each owner that is made, each lock that is taken or given back, each file that is used and each snapshot that is pushed does.
   pub ending_turn : (P : Element → Scene → Type 0) (w : Option ℕ) (line : Option Command) (m : Moment) → IsRun P w (line_elements line m.scene.session) m
@@ -441,7 +269,7 @@ module _ (k : Subject) (R : Law) (law : Turns k R) where
 
   -- So does the end of a session.
   pub session_exits : (s : Scene) → R s (exited s).scene (exited s).events
-  session_exits s = exit_follows R turn_ends (says (sees_of k) (passing k) R (sight_of k R l.sees) what.Exit refl) s
+  session_exits s = exit_follows R turn_ends (says (sees_of k) (passing k) R l.sees what.Exit refl) s
 
   module _ (made : (parent : Option ℕ) → Keeps R (owner_made parent)) (locked : (object : ℕ) (mode : Mode) (n : ℕ) → Keeps R (lock_taken object mode n)) (unlocked : (object : ℕ) (mode : Mode) (n : ℕ) → Keeps R (lock_given_back object mode n)) (pushed : (snapshot : ℕ) → Keeps R (snapshot_pushed snapshot)) (used : (file : ℕ) → Keeps R (descriptor_given file)) where
     unlocks_owed : (w : Option ℕ) (x : Element) (m : Moment) → OwesUnlocks R w x m
@@ -467,36 +295,26 @@ pub record Base (k : Subject) (R : Law) : Type 0 where
   pub files : FileLeaves R
 
 module _ (k : Subject) (R : Law) (b : Base k R) (h : hides of_items k ≡ true) where
-  but_items : (s t : Scene) {events : List What} → t.session.levels ≡ s.session.levels → t.session.locks ≡ s.session.locks → t.session.recent ≡ s.session.recent → t.around.descriptors ≡ s.around.descriptors
-      → t.session.snapshots ≡ s.session.snapshots → ArePlain k events → R s t events
-  but_items s t v l r d n plain = b.sees.aside s t (same_but_items k s t h v l r d n) plain
-
   item_contexts : ContextLeaves R
-  item_contexts = unseen_contexts (sees_of k) (passing k) R (sight_of k R b.sees) refl refl refl (λ word n. refl) (λ n. refl) (λ n. refl)
+  item_contexts = unseen_contexts (sees_of k) (passing k) R b.sees refl refl refl (λ word n. refl) (λ n. refl) (λ n. refl)
 
   keys : KeyLeaves R
-  keys = unseen_keys (sees_of k) (passing k) R (sight_of k R b.sees) refl
+  keys = unseen_keys (sees_of k) (passing k) R b.sees refl
 
   owners : OwnerLeaves R
-  owners = record {
-    releasing = λ item n. record { so = λ s. but_items s s refl refl refl refl refl (plain_one k (what.Release item n) h) };
-    warned = λ item n s. but_items s s refl refl refl refl refl (plain_more refl (plain_one k (what.Release item n) h));
-    remembered = λ n kind key. record { so = λ s. but_items s _ refl refl refl refl refl (plain_one k (what.Acquire _ n) h) };
-    swept = λ kinds phase n s. but_items s _ refl refl refl refl refl plain_none;
-  }
+  owners = unseen_owners (sees_of k) (passing k) R b.sees (hidden_owners k h).0 (λ item n. h) (λ item n. refl) (item_comes (sees_of k) (passing k) R b.sees (hidden_owners k h).0 refl (λ item n. h))
 
   pub by_owner_made : (parent : Option ℕ) → Keeps R (owner_made parent)
-  by_owner_made None = record { so = λ s. but_items s _ refl refl refl refl refl (plain_one k (what.Owner s.session.next_owner) refl) }
-  by_owner_made (Some parent) = record { so = λ s. but_items s _ refl refl refl refl refl (plain_one k (what.OwnerIn s.session.next_owner parent) refl) }
+  by_owner_made = owner_makes (sees_of k) (passing k) R b.sees (hidden_owners k h).0 (hidden_owners k h).1 (λ n. refl) (λ n parent. refl)
 
   pub least_of : Least k R
   least_of = record {
     sees = b.sees;
     items = record {
-      taken = taken_so (sees_of k) (passing k) R (sight_of k R b.sees) refl refl owners b.files keys;
-      released = releases (sees_of k) (passing k) R (sight_of k R b.sees) refl refl item_contexts.gone item_contexts.children b.files.closed keys.closed (λ n kind key item s is. but_items s _ refl refl refl refl refl (plain_one k (what.Release item n) h));
-      phase = phase_so (sees_of k) (passing k) R (sight_of k R b.sees) refl refl item_contexts.gone item_contexts.children b.files.closed keys.closed owners b.locks;
-      gone = λ n. record { so = λ s. but_items s _ refl refl refl refl refl (plain_map k (λ (m : ℕ). what.OwnerGone m) (λ m. refl) (order_at n s.session.owners)) };
-      moved = λ n parent. record { so = λ s. but_items s _ refl refl refl refl refl (plain_one k (what.MoveOwner n parent) refl) };
+      taken = taken_so (sees_of k) (passing k) R b.sees refl refl owners b.files keys;
+      released = releases (sees_of k) (passing k) R b.sees refl refl item_contexts.gone item_contexts.children b.files.closed keys.closed (item_goes (sees_of k) (passing k) R b.sees (hidden_owners k h).0 (λ item n. h));
+      phase = phase_so (sees_of k) (passing k) R b.sees refl refl item_contexts.gone item_contexts.children b.files.closed keys.closed owners b.locks;
+      gone = owner_goes (sees_of k) (passing k) R b.sees (hidden_owners k h).0 (λ n. refl);
+      moved = owner_moves (sees_of k) (passing k) R b.sees (hidden_owners k h).0 (λ n parent. refl);
     };
   }

@@ -1,6 +1,6 @@
 -- The replayed contexts are those of the session, whatever a line does.
 use Rattle.session_laws.proofs.Words.{◌≡◌, ℕ, ◌+◌, ◌<◌, Bool, true, false, List, [], ◌∷◌, Some, None, refl, sym, ap, ◌∙◌, subst, inl, inr, arith, zero, suc, length, map, Option, ◌==◌, ◌&&◌, ◌||◌, and_from, cases_Bool, cases_eq, eq-eqb, false_from_ne_true, ne_eqb, Forest, Empty, Node, Once, at, children, has, moved, parent_of, put, size, times, with_children, removed, order, order_at, Moves, at_absent, at_some, has_of_removed, has_some, put_absent, removed_absent, times_moved, times_some, nat_tests}
-use Rattle.session_laws.proofs.Scenes.{What, CtxKind, Hook, Context, Contexts, is_child, move_events, new_context, placed_under, callbacks, gone_events, Scene, Around, Text, children_gone, context_cleared, context_cleared_alone, context_gone, context_moved, context_made, owner_made, hook_waits, item_taken, KindTable, opening, KindId, Phase, Owner, OwnerTree, own_released, owner_gone, owner_moved, phase_released}
+use Rattle.session_laws.proofs.Scenes.{What, CtxKind, Hook, Context, Contexts, is_child, move_events, new_context, placed_under, gone_events, Scene, Around, Text, children_gone, context_cleared, context_cleared_alone, context_gone, context_moved, context_made, owner_made, hook_waits, item_taken, KindTable, opening, KindId, Phase, Owner, OwnerTree, own_released, owner_gone, owner_moved, phase_released}
 use Rattle.session_laws.proofs.Rules.{has_put_other, times_emptied, EndLeaves, Keeps, Law, LevelLeaves, MakeLeaves, MoveLeaves, is_level_word, is_word, AreSaid, said_alone, said_map, said_weaker, said_more, said_none, said_one, of_contexts, of_next_context, ContextLeaves, FileLeaves, KeyLeaves, Part, Sight, hook_waits_so, level_leaves_of, locks_one, makes_context, moves_context, of_next_owner, of_owners, phase_so, places, plans_one, pushes, releases, taken_so, unlocks, unseen_contexts, unseen_files, unseen_keys, unseen_locks, unseen_stack, seen_after, OwnerLeaves, moves_owed}
 use Rattle.forest.proofs.Mapped.{mapped-has, mapped-parent, mapped-size, mapped-times}
 use Rattle.session_rules.proofs.Aside.{ContextLaw, context_ends, is_apart, context_makes}

@@ -17,8 +17,8 @@ pub use Rattle.owner_core.specs.Steps.{GivesBack, PassesLocks, ReleasesAllLocks,
 pub use Rattle.owner_core.specs.Released.{left_of, own_released, released}
 pub use Rattle.lock_local.specs.Locks.{AreLocks, IsInOrder, Lock, comes_before, count_of, has_owner, is_lock, lock_total, owner_count}
 pub use Rattle.any_ctx.specs.declared.any.CtxKind.{CtxKind}
-pub use Rattle.context_rules.specs.Contexts.{Context, Contexts, Found, found, is_child, is_protected, move_events, new_context, placed_under}
-pub use Rattle.context_rules.specs.Ends.{callbacks, cleared_alone, emptied, gone, gone_events, reset_of, unchanged, waiting}
+pub use Rattle.context_rules.specs.Contexts.{Context, Contexts, is_child, is_protected, move_events, new_context, placed_under}
+pub use Rattle.context_rules.specs.Ends.{callbacks, emptied, gone, gone_events, reset_of, unchanged, waiting}
 pub use Rattle.session_rules.specs.State.{LevelState, OpenPortal, SessionState, StandingPlan, abort_context, cache_context, context_of, deepest_changed, depth, file_kind, first_of, is_aborted, last_of, level_above, level_context, level_owner, owner_of, portals_context, top_context}
 unfoldable pub use Rattle.session_rules.specs.State.{opening}
 pub use Rattle.session_rules.specs.World.{Around, Moment, Options, Scene, World, around, moment, opened, session_at, with_scene}

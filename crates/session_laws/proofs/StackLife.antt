@@ -1,13 +1,13 @@
 -- The stack of active snapshots: each pop is of the newest one.
 use Rattle.session_laws.proofs.Words.{◌≡◌, ℕ, zero, suc, ◌+◌, ◌-◌, ◌≤◌, Bool, true, false, List, [], ◌∷◌, ◌++◌, length, map, reverse, take, Some, refl, sym, ap, ◌∙◌, inl, inr, arith, drop, Option, None, subst, ◌==◌, ◌⊎◌, filter, nat_lt, if◌then◌else◌, cases_Bool, eqb-true, eqb-false, lt-leb, le-leb, ltb-true, ltb-false, le-ltb, and_from, eq-eqb, append-nil, append_assoc, map-append, reverse-append, reverse-reverse, length-append, take_at, filter-append}
 use Rattle.session_laws.proofs.Scenes.{first_of, last_of, opening, AreStacked, HasExited, Stands, StandsBetweenLines, active_depth, What, Command, KindTable, Around, Moment, Scene, Element, changes, in_order, say, where_there, snapshot_popped, snapshot_pushed, does, exited, stack_lowered, stack_popped, turn}
-use Rattle.session_laws.proofs.Rules.{allows_all, seen_after, Law, exited_stands, Meets, line_runs, fallible_at}
+use Rattle.session_laws.proofs.Rules.{allows_all, seen_after, Law, exited_stands, Meets, line_runs, fallible_at, said_none, said_one, of_snapshots}
 use Rattle.snap_table.specs.declared.active.Active.{Active}
 use Rattle.snap_table.specs.Snapshots.{is_deep, kept_below, lowered, pops}
 use Rattle.lifetime_laws.specs.Once.{is_newest, none_left, stacking}
 use Rattle.session_rules.proofs.Stacked.{depth_small}
 use Rattle.session_laws.proofs.Lives.{IsLife, IsRead, Reads, read_both}
-use Rattle.session_laws.proofs.LocksSight.{PassesOver, Sees, hides, of_stack, plain_none, plain_one, read_plain, subject, files_hidden, locked_hidden, locks_hidden, unlocked_hidden, Ending, OwesUnlocks, Turns, ending_turn, least_acts, lock_owed, owner_owed, session_exits, touch_owed, unlock_owed, Base, by_owner_made, least_of}
+use Rattle.session_laws.proofs.LocksSight.{PassesOver, Sees, hides, of_stack, read_plain, subject, files_hidden, locked_hidden, locks_hidden, unlocked_hidden, OwesUnlocks, Turns, ending_turn, least_acts, lock_owed, owner_owed, session_exits, touch_owed, unlock_owed, Base, by_owner_made, least_of, ArePlain}
 use Rattle.pgs_step.specs.declared.events.What.TheVariants as what
 use Rattle.session_rules.specs.Elements as e
 
@@ -177,14 +177,13 @@ stacking_allows other h stack = refl
 stacking_over : PassesOver of_stack stacking
 stacking_over = record { next = stacking_next; allows = stacking_allows }
 
-stack_seen : Sees of_stack ReadsStack
-stack_seen = record {
-  both = λ a b. read_both stacking StackFits a b;
-  aside = λ s t same plain. record {
-    so = λ stack h. read_plain of_stack stacking StackFits stacking_over stack t plain
-        (record { is = h.is ∙ ap newest_first (sym same); rises = subst (IsRising 0) (sym same) h.rises });
-  };
+stack_aside : (s t : Scene) {events : List What} → t.session.snapshots ≡ s.session.snapshots → ArePlain of_stack events → ReadsStack s t events
+stack_aside s t same plain = record {
+  so = λ stack h. read_plain of_stack stacking StackFits stacking_over stack t plain (record { is = h.is ∙ ap newest_first (sym same); rises = subst (IsRising 0) (sym same) h.rises });
 }
+
+stack_seen : Sees of_stack ReadsStack
+stack_seen = record { both = λ a b. read_both stacking StackFits a b; aside = λ s t same plain. stack_aside s t (same.so of_snapshots refl) plain }
 
 -- the newest is popped
 popped_so : (s : Scene) → ReadsStack s (snapshot_popped s).scene (snapshot_popped s).events
@@ -235,16 +234,12 @@ lowered_so level s = record {
 stack_base : Base of_stack ReadsStack
 stack_base = record { sees = stack_seen; locks = locks_hidden of_stack ReadsStack stack_seen refl; files = files_hidden of_stack ReadsStack stack_seen refl }
 
-stack_ending : Ending of_stack ReadsStack
-stack_ending = record {
-  least = least_of of_stack ReadsStack stack_base refl;
-  levels = λ levels s. stack_seen.aside s _ refl plain_none;
-  stack_gone = λ level. record { so = gone_so level };
-  stack_passed = λ level. record { so = lowered_so level };
-}
-
 stack_law : Turns of_stack ReadsStack
-stack_law = record { ending = stack_ending; popped = record { so = popped_so } }
+stack_law = record {
+  least = least_of of_stack ReadsStack stack_base refl;
+  levels = λ levels s. stack_aside s _ refl said_none;
+  stack = record { popped = record { so = popped_so }; stack_gone = λ level. record { so = gone_so level }; stack_passed = λ level. record { so = lowered_so level } };
+}
 
 -- one is pushed where the scene stands
 pushed_so : (snapshot : ℕ) (s : Scene) → Stands s → ReadsStack s (snapshot_pushed snapshot s).scene (snapshot_pushed snapshot s).events
@@ -264,10 +259,10 @@ stack_owed : (w : Option ℕ) (x : Element) (m : Moment) → Meets x m.scene →
 unfolding does
 stack_owed w (e.InTurn name x) m meets = stack_owed w x m (record { stands = meets.stands; asks = meets.asks })
 stack_owed w (e.MakeOwner role) m meets = owner_owed of_stack ReadsStack stack_law w role m (by_owner_made of_stack ReadsStack stack_base refl)
-stack_owed w (e.TakeLock role object mode) m meets = lock_owed of_stack ReadsStack stack_ending.least w role object mode m (locked_hidden of_stack ReadsStack stack_seen refl object mode)
-stack_owed w (e.Unlock object mode) m meets = unlock_owed of_stack ReadsStack stack_ending.least w object mode m (unlocked_hidden of_stack ReadsStack stack_seen refl object mode)
-stack_owed w (e.Touch file) m meets = touch_owed of_stack ReadsStack stack_ending.least w file m ((files_hidden of_stack ReadsStack stack_seen refl).used file)
-stack_owed w (e.PushSnapshot snapshot) m meets = fallible_at ReadsStack (least_acts of_stack ReadsStack stack_ending.least) w m _ (snapshot_pushed snapshot) (pushed_so snapshot m.scene meets.stands)
+stack_owed w (e.TakeLock role object mode) m meets = lock_owed of_stack ReadsStack stack_law.least w role object mode m (locked_hidden of_stack ReadsStack stack_seen refl object mode)
+stack_owed w (e.Unlock object mode) m meets = unlock_owed of_stack ReadsStack stack_law.least w object mode m (unlocked_hidden of_stack ReadsStack stack_seen refl object mode)
+stack_owed w (e.Touch file) m meets = touch_owed of_stack ReadsStack stack_law.least w file m ((files_hidden of_stack ReadsStack stack_seen refl).used file)
+stack_owed w (e.PushSnapshot snapshot) m meets = fallible_at ReadsStack (least_acts of_stack ReadsStack stack_law.least) w m _ (snapshot_pushed snapshot) (pushed_so snapshot m.scene meets.stands)
 stack_owed w other m meets = tt
 
 stack_turn : (w : Option ℕ) (line : Option Command) (m : Moment) → StandsBetweenLines m.scene → ReadsStack m.scene (turn w line m).moment.scene (turn w line m).events
@@ -289,7 +284,7 @@ pub stack_life : (kinds : KindTable) → IsLife kinds stacking StackFits [] (λ 
 stack_life kinds = record {
   opens = λ around same. stack_opens around;
   elsewhere = λ stack session a b same h. record { is = h.is; rises = h.rises };
-  error = λ error s. stack_seen.aside s s refl (plain_one of_stack (what.Error error) refl);
+  error = λ error s. stack_aside s s refl (said_one (what.Error error) refl);
   turns = stack_turn;
   exits = stack_exit;
 }
