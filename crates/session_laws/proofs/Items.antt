@@ -1,7 +1,8 @@
 -- Items are numbered as they are acquired.
 use Rattle.session_laws.proofs.Words.{◌≡◌, ℕ, ◌+◌, true, List, refl, sym, ap, ◌∙◌, arith, ◌==◌, Bool, false, and_from, eq-eqb, has}
 use Rattle.session_laws.proofs.Scenes.{What, KindId, Scene, Around, say, remembers, item_taken, taken_by, Item, SessionState, opening, Keeper, NoOne, TheDescriptors, TheKind, ThePlans, keeper_of, HasExited, KindTable}
-use Rattle.session_laws.proofs.Rules.{allows_all, seen_after, EndLeaves, Keeps, Law, MakeLeaves, MoveLeaves, is_level_word, is_word, LevelLeaves, AreSaid, said_more, said_none, said_one, FileLeaves, Part, Sight, end_leaves_of, hook_waits_so, item_goes, locks_one, makes_context, moves_context, of_next_serial, owner_goes, owner_makes, owner_moves, places, plans_one, pushes, unlocks, unseen_contexts, unseen_files, unseen_keys, unseen_locks, unseen_owners, unseen_stack, ContextLeaves, KeyLeaves, level_leaves_of, of_next_owner, of_owners, releases as item_releases, takes, moves_owed, BalancesFrom, covers, left}
+use Rattle.session_laws.proofs.Rules.{allows_all, seen_after, EndLeaves, Keeps, Law, MakeLeaves, LevelLeaves, AreSaid, said_more, said_none, said_one, Part, Sight, of_next_serial, owner_makes, unseen_keys, unseen_owners, level_leaves_of, of_next_owner, of_owners, releases as item_releases, takes, moves_owed, BalancesFrom, covers, left}
+use Rattle.session_laws.proofs.Usual.{Usual, is_usual, level_words, usual_contexts, usual_ends, usual_files, usual_makes, usual_moves, usual_stack, usual_words}
 use Rattle.lifetime_laws.specs.Once.{numbering, acquires, releases}
 use Rattle.session_laws.proofs.Lives.{OwesTurns, Reads, read_both, owes_by, IsLife, life_by}
 use Rattle.session_laws.proofs.ItemsCounted.{Counted, Counts, aside_reads, discarded_reads, forgotten_reads, made_reads, moved_reads, phase_reads, reader, remembered_reads, has_it}
@@ -54,59 +55,36 @@ remembered_numbers n kind key s = record {
   };
 }
 
-word_past : (event : What) → is_word event ≡ true → is_past event ≡ true
-word_past (what.Acquire item owner) h = absurd (cc h)
-word_past other h = refl
+usual_past : (event : What) → is_usual event ≡ true → is_past event ≡ true
+usual_past (what.Acquire item owner) h = absurd (cc h)
+usual_past other h = refl
 
-level_past : (event : What) → is_level_word event ≡ true → is_past event ≡ true
-level_past (what.Acquire item owner) h = absurd (cc h)
-level_past other h = refl
-
-number_files : FileLeaves Numbers
-number_files = unseen_files sees_serial is_past Numbers number_sight refl (λ file. refl) (λ file. refl)
+number_usual : Usual sees_serial is_past
+number_usual = assumption usual_past
 
 number_ends : EndLeaves Numbers
 number_ends =
-    end_leaves_of sees_serial is_past Numbers number_sight refl refl (unseen_contexts sees_serial is_past Numbers number_sight refl refl refl (λ word n. refl) (λ n. refl) (λ n. refl))
-    (record { word = word_past; line = λ depth n name stats. refl; total = λ total. refl }) level_past
+    usual_ends number_sight number_usual refl refl refl (level_words (λ level. (refl, refl, refl, refl))) (λ item n. refl) (unseen_keys sees_serial is_past Numbers number_sight refl)
     (unseen_owners sees_serial is_past Numbers number_sight refl (λ item n. refl) (λ item n. refl) (λ n kind key. record { so = remembered_numbers n kind key }))
-    (item_goes sees_serial is_past Numbers number_sight refl (λ item n. refl)) (unseen_locks sees_serial is_past Numbers number_sight refl (λ object mode count owner. refl) (λ object mode count from to. refl))
-    number_files (unseen_keys sees_serial is_past Numbers number_sight refl) refl (unseen_stack sees_serial is_past Numbers number_sight refl (λ snapshot. refl))
-    (owner_goes sees_serial is_past Numbers number_sight refl (λ n. refl)) (owner_moves sees_serial is_past Numbers number_sight refl (λ n parent. refl))
 
 number_makes : MakeLeaves Numbers
-number_makes = record {
-  made = makes_context sees_serial is_past Numbers number_sight refl refl refl (λ n parent name. refl);
-  placed = places sees_serial is_past Numbers number_sight refl refl;
-  planned = plans_one sees_serial is_past Numbers number_sight refl refl (makes_context sees_serial is_past Numbers number_sight refl refl refl (λ n parent name. refl));
-  owner = owner_makes sees_serial is_past Numbers number_sight refl refl (λ n. refl) (λ n parent. refl);
-  locked = locks_one sees_serial is_past Numbers number_sight refl (λ object mode count owner. refl) (λ object mode owner. refl);
-  unlocked = unlocks sees_serial is_past Numbers number_sight refl (λ object mode count owner. refl);
-  used = number_files.used;
-  pushed = pushes sees_serial is_past Numbers number_sight refl (λ snapshot. refl);
-}
-
-number_moves : MoveLeaves Numbers
-number_moves = record { hooked = hook_waits_so sees_serial is_past Numbers number_sight refl refl refl (λ word n. refl); shifted = moves_context sees_serial is_past Numbers number_sight refl refl refl (λ n parent. refl) }
+number_makes = usual_makes number_sight number_usual (λ n parent name. refl) refl (owner_makes sees_serial is_past Numbers number_sight refl refl (λ n. refl) (λ n parent. refl))
 
 -- what a line and an exit owe
 pub numbers_turns : OwesTurns (Reads numbering IsNext)
-numbers_turns = owes_by Numbers number_ends number_makes (λ error s. past_reads s s refl (said_one (what.Error error) refl)) (λ w x m meets. moves_owed Numbers number_ends.levels.leaves.acts number_moves w x m)
+numbers_turns = owes_by Numbers number_ends number_makes (λ error s. past_reads s s refl (said_one (what.Error error) refl)) (λ w x m meets. moves_owed Numbers number_ends.levels.leaves.acts (usual_moves number_sight number_usual) w x m)
 
 pub numbers_exit : Keeps Numbers (say what.Exit)
 numbers_exit = record { so = λ s. past_reads s s refl (said_one what.Exit refl) }
 
 -- Each item that is acquired is released once, by its owner: what a line and an exit owe for that.
 
-word_still : (event : What) → is_word event ≡ true → is_still event ≡ true
-word_still (what.Acquire item owner) h = absurd (cc h)
-word_still (what.Release item owner) h = absurd (cc h)
-word_still other h = refl
+usual_still : (event : What) → is_usual event ≡ true → is_still event ≡ true
+usual_still (what.Acquire item owner) h = absurd (cc h)
+usual_still other h = cc
 
-level_still : (event : What) → is_level_word event ≡ true → is_still event ≡ true
-level_still (what.Acquire item owner) h = absurd (cc h)
-level_still (what.Release item owner) h = absurd (cc h)
-level_still other h = refl
+usual : Usual sees_owners is_still
+usual = assumption usual_still
 
 -- what counts an item besides its owner leaves owners alone
 taken_stays : (keeper : Keeper) (key : ℕ) (s : Scene) → (taken_by keeper key s).scene.session.owners ≡ s.session.owners
@@ -122,41 +100,18 @@ module _ (item : Item) (owner : ℕ) where
   abbrev sight : Sight sees_owners is_still R
   sight = record { both = λ a b. read_both (reader item owner) (Counts item owner) a b; aside = λ s t same h. aside_reads item owner s t (same.so of_owners refl) (same.so of_next_owner refl) h }
 
-  file_leaves : FileLeaves R
-  file_leaves = unseen_files sees_owners is_still R sight refl (λ file. refl) (λ file. refl)
-
-  key_leaves : KeyLeaves R
-  key_leaves = unseen_keys sees_owners is_still R sight refl
-
-  contexts : ContextLeaves R
-  contexts = unseen_contexts sees_owners is_still R sight refl refl refl (λ word n. refl) (λ n. refl) (λ n. refl)
-
   levels : LevelLeaves R
   levels =
-      level_leaves_of sees_owners is_still R sight refl refl contexts (record { word = word_still; line = λ depth n name stats. refl; total = λ total. refl }) level_still
-      (item_releases sees_owners is_still R sight refl refl contexts.gone contexts.children file_leaves.closed key_leaves.closed (λ n kind key old s found. forgotten_reads item owner n kind key old s found))
-      refl (unseen_stack sees_owners is_still R sight refl (λ snapshot. refl))
-
-  make_leaves : MakeLeaves R
-  make_leaves = record {
-    made = makes_context sees_owners is_still R sight refl refl refl (λ n parent name. refl);
-    placed = places sees_owners is_still R sight refl refl;
-    planned = plans_one sees_owners is_still R sight refl refl (makes_context sees_owners is_still R sight refl refl refl (λ n parent name. refl));
-    owner = λ parent. record { so = made_reads item owner parent };
-    locked = locks_one sees_owners is_still R sight refl (λ object mode count owner. refl) (λ object mode owner. refl);
-    unlocked = unlocks sees_owners is_still R sight refl (λ object mode count owner. refl);
-    used = file_leaves.used;
-    pushed = pushes sees_owners is_still R sight refl (λ snapshot. refl);
-  }
-
-  move_leaves : MoveLeaves R
-  move_leaves = record { hooked = hook_waits_so sees_owners is_still R sight refl refl refl (λ word n. refl); shifted = moves_context sees_owners is_still R sight refl refl refl (λ n parent. refl) }
+      level_leaves_of sees_owners is_still R sight refl refl (usual_contexts sight usual) (usual_words sight usual) (level_words (λ level. (refl, refl, refl, refl)))
+      (item_releases sees_owners is_still R sight refl refl (usual_contexts sight usual).gone (usual_contexts sight usual).children (usual_files sight usual).closed (unseen_keys sees_owners is_still R sight refl).closed
+      (λ n kind key old s found. forgotten_reads item owner n kind key old s found))
+      refl (usual_stack sight usual)
 
   -- an item is taken by an owner that is there
   item_taken_so : (n : ℕ) (kind : KindId) (key : ℕ) (s : Scene) → has n s.session.owners ≡ true → R s (item_taken n kind key s).scene (item_taken n kind key s).events
   item_taken_so n kind key s there =
       let z : Scene = (taken_by (keeper_of kind) key s).scene in
-      sight.both ((takes sees_owners is_still R sight refl refl file_leaves key_leaves (keeper_of kind) key).so s)
+      sight.both ((takes sees_owners is_still R sight refl refl (usual_files sight usual) (unseen_keys sees_owners is_still R sight refl) (keeper_of kind) key).so s)
       (sight.both (remembered_reads item owner n kind key z (ap (has n) (taken_stays (keeper_of kind) key s) ∙ there)) (levels.leaves.acts.none _))
 
   pub counts_turns : OwesTurns (Reads (reader item owner) (Counts item owner))
@@ -164,13 +119,13 @@ module _ (item : Item) (owner : ℕ) where
       owes_where R
       (record {
         levels = levels;
-        makes = make_leaves;
+        makes = usual_makes sight usual (λ n parent name. refl) refl (λ parent. record { so = made_reads item owner parent });
         taken = item_taken_so;
         phase = λ commit top n phase. record { so = phase_reads item owner commit top n phase };
         gone = λ n s may. discarded_reads item owner n s may.idle;
         moved = moved_reads item owner;
       })
-      (λ error s. aside_reads item owner s s refl refl (said_one (what.Error error) refl)) (λ w x m meets. moves_owed R levels.leaves.acts move_leaves w x m)
+      (λ error s. aside_reads item owner s s refl refl (said_one (what.Error error) refl)) (λ w x m meets. moves_owed R levels.leaves.acts (usual_moves sight usual) w x m)
 
   -- the end of a session says nothing of items
   pub counts_exit : Keeps R (say what.Exit)

@@ -1,6 +1,7 @@
 pub mod Words
 pub mod Scenes
 pub mod Rules
+pub mod Usual
 pub mod Lives
 pub mod Lifts
 pub mod OwnWork

@@ -1,7 +1,8 @@
 -- A line and an exit leave what never changes around a session: the names of the extension kinds, when their items are released, and how many descriptors there are.
 use Rattle.session_laws.proofs.Words.{◌≡◌, ℕ, ◌∙◌, true, false, Bool, Option, Some, None, List, ap, refl, ◌≢◌, zero, suc, ◌+◌, ◌≤◌, ◌⊎◌, inl, inr, cond, [], ◌∷◌, ◌++◌, length, sym, subst, arith, ◌-◌, ◌<◌, Result, Ok, Err, ◌==◌, replicate, slice_get, slice_set, slice_index_or, flat_map, sum_by, get_or-le-sum_by, sum_by-cons, sum_by-set, cases_eq, cases_lt, cond-false, ne_eqb, append-nil, length-set, length-replicate}
 use Rattle.session_laws.proofs.Scenes.{What, Error, Command, table_of, Moment, Scene, Around, Options, World, around, moment, opened, session_at, with_scene, Done, does_all, exited, recovered, level_rolled_back, line_elements, turn, turn_of, Course, Reading, Turn, after_command, after_exit, after_line, after_read, at_start, course_by, ended, exits, goes_on, missing, of_session, transcript_by, AreDistinct, Hook, waiting, SessionState, opening, top_context, AreHooks, StandsBetweenLines, IsSound, KindTable, Ended, context_gone, for_each, switched}
-use Rattle.session_laws.proofs.Rules.{EndLeaves, Follows, MakeLeaves, MoveLeaves, runs_anyhow, moves_owed, run_follows, FileLeaves, KeyLeaves, Part, Sight, end_leaves_of, hook_waits_so, item_comes, item_goes, locks_one, makes_context, moves_context, of_descriptors, of_kinds, owner_goes, owner_makes, owner_moves, places, plans_one, pushes, unlocks, unseen_contexts, unseen_files, unseen_locks, unseen_owners, unseen_stack, all_owed, exit_follows, recovery_follows, line_spoken, Reader, allows_all, events_of, seen_after, allows_all-append, events_of-append, events_of-other, events_of-own, seen_after-append, turn_stands, AreSaid, said_more, said_none}
+use Rattle.session_laws.proofs.Rules.{EndLeaves, KeyLeaves, Part, Sight, item_comes, of_descriptors, of_kinds, owner_makes, unseen_owners, exit_follows, line_spoken, Reader, allows_all, events_of, seen_after, allows_all-append, events_of-append, events_of-other, events_of-own, seen_after-append, turn_stands, AreSaid, said_more, said_none}
+use Rattle.session_laws.proofs.Usual.{Usual, any_turn_follows, is_usual, usual_ends, usual_makes, usual_moves}
 use Rattle.owner_kinds.proofs.Places.{table-closed, table-opened}
 use Rattle.std.proofs.lemmas.List.Concat.{flat_map-cons, length-flat_map}
 use Rattle.std.proofs.lemmas.Option.{get_or_from_slice_get, slice_get_within, slice_get_cases}
@@ -45,47 +46,17 @@ keys = record {
   closed = λ place key. record { so = λ s. record { same = table-closed s.around.kinds place key; descriptors = refl } };
 }
 
-files : FileLeaves KeepsKinds
-files = unseen_files sees_kinds any KeepsKinds sight refl (λ file. refl) (λ file. refl)
+usual : Usual sees_kinds any
+usual = assumption (λ (event : What) (h : is_usual event ≡ true). refl)
 
 kinds_ends : EndLeaves KeepsKinds
 kinds_ends =
-    end_leaves_of sees_kinds any KeepsKinds sight refl refl (unseen_contexts sees_kinds any KeepsKinds sight refl refl refl (λ word n. refl) (λ n. refl) (λ n. refl))
-    (record { word = λ event h. refl; line = λ depth n name stats. refl; total = λ total. refl }) (λ event h. refl)
+    usual_ends sight usual refl refl refl (λ event h. refl) (λ item n. refl) keys
     (unseen_owners sees_kinds any KeepsKinds sight refl (λ item n. refl) (λ item n. refl) (item_comes sees_kinds any KeepsKinds sight refl refl (λ item n. refl)))
-    (item_goes sees_kinds any KeepsKinds sight refl (λ item n. refl)) (unseen_locks sees_kinds any KeepsKinds sight refl (λ object mode count owner. refl) (λ object mode count from to. refl))
-    files keys refl (unseen_stack sees_kinds any KeepsKinds sight refl (λ snapshot. refl))
-    (owner_goes sees_kinds any KeepsKinds sight refl (λ n. refl)) (owner_moves sees_kinds any KeepsKinds sight refl (λ n parent. refl))
-
-kinds_makes : MakeLeaves KeepsKinds
-kinds_makes = record {
-  made = makes_context sees_kinds any KeepsKinds sight refl refl refl (λ n parent name. refl);
-  placed = places sees_kinds any KeepsKinds sight refl refl;
-  planned = plans_one sees_kinds any KeepsKinds sight refl refl (makes_context sees_kinds any KeepsKinds sight refl refl refl (λ n parent name. refl));
-  owner = owner_makes sees_kinds any KeepsKinds sight refl refl (λ n. refl) (λ n parent. refl);
-  locked = locks_one sees_kinds any KeepsKinds sight refl (λ object mode count owner. refl) (λ object mode owner. refl);
-  unlocked = unlocks sees_kinds any KeepsKinds sight refl (λ object mode count owner. refl);
-  used = files.used;
-  pushed = pushes sees_kinds any KeepsKinds sight refl (λ snapshot. refl);
-}
-
-kinds_moves : MoveLeaves KeepsKinds
-kinds_moves = record { hooked = hook_waits_so sees_kinds any KeepsKinds sight refl refl refl (λ word n. refl); shifted = moves_context sees_kinds any KeepsKinds sight refl refl refl (λ n parent. refl) }
-
-turn_of_so : (s : Scene) (done : Done) (refusal : Option Error) → Follows KeepsKinds s done → KeepsKinds s (turn_of done refusal).moment.scene (turn_of done refusal).events
-unfolding recovered
-turn_of_so s done None h = h.so
-turn_of_so s done (Some error) h =
-    let more = recovery_follows KeepsKinds kinds_ends done.moment.scene in
-    record { same = more.same ∙ h.so.same; descriptors = more.descriptors ∙ h.so.descriptors }
 
 turn_so : (w : Option ℕ) (line : Option Command) (m : Moment) → KeepsKinds m.scene (turn w line m).moment.scene (turn w line m).events
-unfolding turn
-turn_so w line m =
-    let done : Done = does_all w (line_elements line m.scene.session) m in
-    turn_of_so m.scene done done.refusal
-    (run_follows KeepsKinds kinds_ends.levels.leaves false (λ x s. Unit {0}) w (line_elements line m.scene.session) m (line_spoken false line m.scene.session (λ usual. absurd (cc usual))) (runs_anyhow w (line_elements line m.scene.session) m)
-    (λ x n known. all_owed KeepsKinds kinds_ends kinds_makes w x n (moves_owed KeepsKinds kinds_ends.levels.leaves.acts kinds_moves w x n)))
+turn_so =
+    any_turn_follows KeepsKinds kinds_ends (λ error. record { so = λ s. record { same = refl; descriptors = refl } }) (usual_makes sight usual (λ n parent name. refl) refl (owner_makes sees_kinds any KeepsKinds sight refl refl (λ n. refl) (λ n parent. refl))) (usual_moves sight usual)
 
 exit_so : (s : Scene) → KeepsKinds s (exited s).scene (exited s).events
 exit_so s = exit_follows KeepsKinds kinds_ends (record { so = λ s. record { same = refl; descriptors = refl } }) s

@@ -1,7 +1,8 @@
 -- Laws that see locks alone, files alone, the stack of snapshots alone or levels alone, and what passes them by.
-use Rattle.session_laws.proofs.Words.{◌≡◌, ℕ, Bool, true, false, List, [], refl, sym, subst, Option, Some, None, and_from}
-use Rattle.session_laws.proofs.Scenes.{What, KindId, Phase, Scene, Moment, item_released, owner_gone, owner_moved, phase_released, item_taken, files, lock_taken, snapshot_pushed, descriptor_given, Mode, LevelState, lock_given_back, at_kind, at_owner, at_portal, exited, Error, Command, Element, OfLevel, OwnerRole, new_context_made, new_owner_made, owner_made, plan_made, portal_ended, Done, does, does_all, line_elements, turn, turn_of}
-use Rattle.session_laws.proofs.Rules.{Reader, allows_all, Keeps, Law, is_word, Acts, EndLeaves, Follows, IsRun, IsSpoken, Leaves, MoveLeaves, Owes, OwesMakes, is_level_word, runs_anyhow, LockLeaves, OwnerLeaves, FileLeaves, ContextLeaves, Part, Sight, hook_waits_so, leaves_of, makes_context, moves_context, places, plans_one, says, unseen_contexts, KeyLeaves, phase_so, releases, taken_so, unseen_keys, AreSaid, said_more, said_none, line_spoken, by_kind, by_owner, by_portal_named, context_is_made, element_follows, fallible_so, levels_owed, moves_owed, owner_is_made, run_follows, unfailing_so, ends_owed, exit_follows, portal_ends, recovers, StackLeaves, unseen_locks, unseen_stack, unseen_files, unlocks, locks_one, pushes, unseen_owners, item_comes, owner_makes, item_goes, owner_goes, owner_moves}
+use Rattle.session_laws.proofs.Words.{◌≡◌, ℕ, Bool, true, false, List, [], refl, sym, subst, Option, and_from}
+use Rattle.session_laws.proofs.Scenes.{What, KindId, Phase, Scene, Moment, item_released, owner_gone, owner_moved, phase_released, item_taken, files, lock_taken, snapshot_pushed, descriptor_given, Mode, LevelState, lock_given_back, at_kind, at_owner, at_portal, exited, Error, Command, Element, OfLevel, OwnerRole, new_context_made, new_owner_made, owner_made, plan_made, portal_ended, does, line_elements, turn}
+use Rattle.session_laws.proofs.Rules.{Reader, allows_all, Keeps, Law, is_word, Acts, EndLeaves, Follows, IsRun, IsSpoken, Leaves, MoveLeaves, Owes, OwesMakes, is_level_word, runs_anyhow, LockLeaves, OwnerLeaves, FileLeaves, ContextLeaves, Part, Sight, hook_waits_so, leaves_of, makes_context, moves_context, places, plans_one, says, unseen_contexts, KeyLeaves, phase_so, releases, taken_so, unseen_keys, AreSaid, said_more, said_none, by_kind, by_owner, by_portal_named, context_is_made, element_follows, fallible_so, levels_owed, moves_owed, owner_is_made, unfailing_so, ends_owed, exit_follows, portal_ends, StackLeaves, unseen_locks, unseen_stack, unseen_files, unlocks, locks_one, pushes, unseen_owners, item_comes, owner_makes, item_goes, owner_goes, owner_moves}
+use Rattle.session_laws.proofs.Usual.{turn_follows}
 use Rattle.session_laws.proofs.Lives.{IsRead}
 use Rattle.pgs_step.specs.declared.events.What.TheVariants as what
 use Rattle.session_rules.specs.Elements as e
@@ -254,18 +255,11 @@ module _ (k : Subject) (R : Law) (law : Turns k R) where
   pub turns_owed : (w : Option ℕ) (x : Element) (m : Moment) → OwesUnlocks R w x m → Owes R w x m
   turns_owed w x m owed = levels_owed R turn_ends.levels w x m (ends_owed R turn_ends w x m (others_owed w x m owed))
 
-  turn_so : (s : Scene) (done : Done) (refusal : Option Error) → Follows R s done → R s (turn_of done refusal).moment.scene (turn_of done refusal).events
-  turn_so s done None h = h.so
-  turn_so s done (Some error) h = a.both h.so ((recovers R turn_ends error (says (sees_of k) (passing k) R l.sees (what.Error error) refl)).so done.moment.scene)
-
   -- A turn keeps it where each owner that is made, each lock that is taken or given back, each file that is used and each snapshot that is pushed does.
   pub ending_turn : (P : Element → Scene → Type 0) (w : Option ℕ) (line : Option Command) (m : Moment) → IsRun P w (line_elements line m.scene.session) m
       → ((x : Element) (n : Moment) → P x n.scene → OwesUnlocks R w x n) → R m.scene (turn w line m).moment.scene (turn w line m).events
-  unfolding turn
   ending_turn P w line m run owed =
-      let done : Done = does_all w (line_elements line m.scene.session) m in
-      turn_so m.scene done done.refusal
-      (run_follows R (least_leaves k R l) false P w (line_elements line m.scene.session) m (line_spoken false line m.scene.session (λ usual. absurd (cc usual))) run (λ x n p. turns_owed w x n (owed x n p)))
+      turn_follows R turn_ends (λ error. says (sees_of k) (passing k) R l.sees (what.Error error) refl) P w line m run (λ x n p. turns_owed w x n (owed x n p))
 
   -- So does the end of a session.
   pub session_exits : (s : Scene) → R s (exited s).scene (exited s).events

@@ -1,7 +1,8 @@
 -- Only elements that make something say that something is made.
 use Rattle.session_laws.proofs.Words.{◌≡◌, ℕ, Bool, true, false, List, Option, refl, ◌+◌, ◌<◌, ◌≤◌, All, [], ◌∷◌, ◌++◌, Some, None, ap, ◌∙◌, subst, inl, inr, arith, ◌≢◌, zero, suc, ◌-◌, nat_le, IsTrue, sym, drop, ◌==◌, ◌&&◌, option_and_then, option_map_or, and_from, cases_Bool, and_parts, both_ways, cases_eq, eq-eqb, eqb-true, ne_eqb, or_cases, All-head, All-tail, has}
 use Rattle.session_laws.proofs.Scenes.{Error, What, Moment, Scene, Element, OfLevel, LevelContext, NewContext, OfPortal, OwnerRole, PortalContext, RowContext, ScriptContext, Text, at_owner, lock_given_back, descriptor_given, lock_taken, snapshot_pushed, does, does_all, failing_turn, then_done, exited, recovered, Command, KindTable, LevelState, OpenPortal, cache_context, first_of, level_above, level_owner, owner_of, portals_context, top_context, context_named, portal_named, Ended, where_there, context_made, level_parent, new_context_made, new_owner_made, owner_made, plan_made, Done, fallible, refused_call, unless_refused, AreLevels, IsPortal, Stands, StandsBetweenLines, line_elements, turn, turn_of, table_of}
-use Rattle.session_laws.proofs.Rules.{Acts, EndLeaves, Follows, IsSpoken, MoveLeaves, OwesMakes, is_level_word, is_word, AreSpoken, IsRun, by_owner, element_follows, fallible_so, levels_owed, moves_owed, unfailing_so, ends_owed, exit_follows, recovers, AreSaid, said_both, said_one, said_more, said_none, FileLeaves, Sight, end_leaves_of, hook_waits_so, item_comes, item_goes, locks_one, moves_context, no_part, owner_goes, owner_moves, pushes, unlocks, unseen_contexts, unseen_files, unseen_keys, unseen_locks, unseen_owners, unseen_stack, line_spoken, Meets, line_runs, Reader, allows_all, seen_after, allows_all-append, BalancesFrom, count, covers, left}
+use Rattle.session_laws.proofs.Rules.{Acts, EndLeaves, Follows, IsSpoken, OwesMakes, AreSpoken, IsRun, by_owner, element_follows, fallible_so, levels_owed, moves_owed, unfailing_so, ends_owed, exit_follows, recovers, AreSaid, said_both, said_one, said_more, said_none, Sight, item_comes, no_part, unseen_keys, unseen_owners, line_spoken, Meets, line_runs, Reader, allows_all, seen_after, allows_all-append, BalancesFrom, count, covers, left}
+use Rattle.session_laws.proofs.Usual.{Usual, is_usual, level_words, usual_ends, usual_files, usual_locked, usual_moves, usual_pushed, usual_unlocked}
 use Rattle.session_rules.proofs.ContextsKept.{protected_has, top_protected}
 use Rattle.session_rules.proofs.NamesStand.{named_there}
 use Rattle.session_rules.proofs.PortalsStand.{Named, named_in}
@@ -22,17 +23,9 @@ is_unmade (what.Owner owner) = false
 is_unmade (what.OwnerIn owner parent) = false
 is_unmade other = true
 
-word_unmade : (event : What) → is_word event ≡ true → is_unmade event ≡ true
-word_unmade (what.Create context name parent) h = absurd (cc h)
-word_unmade (what.Owner owner) h = absurd (cc h)
-word_unmade (what.OwnerIn owner parent) h = absurd (cc h)
-word_unmade other h = refl
-
-level_unmade : (event : What) → is_level_word event ≡ true → is_unmade event ≡ true
-level_unmade (what.Create context name parent) h = absurd (cc h)
-level_unmade (what.Owner owner) h = absurd (cc h)
-level_unmade (what.OwnerIn owner parent) h = absurd (cc h)
-level_unmade other h = refl
+usual_unmade : (event : What) → is_usual event ≡ true → is_unmade event ≡ true
+usual_unmade (what.Create context name parent) h = absurd (cc h)
+usual_unmade other h = cc
 
 -- the law that all are such ones
 record NoneMade (s t : Scene) (events : List What) : Type 0 where
@@ -41,23 +34,16 @@ record NoneMade (s t : Scene) (events : List What) : Type 0 where
 sight : Sight no_part is_unmade NoneMade
 sight = record { both = λ h k. record { said = said_both h.said k.said }; aside = λ s t same said. record { said = said } }
 
-file_leaves : FileLeaves NoneMade
-file_leaves = unseen_files no_part is_unmade NoneMade sight refl (λ file. refl) (λ file. refl)
+usual : Usual no_part is_unmade
+usual = assumption usual_unmade
 
 unmade_ends : EndLeaves NoneMade
 unmade_ends =
-    end_leaves_of no_part is_unmade NoneMade sight refl refl (unseen_contexts no_part is_unmade NoneMade sight refl refl refl (λ word n. refl) (λ n. refl) (λ n. refl))
-    (record { word = word_unmade; line = λ depth n name stats. refl; total = λ total. refl }) level_unmade
+    usual_ends sight usual refl refl refl (level_words (λ level. (refl, refl, refl, refl))) (λ item n. refl) (unseen_keys no_part is_unmade NoneMade sight refl)
     (unseen_owners no_part is_unmade NoneMade sight refl (λ item n. refl) (λ item n. refl) (item_comes no_part is_unmade NoneMade sight refl refl (λ item n. refl)))
-    (item_goes no_part is_unmade NoneMade sight refl (λ item n. refl)) (unseen_locks no_part is_unmade NoneMade sight refl (λ object mode count owner. refl) (λ object mode count from to. refl))
-    file_leaves (unseen_keys no_part is_unmade NoneMade sight refl) refl (unseen_stack no_part is_unmade NoneMade sight refl (λ snapshot. refl))
-    (owner_goes no_part is_unmade NoneMade sight refl (λ n. refl)) (owner_moves no_part is_unmade NoneMade sight refl (λ n parent. refl))
 
 abbrev acts : Acts NoneMade
 acts = unmade_ends.levels.leaves.acts
-
-unmade_moves : MoveLeaves NoneMade
-unmade_moves = record { hooked = hook_waits_so no_part is_unmade NoneMade sight refl refl refl (λ word n. refl); shifted = moves_context no_part is_unmade NoneMade sight refl refl refl (λ n parent. refl) }
 
 -- whether an element makes a context or an owner
 abbrev pub is_making : Element → Bool
@@ -74,13 +60,13 @@ owed w (e.MakeContext new) m h = absurd (cc h)
 owed w (e.MakeOwner role) m h = absurd (cc h)
 owed w (e.MakePlan plan) m h = absurd (cc h)
 owed w (e.TakeLock role object mode) m h =
-    fallible_so NoneMade acts w m _ (at_owner role (lock_taken object mode)) (by_owner NoneMade acts role (lock_taken object mode) (locks_one no_part is_unmade NoneMade sight refl (λ object mode count owner. refl) (λ object mode owner. refl) object mode))
+    fallible_so NoneMade acts w m _ (at_owner role (lock_taken object mode)) (by_owner NoneMade acts role (lock_taken object mode) (usual_locked sight usual refl object mode))
 owed w (e.Unlock object mode) m h =
-    unfailing_so NoneMade acts m (at_owner OfLevel (lock_given_back object mode)) (by_owner NoneMade acts OfLevel (lock_given_back object mode) (unlocks no_part is_unmade NoneMade sight refl (λ object mode count owner. refl) object mode))
-owed w (e.Touch file) m h = fallible_so NoneMade acts w m _ (descriptor_given file) (file_leaves.used file)
-owed w (e.PushSnapshot snapshot) m h = fallible_so NoneMade acts w m _ (snapshot_pushed snapshot) (pushes no_part is_unmade NoneMade sight refl (λ snapshot. refl) snapshot)
-owed w (e.Register name) m h = moves_owed NoneMade acts unmade_moves w (e.Register name) m
-owed w (e.Reparent name parent) m h = moves_owed NoneMade acts unmade_moves w (e.Reparent name parent) m
+    unfailing_so NoneMade acts m (at_owner OfLevel (lock_given_back object mode)) (by_owner NoneMade acts OfLevel (lock_given_back object mode) (usual_unlocked sight usual refl object mode))
+owed w (e.Touch file) m h = fallible_so NoneMade acts w m _ (descriptor_given file) ((usual_files sight usual).used file)
+owed w (e.PushSnapshot snapshot) m h = fallible_so NoneMade acts w m _ (snapshot_pushed snapshot) (usual_pushed sight usual snapshot)
+owed w (e.Register name) m h = moves_owed NoneMade acts (usual_moves sight usual) w (e.Register name) m
+owed w (e.Reparent name parent) m h = moves_owed NoneMade acts (usual_moves sight usual) w (e.Reparent name parent) m
 owed w other m h = tt
 
 -- An element that makes nothing says nothing of that kind.

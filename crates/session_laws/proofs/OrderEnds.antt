@@ -1,7 +1,8 @@
 -- A reader of releases, where none is open, as one opens, and as it closes.
 use Rattle.session_laws.proofs.Words.{◌≡◌, ℕ, Bool, true, false, not, List, [], ◌∷◌, ◌++◌, map, Option, Some, None, refl, sym, subst, codes, ◌∙◌, ◌+◌, ◌<◌, cond, All, ap, arith, ◌≤◌, length, option_and_then, ◌==◌, option_map_or, list_all, and_from, All-cons, All-filter, All-nil, All-weaker, Empty, Node, AllNodes, children, order}
 use Rattle.session_laws.proofs.Scenes.{What, KindTable, portals_context, opening, LevelState, OpenPortal, deepest_changed, depth, first_of, level_owner, owner_of, top_context, Moment, Scene, Around, Element, Text, new_context_made, owner_made, owner_gone, descriptor_left, owner_moved, owner_released, does, Item, Phase, BeforeLocks, Locks, AfterLocks, table_of, is_of, without_newest, is_of_phase, Owner, OwnerTree, remembered, own_released, IsInOrder, Lock, has_owner, Ended, changes, context_gone, for_each, in_order, portal_gone, switched, where_so, where_there, portal_aborted, portal_closed, portal_passed, aborted, cleaned_up, committed, empty_context_gone, level_context_gone, level_owner_gone, level_popped, level_released, stack_lowered, stack_popped, subcommitted, switched_up, Stands, active_depth}
-use Rattle.session_laws.proofs.Rules.{allows_all, seen_after, allows_all-append, seen_after-append, AreSaid, said_more, said_none, said_both, said_one, said_pops, Acts, Follows, Keeps, is_word, last, next, EndLeaves, Law, MakeLeaves, MoveLeaves, Leaves, OwnerLeaves, ContextLeaves, FileLeaves, KeyLeaves, Part, Sight, acts_of, children_go, goes, hook_waits_so, item_comes, item_goes, leaves_of, locks_one, makes_context, moves_context, of_levels, owner_goes, owner_makes, phase_so, places, plans_one, pushes, releases, taken_so, unlocks, unseen_contexts, unseen_files, unseen_keys, unseen_locks, unseen_owners, unseen_stack, end_leaves_of, of_kinds, of_locks, of_next_serial, of_owners, owner_moves, by_order, moves_owed, by_each, by_so, by_there, all_swept, begins, off_begins, owner_when_active, resettled, settled, switched_off, aborted_leads, empty_context_goes, level_context_goes, portal_aborts, portal_cleans, portal_closes, portal_passes}
+use Rattle.session_laws.proofs.Rules.{allows_all, seen_after, allows_all-append, seen_after-append, AreSaid, said_more, said_none, said_both, said_one, said_pops, Acts, Follows, Keeps, last, next, EndLeaves, Law, MakeLeaves, Leaves, OwnerLeaves, ContextLeaves, KeyLeaves, Part, Sight, acts_of, children_go, goes, item_comes, item_goes, leaves_of, of_levels, owner_goes, owner_makes, phase_so, places, releases, taken_so, unseen_keys, unseen_owners, end_leaves_of, of_kinds, of_locks, of_next_serial, of_owners, owner_moves, by_order, moves_owed, by_each, by_so, by_there, all_swept, begins, off_begins, owner_when_active, resettled, settled, switched_off, aborted_leads, empty_context_goes, level_context_goes, portal_aborts, portal_cleans, portal_closes, portal_passes}
+use Rattle.session_laws.proofs.Usual.{Usual, is_usual, usual_contexts, usual_files, usual_locked, usual_locks, usual_made, usual_moves, usual_placed, usual_planned, usual_pushed, usual_stack, usual_unlocked, usual_words}
 use Rattle.lifetime_laws.specs.Order.{Batch, Member, Owned, Releasing, batch_behind, may_precede, member_in, member_now, members_so_far, ordering}
 use Rattle.lifetime_laws.specs.Parents.{owners_behind}
 use Rattle.session_laws.proofs.Parents.{Growth, growing_owners, FitsOwners}
@@ -211,19 +212,18 @@ Unlined = Mild is_unlined
 abbrev unlined_sight : Sight sees_levels is_unlined Unlined
 unlined_sight = mild_sight is_unlined
 
-word_unlined : (event : What) → is_word event ≡ true → is_unlined event ≡ true
-word_unlined (what.CommitLevel level) h = absurd (cc h)
-word_unlined (what.AbortLevel level) h = absurd (cc h)
-word_unlined other h = refl
+usual_unlined : (event : What) → is_usual event ≡ true → is_unlined event ≡ true
+usual_unlined (what.CommitLevel level) h = absurd (cc h)
+usual_unlined other h = cc
+
+unlined_usual : Usual sees_levels is_unlined
+unlined_usual = assumption usual_unlined
 
 owners : OwnerLeaves Unlined
 owners = unseen_owners sees_levels is_unlined Unlined unlined_sight refl (λ item n. refl) (λ item n. refl) (item_comes sees_levels is_unlined Unlined unlined_sight refl refl (λ item n. refl))
 
-unlined_files : FileLeaves Unlined
-unlined_files = unseen_files sees_levels is_unlined Unlined unlined_sight refl (λ file. refl) (λ file. refl)
-
 contexts : ContextLeaves Unlined
-contexts = unseen_contexts sees_levels is_unlined Unlined unlined_sight refl refl refl (λ word n. refl) (λ n. refl) (λ n. refl)
+contexts = usual_contexts unlined_sight unlined_usual
 
 keys : KeyLeaves Unlined
 keys = unseen_keys sees_levels is_unlined Unlined unlined_sight refl
@@ -233,25 +233,25 @@ gone_mild = owner_goes sees_levels is_unlined Unlined unlined_sight refl (λ n. 
 
 work_leaves : WorkLeaves Unlined
 work_leaves = record {
-  leaves = leaves_of sees_levels is_unlined Unlined unlined_sight refl refl contexts (record { word = word_unlined; line = λ depth n name stats. refl; total = λ total. refl })
-      (releases sees_levels is_unlined Unlined unlined_sight refl refl contexts.gone contexts.children unlined_files.closed keys.closed (item_goes sees_levels is_unlined Unlined unlined_sight refl (λ item n. refl)));
-  moves = record { hooked = hook_waits_so sees_levels is_unlined Unlined unlined_sight refl refl refl (λ word n. refl); shifted = moves_context sees_levels is_unlined Unlined unlined_sight refl refl refl (λ n parent. refl) };
-  made = makes_context sees_levels is_unlined Unlined unlined_sight refl refl refl (λ n parent name. refl);
-  planned = plans_one sees_levels is_unlined Unlined unlined_sight refl refl (makes_context sees_levels is_unlined Unlined unlined_sight refl refl refl (λ n parent name. refl));
+  leaves = leaves_of sees_levels is_unlined Unlined unlined_sight refl refl contexts (usual_words unlined_sight unlined_usual)
+      (releases sees_levels is_unlined Unlined unlined_sight refl refl contexts.gone contexts.children (usual_files unlined_sight unlined_usual).closed keys.closed (item_goes sees_levels is_unlined Unlined unlined_sight refl (λ item n. refl)));
+  moves = usual_moves unlined_sight unlined_usual;
+  made = usual_made unlined_sight unlined_usual (λ n parent name. refl);
+  planned = usual_planned unlined_sight unlined_usual (λ n parent name. refl);
   owner = owner_makes sees_levels is_unlined Unlined unlined_sight refl refl (λ n. refl) (λ n parent. refl);
-  taken = taken_so sees_levels is_unlined Unlined unlined_sight refl refl owners unlined_files keys;
-  locked = locks_one sees_levels is_unlined Unlined unlined_sight refl (λ object mode count owner. refl) (λ object mode owner. refl);
-  unlocked = unlocks sees_levels is_unlined Unlined unlined_sight refl (λ object mode count owner. refl);
-  used = unlined_files.used;
-  pushed = pushes sees_levels is_unlined Unlined unlined_sight refl (λ snapshot. refl);
-  popped = (unseen_stack sees_levels is_unlined Unlined unlined_sight refl (λ snapshot. refl)).popped;
-  phase = phase_so sees_levels is_unlined Unlined unlined_sight refl refl contexts.gone contexts.children unlined_files.closed keys.closed owners (unseen_locks sees_levels is_unlined Unlined unlined_sight refl (λ object mode count owner. refl) (λ object mode count from to. refl));
+  taken = taken_so sees_levels is_unlined Unlined unlined_sight refl refl owners (usual_files unlined_sight unlined_usual) keys;
+  locked = usual_locked unlined_sight unlined_usual refl;
+  unlocked = usual_unlocked unlined_sight unlined_usual refl;
+  used = (usual_files unlined_sight unlined_usual).used;
+  pushed = usual_pushed unlined_sight unlined_usual;
+  popped = (usual_stack unlined_sight unlined_usual).popped;
+  phase = phase_so sees_levels is_unlined Unlined unlined_sight refl refl contexts.gone contexts.children (usual_files unlined_sight unlined_usual).closed keys.closed owners (usual_locks unlined_sight unlined_usual refl);
   discarded = gone_mild;
 }
 
 -- a portal gets its context
 places_mild : (name : Text) (s : Scene) → Unlined s (new_context_made (e.PortalContext name) s).scene (new_context_made (e.PortalContext name) s).events
-places_mild name s = (by_order Unlined work_leaves.leaves.acts (next (work_leaves.made portals_context (codes "PortalContext") true kind.Small) (next (places sees_levels is_unlined Unlined unlined_sight refl refl name s.session.next_context) last))).so s
+places_mild name s = (by_order Unlined work_leaves.leaves.acts (next (work_leaves.made portals_context (codes "PortalContext") true kind.Small) (next (usual_placed unlined_sight unlined_usual (λ n parent name. refl) name s.session.next_context) last))).so s
 
 pub own_mild : (w : Option ℕ) (x : Element) (m : Moment) → IsOwnWork x → Follows Unlined m.scene (does w x m)
 own_mild w x m own = own_follows Unlined work_leaves w x m own (λ name. places_mild name m.scene)
@@ -352,13 +352,12 @@ module _ (kinds : KindTable) where
   locks_change : (s : Scene) (all : List Lock) {events : List What} → (IsInOrder s.session.locks → IsInOrder all) → R s (record s { session = record s.session { locks = all } }) events
   locks_change s all keeps = record { so = λ h. record { places = h.places; locks = keeps h.locks; items = h.items } }
 
-  base_files : FileLeaves R
-  base_files = unseen_files sees_base any R base_sight refl (λ file. refl) (λ file. refl)
+  usual : Usual sees_base any
+  usual = assumption (λ (event : What) (h : is_usual event ≡ true). refl)
 
   pub base_leaves : EndLeaves R
   base_leaves =
-      end_leaves_of sees_base any R base_sight refl refl (unseen_contexts sees_base any R base_sight refl refl refl (λ word n. refl) (λ n. refl) (λ n. refl))
-      (record { word = λ event h. refl; line = λ depth n name stats. refl; total = λ total. refl }) (λ event h. refl)
+      end_leaves_of sees_base any R base_sight refl refl (usual_contexts base_sight usual) (usual_words base_sight usual) (λ event h. refl)
       (record {
         releasing = λ item n. record { so = λ s. record { so = λ h. h } };
         warned = λ item n s. record { so = λ h. h };
@@ -373,29 +372,26 @@ module _ (kinds : KindTable) where
         passed = λ from to. record { so = λ s. locks_change s _ (IsInOrder-map (passed_lock from to) (keeps-passed from to) s.session.locks) };
         all_gone = λ top. record { so = λ s. locks_change s [] (λ h. tt) };
       })
-      base_files (record {
+      (usual_files base_sight usual) (record {
         opened = λ place key. record { so = λ s. same s _ _ refl refl refl (table-opened s.around.kinds place key) };
         closed = λ place key. record { so = λ s. same s _ _ refl refl refl (table-closed s.around.kinds place key) };
-      }) refl (unseen_stack sees_base any R base_sight refl (λ snapshot. refl))
+      }) refl (usual_stack base_sight usual)
       (λ n. record { so = λ s. owners_change s _ (all_removed (Recalls s.session.next_serial) n s.session.owners) }) (λ n parent. record { so = λ s. owners_change s _ (all_moved (Recalls s.session.next_serial) n parent s.session.owners) })
 
   base_makes : MakeLeaves R
   base_makes = record {
-    made = makes_context sees_base any R base_sight refl refl refl (λ n parent name. refl);
-    placed = places sees_base any R base_sight refl refl;
-    planned = plans_one sees_base any R base_sight refl refl (makes_context sees_base any R base_sight refl refl refl (λ n parent name. refl));
+    made = usual_made base_sight usual (λ n parent name. refl);
+    placed = usual_placed base_sight usual (λ n parent name. refl);
+    planned = usual_planned base_sight usual (λ n parent name. refl);
     owner = λ parent. record { so = owner_so parent };
     locked = λ object mode n. record { so = λ s. locks_change s _ (IsInOrder-acquired n object mode s.session.locks) };
     unlocked = λ object mode n. record { so = λ s. locks_change s _ (λ h. IsInOrder-filter has_owner (map (down n object mode) s.session.locks) (IsInOrder-map (down n object mode) (keeps-down n object mode) s.session.locks h)) };
-    used = base_files.used;
-    pushed = pushes sees_base any R base_sight refl (λ snapshot. refl);
+    used = (usual_files base_sight usual).used;
+    pushed = usual_pushed base_sight usual;
   }
 
-  base_moves : MoveLeaves R
-  base_moves = record { hooked = hook_waits_so sees_base any R base_sight refl refl refl (λ word n. refl); shifted = moves_context sees_base any R base_sight refl refl refl (λ n parent. refl) }
-
   pub base_owed : OwesTurns (KeepsBase kinds)
-  base_owed = owes_by R base_leaves base_makes (λ error s. record { so = λ h. h }) (λ w x m meets. moves_owed R base_leaves.levels.leaves.acts base_moves w x m)
+  base_owed = owes_by R base_leaves base_makes (λ error s. record { so = λ h. h }) (λ w x m meets. moves_owed R base_leaves.levels.leaves.acts (usual_moves base_sight usual) w x m)
 
   pub opening_based : (around : Around) → table_of around.kinds ≡ kinds → Based kinds (record { session = opening; around = around })
   unfolding opening

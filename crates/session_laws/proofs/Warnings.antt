@@ -1,7 +1,8 @@
 -- Which events open a release, warn, or stand beside what a release releases.
-use Rattle.session_laws.proofs.Words.{Bool, true, false, ◌≡◌, ℕ, not, List, [], ◌∷◌, Option, Some, None, refl, subst, sym, ◌==◌, ◌&&◌, and_from, eq-eqb}
-use Rattle.session_laws.proofs.Scenes.{What, Error, Item, Command, KindTable, is_aborted, Moment, Scene, in_order, where_so, Done, does_all, exited, given_up, recovered, line_elements, turn, turn_of}
-use Rattle.session_laws.proofs.Rules.{allows_all, seen_after, EndLeaves, Follows, Law, MakeLeaves, MoveLeaves, is_level_word, is_word, runs_anyhow, moves_owed, run_follows, OwnerLeaves, AreSaid, said_more, said_none, said_one, FileLeaves, Sight, end_leaves_of, hook_waits_so, item_comes, item_goes, locks_one, makes_context, moves_context, no_part, owner_goes, owner_makes, owner_moves, places, plans_one, pushes, unlocks, unseen_contexts, unseen_files, unseen_keys, unseen_locks, unseen_stack, all_owed, exit_follows, recovery_follows, line_spoken}
+use Rattle.session_laws.proofs.Words.{Bool, true, false, ◌≡◌, ℕ, not, List, [], ◌∷◌, Option, None, refl, subst, sym, ◌==◌, ◌&&◌, and_from, eq-eqb}
+use Rattle.session_laws.proofs.Scenes.{What, Error, Item, Command, KindTable, Moment, Scene, exited, turn}
+use Rattle.session_laws.proofs.Rules.{allows_all, seen_after, EndLeaves, Law, OwnerLeaves, AreSaid, said_more, said_none, said_one, Sight, item_comes, no_part, owner_makes, unseen_keys, exit_follows}
+use Rattle.session_laws.proofs.Usual.{Usual, any_turn_follows, is_usual, level_words, usual_ends, usual_makes, usual_moves}
 use Rattle.lifetime_laws.specs.Once.{same_item}
 use Rattle.lifetime_laws.specs.Order.{Owned, warning, warning_behind}
 use Rattle.session_laws.proofs.Lives.{IsLife, IsRead, Reads, read_both}
@@ -38,13 +39,9 @@ Warns s t events = Reads warning IsSettled s t events
 abbrev is_calm : What → Bool
 is_calm event = not (is_warning event)
 
-word_calm : (event : What) → is_word event ≡ true → is_calm event ≡ true
-word_calm (what.NotClosed item owner) h = absurd (cc h)
-word_calm other h = refl
-
-level_calm : (event : What) → is_level_word event ≡ true → is_calm event ≡ true
-level_calm (what.NotClosed item owner) h = absurd (cc h)
-level_calm other h = refl
+usual_calm : (event : What) → is_usual event ≡ true → is_calm event ≡ true
+usual_calm (what.NotClosed item owner) h = absurd (cc h)
+usual_calm other h = refl
 
 no_warning : (event : What) → is_calm event ≡ true → warning_behind event ≡ None
 no_warning (what.NotClosed item owner) h = absurd (cc h)
@@ -92,51 +89,15 @@ owners = record {
   swept = λ kinds phase n s. calm_reads s _ said_none;
 }
 
-file_leaves : FileLeaves Warns
-file_leaves = unseen_files no_part is_calm Warns sight refl (λ file. refl) (λ file. refl)
+usual : Usual no_part is_calm
+usual = assumption usual_calm
 
 end_leaves : EndLeaves Warns
-end_leaves =
-    end_leaves_of no_part is_calm Warns sight refl refl (unseen_contexts no_part is_calm Warns sight refl refl refl (λ word n. refl) (λ n. refl) (λ n. refl))
-    (record { word = word_calm; line = λ depth n name stats. refl; total = λ total. refl }) level_calm
-    owners
-    (item_goes no_part is_calm Warns sight refl (λ item n. refl)) (unseen_locks no_part is_calm Warns sight refl (λ object mode count owner. refl) (λ object mode count from to. refl))
-    file_leaves (unseen_keys no_part is_calm Warns sight refl) refl (unseen_stack no_part is_calm Warns sight refl (λ snapshot. refl))
-    (owner_goes no_part is_calm Warns sight refl (λ n. refl)) (owner_moves no_part is_calm Warns sight refl (λ n parent. refl))
+end_leaves = usual_ends sight usual refl refl refl (level_words (λ level. (refl, refl, refl, refl))) (λ item n. refl) (unseen_keys no_part is_calm Warns sight refl) owners
 
-make_leaves : MakeLeaves Warns
-make_leaves = record {
-  made = makes_context no_part is_calm Warns sight refl refl refl (λ n parent name. refl);
-  placed = places no_part is_calm Warns sight refl refl;
-  planned = plans_one no_part is_calm Warns sight refl refl (makes_context no_part is_calm Warns sight refl refl refl (λ n parent name. refl));
-  owner = owner_makes no_part is_calm Warns sight refl refl (λ n. refl) (λ n parent. refl);
-  locked = locks_one no_part is_calm Warns sight refl (λ object mode count owner. refl) (λ object mode owner. refl);
-  unlocked = unlocks no_part is_calm Warns sight refl (λ object mode count owner. refl);
-  used = file_leaves.used;
-  pushed = pushes no_part is_calm Warns sight refl (λ snapshot. refl);
-}
-
-move_leaves : MoveLeaves Warns
-move_leaves = record { hooked = hook_waits_so no_part is_calm Warns sight refl refl refl (λ word n. refl); shifted = moves_context no_part is_calm Warns sight refl refl refl (λ n parent. refl) }
-
-recovered_warns : (error : Error) (s : Scene) → Warns s (recovered error s).scene (recovered error s).events
-unfolding recovered
-recovered_warns error s =
-    let behind : Warns s (in_order (where_so (not (is_aborted s.session.levels)) (given_up s.session.levels) ∷ []) s).scene
-    (in_order (where_so (not (is_aborted s.session.levels)) (given_up s.session.levels) ∷ []) s).events = recovery_follows Warns end_leaves s in
-    read_both warning IsSettled (one_reads s s (what.Error error) refl) behind
-
-turn_of_warns : (s : Scene) (done : Done) (refusal : Option Error) → Follows Warns s done → Warns s (turn_of done refusal).moment.scene (turn_of done refusal).events
-turn_of_warns s done None h = h.so
-turn_of_warns s done (Some error) h = read_both warning IsSettled h.so (recovered_warns error done.moment.scene)
-
-pub turn_warns : (w : Option ℕ) (line : Option Command) (m : Moment) → Warns m.scene (turn w line m).moment.scene (turn w line m).events
-unfolding turn
-turn_warns w line m =
-    let done : Done = does_all w (line_elements line m.scene.session) m in
-    turn_of_warns m.scene done done.refusal
-    (run_follows Warns end_leaves.levels.leaves false (λ x s. Unit {0}) w (line_elements line m.scene.session) m (line_spoken false line m.scene.session (λ usual. absurd (cc usual)))
-    (runs_anyhow w (line_elements line m.scene.session) m) (λ x n known. all_owed Warns end_leaves make_leaves w x n (moves_owed Warns end_leaves.levels.leaves.acts move_leaves w x n)))
+turn_warns : (w : Option ℕ) (line : Option Command) (m : Moment) → Warns m.scene (turn w line m).moment.scene (turn w line m).events
+turn_warns =
+    any_turn_follows Warns end_leaves (λ error. record { so = λ s. one_reads s s (what.Error error) refl }) (usual_makes sight usual (λ n parent name. refl) refl (owner_makes no_part is_calm Warns sight refl refl (λ n. refl) (λ n parent. refl))) (usual_moves sight usual)
 
 -- In each session's life a warning stands directly before the release of its item, and none is left behind.
 pub warnings : (kinds : KindTable) → IsLife kinds warning IsSettled None (λ last. last ≡ None)
