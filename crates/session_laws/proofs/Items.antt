@@ -64,7 +64,7 @@ number_usual = assumption usual_past
 
 number_ends : EndLeaves Numbers
 number_ends =
-    usual_ends number_sight number_usual refl refl refl (level_words (λ level. (refl, refl, refl, refl))) (λ item n. refl) (unseen_keys sees_serial is_past Numbers number_sight refl)
+    usual_ends number_sight number_usual refl refl refl (level_words is_past (λ level. (refl, refl, refl, refl))) (λ item n. refl) (unseen_keys sees_serial is_past Numbers number_sight refl)
     (unseen_owners sees_serial is_past Numbers number_sight refl (λ item n. refl) (λ item n. refl) (λ n kind key. record { so = remembered_numbers n kind key }))
 
 number_makes : MakeLeaves Numbers
@@ -102,7 +102,7 @@ module _ (item : Item) (owner : ℕ) where
 
   levels : LevelLeaves R
   levels =
-      level_leaves_of sees_owners is_still R sight refl refl (usual_contexts sight usual) (usual_words sight usual) (level_words (λ level. (refl, refl, refl, refl)))
+      level_leaves_of sees_owners is_still R sight refl refl (usual_contexts sight usual) (usual_words sight usual) (level_words is_still (λ level. (refl, refl, refl, refl)))
       (item_releases sees_owners is_still R sight refl refl (usual_contexts sight usual).gone (usual_contexts sight usual).children (usual_files sight usual).closed (unseen_keys sees_owners is_still R sight refl).closed
       (λ n kind key old s found. forgotten_reads item owner n kind key old s found))
       refl (usual_stack sight usual)

@@ -39,7 +39,7 @@ usual = assumption usual_unmade
 
 unmade_ends : EndLeaves NoneMade
 unmade_ends =
-    usual_ends sight usual refl refl refl (level_words (λ level. (refl, refl, refl, refl))) (λ item n. refl) (unseen_keys no_part is_unmade NoneMade sight refl)
+    usual_ends sight usual refl refl refl (level_words is_unmade (λ level. (refl, refl, refl, refl))) (λ item n. refl) (unseen_keys no_part is_unmade NoneMade sight refl)
     (unseen_owners no_part is_unmade NoneMade sight refl (λ item n. refl) (λ item n. refl) (item_comes no_part is_unmade NoneMade sight refl refl (λ item n. refl)))
 
 abbrev acts : Acts NoneMade

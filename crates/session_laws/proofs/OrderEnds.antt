@@ -2,7 +2,7 @@
 use Rattle.session_laws.proofs.Words.{◌≡◌, ℕ, Bool, true, false, not, List, [], ◌∷◌, ◌++◌, map, Option, Some, None, refl, sym, subst, codes, ◌∙◌, ◌+◌, ◌<◌, cond, All, ap, arith, ◌≤◌, length, option_and_then, ◌==◌, option_map_or, list_all, and_from, All-cons, All-filter, All-nil, All-weaker, Empty, Node, AllNodes, children, order}
 use Rattle.session_laws.proofs.Scenes.{What, KindTable, portals_context, opening, LevelState, OpenPortal, deepest_changed, depth, first_of, level_owner, owner_of, top_context, Moment, Scene, Around, Element, Text, new_context_made, owner_made, owner_gone, descriptor_left, owner_moved, owner_released, does, Item, Phase, BeforeLocks, Locks, AfterLocks, table_of, is_of, without_newest, is_of_phase, Owner, OwnerTree, remembered, own_released, IsInOrder, Lock, has_owner, Ended, changes, context_gone, for_each, in_order, portal_gone, switched, where_so, where_there, portal_aborted, portal_closed, portal_passed, aborted, cleaned_up, committed, empty_context_gone, level_context_gone, level_owner_gone, level_popped, level_released, stack_lowered, stack_popped, subcommitted, switched_up, Stands, active_depth}
 use Rattle.session_laws.proofs.Rules.{allows_all, seen_after, allows_all-append, seen_after-append, AreSaid, said_more, said_none, said_both, said_one, said_pops, Acts, Follows, Keeps, last, next, EndLeaves, Law, MakeLeaves, Leaves, OwnerLeaves, ContextLeaves, KeyLeaves, Part, Sight, acts_of, children_go, goes, item_comes, item_goes, leaves_of, of_levels, owner_goes, owner_makes, phase_so, places, releases, taken_so, unseen_keys, unseen_owners, end_leaves_of, of_kinds, of_locks, of_next_serial, of_owners, owner_moves, by_order, moves_owed, by_each, by_so, by_there, all_swept, begins, off_begins, owner_when_active, resettled, settled, switched_off, aborted_leads, empty_context_goes, level_context_goes, portal_aborts, portal_cleans, portal_closes, portal_passes}
-use Rattle.session_laws.proofs.Usual.{Usual, is_usual, usual_contexts, usual_files, usual_locked, usual_locks, usual_made, usual_moves, usual_placed, usual_planned, usual_pushed, usual_stack, usual_unlocked, usual_words}
+use Rattle.session_laws.proofs.Usual.{Usual, any, usual_any, is_usual, usual_contexts, usual_files, usual_locked, usual_locks, usual_made, usual_moves, usual_placed, usual_planned, usual_pushed, usual_stack, usual_unlocked, usual_words}
 use Rattle.lifetime_laws.specs.Order.{Batch, Member, Owned, Releasing, batch_behind, may_precede, member_in, member_now, members_so_far, ordering}
 use Rattle.lifetime_laws.specs.Parents.{owners_behind}
 use Rattle.session_laws.proofs.Parents.{Growth, growing_owners, FitsOwners}
@@ -278,9 +278,6 @@ sees_base of_locks = true
 sees_base of_kinds = true
 sees_base other = false
 
-abbrev any : What → Bool
-any event = true
-
 module _ (kinds : KindTable) where
   abbrev R : Law
   R = KeepsBase kinds
@@ -353,7 +350,7 @@ module _ (kinds : KindTable) where
   locks_change s all keeps = record { so = λ h. record { places = h.places; locks = keeps h.locks; items = h.items } }
 
   usual : Usual sees_base any
-  usual = assumption (λ (event : What) (h : is_usual event ≡ true). refl)
+  usual = assumption usual_any
 
   pub base_leaves : EndLeaves R
   base_leaves =

@@ -23,12 +23,19 @@ word_usual (what.Acquire item owner) h = absurd (cc h)
 word_usual other h = cc
 
 -- what is so of each word on a level
-pub level_words : {P : What → Bool} → ((level : ℕ) → (P (what.BeginLevel level) ≡ true) × (P (what.CommitLevel level) ≡ true) × (P (what.AbortLevel level) ≡ true) × (P (what.CleanupLevel level) ≡ true)) → (event : What) → is_level_word event ≡ true → P event ≡ true
-level_words so (what.BeginLevel level) h = (so level).0
-level_words so (what.CommitLevel level) h = (so level).1
-level_words so (what.AbortLevel level) h = (so level).2
-level_words so (what.CleanupLevel level) h = (so level).3
-level_words so other h = absurd (cc h)
+pub level_words : (P : What → Bool) → ((level : ℕ) → (P (what.BeginLevel level) ≡ true) × (P (what.CommitLevel level) ≡ true) × (P (what.AbortLevel level) ≡ true) × (P (what.CleanupLevel level) ≡ true)) → (event : What) → is_level_word event ≡ true → P event ≡ true
+level_words P so (what.BeginLevel level) h = (so level).0
+level_words P so (what.CommitLevel level) h = (so level).1
+level_words P so (what.AbortLevel level) h = (so level).2
+level_words P so (what.CleanupLevel level) h = (so level).3
+level_words P so other h = absurd (cc h)
+
+-- the test that all pass
+abbrev pub any : What → Bool
+any event = true
+
+pub usual_any : (event : What) → is_usual event ≡ true → any event ≡ true
+usual_any event h = refl
 
 -- such a law
 pub record Usual (sees : Part → Bool) (P : What → Bool) : Type 0 where

@@ -93,7 +93,7 @@ usual : Usual no_part is_calm
 usual = assumption usual_calm
 
 end_leaves : EndLeaves Warns
-end_leaves = usual_ends sight usual refl refl refl (level_words (λ level. (refl, refl, refl, refl))) (λ item n. refl) (unseen_keys no_part is_calm Warns sight refl) owners
+end_leaves = usual_ends sight usual refl refl refl (level_words is_calm (λ level. (refl, refl, refl, refl))) (λ item n. refl) (unseen_keys no_part is_calm Warns sight refl) owners
 
 turn_warns : (w : Option ℕ) (line : Option Command) (m : Moment) → Warns m.scene (turn w line m).moment.scene (turn w line m).events
 turn_warns =
