@@ -1,7 +1,7 @@
 -- What is seen of a level that is being made.
-use Rattle.session_laws.proofs.Words.{◌≡◌, ◌≢◌, ℕ, ◌+◌, ◌<◌, Bool, true, false, not, List, [], ◌∷◌, map, length, Option, Some, None, refl, sym, ap, ◌∙◌, subst, inl, inr, arith, ◌==◌, ◌||◌, codes, filter, drop, and_from, cases_Bool, cases_eq, cond-false, cond-true, eq-eqb, eqb-true, ne_eqb, or_left}
+use Rattle.session_laws.proofs.Words.{◌≡◌, ◌≢◌, ℕ, ◌+◌, ◌<◌, Bool, true, false, not, List, [], ◌∷◌, map, length, Option, Some, None, refl, sym, ap, ◌∙◌, subst, inl, inr, arith, ◌==◌, ◌||◌, codes, filter, drop, and_from, cases_Bool, cases_eq, eq-eqb, eqb-true, ne_eqb, or_left}
 use Rattle.session_laws.proofs.Scenes.{What, LevelState, OpenPortal, StandingPlan, deepest_changed, level_above, owner_of, depth, level_context, top_context, Scene, Moment, LevelContext, OfLevel, Text, Element, NewContext, OwnerRole, level_context_name, level_made, level_parent, new_context_made, new_owner_made, made_event, Error, failure, Ended, changes, for_each, in_order, nothing, say, switched, where_there, level_stands, portal_closed, portal_passed, aborted, cleaned_up, committed, empty_context_gone, level_context_gone, level_owner_gone, level_released, stack_lowered, stack_popped, subcommitted, switched_up, Done, fallible, refused_call, unfailing, unless_refused, does, Stands}
-use Rattle.session_laws.proofs.Rules.{allows_all, is_one_of, seen_after, settled, Follows, IsSpoken, Keeps, last, next, Meets, by_each, by_order, element_follows, empty_context_goes, level_context_goes, level_releases, portal_closes, portal_passes}
+use Rattle.session_laws.proofs.Rules.{allows_all, is_one_of, seen_after, settled, Follows, IsSpoken, Keeps, last, next, Meets, by_each, by_order, element_follows, empty_context_goes, level_context_goes, level_releases, portal_closes, portal_passes, said_none}
 use Rattle.lifetime_laws.specs.Inside.{Awaited, Begun, ItsContext, ItsOwner, Leaving, Neither, awaited_behind, bare_level, ends_behind, is_named, last_changed, level_begun, plans_behind, staying, with_context, with_owner, with_portal}
 use Rattle.session_laws.proofs.InsideWalk.{AreBegun, AreKnown, AreSeen, Grows, Sees, begun_still, grows_either, has_begun, known_still, level_here, level_later, nothing_ends, plans_grow, seen_still, AreLow, Calming, Kept, Lessens, Seen, Works, calm_all, lessens_sees, by_moved, by_said, by_switch, inside_acts, inside_phase, inside_released, inside_stack, unmoved, element_works, low_of}
 use Rattle.lifetime_laws.specs.Parents.{Node as Replayed, owners_behind}
@@ -38,28 +38,15 @@ without_level n begun = filter (λ other. not (other.level == n)) begun
 still_level : (k n : ℕ) (begun : List Begun) → k ≢ n → level_begun k (without_level n begun) ≡ level_begun k begun
 still_level k n [] ne = refl
 still_level k n (first ∷ rest) ne = elim (cases_Bool (first.level == n)) [
-  | inl y ↦
-      let other : (first.level == k) ≡ false = ne_eqb first.level k (λ e. ne (sym e ∙ eqb-true first.level n y)) in
-      ap (level_begun k) (cond-false (not (first.level == n)) (first ∷ without_level n rest) (without_level n rest) (ap not y)) ∙ still_level k n rest ne ∙ sym (level_later k first rest other)
-  | inr z ↦
-      ap (level_begun k) (cond-true (not (first.level == n)) (first ∷ without_level n rest) (without_level n rest) (ap not z)) ∙ elim (cases_Bool (first.level == k)) [
-        | inl y ↦ level_here k first (without_level n rest) y ∙ sym (level_here k first rest y)
-        | inr w ↦ level_later k first (without_level n rest) w ∙ still_level k n rest ne ∙ sym (level_later k first rest w)
-      ]
+  | inl y ↦ rw (y, ne_eqb first.level k (λ e. ne (sym e ∙ eqb-true first.level n y))) (still_level k n rest ne)
+  | inr z ↦ elim (cases_Bool (first.level == k)) [ inl y ↦ rw (z, y) refl | inr w ↦ rw (z, w) (still_level k n rest ne) ]
 ]
 
 still_there : (k n : ℕ) (begun : List Begun) → k ≢ n → has_begun k begun ≡ true → has_begun k (without_level n begun) ≡ true
 still_there k n [] ne h = h
 still_there k n (first ∷ rest) ne h = elim (cases_Bool (first.level == n)) [
-  | inl y ↦
-      let other : (first.level == k) ≡ false = ne_eqb first.level k (λ e. ne (sym e ∙ eqb-true first.level n y)) in
-      ap (has_begun k) (cond-false (not (first.level == n)) (first ∷ without_level n rest) (without_level n rest) (ap not y)) ∙ still_there k n rest ne (sym (ap (λ (b : Bool). b || has_begun k rest) other) ∙ h)
-  | inr z ↦
-      ap (has_begun k) (cond-true (not (first.level == n)) (first ∷ without_level n rest) (without_level n rest) (ap not z)) ∙ elim (cases_Bool (first.level == k)) [
-        | inl y ↦ or_left (first.level == k) (has_begun k (without_level n rest)) y
-        | inr w ↦
-            ap (λ (b : Bool). b || has_begun k (without_level n rest)) w ∙ still_there k n rest ne (sym (ap (λ (b : Bool). b || has_begun k rest) w) ∙ h)
-      ]
+  | inl y ↦ rw y (still_there k n rest ne (rw (ne_eqb first.level k (λ e. ne (sym e ∙ eqb-true first.level n y))) at h))
+  | inr z ↦ elim (cases_Bool (first.level == k)) [ inl y ↦ rw (z, y) refl | inr w ↦ rw (z, w) (still_there k n rest ne (rw w at h)) ]
 ]
 
 abbrev with_new : ℕ → List Begun → List Begun
@@ -406,7 +393,7 @@ works_step s done leaving f k =
 pub lessened : (s t u : Scene) (events : List What) (leaving : Leaving) → Lessens s t events → u.session.portals ≡ t.session.portals → u.session.plans ≡ t.session.plans
     → ((begun : List Begun) → AreBegun s.session.levels begun → AreBegun u.session.levels begun) → AwaitsNothing leaving s → OneRead AwaitsNothing leaving u events
 lessened s t u events leaving l portals plans levels k =
-    let c : Calming leaving events = calm_all events leaving l.calm k.awaited k.active.ends in
+    let c : Calming leaving events = calm_all l.calm leaving k.active.ends in
     let now : Leaving = seen_after staying leaving events in
     let kept : Kept now t = lessens_sees s t events leaving l k.active.sees k.awaited in
     record {
@@ -418,7 +405,7 @@ lessened s t u events leaving l portals plans levels k =
             portals = subst (λ (ps : List OpenPortal). AreSeen ps now.begun) (sym portals) kept.sees.portals;
             plans = subst (λ (ps : List StandingPlan). AreKnown ps now.plans) (sym plans) kept.sees.plans;
           };
-          ends = c.behind.ends;
+          ends = c.ends;
         };
         awaited = kept.awaited;
       };
@@ -436,7 +423,7 @@ stands_step s leaving k = go (level_context s.session)
     act = changes (λ session. record session { levels = deepest_changed (λ level. record level { starting = false }) session.levels })
 
     go : (o : Option ℕ) → OneRead AwaitsNothing leaving (in_order (where_there o switched ∷ act ∷ []) s).scene (in_order (where_there o switched ∷ act ∷ []) s).events
-    go None = lessened s s _ [] leaving (unmoved s s [] refl refl refl tt) refl refl (started s.session.levels) k
+    go None = lessened s s _ [] leaving (unmoved s s [] refl refl refl said_none) refl refl (started s.session.levels) k
     go (Some c) = lessened s (switched c s).scene _ [] leaving ((by_switch c).so s) refl refl (started s.session.levels) k
 
 -- the ends of levels that commit

@@ -1,8 +1,8 @@
 -- What the reader of levels has seen fits the levels, the portals and the plans of a session, and what says nothing of levels keeps that.
-use Rattle.session_laws.proofs.Words.{◌≡◌, ℕ, codes, ◌+◌, ◌≤◌, Bool, true, false, if◌then◌else◌, List, [], ◌∷◌, ◌++◌, map, length, Option, Some, refl, sym, ap, ◌∙◌, subst, inl, inr, ◌-◌, not, None, arith, ◌==◌, ◌&&◌, ◌||◌, find, unwrap_or, filter, ◌⊎◌, All, list_all, list_any, and_from, cases_Bool, cond-false, cond-true, eq-eqb, eqb-true, or_left, or_right, cases_eq, All-head, All-tail}
+use Rattle.session_laws.proofs.Words.{◌≡◌, ℕ, codes, ◌+◌, ◌≤◌, Bool, true, false, if◌then◌else◌, List, [], ◌∷◌, ◌++◌, map, length, Option, Some, refl, sym, ap, ◌∙◌, subst, inl, inr, ◌-◌, None, arith, ◌==◌, ◌&&◌, ◌||◌, filter, ◌⊎◌, All, list_all, list_any, and_from, cases_Bool, eq-eqb, eqb-true, or_left, or_right, cases_eq, All-head, All-tail}
 use Rattle.session_laws.proofs.Scenes.{What, LevelState, OpenPortal, StandingPlan, portals_context, Scene, Moment, KindId, Phase, Text, Element, PortalContext, plan_at, plan_changed, plans_but, portal_changed, Ended, changes, portal_becomes, say, switched, where_there, Keeper, NoOne, TheDescriptors, TheKind, ThePlans, item_released, keeper_of, owner_gone, owner_moved, phase_released, plan_becomes, plan_left, plan_settled, plan_stays, plan_made, portal_made, new_context_made, chunk_resized, memory_taken, taken_by, contexts_become, tells, does, IsDead, IsLive, IsPortal, Stands}
-use Rattle.session_laws.proofs.Rules.{allows_all, is_one_of, seen_after, Acts, Keeps, Lowers, is_word, last, next, Follows, OwnerLeaves, item_releases, phase_keeps, AreSaid, said_more, said_none, said_report, ContextLeaves, FileLeaves, KeyLeaves, Part, Sight, StackLeaves, children_go, goes, hook_waits_so, item_comes, item_goes, locks_one, makes_context, moves_context, of_levels, of_plans, of_portals, owner_goes, owner_makes, owner_moves, pushes, says, unlocks, unseen_contexts, unseen_files, unseen_keys, unseen_locks, unseen_owners, unseen_stack, by_either, by_order}
-use Rattle.lifetime_laws.specs.Inside.{Awaited, Begun, Leaving, Neither, awaited_behind, bare_level, begun_behind, contexts_inside, ends_behind, is_named, level_begun, owners_inside, plans_behind, staying, with_portal, with_context}
+use Rattle.session_laws.proofs.Rules.{allows_all, is_one_of, seen_after, Acts, Keeps, Lowers, is_word, last, next, Follows, OwnerLeaves, item_releases, phase_keeps, AreSaid, said_more, said_none, said_report, ContextLeaves, FileLeaves, KeyLeaves, Part, Sight, StackLeaves, children_go, goes, hook_waits_so, item_comes, item_goes, locks_one, makes_context, moves_context, of_levels, of_plans, of_portals, owner_goes, owner_makes, owner_moves, pushes, says, unlocks, unseen_contexts, unseen_files, unseen_keys, unseen_locks, unseen_owners, unseen_stack, by_either, by_order, said_both, said_one}
+use Rattle.lifetime_laws.specs.Inside.{Awaited, Begun, Leaving, Neither, awaited_behind, begun_behind, contexts_inside, ends_behind, is_named, level_begun, owners_inside, plans_behind, staying, with_portal, with_context}
 use Rattle.session_laws.proofs.Lives.{Reads, read_both, read_none}
 use Rattle.context_rules.specs.Reports.{report}
 use Rattle.context_rules.specs.Chunks.{freed, written}
@@ -67,42 +67,22 @@ grows_both a b c g h = record {
 
 pub number_of : (n : ℕ) (begun : List Begun) → (level_begun n begun).level ≡ n
 number_of n [] = refl
-number_of n (first ∷ rest) = elim (cases_Bool (first.level == n)) [
-  | inl y ↦
-      ap (λ (o : Option Begun). (unwrap_or o (bare_level n)).level) (cond-true (first.level == n) (Some first) (find (λ other. other.level == n) rest) y) ∙ eqb-true first.level n y
-  | inr z ↦ ap (λ (o : Option Begun). (unwrap_or o (bare_level n)).level) (cond-false (first.level == n) (Some first) (find (λ other. other.level == n) rest) z) ∙ number_of n rest
-]
+number_of n (first ∷ rest) = elim (cases_Bool (first.level == n)) [ inl y ↦ rw y (eqb-true first.level n y) | inr z ↦ rw z (number_of n rest) ]
 
 -- the first of a list is looked up, or the others are
 pub level_here : (n : ℕ) (first : Begun) (rest : List Begun) → (first.level == n) ≡ true → level_begun n (first ∷ rest) ≡ first
-level_here n first rest y = ap (λ (o : Option Begun). unwrap_or o (bare_level n)) (cond-true (first.level == n) (Some first) (find (λ other. other.level == n) rest) y)
+level_here n first rest y = rw y refl
 
 pub level_later : (n : ℕ) (first : Begun) (rest : List Begun) → (first.level == n) ≡ false → level_begun n (first ∷ rest) ≡ level_begun n rest
-level_later n first rest z = ap (λ (o : Option Begun). unwrap_or o (bare_level n)) (cond-false (first.level == n) (Some first) (find (λ other. other.level == n) rest) z)
+level_later n first rest z = rw z refl
 
 -- each level that began gets the context of a portal
 abbrev with_one : ℕ → Begun → Begun
 with_one context level = record level { portals = context ∷ level.portals }
 
-all_with : (context n : ℕ) (begun : List Begun) → has_begun n begun ≡ true → level_begun n (map (with_one context) begun) ≡ with_one context (level_begun n begun)
-all_with context n [] h = absurd (cc h)
-all_with context n (first ∷ rest) h = elim (cases_Bool (first.level == n)) [
-  | inl y ↦ level_here n (with_one context first) (map (with_one context) rest) y ∙ sym (ap (with_one context) (level_here n first rest y))
-  | inr z ↦
-      let more : has_begun n rest ≡ true = sym (ap (λ (b : Bool). b || has_begun n rest) z) ∙ h in
-      level_later n (with_one context first) (map (with_one context) rest) z ∙ all_with context n rest more ∙ sym (ap (with_one context) (level_later n first rest z))
-]
-
-none_with : (context n : ℕ) (begun : List Begun) → has_begun n begun ≡ false → level_begun n (map (with_one context) begun) ≡ level_begun n begun
-none_with context n [] h = refl
-none_with context n (first ∷ rest) h = elim (cases_Bool (first.level == n)) [
-  | inl y ↦
-      let bad : true ≡ false = sym (or_left (first.level == n) (has_begun n rest) y) ∙ h in
-      absurd (cc bad)
-  | inr z ↦
-      let more : has_begun n rest ≡ false = sym (ap (λ (b : Bool). b || has_begun n rest) z) ∙ h in
-      level_later n (with_one context first) (map (with_one context) rest) z ∙ none_with context n rest more ∙ sym (level_later n first rest z)
-]
+level_with : (context n : ℕ) (begun : List Begun) → level_begun n (map (with_one context) begun) ≡ (if has_begun n begun then with_one context (level_begun n begun) else level_begun n begun)
+level_with context n [] = refl
+level_with context n (first ∷ rest) = elim (cases_Bool (first.level == n)) [ inl y ↦ rw y refl | inr z ↦ rw z (level_with context n rest) ]
 
 has_with : (context n : ℕ) (begun : List Begun) → has_begun n (map (with_one context) begun) ≡ has_begun n begun
 has_with context n [] = refl
@@ -111,19 +91,9 @@ has_with context n (first ∷ rest) = ap (λ (b : Bool). (first.level == n) || b
 grows_with : (context : ℕ) (begun : List Begun) → Grows begun (map (with_one context) begun)
 grows_with context begun = record {
   there = λ n h. has_with context n begun ∙ h;
-  context = λ n. elim (cases_Bool (has_begun n begun)) [
-    | inl y ↦ ap (λ (b : Begun). b.context) (all_with context n begun y)
-    | inr z ↦ ap (λ (b : Begun). b.context) (none_with context n begun z)
-  ];
-  owner = λ n. elim (cases_Bool (has_begun n begun)) [
-    | inl y ↦ ap (λ (b : Begun). b.owner) (all_with context n begun y)
-    | inr z ↦ ap (λ (b : Begun). b.owner) (none_with context n begun z)
-  ];
-  portals = λ m n h. elim (cases_Bool (has_begun n begun)) [
-    | inl y ↦
-        ap (λ (b : Begun). is_one_of m b.portals) (all_with context n begun y) ∙ or_right (context == m) (is_one_of m (level_begun n begun).portals) h
-    | inr z ↦ ap (λ (b : Begun). is_one_of m b.portals) (none_with context n begun z) ∙ h
-  ];
+  context = λ n. rw (level_with context n begun) (elim (has_begun n begun) as (λ b. (if b then with_one context (level_begun n begun) else level_begun n begun).context ≡ (level_begun n begun).context) [ true ↦ refl | false ↦ refl ]);
+  owner = λ n. rw (level_with context n begun) (elim (has_begun n begun) as (λ b. (if b then with_one context (level_begun n begun) else level_begun n begun).owner ≡ (level_begun n begun).owner) [ true ↦ refl | false ↦ refl ]);
+  portals = λ m n h. rw (level_with context n begun) (elim (has_begun n begun) as (λ b. is_one_of m (if b then with_one context (level_begun n begun) else level_begun n begun).portals ≡ true) [ true ↦ or_right (context == m) (is_one_of m (level_begun n begun).portals) h | false ↦ h ]);
 }
 
 pub grows_either : (b : Bool) (context : ℕ) (begun : List Begun)
@@ -133,8 +103,7 @@ grows_either false context begun = grows_same begun
 
 -- a portal's context that is made now is seen
 pub new_seen : (context n : ℕ) (begun : List Begun) → has_begun n begun ≡ true → is_one_of context (level_begun n (with_portal (codes "PortalContext") context begun)).portals ≡ true
-new_seen context n begun h =
-    ap (λ (b : Begun). is_one_of context b.portals) (all_with context n begun h) ∙ or_left (context == context) (is_one_of context (level_begun n begun).portals) (eq-eqb context context refl)
+new_seen context n begun h = rw (level_with context n begun, h) (or_left (context == context) (is_one_of context (level_begun n begun).portals) (eq-eqb context context refl))
 
 -- an event that neither begins a level nor its end
 abbrev pub is_calm : What → Bool
@@ -143,19 +112,7 @@ is_calm (what.AbortLevel level) = false
 is_calm other = true
 
 abbrev pub AreCalm : List What → Type 0
-AreCalm [] = Unit {0}
-AreCalm (event ∷ events) = (is_calm event ≡ true) × AreCalm events
-
-pub calm_both : (xs ys : List What) → AreCalm xs → AreCalm ys → AreCalm (xs ++ ys)
-calm_both [] ys h k = k
-calm_both (x ∷ xs) ys h k = (h.0, calm_both xs ys h.1 k)
-
--- what such events leave of what was seen
-pub record Calmed (a b : Leaving) : Type 0 where
-  pub grows : Grows a.begun b.begun
-  pub plans : (n : ℕ) → is_one_of n a.plans ≡ true → is_one_of n b.plans ≡ true
-  pub awaited : b.awaited ≡ Neither
-  pub ends : b.ends ≡ []
+AreCalm = AreSaid is_calm
 
 begun_grows : (event : What) (begun : List Begun) → is_calm event ≡ true → Grows begun (begun_behind event Neither begun)
 begun_grows (what.BeginLevel level) begun h = absurd (cc h)
@@ -180,36 +137,19 @@ pub none_ends : (event : What) (begun : List Begun) → is_calm event ≡ true �
 none_ends (what.AbortLevel level) begun h = absurd (cc h)
 none_ends other begun h = refl
 
-calm_next : (event : What) (leaving : Leaving) → is_calm event ≡ true → leaving.awaited ≡ Neither → leaving.ends ≡ [] → Calmed leaving (staying.next event leaving)
-calm_next event leaving h aw en = record {
-  grows = subst (λ (a : Awaited). Grows leaving.begun (begun_behind event a leaving.begun)) (sym aw) (begun_grows event leaving.begun h);
-  plans = plans_grow event leaving.plans;
-  awaited = ap (awaited_behind event) aw ∙ none_awaited event h;
-  ends = ap (ends_behind event leaving.begun) en ∙ none_ends event leaving.begun h;
-}
-
 -- where no level is in its end, each event is allowed
 pub nothing_ends : (event : What) (leaving : Leaving) → leaving.ends ≡ [] → staying.allows event leaving ≡ true
 nothing_ends event leaving en = ap (λ (ends : List Begun). list_all (λ level. owners_inside event leaving level && contexts_inside event leaving level) ends) en
 
 pub record Calming (leaving : Leaving) (events : List What) : Type 0 where
   pub allowed : allows_all staying leaving events ≡ true
-  pub behind : Calmed leaving (seen_after staying leaving events)
+  pub ends : (seen_after staying leaving events).ends ≡ []
 
-pub calm_all : (events : List What) (leaving : Leaving) → AreCalm events → leaving.awaited ≡ Neither → leaving.ends ≡ [] → Calming leaving events
-calm_all [] leaving h aw en = record { allowed = refl; behind = record { grows = grows_same leaving.begun; plans = λ n k. k; awaited = aw; ends = en } }
-calm_all (event ∷ events) leaving h aw en =
-    let one : Calmed leaving (staying.next event leaving) = calm_next event leaving h.0 aw en in
-    let more : Calming (staying.next event leaving) events = calm_all events (staying.next event leaving) h.1 one.awaited one.ends in
-    record {
-      allowed = and_from (staying.allows event leaving) (allows_all staying (staying.next event leaving) events) (nothing_ends event leaving en) more.allowed;
-      behind = record {
-        grows = grows_both leaving.begun (staying.next event leaving).begun _ one.grows more.behind.grows;
-        plans = λ n k. more.behind.plans n (one.plans n k);
-        awaited = more.behind.awaited;
-        ends = more.behind.ends;
-      };
-    }
+pub calm_all : {events : List What} → AreCalm events → (leaving : Leaving) → leaving.ends ≡ [] → Calming leaving events
+calm_all said_none leaving en = record { allowed = refl; ends = en }
+calm_all (said_more {event = event} {events = events} h hs) leaving en =
+    let more : Calming (staying.next event leaving) events = calm_all hs (staying.next event leaving) (ap (ends_behind event leaving.begun) en ∙ none_ends event leaving.begun h) in
+    record { allowed = and_from (staying.allows event leaving) (allows_all staying (staying.next event leaving) events) (nothing_ends event leaving en) more.allowed; ends = more.ends }
 
 -- what fits still fits where more contexts of portals and of plans are known
 pub begun_still : (a b : List Begun) → Grows a b → (levels : List LevelState) → AreBegun levels a → AreBegun levels b
@@ -257,14 +197,14 @@ pub record Lessens (s t : Scene) (events : List What) : Type 0 where
   pub calm : AreCalm events
 
 pub lessens_none : (s : Scene) → Lessens s s []
-lessens_none s = record { levels = refl; portals = λ begun k. k; plans = λ known k. k; calm = tt }
+lessens_none s = record { levels = refl; portals = λ begun k. k; plans = λ known k. k; calm = said_none }
 
 pub lessens_both : {s t u : Scene} {xs ys : List What} → Lessens s t xs → Lessens t u ys → Lessens s u (xs ++ ys)
-lessens_both {xs = xs} {ys = ys} a b = record {
+lessens_both a b = record {
   levels = b.levels ∙ a.levels;
   portals = λ begun k. b.portals begun (a.portals begun k);
   plans = λ known k. b.plans known (a.plans known k);
-  calm = calm_both xs ys a.calm b.calm;
+  calm = said_both a.calm b.calm;
 }
 
 -- what is seen of levels, portals and plans, whatever is in its end
@@ -279,12 +219,12 @@ pub record Grown (a b : Leaving) : Type 0 where
   pub plans : (n : ℕ) → is_one_of n a.plans ≡ true → is_one_of n b.plans ≡ true
   pub awaited : b.awaited ≡ Neither
 
-pub grown_all : (events : List What) (leaving : Leaving) → AreCalm events → leaving.awaited ≡ Neither → Grown leaving (seen_after staying leaving events)
-grown_all [] leaving h aw = record { grows = grows_same leaving.begun; plans = λ n k. k; awaited = aw }
-grown_all (event ∷ events) leaving h aw =
+pub grown_all : {events : List What} → AreCalm events → (leaving : Leaving) → leaving.awaited ≡ Neither → Grown leaving (seen_after staying leaving events)
+grown_all said_none leaving aw = record { grows = grows_same leaving.begun; plans = λ n k. k; awaited = aw }
+grown_all (said_more {event = event} {events = events} h hs) leaving aw =
     let later : Leaving = staying.next event leaving in
-    let one : Grows leaving.begun later.begun = subst (λ (a : Awaited). Grows leaving.begun (begun_behind event a leaving.begun)) (sym aw) (begun_grows event leaving.begun h.0) in
-    let more : Grown later (seen_after staying later events) = grown_all events later h.1 (ap (awaited_behind event) aw ∙ none_awaited event h.0) in
+    let one : Grows leaving.begun later.begun = subst (λ (a : Awaited). Grows leaving.begun (begun_behind event a leaving.begun)) (sym aw) (begun_grows event leaving.begun h) in
+    let more : Grown later (seen_after staying later events) = grown_all hs later (ap (awaited_behind event) aw ∙ none_awaited event h) in
     record {
       grows = grows_both leaving.begun later.begun _ one more.grows;
       plans = λ n k. more.plans n (plans_grow event leaving.plans n k);
@@ -298,7 +238,7 @@ pub record Kept (leaving : Leaving) (t : Scene) : Type 0 where
 
 pub lessens_sees : (s t : Scene) (events : List What) (leaving : Leaving) → Lessens s t events → Sees leaving s → leaving.awaited ≡ Neither → Kept (seen_after staying leaving events) t
 lessens_sees s t events leaving l k aw =
-    let g : Grown leaving (seen_after staying leaving events) = grown_all events leaving l.calm aw in
+    let g : Grown leaving (seen_after staying leaving events) = grown_all l.calm leaving aw in
     let now : Leaving = seen_after staying leaving events in
     record {
       sees = record {
@@ -314,21 +254,16 @@ works_of {s = s} {t = t} {events = events} l = record {
   levels = l.levels;
   reads = record {
     so = λ leaving k.
-        let c : Calming leaving events = calm_all events leaving l.calm k.awaited k.ends in
+        let c : Calming leaving events = calm_all l.calm leaving k.ends in
         let kept : Kept (seen_after staying leaving events) t = lessens_sees s t events leaving l (record { begun = k.begun; portals = k.portals; plans = k.plans }) k.awaited in
         record {
           allowed = c.allowed;
-          fits = record { begun = kept.sees.begun; portals = kept.sees.portals; plans = kept.sees.plans; awaited = kept.awaited; ends = c.behind.ends };
+          fits = record { begun = kept.sees.begun; portals = kept.sees.portals; plans = kept.sees.plans; awaited = kept.awaited; ends = c.ends };
         };
   };
 }
 
 -- Each element that neither makes nor ends a level leaves levels as they are, and what is seen of levels fits behind it.
-
--- a calm event each
-calm_of : {events : List What} → AreSaid is_calm events → AreCalm events
-calm_of said_none = tt
-calm_of (said_more h hs) = (h, calm_of hs)
 
 lessening : (s t : Scene) (events : List What) → t.session.levels ≡ s.session.levels → FewerPortals s.session.portals t.session.portals → FewerPlans s.session.plans t.session.plans → AreCalm events → Lessens s t events
 lessening s t events levels portals plans h = record { levels = levels; portals = portals; plans = plans; calm = h }
@@ -345,13 +280,13 @@ sees_inside of_plans = true
 sees_inside other = false
 
 sight : Sight sees_inside is_calm Lessens
-sight = record { both = λ a b. lessens_both a b; aside = λ s t same said. unmoved s t _ (same.so of_levels refl) (same.so of_portals refl) (same.so of_plans refl) (calm_of said) }
+sight = record { both = λ a b. lessens_both a b; aside = λ s t same said. unmoved s t _ (same.so of_levels refl) (same.so of_portals refl) (same.so of_plans refl) said }
 
 pub by_said : (event : What) → is_calm event ≡ true → Keeps Lessens (say event)
 by_said event h = says sees_inside is_calm Lessens sight event h
 
 pub by_switch : (n : ℕ) → Keeps Lessens (switched n)
-by_switch n = record { so = λ s. unmoved s _ [] refl refl refl tt }
+by_switch n = record { so = λ s. unmoved s _ [] refl refl refl said_none }
 
 -- portals
 seen_changed : (name : Text) (change : OpenPortal → OpenPortal) → Lowers change → (ps : List OpenPortal) → FewerPortals ps (portal_changed name change ps)
@@ -363,14 +298,11 @@ seen_changed name change l (p ∷ ps) begun h = (one _, seen_changed name change
     one false = h.0
 
 pub by_portal : (name : Text) (change : OpenPortal → OpenPortal) → Lowers change → Keeps Lessens (portal_becomes name change)
-by_portal name change l = record { so = λ s. lessening s _ [] refl (seen_changed name change l s.session.portals) (λ known k. k) tt }
+by_portal name change l = record { so = λ s. lessening s _ [] refl (seen_changed name change l s.session.portals) (λ known k. k) said_none }
 
 pub seen_filter : (test : OpenPortal → Bool) (ps : List OpenPortal) → FewerPortals ps (filter test ps)
 seen_filter test [] begun h = tt
-seen_filter test (p ∷ ps) begun h = elim (cases_Bool (test p)) [
-  | inl y ↦ subst (λ (l : List OpenPortal). AreSeen l begun) (sym (cond-true (test p) (p ∷ filter test ps) (filter test ps) y)) (h.0, seen_filter test ps begun h.1)
-  | inr z ↦ subst (λ (l : List OpenPortal). AreSeen l begun) (sym (cond-false (test p) (p ∷ filter test ps) (filter test ps) z)) (seen_filter test ps begun h.1)
-]
+seen_filter test (p ∷ ps) begun h = elim (cases_Bool (test p)) [ inl y ↦ rw y (h.0, seen_filter test ps begun h.1) | inr z ↦ rw z (seen_filter test ps begun h.1) ]
 
 -- what the ends of portals are made of
 pub inside_acts : Acts Lessens
@@ -378,7 +310,7 @@ inside_acts = record {
   none = lessens_none;
   both = λ a b. lessens_both a b;
   portal = by_portal;
-  portal_goes = λ name. record { so = λ s. lessening s _ [] refl (seen_filter _ s.session.portals) (λ known k. k) tt };
+  portal_goes = λ name. record { so = λ s. lessening s _ [] refl (seen_filter _ s.session.portals) (λ known k. k) said_none };
   gone = goes sees_inside is_calm Lessens sight refl refl refl (λ word n. refl) (λ n. refl);
   children = children_go sees_inside is_calm Lessens sight refl refl refl (λ word n. refl) (λ n. refl);
 }
@@ -386,10 +318,7 @@ inside_acts = record {
 -- plans
 known_but : (n : ℕ) (plans : List StandingPlan) → FewerPlans plans (plans_but n plans)
 known_but n [] known h = tt
-known_but n (plan ∷ plans) known h = elim (cases_Bool (plan.number == n)) [
-  | inl y ↦ subst (λ (l : List StandingPlan). AreKnown l known) (sym (cond-false (not (plan.number == n)) (plan ∷ plans_but n plans) (plans_but n plans) (ap not y))) (known_but n plans known h.1)
-  | inr z ↦ subst (λ (l : List StandingPlan). AreKnown l known) (sym (cond-true (not (plan.number == n)) (plan ∷ plans_but n plans) (plans_but n plans) (ap not z))) (h.0, known_but n plans known h.1)
-]
+known_but n (plan ∷ plans) known h = elim (cases_Bool (plan.number == n)) [ inl y ↦ rw y (known_but n plans known h.1) | inr z ↦ rw z (h.0, known_but n plans known h.1) ]
 
 known_changed : (n : ℕ) (change : StandingPlan → StandingPlan) (known : List ℕ) (plans : List StandingPlan) → ((p : StandingPlan) → is_one_of p.context known ≡ true → is_one_of (change p).context known ≡ true)
     → AreKnown plans known → AreKnown (plan_changed n change plans) known
@@ -403,15 +332,12 @@ known_changed n change known (plan ∷ plans) k h = (one (plan.number == n), kno
 known_at : (n : ℕ) (p : StandingPlan) (known : List ℕ) (plans : List StandingPlan) → plan_at n plans ≡ Some p → AreKnown plans known → is_one_of p.context known ≡ true
 known_at n p known [] is h = absurd (cc is)
 known_at n p known (plan ∷ plans) is h = elim (cases_Bool (plan.number == n)) [
-  | inl y ↦
-      let same : Some plan ≡ Some p = sym (cond-true (plan.number == n) (Some plan) (plan_at n plans) y) ∙ is in
-      let here : plan ≡ p = cc same in
-      ap (λ (q : StandingPlan). is_one_of q.context known) (sym here) ∙ h.0
-  | inr z ↦ known_at n p known plans (sym (cond-false (plan.number == n) (Some plan) (plan_at n plans) z) ∙ is) h.1
+  | inl y ↦ let same : Some plan ≡ Some p = rw y at is in let here : plan ≡ p = cc same in ap (λ (q : StandingPlan). is_one_of q.context known) (sym here) ∙ h.0
+  | inr z ↦ known_at n p known plans (rw z at is) h.1
 ]
 
 plans_become : (change : List StandingPlan → List StandingPlan) → ((plans : List StandingPlan) → FewerPlans plans (change plans)) → Keeps Lessens (changes (λ session. record session { plans = change session.plans }))
-plans_become change h = record { so = λ s. lessening s _ [] refl (λ begun k. k) (h s.session.plans) tt }
+plans_become change h = record { so = λ s. lessening s _ [] refl (λ begun k. k) (h s.session.plans) said_none }
 
 by_settled : (q : StandingPlan) → Keeps Lessens (plan_settled q)
 by_settled q = by_order Lessens inside_acts (next (plans_become (plans_but q.number) (known_but q.number)) (next (inside_acts.gone q.context) last))
@@ -420,7 +346,7 @@ plan_is : (n : ℕ) (p q : StandingPlan) (s : Scene) → plan_at n s.session.pla
 plan_is n p q s is same =
     by_either Lessens inside_acts (q.discarded && (q.references == 0)) (plan_settled q s) (plan_stays q s) ((by_settled q).so s)
     (lessening s _ [] refl (λ begun k. k)
-    (λ known k. known_changed q.number (λ old. q) known s.session.plans (λ old j. ap (λ (m : ℕ). is_one_of m known) same ∙ known_at n p known s.session.plans is k) k) tt)
+    (λ known k. known_changed q.number (λ old. q) known s.session.plans (λ old j. ap (λ (m : ℕ). is_one_of m known) same ∙ known_at n p known s.session.plans is k) k) said_none)
 
 plan_goes : (n : ℕ) → Keeps Lessens (plan_left n)
 plan_goes n = record { so = λ s. go s (plan_at n s.session.plans) refl }
@@ -494,15 +420,15 @@ work_leaves planned = record {
     acts = works_acts;
     word = λ event h. works_act (by_said event (word_calm event h));
     switch = λ n. works_act (by_switch n);
-    portal_new = λ name object rows bad. quietly (portal_made name object rows bad) (λ s. lessening s _ [] refl (λ begun k. (record { so = λ n level is low high. absurd (cc is) }, k)) (λ known k. k) tt);
+    portal_new = λ name object rows bad. quietly (portal_made name object rows bad) (λ s. lessening s _ [] refl (λ begun k. (record { so = λ n level is low high. absurd (cc is) }, k)) (λ known k. k) said_none);
     plan = λ n p q s is same. works_of (plan_is n p q s is same);
     alone = λ n. works_act (contexts.alone n);
     cleared = λ n. works_act (contexts.cleared n);
-    allocated = λ name bytes zeroed n. quietly (memory_taken name bytes zeroed n) (λ s. unmoved s _ [] refl refl refl tt);
-    fitted = λ name bytes. quietly (chunk_resized name bytes) (λ s. unmoved s _ [] refl refl refl tt);
-    given = λ name. quietly (contexts_become (freed name)) (λ s. unmoved s _ [] refl refl refl tt);
-    put = λ name place bytes. quietly (contexts_become (written name place bytes)) (λ s. unmoved s _ [] refl refl refl tt);
-    reported = quietly (λ s. tells (report s.session.contexts) s) (λ s. unmoved s s _ refl refl refl (calm_of (said_report (λ depth n name stats. refl) (λ total. refl) s.session.contexts)));
+    allocated = λ name bytes zeroed n. quietly (memory_taken name bytes zeroed n) (λ s. unmoved s _ [] refl refl refl said_none);
+    fitted = λ name bytes. quietly (chunk_resized name bytes) (λ s. unmoved s _ [] refl refl refl said_none);
+    given = λ name. quietly (contexts_become (freed name)) (λ s. unmoved s _ [] refl refl refl said_none);
+    put = λ name place bytes. quietly (contexts_become (written name place bytes)) (λ s. unmoved s _ [] refl refl refl said_none);
+    reported = quietly (λ s. tells (report s.session.contexts) s) (λ s. unmoved s s _ refl refl refl (said_report (λ depth n name stats. refl) (λ total. refl) s.session.contexts));
     released = λ owner kind key. works_act (inside_released owner kind key);
   };
   moves = record { hooked = λ n hook. works_act (hook_waits_so sees_inside is_calm Lessens sight refl refl refl (λ word n. refl) n hook); shifted = λ n parent. works_act (moves_context sees_inside is_calm Lessens sight refl refl refl (λ n parent. refl) n parent) };
@@ -530,16 +456,17 @@ works_by s t events same h portals plans = record {
   levels = same;
   reads = record {
     so = λ leaving k.
-        let c : Calming leaving events = calm_all events leaving h k.awaited k.ends in
+        let c : Calming leaving events = calm_all h leaving k.ends in
         let now : Leaving = seen_after staying leaving events in
+        let g : Grown leaving now = grown_all h leaving k.awaited in
         record {
           allowed = c.allowed;
           fits = record {
-            begun = subst (λ (levels : List LevelState). AreBegun levels now.begun) (sym same) (begun_still leaving.begun now.begun c.behind.grows s.session.levels k.begun);
-            portals = portals leaving k (seen_still leaving.begun now.begun c.behind.grows s.session.portals k.portals);
-            plans = plans leaving k (known_still leaving.plans now.plans c.behind.plans s.session.plans k.plans);
-            awaited = c.behind.awaited;
-            ends = c.behind.ends;
+            begun = subst (λ (levels : List LevelState). AreBegun levels now.begun) (sym same) (begun_still leaving.begun now.begun g.grows s.session.levels k.begun);
+            portals = portals leaving k (seen_still leaving.begun now.begun g.grows s.session.portals k.portals);
+            plans = plans leaving k (known_still leaving.plans now.plans g.plans s.session.plans k.plans);
+            awaited = g.awaited;
+            ends = c.ends;
           };
         };
   };
@@ -583,7 +510,7 @@ named_seen name n most begun new (p ∷ ps) low h = (one (is_text p.name name), 
 portal_context_works : (name : Text) (s : Scene) → Stands s → Works s (new_context_made (PortalContext name) s).scene (new_context_made (PortalContext name) s).events
 portal_context_works name s h =
     let n : ℕ = s.session.next_context in
-    works_by s _ (what.Create n (codes "PortalContext") portals_context ∷ []) refl (refl, tt)
+    works_by s _ (what.Create n (codes "PortalContext") portals_context ∷ []) refl (said_one _ refl)
     (λ leaving k still.
     named_seen name n (length s.session.levels) (with_portal (codes "PortalContext") n (with_context leaving.awaited n leaving.begun))
     (λ level low high.
@@ -600,7 +527,7 @@ known_more known (first ∷ plans) plan h k = (k.0, known_more known plans plan 
 plan_is_made : (plan : ℕ) → Keeps Works (plan_made plan)
 plan_is_made plan = record {
   so = λ s.
-      works_by s _ (what.Create s.session.next_context (codes "CachedPlan") 3 ∷ []) refl (refl, tt) (λ leaving k still. still)
+      works_by s _ (what.Create s.session.next_context (codes "CachedPlan") 3 ∷ []) refl (said_one _ refl) (λ leaving k still. still)
       (λ leaving k still. known_more _ s.session.plans _ (or_left (s.session.next_context == s.session.next_context) _ (eq-eqb s.session.next_context s.session.next_context refl)) still);
 }
 

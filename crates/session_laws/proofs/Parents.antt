@@ -45,30 +45,19 @@ still_away m n nodes h = elim (cases_eq m n) [
 
 pub single_without : (n : ℕ) (nodes : List Kept) → AreSingle nodes → AreSingle (without n nodes)
 single_without n [] h = tt
-single_without n (first ∷ rest) h = elim (cases_Bool (first.number == n)) [
-  | inl y ↦ subst AreSingle (sym (cond-false (not (first.number == n)) (first ∷ without n rest) (without n rest) (ap not y))) (single_without n rest h.1)
-  | inr z ↦
-      subst AreSingle (sym (cond-true (not (first.number == n)) (first ∷ without n rest) (without n rest) (ap not z)))
-      (still_away first.number n rest h.0, single_without n rest h.1)
-]
+single_without n (first ∷ rest) h = elim (cases_Bool (first.number == n)) [ inl y ↦ rw y (single_without n rest h.1) | inr z ↦ rw z (still_away first.number n rest h.0, single_without n rest h.1) ]
 
 pub without_none : (n : ℕ) (nodes : List Kept) → is_there n nodes ≡ false → without n nodes ≡ nodes
 without_none n [] h = refl
 without_none n (first ∷ rest) h =
     let p : ((first.number == n) ≡ false) × (is_there n rest ≡ false) = or_parts (first.number == n) (is_there n rest) h in
-    cond-true (not (first.number == n)) (first ∷ without n rest) (without n rest) (ap not p.0) ∙ ap (λ (nodes : List Kept). first ∷ nodes) (without_none n rest p.1)
+    rw p.0 (ap (λ (nodes : List Kept). first ∷ nodes) (without_none n rest p.1))
 
 pub length_without : (n : ℕ) (nodes : List Kept) → AreSingle nodes → is_there n nodes ≡ true → 1 + length (without n nodes) ≡ length nodes
 length_without n [] single h = absurd (cc h)
 length_without n (first ∷ rest) single h = elim (cases_Bool (first.number == n)) [
-  | inl y ↦
-      let away : is_there n rest ≡ false = ap (λ (x : ℕ). is_there x rest) (sym (eqb-true first.number n y)) ∙ single.0 in
-      let gone : without n (first ∷ rest) ≡ rest = cond-false (not (first.number == n)) (first ∷ without n rest) (without n rest) (ap not y) ∙ without_none n rest away in
-      omega (arith, ap (λ (nodes : List Kept). length nodes) gone)
-  | inr z ↦
-      let more : is_there n rest ≡ true = sym (ap (λ (b : Bool). b || is_there n rest) z) ∙ h in
-      let kept : without n (first ∷ rest) ≡ first ∷ without n rest = cond-true (not (first.number == n)) (first ∷ without n rest) (without n rest) (ap not z) in
-      omega (arith, ap (λ (nodes : List Kept). length nodes) kept, length_without n rest single.1 more)
+  | inl y ↦ rw (y, without_none n rest (ap (λ (x : ℕ). is_there x rest) (sym (eqb-true first.number n y)) ∙ single.0)) (omega arith)
+  | inr z ↦ rw z (omega (arith, length_without n rest single.1 (rw z at h)))
 ]
 
 pub single_placed : (n : ℕ) (parent : Option ℕ) (nodes : List Kept) → AreSingle nodes → AreSingle (placed n parent nodes)
@@ -94,38 +83,33 @@ module _ {A : Type 0} where
         length = omega (arith, length_without n nodes f.single (f.there n ∙ h), f.length, size_removed n t f.once h, ap size leaf);
       }
 
+  -- nodes fit where one is placed as the tree has it, and all others are as they were
+  fits_placed : (n : ℕ) (parent : Option ℕ) (nodes : List Kept) (t u : Forest A) → FitsTree nodes t → Once u → has n u ≡ true → parent_of n u ≡ parent
+      → ((m : ℕ) → m ≢ n → (has m u ≡ has m t) × (parent_of m u ≡ parent_of m t)) → 1 + length (without n nodes) ≡ size u → FitsTree (placed n parent nodes) u
+  fits_placed n parent nodes t u f once here above others counts = record {
+    once = once;
+    there = λ m. elim (cases_eq m n) [
+      | inl e ↦ subst (λ (x : ℕ). is_there x (placed n parent nodes) ≡ has x u) (sym e) (is_there-placed_same n parent nodes ∙ sym here)
+      | inr ne ↦ is_there-placed_other m n parent nodes ne ∙ f.there m ∙ sym (others m ne).0
+    ];
+    parent = λ m. elim (cases_eq m n) [
+      | inl e ↦ subst (λ (x : ℕ). replayed.parent_of x (placed n parent nodes) ≡ parent_of x u) (sym e) (parent_of-placed_same n parent nodes ∙ sym above)
+      | inr ne ↦ parent_of-placed_other m n parent nodes ne ∙ f.parent m ∙ sym (others m ne).1
+    ];
+    single = single_placed n parent nodes f.single;
+    length = omega (arith, counts);
+  }
+
   -- a node comes below another one, or as a root
   pub fits_put : (p n : ℕ) (a : A) (nodes : List Kept) (t : Forest A) → FitsTree nodes t → has p t ≡ true → has n t ≡ false → FitsTree (placed n (Some p) nodes) (put p n a Empty t)
   fits_put p n a nodes t f h away =
-      let here : has n (put p n a Empty t) ≡ true = has_at n (put p n a Empty t) a (at_put p n a Empty t f.once h away) in
-      record {
-        once = once_put p n a t f.once h away;
-        there = λ m. elim (cases_eq m n) [
-          | inl e ↦ subst (λ (x : ℕ). is_there x (placed n (Some p) nodes) ≡ has x (put p n a Empty t)) (sym e) (is_there-placed_same n (Some p) nodes ∙ sym here)
-          | inr ne ↦ is_there-placed_other m n (Some p) nodes ne ∙ f.there m ∙ sym (has_put_other m p n a Empty t ne refl)
-        ];
-        parent = λ m. elim (cases_eq m n) [
-          | inl e ↦ subst (λ (x : ℕ). replayed.parent_of x (placed n (Some p) nodes) ≡ parent_of x (put p n a Empty t)) (sym e) (parent_of-placed_same n (Some p) nodes ∙ sym (parent_put p n a Empty t f.once h away))
-          | inr ne ↦ parent_of-placed_other m n (Some p) nodes ne ∙ f.parent m ∙ sym (parent_put_other m p n a Empty t ne refl)
-        ];
-        single = single_placed n (Some p) nodes f.single;
-        length = omega (arith, ap length (without_none n nodes (f.there n ∙ away)), f.length, size_put p n a Empty t f.once h);
-      }
+      fits_placed n (Some p) nodes t (put p n a Empty t) f (once_put p n a t f.once h away) (has_at n (put p n a Empty t) a (at_put p n a Empty t f.once h away)) (parent_put p n a Empty t f.once h away)
+      (λ m ne. (has_put_other m p n a Empty t ne refl, parent_put_other m p n a Empty t ne refl)) (omega (arith, ap length (without_none n nodes (f.there n ∙ away)), f.length, size_put p n a Empty t f.once h))
 
   pub fits_front : (n : ℕ) (a : A) (nodes : List Kept) (t : Forest A) → FitsTree nodes t → has n t ≡ false → FitsTree (placed n None nodes) (Node n a Empty t)
-  fits_front n a nodes t f away = record {
-    once = once_front n a t f.once away;
-    there = λ m. elim (cases_eq m n) [
-      | inl e ↦ subst (λ (x : ℕ). is_there x (placed n None nodes) ≡ has x (Node n a Empty t)) (sym e) (is_there-placed_same n None nodes ∙ sym (ap (λ (b : Bool). b || has n t) (eq-eqb n n refl)))
-      | inr ne ↦ is_there-placed_other m n None nodes ne ∙ f.there m ∙ sym (ap (λ (b : Bool). b || has m t) (ne_eqb n m (λ e. ne (sym e))))
-    ];
-    parent = λ m. elim (cases_eq m n) [
-      | inl e ↦ subst (λ (x : ℕ). replayed.parent_of x (placed n None nodes) ≡ parent_of x t) (sym e) (parent_of-placed_same n None nodes ∙ sym (parent_absent n t away))
-      | inr ne ↦ parent_of-placed_other m n None nodes ne ∙ f.parent m
-    ];
-    single = single_placed n None nodes f.single;
-    length = omega (arith, ap length (without_none n nodes (f.there n ∙ away)), f.length);
-  }
+  fits_front n a nodes t f away =
+      fits_placed n None nodes t (Node n a Empty t) f (once_front n a t f.once away) (ap (λ (b : Bool). b || has n t) (eq-eqb n n refl)) (parent_absent n t away)
+      (λ m ne. (ap (λ (b : Bool). b || has m t) (ne_eqb n m (λ e. ne (sym e))), refl)) (omega (arith, ap length (without_none n nodes (f.there n ∙ away)), f.length))
 
   -- a node moves with all below it
   moved_parent : (m n p : ℕ) (a : A) (t : Forest A) → Once t → Moves n p t → m ≢ n → parent_of m (put p n a (children n t) (removed n t)) ≡ parent_of m t
@@ -149,21 +133,8 @@ module _ {A : Type 0} where
         | inl y ↦ has_some m u (omega (arith, same m, times_some m t y)) ∙ sym y
         | inr z ↦ has_none m u (omega (arith, same m, times_none m t z)) ∙ sym z
       ] in
-      record {
-        once = once_moved n p a t f.once w;
-        there = λ m. elim (cases_eq m n) [
-          | inl e ↦ subst (λ (x : ℕ). is_there x (placed n (Some p) nodes) ≡ has x u) (sym e) (is_there-placed_same n (Some p) nodes ∙ sym (kept n ∙ w.node))
-          | inr ne ↦ is_there-placed_other m n (Some p) nodes ne ∙ f.there m ∙ sym (kept m)
-        ];
-        parent = λ m. elim (cases_eq m n) [
-          | inl e ↦
-              subst (λ (x : ℕ). replayed.parent_of x (placed n (Some p) nodes) ≡ parent_of x u) (sym e)
-              (parent_of-placed_same n (Some p) nodes ∙ sym (parent_put p n a (children n t) (removed n t) (once_left n t f.once) (parent_stays n p t f.once w) (removed_has n t f.once w.node)))
-          | inr ne ↦ parent_of-placed_other m n (Some p) nodes ne ∙ f.parent m ∙ sym (moved_parent m n p a t f.once w ne)
-        ];
-        single = single_placed n (Some p) nodes f.single;
-        length = omega (arith, length_without n nodes f.single (f.there n ∙ w.node), f.length, size_moved n p a t f.once w);
-      }
+      fits_placed n (Some p) nodes t u f (once_moved n p a t f.once w) (kept n ∙ w.node) (parent_put p n a (children n t) (removed n t) (once_left n t f.once) (parent_stays n p t f.once w) (removed_has n t f.once w.node))
+      (λ m ne. (kept m, moved_parent m n p a t f.once w ne)) (omega (arith, length_without n nodes f.single (f.there n ∙ w.node), f.length, size_moved n p a t f.once w))
 
   pub fits_moved : (n p : ℕ) (nodes : List Kept) (t : Forest A) → FitsTree nodes t → Moves n p t → FitsTree (placed n (Some p) nodes) (moved n p t)
   fits_moved n p nodes t f w = let a = at_some n t w.node in rw a.1 (moved_fits n p a.0 nodes t f w)
@@ -216,7 +187,7 @@ no_parent : (n : ℕ) (nodes : List Kept) → is_there n nodes ≡ false → rep
 no_parent n [] h = refl
 no_parent n (first ∷ rest) h =
     let p : ((first.number == n) ≡ false) × (is_there n rest ≡ false) = or_parts (first.number == n) (is_there n rest) h in
-    cond-false (first.number == n) first.parent (replayed.parent_of n rest) p.0 ∙ no_parent n rest p.1
+    rw p.0 (no_parent n rest p.1)
 
 -- what is no number's parent has no child
 childless : (n : ℕ) (nodes : List Kept) → AreSingle nodes → ((m : ℕ) → replayed.parent_of m nodes ≡ Some n → ⊥) → has_child n nodes ≡ false
@@ -235,7 +206,7 @@ childless n (first ∷ rest) single none =
       | inl y ↦
           let none : None ≡ Some n = sym (no_parent m rest (ap (λ (x : ℕ). is_there x rest) (sym (eqb-true first.number m y)) ∙ single.0)) ∙ e in
           absurd (cc none)
-      | inr z ↦ cond-false (first.number == m) first.parent (replayed.parent_of m rest) z ∙ e
+      | inr z ↦ rw z e
     ]
 
 -- a node without children has none in the replay
