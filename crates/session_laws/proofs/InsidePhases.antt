@@ -1,5 +1,5 @@
 -- The end of one level, read by itself: what each event of it may name, and the events of contexts and owners that go.
-use Rattle.session_laws.proofs.Words.{◌≡◌, ℕ, zero, suc, ◌+◌, ◌<◌, Bool, true, false, not, List, [], ◌∷◌, ◌++◌, map, Option, Some, refl, sym, ap, ◌∙◌, subst, inl, inr, arith, append-nil, append_assoc, ◌≢◌, ◌-◌, if◌then◌else◌, None, ◌==◌, ◌&&◌, ◌||◌, filter, option_to_list, ◌⊎◌, nat_lt, option_map_or, list_all, and_from, and_parts, cases_Bool, cases_eq, cond-false, cond-true, eq-eqb, eqb-true, or_cases, or_left, or_right, Forest, Empty, Node, Once, children, has, is_above, removed, size, at, parent_of, subtree, lead, order, order_at, has_children, size_removed, at_absent, children_absent, left_apart, removed_absent}
+use Rattle.session_laws.proofs.Words.{◌≡◌, ℕ, zero, suc, ◌+◌, ◌<◌, Bool, true, false, not, List, [], ◌∷◌, ◌++◌, map, Option, Some, refl, sym, ap, ◌∙◌, subst, inl, inr, arith, append-nil, append_assoc, ◌≢◌, ◌-◌, if◌then◌else◌, None, ◌==◌, ◌&&◌, ◌||◌, filter, option_to_list, ◌⊎◌, nat_lt, option_map_or, list_all, and_from, and_parts, cases_Bool, cases_eq, eq-eqb, eqb-true, or_cases, or_left, or_right, Forest, Empty, Node, Once, children, has, is_above, removed, size, at, parent_of, subtree, lead, order, order_at, has_children, size_removed, at_absent, children_absent, left_apart, removed_absent}
 use Rattle.session_laws.proofs.Scenes.{What, Hook, Contexts, Context, callbacks, gone_events, Item, Phase, BeforeLocks, Locks, AfterLocks, Lock, owner_count, table_of, KindTable, release_order, Owner, OwnerTree, own_released, released, Step, Said, GivesBack, ReleasesLocks, ReleasesAllLocks, lock_step, own_steps, release_steps, releases_of, steps_below, top_locks, StandingPlan, Scene, plan_at, plan_changed, plans_but, Ended, for_each, where_there, Keeper, NoOne, TheDescriptors, TheKind, ThePlans, descriptor_left, given_back, left_to, owner_released, phase_released, plan_becomes, plan_left, plan_settled, plan_stays, step_done}
 use Rattle.session_laws.proofs.Rules.{Reader, allows_all, is_one_of, seen_after, allows_all-append, seen_after-append, at_left, once_left}
 use Rattle.forest.proofs.Walks.{children_in, children_removed, lead_leaf, lead_of_node, once_children, order_lead}
@@ -40,8 +40,8 @@ InEnd entry (level ∷ levels) = (level ≡ entry) × InEnd entry levels
 filter_in : (entry : Begun) (test : Begun → Bool) (ends : List Begun) → InEnd entry ends → InEnd entry (filter test ends)
 filter_in entry test [] h = tt
 filter_in entry test (level ∷ levels) h = elim (cases_Bool (test level)) [
-  | inl y ↦ subst (InEnd entry) (sym (cond-true (test level) (level ∷ filter test levels) (filter test levels) y)) (h.0, filter_in entry test levels h.1)
-  | inr z ↦ subst (InEnd entry) (sym (cond-false (test level) (level ∷ filter test levels) (filter test levels) z)) (filter_in entry test levels h.1)
+  | inl y ↦ rw y (h.0, filter_in entry test levels h.1)
+  | inr z ↦ rw z (filter_in entry test levels h.1)
 ]
 
 no_more_ends : (event : What) (levels ends : List Begun) → is_edge event ≡ false → with_end event levels ends ≡ ends
@@ -54,10 +54,7 @@ next_in entry event leaving h k =
 
 no_more_begun : (event : What) (awaited : Awaited) (levels : List Begun) → is_edge event ≡ false → begun_behind event awaited levels ≡ levels
 no_more_begun (what.BeginLevel level) awaited levels h = absurd (cc h)
-no_more_begun (what.Create context name parent) awaited levels h = absurd (cc h)
-no_more_begun (what.Owner owner) awaited levels h = absurd (cc h)
-no_more_begun (what.OwnerIn owner parent) awaited levels h = absurd (cc h)
-no_more_begun other awaited levels h = refl
+no_more_begun other awaited levels h = cc
 
 no_more_plans : (event : What) (plans : List ℕ) → is_edge event ≡ false → plans_behind event plans ≡ plans
 no_more_plans (what.Create context name parent) plans h = absurd (cc h)
@@ -74,7 +71,7 @@ IsOver entry leaving = (c : ℕ) → entry.context ≡ Some c → is_there c lea
 pub none_left : (entry : Begun) (test : Begun → Bool) (ends : List Begun) → InEnd entry ends → test entry ≡ false → filter test ends ≡ []
 none_left entry test [] h out = refl
 none_left entry test (level ∷ levels) h out =
-    cond-false (test level) (level ∷ filter test levels) (filter test levels) (ap test h.0 ∙ out) ∙ none_left entry test levels h.1 out
+    rw (ap test h.0 ∙ out) (none_left entry test levels h.1 out)
 
 away_placed : (c m : ℕ) (b : Bool) (parent : Option ℕ) (nodes : List Kept) → is_there c (placed_where b m parent nodes) ≡ false → is_there c nodes ≡ false
 away_placed c m false parent nodes h = h
@@ -327,8 +324,8 @@ still_bare k t known o (plan ∷ plans) h = (h.0, bare_removed plan.context k t 
 bare_but : (n : ℕ) (t : Contexts) (known : List ℕ) (plans : List StandingPlan) → AreBare plans t known → AreBare (plans_but n plans) t known
 bare_but n t known [] h = tt
 bare_but n t known (plan ∷ plans) h = elim (cases_Bool (plan.number == n)) [
-  | inl y ↦ subst (λ (l : List StandingPlan). AreBare l t known) (sym (cond-false (not (plan.number == n)) (plan ∷ plans_but n plans) (plans_but n plans) (ap not y))) (bare_but n t known plans h.2)
-  | inr z ↦ subst (λ (l : List StandingPlan). AreBare l t known) (sym (cond-true (not (plan.number == n)) (plan ∷ plans_but n plans) (plans_but n plans) (ap not z))) (h.0, h.1, bare_but n t known plans h.2)
+  | inl y ↦ rw y (bare_but n t known plans h.2)
+  | inr z ↦ rw z (h.0, h.1, bare_but n t known plans h.2)
 ]
 
 bare_changed : (n : ℕ) (q : StandingPlan) (t : Contexts) (known : List ℕ) → is_one_of q.context known ≡ true → IsBare q.context t → (plans : List StandingPlan) → AreBare plans t known → AreBare (plan_changed n (λ old. q) plans) t known
@@ -351,10 +348,10 @@ bare_at : (n : ℕ) (p : StandingPlan) (t : Contexts) (known : List ℕ) (plans 
 bare_at n p t known [] is h = absurd (cc is)
 bare_at n p t known (plan ∷ plans) is h = elim (cases_Bool (plan.number == n)) [
   | inl y ↦
-      let same : Some plan ≡ Some p = sym (cond-true (plan.number == n) (Some plan) (plan_at n plans) y) ∙ is in
+      let same : Some plan ≡ Some p = rw y at is in
       let here : plan ≡ p = cc same in
       subst (λ (q : StandingPlan). Found q t known) here (record { known_is = h.0; bare = h.1 })
-  | inr z ↦ bare_at n p t known plans (sym (cond-false (plan.number == n) (Some plan) (plan_at n plans) z) ∙ is) h.2
+  | inr z ↦ bare_at n p t known plans (rw z at is) h.2
 ]
 
 -- what holds within a release: these owners are seen, each number of a context stands once, and the plans' contexts are bare

@@ -398,8 +398,7 @@ quietly act h = record { so = λ s. works_of (h s) }
 
 word_calm : (event : What) → is_word event ≡ true → is_calm event ≡ true
 word_calm (what.BeginLevel level) h = absurd (cc h)
-word_calm (what.AbortLevel level) h = absurd (cc h)
-word_calm other h = refl
+word_calm other h = cc
 
 contexts : ContextLeaves Lessens
 contexts = unseen_contexts sees_inside is_calm Lessens sight refl refl refl (λ word n. refl) (λ n. refl) (λ n. refl)

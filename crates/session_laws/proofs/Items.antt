@@ -5,8 +5,8 @@ use Rattle.session_laws.proofs.Rules.{allows_all, seen_after, EndLeaves, Keeps, 
 use Rattle.session_laws.proofs.Usual.{Usual, is_usual, level_words, usual_contexts, usual_ends, usual_files, usual_makes, usual_moves, usual_stack, usual_words}
 use Rattle.lifetime_laws.specs.Once.{numbering, acquires, releases}
 use Rattle.session_laws.proofs.Lives.{OwesTurns, Reads, read_both, owes_by, IsLife, life_by}
-use Rattle.session_laws.proofs.ItemsCounted.{Counted, Counts, aside_reads, discarded_reads, forgotten_reads, made_reads, moved_reads, phase_reads, reader, remembered_reads, has_it}
-use Rattle.session_laws.proofs.OwnerEnds.{owes_where, is_still}
+use Rattle.session_laws.proofs.ItemsCounted.{Counted, Counts, aside_reads, discarded_reads, forgotten_reads, made_reads, moved_reads, phase_reads, reader, remembered_reads, has_it, is_still}
+use Rattle.session_laws.proofs.OwnerEnds.{owes_where}
 use Rattle.session_laws.proofs.ParentsLife.{sees_owners}
 use Rattle.pgs_step.specs.declared.events.What.TheVariants as what
 

@@ -1,12 +1,23 @@
 -- How often the owner of a number has an item, behind each change of the owners, and how often a phase of a release says that it releases it.
 use Rattle.session_laws.proofs.Words.{◌≡◌, ℕ, ◌+◌, count_by, find, Bool, true, false, cond, Option, Some, None, List, [], ◌∷◌, ◌++◌, refl, ap, ◌∙◌, inl, inr, arith, ◌-◌, ◌<◌, ◌≤◌, sym, subst, ◌==◌, ◌&&◌, ◌||◌, if◌then◌else◌, nat_le, cases_Bool, or_parts, and_from, cases_eq, false_from_ne_true, le-leb, ne_eqb, sum_by-cons, Empty, Node, Once, either, has, at, changed, children, moved, parent_of, put, removed, AllNodes, times, all_changed, swept, order_at, Apart, Below, Beside, Here, Moves, apart_of, at_absent, at_some, changed_absent, has_at, once_removed, parent_stays, put_absent, removed_absent, where_is, has_changed, has_of_removed, has_some, once_changed, once_front, once_put, times_moved, times_some, option_map_or}
 use Rattle.session_laws.proofs.Scenes.{Item, KindId, Phase, BeforeLocks, Locks, AfterLocks, KindTable, is_of, without_newest, is_of_phase, priority, release_order, Owner, OwnerTree, AllAt, HoldsNothing, created, forgotten, remembered, left_of, own_released, released, Said, Step, lock_step, own_steps, release_steps, releases_of, steps_below, top_locks, GivesBack, ReleasesLocks, PassesLocks, ReleasesAllLocks, made_event, What, table_of, Scene, newest, for_each, owner_made, given_back, owner_gone, owner_moved, phase_released, step_done, remembers}
-use Rattle.session_laws.proofs.Rules.{Reader, allows_all, seen_after, count, allows_all-append, seen_after-append, has_put_other, once_left, has_swept, AreReleaseSteps, IsReleaseStep, is_release, no_step, phase_release, then_step, warned_step, AreSaid, said_all_locks, said_lock_passes, said_lock_releases, said_map, said_more, said_none, said_one}
+use Rattle.session_laws.proofs.Rules.{Reader, allows_all, seen_after, count, allows_all-append, seen_after-append, has_put_other, once_left, has_swept, AreReleaseSteps, IsReleaseStep, is_release, no_step, phase_release, then_step, warned_step, AreSaid, said_all_locks, said_lock_passes, said_lock_releases, said_map, said_more, said_none, said_one, said_weaker}
+use Rattle.session_laws.proofs.Warnings.{is_aside}
 use Rattle.owner_items.proofs.Uses.{count-parts, count-without}
 use Rattle.lifetime_laws.specs.Once.{releases, same_item, acquires}
 use Rattle.session_laws.proofs.Lives.{Reads}
-use Rattle.session_laws.proofs.OwnerEnds.{Quiet, Stays, given_quiet, is_still, steps_stay}
+use Rattle.session_laws.proofs.OwnerEnds.{Quiet, Stays, given_quiet, steps_stay}
 use Rattle.pgs_step.specs.declared.events.What.TheVariants as what
+
+-- an event that acquires no item and releases none
+abbrev pub is_still : What → Bool
+is_still (what.Acquire item owner) = false
+is_still (what.Release item owner) = false
+is_still other = true
+
+aside_still : (event : What) → is_aside event ≡ true → is_still event ≡ true
+aside_still (what.Acquire item owner) h = absurd (cc h)
+aside_still other h = cc
 
 module _ (item : Item) (owner : ℕ) where
   -- whether an item of the owner of this number is the one
@@ -352,7 +363,7 @@ module _ (item : Item) (owner : ℕ) where
       record { allowed = one.allowed; is = one.is ∙ omega (arith, e) }
   step_leads (GivesBack other) h s n k e =
       let q : Quiet s (given_back other s).scene (given_back other s).events = (given_quiet other).so s in
-      let z : Leads n n (given_back other s).events = still_leads q.still n in
+      let z : Leads n n (given_back other s).events = still_leads (said_weaker aside_still q.said) n in
       record { allowed = z.allowed; is = z.is ∙ omega (arith, e) }
   step_leads (ReleasesLocks o) h s n k e = let z = still_leads (said_lock_releases (λ object mode count by. refl) o s.session.locks) n in record { allowed = z.allowed; is = z.is ∙ omega (arith, e) }
   step_leads (PassesLocks from to) h s n k e = let z = still_leads (said_lock_passes (λ object mode count by to. refl) from to s.session.locks) n in record { allowed = z.allowed; is = z.is ∙ omega (arith, e) }

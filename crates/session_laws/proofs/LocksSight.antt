@@ -103,8 +103,7 @@ hidden_locks other h = refl
 
 hidden_recent : (k : Subject) → hides of_files k ≡ true → sees_of k part.of_recent ≡ false
 hidden_recent of_files h = absurd (cc h)
-hidden_recent of_items h = absurd (cc h)
-hidden_recent other h = refl
+hidden_recent other h = cc
 
 hidden_stack : (k : Subject) → hides of_stack k ≡ true → sees_of k part.of_snapshots ≡ false
 hidden_stack of_stack h = absurd (cc h)

@@ -103,8 +103,7 @@ same_seen (event ∷ events) parents = same_seen events (parents_behind event pa
 
 one_placed : (event : What) (parents : Parents) → is_unmade event ≡ true → placing.allows event parents ≡ true
 one_placed (what.Create context name parent) parents h = absurd (cc h)
-one_placed (what.OwnerIn owner parent) parents h = absurd (cc h)
-one_placed other parents h = refl
+one_placed other parents h = cc
 
 none_placed : {events : List What} → AreSaid is_unmade events → (parents : Parents) → allows_all placing parents events ≡ true
 none_placed said_none parents = refl

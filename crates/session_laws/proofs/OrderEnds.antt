@@ -79,14 +79,7 @@ module _ (kinds : KindTable) where
 
   closed_next : (event : What) (member : Option Member) → is_unlined event ≡ true → batch_behind event member None ≡ None
   closed_next (what.CommitLevel level) member h = absurd (cc h)
-  closed_next (what.AbortLevel level) member h = absurd (cc h)
-  closed_next (what.BeginLevel level) member h = refl
-  closed_next (what.CleanupLevel level) member h = refl
-  closed_next (what.OwnerGone owner) member h = refl
-  closed_next what.Ok member h = refl
-  closed_next (what.Error error) member h = refl
-  closed_next what.Exit member h = refl
-  closed_next other member h = refl
+  closed_next other member h = cc
 
   closed_allows : (event : What) (seen : Releasing) → IsClosed seen → (ordering kinds).allows event seen ≡ true
   closed_allows event seen is =

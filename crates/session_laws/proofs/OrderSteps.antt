@@ -1,16 +1,14 @@
 -- The items that a phase releases, in order: by rising priority, and of one priority the newest first.
-use Rattle.session_laws.proofs.Words.{◌≡◌, ℕ, ◌<◌, ◌≤◌, Bool, true, false, cond, nat_le, nat_lt, List, [], ◌∷◌, filter, All, refl, inl, inr, arith, not, ◌++◌, Option, Some, None, sym, subst, ap, ◌∙◌, if◌then◌else◌, map, ◌⊎◌, ◌==◌, ◌&&◌, ◌||◌, unwrap_or, ◌-◌, cases_Bool, and_from, eq-eqb, lt-ltb, not_from_false, or_left, or_right, nat_tests, All-nil, All-cons, All-head, All-tail, All-filter, All-append, All-weaker, option_map, option_map_or, list_all, list_all-from_AllPass, append_assoc, append-nil, subtree, Empty, Node, AllNodes, has}
-use Rattle.session_laws.proofs.Scenes.{Item, AreFalling, with_item, by_rank, is_of_phase, is_phase, priority, release_order, What, Phase, BeforeLocks, Locks, AfterLocks, Mode, KindTable, row_of, table_of, Owner, OwnerTree, Step, Said, GivesBack, ReleasesLocks, PassesLocks, ReleasesAllLocks, own_steps, releases_of, lock_step, steps_below, top_locks, Lock, IsInOrder, comes_before, has_owner, lock_total, owner_count, StandingPlan, Scene, plan_at, Ended, behind, for_each, nothing, where_so, where_there, Keeper, NoOne, ThePlans, TheDescriptors, TheKind, given_back, keeper_of, left_to, plan_becomes, plan_settled, plan_stays, step_done}
-use Rattle.session_laws.proofs.Rules.{allows_all, seen_after, allows_all-append, seen_after-append, AreSaid, said_more, said_none, said_gone, said_one}
+use Rattle.session_laws.proofs.Words.{◌≡◌, ℕ, ◌<◌, ◌≤◌, Bool, true, false, cond, nat_le, nat_lt, List, [], ◌∷◌, filter, All, refl, inl, inr, arith, not, ◌++◌, Option, Some, None, sym, subst, ap, ◌∙◌, if◌then◌else◌, ◌⊎◌, ◌==◌, ◌&&◌, ◌||◌, unwrap_or, cases_Bool, and_from, eq-eqb, lt-ltb, not_from_false, or_left, or_right, nat_tests, All-nil, All-cons, All-head, All-tail, All-filter, All-append, All-weaker, option_map, option_map_or, list_all, list_all-from_AllPass, append_assoc, append-nil, Empty, Node, AllNodes, has}
+use Rattle.session_laws.proofs.Scenes.{Item, AreFalling, with_item, by_rank, is_of_phase, is_phase, priority, release_order, What, Phase, BeforeLocks, Locks, AfterLocks, Mode, KindTable, row_of, Owner, OwnerTree, Step, ReleasesLocks, PassesLocks, ReleasesAllLocks, own_steps, releases_of, lock_step, steps_below, top_locks, Lock, IsInOrder, comes_before, lock_total, owner_count, Scene, Ended, behind, for_each, nothing, given_back, step_done}
+use Rattle.session_laws.proofs.Rules.{allows_all, seen_after, allows_all-append, seen_after-append, AreSaid, said_more, said_none}
+use Rattle.session_laws.proofs.OwnerEnds.{Stays, given_quiet, step_stays, stays, stays_both}
 use Rattle.pgs_step.specs.Mode.{mode_number}
 use Rattle.owner_kinds.specs.declared.kind_row.KindRow.{KindRow}
 use Rattle.lifetime_laws.specs.Once.{same_item}
 use Rattle.lifetime_laws.specs.Order.{AnItem, ALock, Member, Owned, Releasing, goes_before, is_warned, may_precede, member_of, ordering, owner_of, place_of, with_member, place_of_phase}
 use Rattle.lifetime_laws.specs.Parents.{is_above}
 use Rattle.session_laws.proofs.Warnings.{is_aside, same_itself}
-use Rattle.owner_kinds.proofs.Places.{table-closed}
-use Rattle.lock_local.proofs.OrderLemmas.{IsInOrder-filter, IsInOrder-map, KeepsLock}
-use Rattle.file_table.specs.Descriptors.{is_among, without}
 use Rattle.pgs_step.specs.declared.events.What.TheVariants as what
 use Rattle.lifetime_laws.specs.Parents as replayed
 use Rattle.lock_local.specs.Changes as locks
@@ -229,52 +227,6 @@ module _ (kinds : KindTable) (nodes : List replayed.Node) (phase : Phase) (n : �
 
 -- The steps of a release, one owner: its items in the order of the phase, or its locks.
 
--- What the steps of a release leave: the owners, the places of kinds, and the order of locks.
-pub record Stays (s t : Scene) : Type 0 where
-  pub owners : t.session.owners ≡ s.session.owners
-  pub kinds : table_of t.around.kinds ≡ table_of s.around.kinds
-  pub locks : IsInOrder s.session.locks → IsInOrder t.session.locks
-  pub levels : t.session.levels ≡ s.session.levels
-  pub serial : t.session.next_serial ≡ s.session.next_serial
-
-pub stays_same : (s : Scene) → Stays s s
-stays_same s = record { owners = refl; kinds = refl; locks = λ h. h; levels = refl; serial = refl }
-
-pub stays_both : (s t u : Scene) → Stays s t → Stays t u → Stays s u
-stays_both s t u a b = record { owners = b.owners ∙ a.owners; kinds = b.kinds ∙ a.kinds; locks = λ h. b.locks (a.locks h); levels = b.levels ∙ a.levels; serial = b.serial ∙ a.serial }
-
--- what follows the release of an item says nothing of releases
-pub record Beside (s : Scene) (ended : Ended) : Type 0 where
-  pub said : AreSaid is_aside ended.events
-  pub stays : Stays s ended.scene
-
-beside_nothing : (s : Scene) → Beside s (nothing s)
-beside_nothing s = record { said = said_none; stays = stays_same s }
-
-plan_beside : (b : Bool) (plan : StandingPlan) (s : Scene) → Beside s (elim b as (λ _. Ended) [ true ↦ plan_settled plan s | false ↦ plan_stays plan s ])
-plan_beside true plan s = record { said = subst (AreSaid is_aside) (sym (append-nil _)) (said_gone (λ word n. refl) (λ n. refl) (subtree plan.context s.session.contexts)); stays = record { owners = refl; kinds = refl; locks = λ h. h; levels = refl; serial = refl } }
-plan_beside false plan s = record { said = said_none; stays = record { owners = refl; kinds = refl; locks = λ h. h; levels = refl; serial = refl } }
-
-plan_left_beside : (o : Option StandingPlan) (s : Scene) → Beside s (where_there o (λ plan. plan_becomes (record plan { references = plan.references - 1 })) s)
-plan_left_beside None s = beside_nothing s
-plan_left_beside (Some plan) s = plan_beside (plan.discarded && (plan.references - 1 == 0)) (record plan { references = plan.references - 1 }) s
-
-file_beside : (b : Bool) (file : ℕ) (s : Scene) → Beside s (where_so b (λ scene. record {
-  scene = record scene { session = record scene.session { recent = without file scene.session.recent } };
-  events = what.DescriptorClosed file ∷ [];
-}) s)
-file_beside true file s = record { said = said_one (what.DescriptorClosed file) refl; stays = record { owners = refl; kinds = refl; locks = λ h. h; levels = refl; serial = refl } }
-file_beside false file s = beside_nothing s
-
-left_beside : (keeper : Keeper) (key : ℕ) (s : Scene) → Beside s (left_to keeper key s)
-left_beside NoOne key s = beside_nothing s
-left_beside ThePlans key s = plan_left_beside (plan_at key s.session.plans) s
-left_beside TheDescriptors key s = file_beside (is_among key s.session.recent) key s
-left_beside (TheKind place) key s = record { said = said_none; stays = record { owners = refl; kinds = table-closed s.around.kinds place key; locks = λ h. h; levels = refl; serial = refl } }
-
-pub given_beside : (item : Item) (s : Scene) → Beside s (given_back item s)
-given_beside item s = left_beside (keeper_of item.kind) item.key s
-
 module _ (kinds : KindTable) (nodes : List replayed.Node) (aborts : Bool) where
   -- Events that release what passes a test, in order behind what was released so far; and an act that says such events.
   pub record Grows (P : Member → Type 0) (old : List Member) (events : List What) : Type 0 where
@@ -303,10 +255,10 @@ module _ (kinds : KindTable) (nodes : List replayed.Node) (aborts : Bool) where
   grows_one {P = P} m is h = record { new = m ∷ []; adds = h; are = All-cons P m [] is (All-nil P) }
 
   pub releases_none : (P : Member → Type 0) (old : List Member) (s : Scene) → Releases P old s (nothing s)
-  releases_none P old s = record { grows = grows_none P old; stays = stays_same s }
+  releases_none P old s = record { grows = grows_none P old; stays = stays s }
 
   pub releases_both : {P : Member → Type 0} {old : List Member} {s : Scene} {first next : Ended} → (a : Releases P old s first) → Releases P (a.grows.new ++ old) first.scene next → Releases P old s (behind first.events next)
-  releases_both {s = s} {first = first} {next = next} a b = record { grows = grows_both a.grows b.grows; stays = stays_both s first.scene next.scene a.stays b.stays }
+  releases_both {s = s} {first = first} {next = next} a b = record { grows = grows_both a.grows b.grows; stays = stays_both a.stays b.stays }
 
   abbrev pub releases_weaker : {P Q : Member → Type 0} {old : List Member} {s : Scene} {ended : Ended} → ((m : Member) → P m → Q m) → Releases P old s ended → Releases Q old s ended
   releases_weaker f a = record { grows = grows_weaker f a.grows; stays = a.stays }
@@ -348,16 +300,16 @@ module _ (kinds : KindTable) (nodes : List replayed.Node) (phase : Phase) (n : �
       → Adds kinds nodes (not commit) old (item_member kinds phase n item ∷ old) (for_each step_done (releases_of commit n (item ∷ [])) s).events
   one_item true item s old passes may =
       let aside : Adds kinds nodes false (item_member kinds phase n item ∷ old) (item_member kinds phase n item ∷ old) (given_back item s).events =
-      adds_aside kinds nodes false (item_member kinds phase n item ∷ old) (given_beside item s).said in
+      adds_aside kinds nodes false (item_member kinds phase n item ∷ old) ((given_quiet item).so s).said in
       adds_both kinds nodes false (adds_warned kinds nodes phase n old item passes may) (subst (Adds kinds nodes false (item_member kinds phase n item ∷ old) (item_member kinds phase n item ∷ old)) (sym (append-nil _)) aside)
   one_item false item s old passes may =
       let aside : Adds kinds nodes true (item_member kinds phase n item ∷ old) (item_member kinds phase n item ∷ old) (given_back item s).events =
-      adds_aside kinds nodes true (item_member kinds phase n item ∷ old) (given_beside item s).said in
+      adds_aside kinds nodes true (item_member kinds phase n item ∷ old) ((given_quiet item).so s).said in
       adds_both kinds nodes true (adds_release kinds nodes phase n old item passes may) (subst (Adds kinds nodes true (item_member kinds phase n item ∷ old) (item_member kinds phase n item ∷ old)) (sym (append-nil _)) aside)
 
   one_stays : (commit : Bool) (item : Item) (s : Scene) → Stays s (for_each step_done (releases_of commit n (item ∷ [])) s).scene
-  one_stays true item s = (given_beside item s).stays
-  one_stays false item s = (given_beside item s).stays
+  one_stays true item s = ((given_quiet item).so s).stays
+  one_stays false item s = ((given_quiet item).so s).stays
 
 -- one act for each of a list and then of another
 pub each_both : {A : Type 0} (act : A → Scene → Ended) (xs ys : List A) (s : Scene) → for_each act (xs ++ ys) s ≡ behind (for_each act xs s).events (for_each act ys (for_each act xs s).scene)
@@ -455,37 +407,6 @@ pub data AreLockSteps (n : ℕ) : List Step → Type 0 where
   locks_go : AreLockSteps n (ReleasesLocks n ∷ [])
   locks_pass : (to : ℕ) → AreLockSteps n (PassesLocks n to ∷ [])
   all_go : AreLockSteps n (ReleasesAllLocks n ∷ [])
-
-keeps_without : (n : ℕ) → KeepsLock (locks.without n)
-keeps_without n = record { object = λ l. refl; mode = λ l. refl }
-
-passed_object : (b : Bool) (lock new : Lock) → new.object ≡ lock.object → (if b then lock else new).object ≡ lock.object
-passed_object true lock new h = refl
-passed_object false lock new h = h
-
-passed_mode : (b : Bool) (lock new : Lock) → new.mode ≡ lock.mode → (if b then lock else new).mode ≡ lock.mode
-passed_mode true lock new h = refl
-passed_mode false lock new h = h
-
-keeps_passed : (n to : ℕ) → KeepsLock (locks.passed_lock n to)
-keeps_passed n to = record {
-  object = λ l. passed_object (owner_count n l == 0) l _ refl;
-  mode = λ l. passed_mode (owner_count n l == 0) l _ refl;
-}
-
--- whatever the step
-pub step_stays : (x : Step) (s : Scene) → Stays s (step_done x s).scene
-step_stays (Said event) s = stays_same s
-step_stays (GivesBack item) s = (given_beside item s).stays
-step_stays (ReleasesLocks n) s = record {
-  owners = refl;
-  kinds = refl;
-  locks = λ h. IsInOrder-filter has_owner (map (locks.without n) s.session.locks) (IsInOrder-map (locks.without n) (keeps_without n) s.session.locks h);
-  levels = refl;
-  serial = refl;
-}
-step_stays (PassesLocks n to) s = record { owners = refl; kinds = refl; locks = λ h. IsInOrder-map (locks.passed_lock n to) (keeps_passed n to) s.session.locks h; levels = refl; serial = refl }
-step_stays (ReleasesAllLocks n) s = record { owners = refl; kinds = refl; locks = λ h. tt; levels = refl; serial = refl }
 
 module _ (kinds : KindTable) (nodes : List replayed.Node) (commit : Bool) (n : ℕ) (out : is_above n n nodes ≡ false) where
   -- the locks of an owner, in their order

@@ -1,8 +1,12 @@
 -- What follows the release of an item, and the steps of a phase, leave of a session; and that they acquire and release no item besides.
-use Rattle.session_laws.proofs.Words.{◌≡◌, Bool, true, false, List, [], ◌∷◌, refl, ap, ◌∙◌, ℕ, ◌≤◌, length, Option, Some, None, sym, subst, inl, inr, not, arith, ◌==◌, has, AllNodes, Moves, option_and_then}
-use Rattle.session_laws.proofs.Scenes.{What, Item, table_of, OwnerTree, AllAt, HoldsNothing, Step, Said, GivesBack, ReleasesLocks, PassesLocks, ReleasesAllLocks, release_steps, Scene, Moment, for_each, Ended, where_so, where_there, changes, context_gone, in_order, portal_gone, switched, given_back, step_done, owner_moved, owner_gone, owner_released, phase_released, LevelState, OpenPortal, first_of, owner_of, abort_context, deepest_changed, depth, level_owner, top_context, has_failed, portal_aborted, portal_failed, portal_passed, portal_withdrawn, executor_ended, is_ready, portal_closed, portal_ended, portal_owner_ended, IsAttached, IsOwner, IsPortal, HasItems, IsLive, IsWorking, Stands, active_depth, Error, KindId, Phase, BeforeLocks, Locks, AfterLocks, KindTable, IsSound as IsSoundTable, released, Element, OfLevel, OfPortal, OwnerRole, Text, kind_named, owner_in, portal_named, aborted, cleaned_up, committed, empty_context_gone, level_context_gone, level_owner_gone, level_popped, level_released, level_rolled_back, stack_lowered, stack_popped, subcommitted, switched_up, at_kind, at_owner, item_taken, does}
-use Rattle.session_laws.proofs.Rules.{Acts, Keeps, Law, AllKeep, Leaves, LevelLeaves, MakeLeaves, OwesEnds as OwesEndings, OwesMoves, last, next, AreSaid, said_both, said_none, Part, Sight, acts_of, children_go, gives_back, goes, of_kinds, of_levels, of_next_owner, of_next_serial, of_owners, unseen_files, by_either, by_each, by_order, fallible_at, levels_owed, makes_owed, portal_fails, portal_lowers, portal_returns, context_goes, empty_context_goes, executor_ends, level_context_goes, level_marks, level_pops, level_releases, owner_releases, portal_cleans, portal_closes, switches_up, begins, is_settled, off_begins, owner_when_active, resettled, settled, switched_off, aborted_leads, all_aborted, has_swept, Meets}
+use Rattle.session_laws.proofs.Words.{◌≡◌, Bool, true, false, List, [], ◌∷◌, refl, ap, ◌∙◌, ℕ, ◌≤◌, length, Option, Some, None, sym, subst, inl, inr, not, arith, ◌==◌, has, AllNodes, Moves, option_and_then, map}
+use Rattle.session_laws.proofs.Scenes.{What, Item, table_of, OwnerTree, AllAt, HoldsNothing, Step, Said, GivesBack, ReleasesLocks, PassesLocks, ReleasesAllLocks, release_steps, Scene, Moment, for_each, Ended, where_so, where_there, changes, context_gone, in_order, portal_gone, switched, given_back, step_done, owner_moved, owner_gone, owner_released, phase_released, LevelState, OpenPortal, first_of, owner_of, abort_context, deepest_changed, depth, level_owner, top_context, has_failed, portal_aborted, portal_failed, portal_passed, portal_withdrawn, executor_ended, is_ready, portal_closed, portal_ended, portal_owner_ended, IsAttached, IsOwner, IsPortal, HasItems, IsLive, IsWorking, Stands, active_depth, Error, KindId, Phase, BeforeLocks, Locks, AfterLocks, KindTable, IsSound as IsSoundTable, released, Element, OfLevel, OfPortal, OwnerRole, Text, kind_named, owner_in, portal_named, aborted, cleaned_up, committed, empty_context_gone, level_context_gone, level_owner_gone, level_popped, level_released, level_rolled_back, stack_lowered, stack_popped, subcommitted, switched_up, at_kind, at_owner, item_taken, does, IsInOrder, has_owner, descriptor_left}
+use Rattle.session_laws.proofs.Rules.{Acts, Keeps, Law, AllKeep, Leaves, LevelLeaves, MakeLeaves, OwesEnds as OwesEndings, OwesMoves, last, next, AreSaid, said_both, said_none, Part, Sight, acts_of, children_go, gives_back, goes, of_kinds, of_levels, of_next_owner, of_next_serial, of_owners, by_either, by_each, by_order, fallible_at, levels_owed, makes_owed, portal_fails, portal_lowers, portal_returns, context_goes, empty_context_goes, executor_ends, level_context_goes, level_marks, level_pops, level_releases, owner_releases, portal_cleans, portal_closes, switches_up, begins, is_settled, off_begins, owner_when_active, resettled, settled, switched_off, aborted_leads, all_aborted, has_swept, Meets, said_one, of_locks, by_so}
+use Rattle.session_laws.proofs.Warnings.{is_aside}
 use Rattle.owner_kinds.proofs.Places.{table-closed}
+use Rattle.file_table.specs.Descriptors.{is_among}
+use Rattle.lock_local.proofs.ChangeLemmas.{keeps-passed, keeps-without}
+use Rattle.lock_local.proofs.OrderLemmas.{IsInOrder-filter, IsInOrder-map}
 use Rattle.session_rules.specs.Ending.{Ending, gone_levels}
 use Rattle.session_rules.proofs.Ending.{Leads, with_parts}
 use Rattle.session_rules.proofs.Passing.{above_owner, above_there, all_passed, passed_leads}
@@ -15,27 +19,23 @@ use Rattle.session_rules.proofs.Releasing.{HasSwept, released_swept}
 use Rattle.session_laws.proofs.Lives.{OwesEnds, OwesTurns}
 use Rattle.pgs_step.specs.declared.events.What.TheVariants as what
 use Rattle.session_rules.specs.Elements as e
+use Rattle.lock_local.specs.Changes as locks
 
--- an event that acquires no item and releases none
-abbrev pub is_still : What → Bool
-is_still (what.Acquire item owner) = false
-is_still (what.Release item owner) = false
-is_still other = true
-
--- The owners are these then, and levels, numbers and what never changes of kinds are as they were.
+-- The owners are these then, levels, numbers and what never changes of kinds are as they were, and locks stand in order where they did.
 pub record StaysBut (now : OwnerTree) (s t : Scene) : Type 0 where
   pub owners : t.session.owners ≡ now
   pub next_owner : t.session.next_owner ≡ s.session.next_owner
   pub next_serial : t.session.next_serial ≡ s.session.next_serial
   pub levels : t.session.levels ≡ s.session.levels
   pub kinds : table_of t.around.kinds ≡ table_of s.around.kinds
+  pub locks : IsInOrder s.session.locks → IsInOrder t.session.locks
 
 -- the owners are as they were, too
 abbrev pub Stays : Scene → Scene → Type 0
 Stays s t = StaysBut s.session.owners s t
 
 pub stays : (s : Scene) → Stays s s
-stays s = record { owners = refl; next_owner = refl; next_serial = refl; levels = refl; kinds = refl }
+stays s = record { owners = refl; next_owner = refl; next_serial = refl; levels = refl; kinds = refl; locks = λ h. h }
 
 pub stays_both : {s t u : Scene} → Stays s t → Stays t u → Stays s u
 stays_both a b = record {
@@ -44,12 +44,13 @@ stays_both a b = record {
   next_serial = b.next_serial ∙ a.next_serial;
   levels = b.levels ∙ a.levels;
   kinds = b.kinds ∙ a.kinds;
+  locks = λ h. b.locks (a.locks h);
 }
 
--- besides, nothing is said of items
+-- besides, nothing is said but what stands beside a release
 pub record Quiet (s t : Scene) (events : List What) : Type 0 where
   pub stays : Stays s t
-  pub still : AreSaid is_still events
+  pub said : AreSaid is_aside events
 
 abbrev sees_rest : Part → Bool
 sees_rest of_owners = true
@@ -57,11 +58,12 @@ sees_rest of_next_owner = true
 sees_rest of_next_serial = true
 sees_rest of_levels = true
 sees_rest of_kinds = true
+sees_rest of_locks = true
 sees_rest other = false
 
-sight : Sight sees_rest is_still Quiet
+sight : Sight sees_rest is_aside Quiet
 sight = record {
-  both = λ h k. record { stays = stays_both h.stays k.stays; still = said_both h.still k.still };
+  both = λ h k. record { stays = stays_both h.stays k.stays; said = said_both h.said k.said };
   aside = λ s t same said. record {
     stays = record {
       owners = same.so of_owners refl;
@@ -69,27 +71,38 @@ sight = record {
       next_serial = same.so of_next_serial refl;
       levels = same.so of_levels refl;
       kinds = ap table_of (same.so of_kinds refl);
+      locks = λ h. subst IsInOrder (sym (same.so of_locks refl)) h;
     };
-    still = said;
+    said = said;
   };
 }
 
 -- acts that change contexts, portals and plans alone
 pub quiet_acts : Acts Quiet
-quiet_acts = acts_of sees_rest is_still Quiet sight refl refl (goes sees_rest is_still Quiet sight refl refl refl (λ word n. refl) (λ n. refl)) (children_go sees_rest is_still Quiet sight refl refl refl (λ word n. refl) (λ n. refl))
+quiet_acts = acts_of sees_rest is_aside Quiet sight refl refl (goes sees_rest is_aside Quiet sight refl refl refl (λ word n. refl) (λ n. refl)) (children_go sees_rest is_aside Quiet sight refl refl refl (λ word n. refl) (λ n. refl))
+
+closed_quiet : (file : ℕ) (s : Scene) → Quiet s (descriptor_left file s).scene (descriptor_left file s).events
+closed_quiet file s = (by_so Quiet quiet_acts (is_among file s.session.recent) _ (record { so = λ z. record { stays = record { owners = refl; next_owner = refl; next_serial = refl; levels = refl; kinds = refl; locks = λ h. h }; said = said_one (what.DescriptorClosed file) refl } })).so s
 
 pub given_quiet : (item : Item) → Keeps Quiet (given_back item)
 given_quiet item =
-    gives_back sees_rest is_still Quiet sight refl refl quiet_acts.gone quiet_acts.children (unseen_files sees_rest is_still Quiet sight refl (λ file. refl) (λ file. refl)).closed
-    (λ place key. record { so = λ s. record { stays = record { owners = refl; next_owner = refl; next_serial = refl; levels = refl; kinds = table-closed s.around.kinds place key }; still = said_none } }) item
+    gives_back sees_rest is_aside Quiet sight refl refl quiet_acts.gone quiet_acts.children (λ file. record { so = closed_quiet file })
+    (λ place key. record { so = λ s. record { stays = record { owners = refl; next_owner = refl; next_serial = refl; levels = refl; kinds = table-closed s.around.kinds place key; locks = λ h. h }; said = said_none } }) item
 
 -- steps of a release leave owners to the phase
-step_stays : (step : Step) (s : Scene) → Stays s (step_done step s).scene
+pub step_stays : (step : Step) (s : Scene) → Stays s (step_done step s).scene
 step_stays (Said event) s = stays s
 step_stays (GivesBack item) s = ((given_quiet item).so s).stays
-step_stays (ReleasesLocks owner) s = record { owners = refl; next_owner = refl; next_serial = refl; levels = refl; kinds = refl }
-step_stays (PassesLocks from to) s = record { owners = refl; next_owner = refl; next_serial = refl; levels = refl; kinds = refl }
-step_stays (ReleasesAllLocks top) s = record { owners = refl; next_owner = refl; next_serial = refl; levels = refl; kinds = refl }
+step_stays (ReleasesLocks owner) s = record {
+  owners = refl;
+  next_owner = refl;
+  next_serial = refl;
+  levels = refl;
+  kinds = refl;
+  locks = λ h. IsInOrder-filter has_owner (map (locks.without owner) s.session.locks) (IsInOrder-map (locks.without owner) (keeps-without owner) s.session.locks h);
+}
+step_stays (PassesLocks from to) s = record { owners = refl; next_owner = refl; next_serial = refl; levels = refl; kinds = refl; locks = IsInOrder-map (locks.passed_lock from to) (keeps-passed from to) s.session.locks }
+step_stays (ReleasesAllLocks top) s = record { owners = refl; next_owner = refl; next_serial = refl; levels = refl; kinds = refl; locks = λ h. tt }
 
 pub steps_stay : (steps : List Step) (s : Scene) → Stays s (for_each step_done steps s).scene
 steps_stay [] s = stays s
@@ -176,7 +189,7 @@ phase_stays commit top n phase s =
     let table : KindTable = table_of s.around.kinds in
     let steps : List Step = release_steps table phase commit top n s.session.owners in
     let stay : Stays s (for_each step_done steps s).scene = steps_stay steps s in
-    record { owners = ap (released table phase n) stay.owners; next_owner = stay.next_owner; next_serial = stay.next_serial; levels = stay.levels; kinds = stay.kinds }
+    record { owners = ap (released table phase n) stay.owners; next_owner = stay.next_owner; next_serial = stay.next_serial; levels = stay.levels; kinds = stay.kinds; locks = stay.locks }
 
 -- what a release leaves: the owner and all below it went through the three phases
 record HasReleased (p : ℕ) (s t : Scene) : Type 0 where

@@ -138,9 +138,7 @@ made_so parent name protected kind s =
 
 not_of_contexts : (event : What) → is_apart event ≡ true → is_not_of_contexts event ≡ true
 not_of_contexts (what.Create context name parent) h = absurd (cc h)
-not_of_contexts (what.Delete context) h = absurd (cc h)
-not_of_contexts (what.Move context parent) h = absurd (cc h)
-not_of_contexts other h = refl
+not_of_contexts other h = cc
 
 same_contexts : (s t : Scene) {events : List What} → t.session.contexts ≡ s.session.contexts → t.session.next_context ≡ s.session.next_context → AreSaid is_not_of_contexts events → KeepsContexts s t events
 same_contexts s t contexts next h = contexts_past s t (subst (AreAlike s.session.contexts) (sym contexts) (alike_same s.session.contexts)) next (takes_quiet growing_contexts passed_context h)
@@ -364,17 +362,11 @@ owner_keys = unseen_keys sees_owners is_not_of_owners KeepsOwners owners_sight r
 
 word_past : (event : What) → is_word event ≡ true → is_not_of_owners event ≡ true
 word_past (what.Owner owner) h = absurd (cc h)
-word_past (what.OwnerIn owner parent) h = absurd (cc h)
-word_past (what.MoveOwner owner parent) h = absurd (cc h)
-word_past (what.OwnerGone owner) h = absurd (cc h)
-word_past other h = refl
+word_past other h = cc
 
 level_past : (event : What) → is_level_word event ≡ true → is_not_of_owners event ≡ true
 level_past (what.Owner owner) h = absurd (cc h)
-level_past (what.OwnerIn owner parent) h = absurd (cc h)
-level_past (what.MoveOwner owner parent) h = absurd (cc h)
-level_past (what.OwnerGone owner) h = absurd (cc h)
-level_past other h = refl
+level_past other h = cc
 
 -- owners whose data alone change
 data_so : (s : Scene) (t : OwnerTree) {events : List What} → AreAlike s.session.owners t → AreSaid is_not_of_owners events → KeepsOwners s (record s { session = record s.session { owners = t } }) events

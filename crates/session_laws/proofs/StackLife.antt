@@ -167,8 +167,7 @@ ReadsStack = Reads stacking StackFits
 
 stacking_next : (event : What) → hides (subject event) of_stack ≡ true → (stack : List ℕ) → stacking.next event stack ≡ stack
 stacking_next (what.Push snapshot) h stack = absurd (cc h)
-stacking_next (what.Pop snapshot) h stack = absurd (cc h)
-stacking_next other h stack = refl
+stacking_next other h stack = cc
 
 stacking_allows : (event : What) → hides (subject event) of_stack ≡ true → (stack : List ℕ) → stacking.allows event stack ≡ true
 stacking_allows (what.Pop snapshot) h stack = absurd (cc h)
