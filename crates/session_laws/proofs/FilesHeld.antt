@@ -1,7 +1,9 @@
 -- What becomes of owners makes them hold no more, and leaves each number once.
-use Rattle.session_laws.proofs.Words.{◌≡◌, ℕ, ◌≤◌, true, Some, List, [], ◌∷◌, refl, ap, inl, inr, arith, ◌+◌, ◌-◌, Bool, false, cond, nat_eq, if◌then◌else◌, ◌++◌, Option, None, sym, subst, ◌∙◌, zero, suc, find, take, ◌==◌, ◌&&◌, nat_le, nat_lt, list_any, cases_Bool, and_from, eqb-true, le-leb, Empty, Node, Once, at, children, has, moved, put, removed, times as node_times, parent_of, subtree, size, all_changed, swept, order_at, at_absent, at_some, once_removed, put_absent, removed_absent, times_put, times_removed, changed_absent, once_changed, option_map_or}
-use Rattle.session_laws.proofs.Scenes.{Item, KindId, is_of, uses, without_newest, Owner, OwnerTree, held, created, forgotten, remembered, What, Phase, BeforeLocks, Locks, AfterLocks, KindTable, release_order, Step, Said, GivesBack, ReleasesLocks, PassesLocks, ReleasesAllLocks, lock_step, own_steps, release_of, release_steps, releases_of, steps_below, top_locks, StandingPlan, file_kind, level_above, level_owner, owner_of, opening, Scene, Around, Moment, plan_at, newest, Ended, for_each, where_so, where_there, changes, in_order, say, NoOne, TheDescriptors, TheKind, ThePlans, given_back, left_to, plan_becomes, plan_settled, plan_stays, step_done, item_released, keeper_of, owner_gone, owner_moved, phase_released, table_of, own_released, released, OfLevel, OfPortal, OwnerRole, Element, new_owner_made, owner_made, limit, descriptor_given, files, item_taken, remembers, taken_by, snapshot_pushed, Error, Command, failure, unless, refused_call, unless_refused, does, exited, Stands, StandsBetweenLines, line_elements, turn}
+use Rattle.session_laws.proofs.Words.{◌≡◌, ℕ, ◌≤◌, true, Some, List, [], ◌∷◌, refl, ap, inl, inr, arith, ◌+◌, ◌-◌, Bool, false, cond, nat_eq, if◌then◌else◌, ◌++◌, Option, None, sym, subst, ◌∙◌, zero, suc, find, take, ◌==◌, ◌&&◌, nat_le, nat_lt, list_any, cases_Bool, and_from, eqb-true, le-leb, Empty, Node, Once, at, children, has, moved, put, removed, times as node_times, subtree, size, order_at, at_absent, at_some, once_removed, put_absent, removed_absent, times_put, times_removed, changed_absent, once_changed, option_map_or}
+use Rattle.session_laws.proofs.Scenes.{Item, KindId, is_of, uses, without_newest, Owner, OwnerTree, held, created, forgotten, remembered, What, Phase, KindTable, Step, GivesBack, ReleasesLocks, PassesLocks, ReleasesAllLocks, release_steps, StandingPlan, file_kind, level_above, level_owner, owner_of, opening, Scene, Around, Moment, plan_at, newest, Ended, for_each, where_so, where_there, changes, in_order, say, NoOne, TheDescriptors, TheKind, ThePlans, given_back, left_to, plan_becomes, plan_settled, plan_stays, step_done, item_released, keeper_of, owner_gone, owner_moved, phase_released, table_of, own_released, released, OfLevel, OfPortal, OwnerRole, Element, new_owner_made, owner_made, limit, descriptor_given, files, item_taken, remembers, taken_by, snapshot_pushed, Error, Command, failure, unless, refused_call, unless_refused, does, exited, Stands, StandsBetweenLines, line_elements, turn}
 use Rattle.session_laws.proofs.Rules.{Reader, allows_all, seen_after, count, allows_all-append, seen_after-append, Law, Follows, IsRun, Meets, line_runs, fallible_at, fallible_so, said_none, said_more, said_map, said_gone, said_lock_releases, said_lock_passes, said_all_locks, of_recent, of_owners}
+use Rattle.session_laws.proofs.Parents.{alike_swept, once_alike}
+use Rattle.session_laws.proofs.StepsOf.{AreOf, gives_up, no_step, numbers_of, passes, steps_of, unlocks, unlocks_all, warns}
 use Rattle.std.proofs.lemmas.Grind.{common_steps}
 use Rattle.owner_core.specs.Sound.{total}
 use Rattle.owner_core.proofs.Sounds.{total_put, total_removed, once_of, sound_created}
@@ -80,21 +82,6 @@ once_less_moved n p t once = elim (cases_Bool (has n t)) [
   | inl y ↦ let a = at_some n t y in rw a.1 (once_put_back n p a.0 t once y)
   | inr z ↦ rw (at_absent n t z) once
 ]
-
-times_all : (m : ℕ) (f : Owner → Owner) (t : OwnerTree) → node_times m (all_changed f t) ≡ node_times m t
-times_all m f Empty = refl
-times_all m f (Node k a below beside) = rw (times_all m f below, times_all m f beside) refl
-
-times_swept : (m : ℕ) (f : Owner → Owner) (n : ℕ) (t : OwnerTree) → node_times m (swept f n t) ≡ node_times m t
-times_swept m f n Empty = refl
-times_swept m f n (Node k a below beside) =
-    elim (cases_Bool (k == n)) [
-      | inl y ↦ rw (y, times_all m f below, times_swept m f n beside) refl
-      | inr y ↦ rw (y, times_swept m f n below, times_swept m f n beside) refl
-    ]
-
-pub once_swept : (f : Owner → Owner) (n : ℕ) (t : OwnerTree) → Once t → Once (swept f n t)
-once_swept f n t once = once_by t (swept f n t) (λ m. omega (arith, times_swept m f n t)) once
 
 -- A file has a descriptor only while an item of it is held: what a reader has seen of such items covers the file's descriptor.
 
@@ -237,87 +224,30 @@ module _ (f : ℕ) where
       go false false true p q = falls_still K m s still_none few (other q) more
       go false false false p q = falls_still K m _ still_none few (other q) more
 
-  -- the steps of a phase: each release of an item stands before what gives it back
-  pub data Units : List Step → Type 0 where
-    no_unit : Units []
-    unit_said : {event : What} {steps : List Step} → AreStill (event ∷ []) → Units steps → Units (Said event ∷ steps)
-    unit_let_go : {owner : ℕ} {steps : List Step} → Units steps → Units (ReleasesLocks owner ∷ steps)
-    unit_passed : {from to : ℕ} {steps : List Step} → Units steps → Units (PassesLocks from to ∷ steps)
-    unit_all : {top : ℕ} {steps : List Step} → Units steps → Units (ReleasesAllLocks top ∷ steps)
-    unit_item : {item : Item} {n : ℕ} {steps : List Step} → Units steps → Units (Said (what.Release item n) ∷ GivesBack item ∷ steps)
-
-  both_units : {xs ys : List Step} → Units xs → Units ys → Units (xs ++ ys)
-  both_units no_unit k = k
-  both_units (unit_said e h) k = unit_said e (both_units h k)
-  both_units (unit_let_go h) k = unit_let_go (both_units h k)
-  both_units (unit_passed h) k = unit_passed (both_units h k)
-  both_units (unit_all h) k = unit_all (both_units h k)
-  both_units (unit_item h) k = unit_item (both_units h k)
-
-  release_units : (commit : Bool) (n : ℕ) (item : Item) → Units (release_of commit n item)
-  release_units true n item = unit_said (still_one (what.NotClosed item n) refl refl) (unit_item no_unit)
-  release_units false n item = unit_item no_unit
-
-  releases_units : (commit : Bool) (n : ℕ) (items : List Item) → Units (releases_of commit n items)
-  releases_units commit n [] = no_unit
-  releases_units commit n (item ∷ items) = both_units (release_units commit n item) (releases_units commit n items)
-
-  own_units : (kinds : KindTable) (phase : Phase) (commit : Bool) (n : ℕ) (owner : Owner) (locks : List Step) → Units locks → Units (own_steps kinds phase commit n owner locks)
-  own_units kinds Locks commit n owner locks h = h
-  own_units kinds BeforeLocks commit n owner locks h = releases_units commit n (release_order kinds BeforeLocks owner.items)
-  own_units kinds AfterLocks commit n owner locks h = releases_units commit n (release_order kinds AfterLocks owner.items)
-
-  lock_units : (commit : Bool) (n parent : ℕ) → Units (lock_step commit n parent ∷ [])
-  lock_units true n parent = unit_passed no_unit
-  lock_units false n parent = unit_let_go no_unit
-
-  locks_units : (commit top : Bool) (n parent : ℕ) → Units (if top then [] else lock_step commit n parent ∷ [])
-  locks_units commit true n parent = no_unit
-  locks_units commit false n parent = lock_units commit n parent
-
-  below_units : (kinds : KindTable) (phase : Phase) (commit top : Bool) (parent : ℕ) (owners : OwnerTree) → Units (steps_below kinds phase commit top parent owners)
-  below_units kinds phase commit top parent Empty = no_unit
-  below_units kinds phase commit top parent (Node n owner below beside) =
-      both_units (below_units kinds phase commit top n below)
-      (both_units (own_units kinds phase commit n owner _ (locks_units commit top n parent)) (below_units kinds phase commit top parent beside))
-
-  top_units : (top commit : Bool) (n : ℕ) (parent : Option ℕ) → Units (top_locks top commit n parent)
-  top_units true commit n parent = unit_all no_unit
-  top_units false commit n None = no_unit
-  top_units false commit n (Some parent) = lock_units commit n parent
-
-  at_units : (kinds : KindTable) (phase : Phase) (commit top : Bool) (n : ℕ) (below : OwnerTree) (parent : Option ℕ) (owner : Option Owner)
-      → Units (option_map_or (λ o. steps_below kinds phase commit top n below ++ own_steps kinds phase commit n o (top_locks top commit n parent)) owner [])
-  at_units kinds phase commit top n below parent None = no_unit
-  at_units kinds phase commit top n below parent (Some owner) = both_units (below_units kinds phase commit top n below) (own_units kinds phase commit n owner _ (top_units top commit n parent))
-
-  pub phase_units : (kinds : KindTable) (phase : Phase) (commit top : Bool) (n : ℕ) (owners : OwnerTree) → Units (release_steps kinds phase commit top n owners)
-  phase_units kinds phase commit top n owners = at_units kinds phase commit top n (children n owners) (parent_of n owners) (at n owners)
-
   -- a release, and then what gives the item back
   pub release_falls : {K m : ℕ} {t : Scene} {events : List What} (item : Item) (n : ℕ) → of_file item ≤ m → Falls K (m + 0 - of_file item) t events → Falls K m t (what.Release item n ∷ events)
   release_falls {m = m} item n h k = record { allowed = and_from (nat_le (of_file item) m) _ (le-leb (of_file item) m h) k.allowed; few = k.few; covered = k.covered; left = k.left }
 
   -- What the steps of a phase give back is taken off.
-  pub units_fall : {steps : List Step} → Units steps → (s : Scene) (K m : ℕ) → times f s.session.recent ≤ 1 → times f s.session.recent ≤ m → gives file_kind f steps + K ≤ m
+  pub units_fall : {commit : Bool} {steps : List Step} → AreOf (λ n. Unit {0}) commit steps → (s : Scene) (K m : ℕ) → times f s.session.recent ≤ 1 → times f s.session.recent ≤ m → gives file_kind f steps + K ≤ m
       → Falls K m (for_each step_done steps s).scene (for_each step_done steps s).events
-  units_fall no_unit s K m few covered more = falls_still K m s still_none few covered (omega (arith, more))
-  units_fall (unit_said {event = event} {steps = steps} e h) s K m few covered more =
-      let first : Falls (gives file_kind f steps + K) m s (event ∷ []) = falls_still (gives file_kind f steps + K) m s e few covered (omega (arith, more)) in
-      falls_both first (units_fall h s K (seen_after item_reader m (event ∷ [])) first.few first.covered first.left)
-  units_fall (unit_let_go {owner = owner} {steps = steps} h) s K m few covered more =
+  units_fall no_step s K m few covered more = falls_still K m s still_none few covered (omega (arith, more))
+  units_fall (warns {item = item} {n = n} {rest = steps} e h) s K m few covered more =
+      let first : Falls (gives file_kind f steps + K) m s (what.NotClosed item n ∷ []) = falls_still (gives file_kind f steps + K) m s (still_one (what.NotClosed item n) refl refl) few covered (omega (arith, more)) in
+      falls_both first (units_fall h s K (seen_after item_reader m (what.NotClosed item n ∷ [])) first.few first.covered first.left)
+  units_fall (unlocks {n = owner} {rest = steps} p h) s K m few covered more =
       let first : Falls (gives file_kind f steps + K) m (step_done (ReleasesLocks owner) s).scene (step_done (ReleasesLocks owner) s).events =
       falls_still (gives file_kind f steps + K) m (step_done (ReleasesLocks owner) s).scene (plain_still (said_lock_releases (λ object mode count owner. refl) owner s.session.locks)) few covered (omega (arith, more)) in
       falls_both first (units_fall h (step_done (ReleasesLocks owner) s).scene K _ first.few first.covered first.left)
-  units_fall (unit_passed {from = from} {to = to} {steps = steps} h) s K m few covered more =
+  units_fall (passes {n = from} {to = to} {rest = steps} e h) s K m few covered more =
       let first : Falls (gives file_kind f steps + K) m (step_done (PassesLocks from to) s).scene (step_done (PassesLocks from to) s).events =
       falls_still (gives file_kind f steps + K) m (step_done (PassesLocks from to) s).scene (plain_still (said_lock_passes (λ object mode count from to. refl) from to s.session.locks)) few covered (omega (arith, more)) in
       falls_both first (units_fall h (step_done (PassesLocks from to) s).scene K _ first.few first.covered first.left)
-  units_fall (unit_all {top = top} {steps = steps} h) s K m few covered more =
+  units_fall (unlocks_all {n = top} {rest = steps} p h) s K m few covered more =
       let first : Falls (gives file_kind f steps + K) m (step_done (ReleasesAllLocks top) s).scene (step_done (ReleasesAllLocks top) s).events =
       falls_still (gives file_kind f steps + K) m (step_done (ReleasesAllLocks top) s).scene (plain_still (said_all_locks (λ object mode count owner. refl) top s.session.locks)) few covered (omega (arith, more)) in
       falls_both first (units_fall h (step_done (ReleasesAllLocks top) s).scene K _ first.few first.covered first.left)
-  units_fall (unit_item {item = item} {n = n} {steps = steps} h) s K m few covered more =
+  units_fall (gives_up {item = item} {n = n} {rest = steps} p h) s K m few covered more =
       let r : ℕ = of_file item in
       let first : Falls (gives file_kind f steps + K) (m + 0 - r) (given_back item s).scene (given_back item s).events = given_falls item (gives file_kind f steps + K) (m + 0 - r) s few (omega (arith, covered, more)) (omega (arith, more)) in
       release_falls item n (omega (arith, more)) (falls_both first (units_fall h (given_back item s).scene K _ first.few first.covered first.left))
@@ -400,11 +330,11 @@ module _ (f : ℕ) where
         let steps : List Step = release_steps table phase commit top n x in
         let K : ℕ = held file_kind f (released table phase n x) in
         let all : Falls f K m (for_each step_done steps s).scene (for_each step_done steps s).events =
-        units_fall f (phase_units f table phase commit top n x) s K m h.few h.covered (omega (arith, gives_phase file_kind f table phase commit top n x h.once, h.covers)) in
+        units_fall f (steps_of (λ k. Unit {0}) table phase commit top n x tt (numbers_of (λ k. Unit {0}) (children n x) (λ k u. tt))) s K m h.few h.covered (omega (arith, gives_phase file_kind f table phase commit top n x h.once, h.covers)) in
         let same : (for_each step_done steps s).scene.session.owners ≡ x = (steps_stay steps s).owners in
         fallen (falls_both f all (falls_still f K _ (phase_released commit top n phase s).scene still_none all.few all.covered all.left))
         (subst (λ (z : OwnerTree). held file_kind f (released table phase n z) ≤ K) (sym same) (omega arith))
-        (subst (λ (z : OwnerTree). Once (released table phase n z)) (sym same) (once_swept (own_released table phase) n x h.once));
+        (subst (λ (z : OwnerTree). Once (released table phase n z)) (sym same) (once_alike x _ (alike_swept (own_released table phase) n x) h.once));
   }
 
   gone_so : (n : ℕ) (s : Scene) → ReadsItems s (owner_gone n s).scene (owner_gone n s).events

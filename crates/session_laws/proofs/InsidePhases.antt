@@ -1,7 +1,8 @@
 -- The end of one level, read by itself: what each event of it may name, and the events of contexts and owners that go.
-use Rattle.session_laws.proofs.Words.{◌≡◌, ℕ, zero, suc, ◌+◌, ◌<◌, Bool, true, false, not, List, [], ◌∷◌, ◌++◌, map, Option, Some, refl, sym, ap, ◌∙◌, subst, inl, inr, arith, append-nil, append_assoc, ◌≢◌, ◌-◌, if◌then◌else◌, None, ◌==◌, ◌&&◌, ◌||◌, filter, option_to_list, ◌⊎◌, nat_lt, option_map_or, list_all, and_from, and_parts, cases_Bool, cases_eq, eq-eqb, eqb-true, or_cases, or_left, or_right, Forest, Empty, Node, Once, children, has, is_above, removed, size, at, parent_of, subtree, lead, order, order_at, has_children, size_removed, at_absent, children_absent, left_apart, removed_absent}
-use Rattle.session_laws.proofs.Scenes.{What, Hook, Contexts, Context, callbacks, gone_events, Item, Phase, BeforeLocks, Locks, AfterLocks, Lock, owner_count, table_of, KindTable, release_order, Owner, OwnerTree, own_released, released, Step, Said, GivesBack, ReleasesLocks, ReleasesAllLocks, lock_step, own_steps, release_steps, releases_of, steps_below, top_locks, StandingPlan, Scene, plan_at, plan_changed, plans_but, Ended, for_each, where_there, Keeper, NoOne, TheDescriptors, TheKind, ThePlans, descriptor_left, given_back, left_to, owner_released, phase_released, plan_becomes, plan_left, plan_settled, plan_stays, step_done}
+use Rattle.session_laws.proofs.Words.{◌≡◌, ℕ, zero, suc, ◌+◌, ◌<◌, Bool, true, false, not, List, [], ◌∷◌, ◌++◌, map, Option, Some, refl, sym, ap, ◌∙◌, subst, inl, inr, arith, append-nil, append_assoc, ◌≢◌, ◌-◌, if◌then◌else◌, None, ◌==◌, ◌&&◌, ◌||◌, filter, option_to_list, ◌⊎◌, nat_lt, option_map_or, list_all, and_from, and_parts, cases_Bool, cases_eq, eq-eqb, eqb-true, or_cases, or_left, or_right, Forest, Empty, Node, Once, children, has, is_above, removed, size, at, subtree, lead, order, order_at, has_children, size_removed, at_absent, children_absent, left_apart, removed_absent}
+use Rattle.session_laws.proofs.Scenes.{What, Hook, Contexts, Context, callbacks, gone_events, Item, Phase, BeforeLocks, Locks, AfterLocks, Lock, owner_count, table_of, KindTable, Owner, own_released, released, Step, ReleasesLocks, ReleasesAllLocks, release_steps, StandingPlan, Scene, plan_at, plan_changed, plans_but, Ended, for_each, where_there, Keeper, NoOne, TheDescriptors, TheKind, ThePlans, descriptor_left, given_back, left_to, owner_released, phase_released, plan_becomes, plan_left, plan_settled, plan_stays, step_done}
 use Rattle.session_laws.proofs.Rules.{Reader, allows_all, is_one_of, seen_after, allows_all-append, seen_after-append, at_left, once_left}
+use Rattle.session_laws.proofs.StepsOf.{AreOf, no_step, numbers_of, passes, steps_of, unlocks, unlocks_all, warns, gives_up}
 use Rattle.forest.proofs.Walks.{children_in, children_removed, lead_leaf, lead_of_node, once_children, order_lead}
 use Rattle.lifetime_laws.specs.Parents.{Node as Kept, is_there, is_within, placed, placed_where, without}
 use Rattle.lifetime_laws.proofs.Replays.{is_there-placed_other, is_there-placed_same, is_there-without_other}
@@ -522,76 +523,15 @@ module _ (entry : Begun) (root : ℕ) (own : entry.owner ≡ Some root) (nodes :
         record { allowed = and_from ((confined entry).allows (what.Release item n) leaving) _ (release_allowed item n leaving within) more.allowed; fits = more.fits };
   }
 
--- steps of a release at abort, each for an owner of which this is so
-pub data AreOf (P : ℕ → Type 0) : List Step → Type 0 where
-  no_step : AreOf P []
-  gives : {item : Item} {n : ℕ} {rest : List Step} → P n → AreOf P rest → AreOf P (Said (what.Release item n) ∷ GivesBack item ∷ rest)
-  unlocks : {n : ℕ} {rest : List Step} → P n → AreOf P rest → AreOf P (ReleasesLocks n ∷ rest)
-  unlocks_all : {n : ℕ} {rest : List Step} → P n → AreOf P rest → AreOf P (ReleasesAllLocks n ∷ rest)
-
--- what is so of each number of a forest
-abbrev pub AllNumbers : {A : Type 0} → (ℕ → Type 0) → Forest A → Type 0
-AllNumbers P Empty = Unit {0}
-AllNumbers P (Node k a below beside) = P k × AllNumbers P below × AllNumbers P beside
-
-module _ (P : ℕ → Type 0) where
-  pub numbers_of : {A : Type 0} (t : Forest A) → ((m : ℕ) → has m t ≡ true → P m) → AllNumbers P t
-  numbers_of Empty h = tt
-  numbers_of (Node k a below beside) h =
-      (h k (or_left (k == k) _ (here k)), numbers_of below (λ m u. h m (deeper k m u)), numbers_of beside (λ m u. h m (further k m u)))
-    where
-      here : (k : ℕ) → (k == k) ≡ true
-      here k = eq-eqb k k refl
-
-      deeper : (k m : ℕ) → has m below ≡ true → has m (Node k a below beside) ≡ true
-      deeper k m u = elim (cases_Bool (k == m)) [ inl y ↦ or_left (k == m) _ y | inr z ↦ rw (z, u) refl ]
-
-      further : (k m : ℕ) → has m beside ≡ true → has m (Node k a below beside) ≡ true
-      further k m u = elim (cases_Bool (k == m)) [ inl y ↦ or_left (k == m) _ y | inr z ↦ elim (cases_Bool (has m below)) [ inl v ↦ rw (z, v) refl | inr v ↦ rw (z, v, u) refl ] ]
-
-  both_of : {xs ys : List Step} → AreOf P xs → AreOf P ys → AreOf P (xs ++ ys)
-  both_of no_step k = k
-  both_of (gives p h) k = gives p (both_of h k)
-  both_of (unlocks p h) k = unlocks p (both_of h k)
-  both_of (unlocks_all p h) k = unlocks_all p (both_of h k)
-
-  items_of : (n : ℕ) (items : List Item) → P n → AreOf P (releases_of false n items)
-  items_of n [] p = no_step
-  items_of n (item ∷ items) p = gives p (items_of n items p)
-
-  own_of : (kinds : KindTable) (phase : Phase) (n : ℕ) (owner : Owner) (locks : List Step) → P n → AreOf P locks → AreOf P (own_steps kinds phase false n owner locks)
-  own_of kinds Locks n owner locks p h = h
-  own_of kinds BeforeLocks n owner locks p h = items_of n (release_order kinds BeforeLocks owner.items) p
-  own_of kinds AfterLocks n owner locks p h = items_of n (release_order kinds AfterLocks owner.items) p
-
-  maybe_lock : (top : Bool) (n parent : ℕ) → P n → AreOf P (if top then [] else lock_step false n parent ∷ [])
-  maybe_lock true n parent p = no_step
-  maybe_lock false n parent p = unlocks p no_step
-
-  below_of : (kinds : KindTable) (phase : Phase) (top : Bool) (parent : ℕ) (owners : OwnerTree) → AllNumbers P owners → AreOf P (steps_below kinds phase false top parent owners)
-  below_of kinds phase top parent Empty h = no_step
-  below_of kinds phase top parent (Node n owner below beside) h =
-      both_of (below_of kinds phase top n below h.1) (both_of (own_of kinds phase n owner _ h.0 (maybe_lock top n parent h.0)) (below_of kinds phase top parent beside h.2))
-
-  top_of : (top : Bool) (n : ℕ) (parent : Option ℕ) → P n → AreOf P (top_locks top false n parent)
-  top_of true n parent p = unlocks_all p no_step
-  top_of false n None p = no_step
-  top_of false n (Some parent) p = unlocks p no_step
-
-  pub steps_of : (kinds : KindTable) (phase : Phase) (top : Bool) (n : ℕ) (owners : OwnerTree) → P n → AllNumbers P (children n owners) → AreOf P (release_steps kinds phase false top n owners)
-  steps_of kinds phase top n owners p h = go (at n owners)
-    where
-      go : (o : Option Owner) → AreOf P (option_map_or (λ owner. steps_below kinds phase false top n (children n owners) ++ own_steps kinds phase false n owner (top_locks top false n (parent_of n owners))) o [])
-      go None = no_step
-      go (Some owner) = both_of (below_of kinds phase top n (children n owners) h) (own_of kinds phase n owner _ p (top_of top n (parent_of n owners) p))
-
 module _ (entry : Begun) (root : ℕ) (own : entry.owner ≡ Some root) (nodes : List Kept) where
   abbrev Inside : ℕ → Type 0
   Inside n = is_within root n nodes ≡ true
 
-  steps_read : (steps : List Step) → AreOf Inside steps → (s : Scene) → Reads (confined entry) (InRelease root nodes) s (for_each step_done steps s).scene (for_each step_done steps s).events
+  steps_read : (steps : List Step) → AreOf Inside false steps → (s : Scene) → Reads (confined entry) (InRelease root nodes) s (for_each step_done steps s).scene (for_each step_done steps s).events
   steps_read _ no_step s = read_none (confined entry) (InRelease root nodes) s
-  steps_read _ (gives {item = item} {n = n} {rest = rest} p h) s = read_both (confined entry) (InRelease root nodes) (pair_so entry root own nodes item n s p) (steps_read rest h (given_back item s).scene)
+  steps_read _ (warns e h) s = absurd (cc e)
+  steps_read _ (passes e h) s = absurd (cc e)
+  steps_read _ (gives_up {item = item} {n = n} {rest = rest} p h) s = read_both (confined entry) (InRelease root nodes) (pair_so entry root own nodes item n s p) (steps_read rest h (given_back item s).scene)
   steps_read _ (unlocks {n = n} {rest = rest} p h) s =
       read_both (confined entry) (InRelease root nodes)
       (passing entry root own nodes s (step_done (ReleasesLocks n) s).scene (locks.releases n s.session.locks) refl refl refl (λ leaving k. locks_pass entry root own nodes n s.session.locks leaving (ap (is_within root n) k ∙ p)))
@@ -617,7 +557,7 @@ module _ (entry : Begun) (root : ℕ) (own : entry.owner ≡ Some root) (nodes :
         let steps : List Step = release_steps kinds phase false top root s.session.owners in
         let all : Reads (confined entry) (InRelease root nodes) s (phase_released false top root phase s).scene (phase_released false top root phase s).events =
         read_both (confined entry) (InRelease root nodes)
-        (steps_read steps (steps_of Inside kinds phase top root s.session.owners here (numbers_of Inside (children root s.session.owners) (λ m u. below_within m root nodes s.session.owners k.tree u))) s) (changed_so kinds phase (for_each step_done steps s).scene) in
+        (steps_read steps (steps_of Inside kinds phase false top root s.session.owners here (numbers_of Inside (children root s.session.owners) (λ m u. below_within m root nodes s.session.owners k.tree u))) s) (changed_so kinds phase (for_each step_done steps s).scene) in
         all.so leaving k;
   }
 

@@ -1,8 +1,8 @@
 -- Items are numbered as they are acquired.
 use Rattle.session_laws.proofs.Words.{◌≡◌, ℕ, ◌+◌, true, List, refl, sym, ap, ◌∙◌, arith, ◌==◌, Bool, false, and_from, eq-eqb, has}
 use Rattle.session_laws.proofs.Scenes.{What, KindId, Scene, Around, say, remembers, item_taken, taken_by, Item, SessionState, opening, Keeper, NoOne, TheDescriptors, TheKind, ThePlans, keeper_of, HasExited, KindTable}
-use Rattle.session_laws.proofs.Rules.{allows_all, seen_after, EndLeaves, Keeps, Law, MakeLeaves, LevelLeaves, AreSaid, said_more, said_none, said_one, Part, Sight, of_next_serial, owner_makes, unseen_keys, unseen_owners, level_leaves_of, of_next_owner, of_owners, releases as item_releases, takes, moves_owed, BalancesFrom, covers, left}
-use Rattle.session_laws.proofs.Usual.{Usual, is_usual, level_words, usual_contexts, usual_ends, usual_files, usual_makes, usual_moves, usual_stack, usual_words}
+use Rattle.session_laws.proofs.Rules.{allows_all, seen_after, EndLeaves, Keeps, Law, MakeLeaves, LevelLeaves, AreSaid, said_more, said_none, said_one, Part, Sight, of_next_serial, owner_makes, unseen_keys, unseen_owners, of_next_owner, of_owners, takes, moves_owed, BalancesFrom, covers, left, KeyLeaves}
+use Rattle.session_laws.proofs.Usual.{Usual, is_usual, level_words, usual_files, usual_makes, usual_moves, plain_ends, usual_levels}
 use Rattle.lifetime_laws.specs.Once.{numbering, acquires, releases}
 use Rattle.session_laws.proofs.Lives.{OwesTurns, Reads, read_both, owes_by, IsLife, life_by}
 use Rattle.session_laws.proofs.ItemsCounted.{Counted, Counts, aside_reads, discarded_reads, forgotten_reads, made_reads, moved_reads, phase_reads, reader, remembered_reads, has_it, is_still}
@@ -64,7 +64,7 @@ number_usual = assumption usual_past
 
 number_ends : EndLeaves Numbers
 number_ends =
-    usual_ends number_sight number_usual refl refl refl (level_words is_past (λ level. (refl, refl, refl, refl))) (λ item n. refl) (unseen_keys sees_serial is_past Numbers number_sight refl)
+    plain_ends number_sight number_usual (unseen_keys sees_serial is_past Numbers number_sight refl) refl refl refl (λ level. (refl, refl, refl, refl)) (λ item n. refl) (λ n. refl) (λ n parent. refl)
     (unseen_owners sees_serial is_past Numbers number_sight refl (λ item n. refl) (λ item n. refl) (λ n kind key. record { so = remembered_numbers n kind key }))
 
 number_makes : MakeLeaves Numbers
@@ -100,18 +100,17 @@ module _ (item : Item) (owner : ℕ) where
   abbrev sight : Sight sees_owners is_still R
   sight = record { both = λ a b. read_both (reader item owner) (Counts item owner) a b; aside = λ s t same h. aside_reads item owner s t (same.so of_owners refl) (same.so of_next_owner refl) h }
 
+  keys : KeyLeaves R
+  keys = unseen_keys sees_owners is_still R sight refl
+
   levels : LevelLeaves R
-  levels =
-      level_leaves_of sees_owners is_still R sight refl refl (usual_contexts sight usual) (usual_words sight usual) (level_words is_still (λ level. (refl, refl, refl, refl)))
-      (item_releases sees_owners is_still R sight refl refl (usual_contexts sight usual).gone (usual_contexts sight usual).children (usual_files sight usual).closed (unseen_keys sees_owners is_still R sight refl).closed
-      (λ n kind key old s found. forgotten_reads item owner n kind key old s found))
-      refl (usual_stack sight usual)
+  levels = usual_levels sight usual keys refl (level_words is_still (λ level. (refl, refl, refl, refl))) (λ n kind key old s found. forgotten_reads item owner n kind key old s found)
 
   -- an item is taken by an owner that is there
   item_taken_so : (n : ℕ) (kind : KindId) (key : ℕ) (s : Scene) → has n s.session.owners ≡ true → R s (item_taken n kind key s).scene (item_taken n kind key s).events
   item_taken_so n kind key s there =
       let z : Scene = (taken_by (keeper_of kind) key s).scene in
-      sight.both ((takes sees_owners is_still R sight refl refl (usual_files sight usual) (unseen_keys sees_owners is_still R sight refl) (keeper_of kind) key).so s)
+      sight.both ((takes sees_owners is_still R sight refl refl (usual_files sight usual) keys (keeper_of kind) key).so s)
       (sight.both (remembered_reads item owner n kind key z (ap (has n) (taken_stays (keeper_of kind) key s) ∙ there)) (levels.leaves.acts.none _))
 
   pub counts_turns : OwesTurns (Reads (reader item owner) (Counts item owner))

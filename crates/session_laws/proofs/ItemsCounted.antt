@@ -2,6 +2,7 @@
 use Rattle.session_laws.proofs.Words.{◌≡◌, ℕ, ◌+◌, count_by, find, Bool, true, false, cond, Option, Some, None, List, [], ◌∷◌, ◌++◌, refl, ap, ◌∙◌, inl, inr, arith, ◌-◌, ◌<◌, ◌≤◌, sym, subst, ◌==◌, ◌&&◌, ◌||◌, if◌then◌else◌, nat_le, cases_Bool, or_parts, and_from, cases_eq, false_from_ne_true, le-leb, ne_eqb, sum_by-cons, Empty, Node, Once, either, has, at, changed, children, moved, parent_of, put, removed, AllNodes, times, all_changed, swept, order_at, Apart, Below, Beside, Here, Moves, apart_of, at_absent, at_some, changed_absent, has_at, once_removed, parent_stays, put_absent, removed_absent, where_is, has_changed, has_of_removed, has_some, once_changed, once_front, once_put, times_moved, times_some, option_map_or}
 use Rattle.session_laws.proofs.Scenes.{Item, KindId, Phase, BeforeLocks, Locks, AfterLocks, KindTable, is_of, without_newest, is_of_phase, priority, release_order, Owner, OwnerTree, AllAt, HoldsNothing, created, forgotten, remembered, left_of, own_released, released, Said, Step, lock_step, own_steps, release_steps, releases_of, steps_below, top_locks, GivesBack, ReleasesLocks, PassesLocks, ReleasesAllLocks, made_event, What, table_of, Scene, newest, for_each, owner_made, given_back, owner_gone, owner_moved, phase_released, step_done, remembers}
 use Rattle.session_laws.proofs.Rules.{Reader, allows_all, seen_after, count, allows_all-append, seen_after-append, has_put_other, once_left, has_swept, AreReleaseSteps, IsReleaseStep, is_release, no_step, phase_release, then_step, warned_step, AreSaid, said_all_locks, said_lock_passes, said_lock_releases, said_map, said_more, said_none, said_one, said_weaker}
+use Rattle.session_laws.proofs.Parents.{alike_swept, once_alike}
 use Rattle.session_laws.proofs.Warnings.{is_aside}
 use Rattle.owner_items.proofs.Uses.{count-parts, count-without}
 use Rattle.lifetime_laws.specs.Once.{releases, same_item, acquires}
@@ -247,23 +248,10 @@ pub record AreNumbered (owners : OwnerTree) (next : ℕ) : Type 0 where
   pub once : Once owners
   pub below : (n : ℕ) → has n owners ≡ true → n < next
 
--- a sweep leaves numbers
-times_all : (m : ℕ) (f : Owner → Owner) (t : OwnerTree) → times m (all_changed f t) ≡ times m t
-times_all m f Empty = refl
-times_all m f (Node k a below beside) = rw (times_all m f below, times_all m f beside) refl
-
-times_swept : (m : ℕ) (f : Owner → Owner) (n : ℕ) (t : OwnerTree) → times m (swept f n t) ≡ times m t
-times_swept m f n Empty = refl
-times_swept m f n (Node k a below beside) =
-    elim (cases_Bool (k == n)) [
-      | inl y ↦ rw (y, times_all m f below, times_swept m f n beside) refl
-      | inr y ↦ rw (y, times_swept m f n below, times_swept m f n beside) refl
-    ]
-
 -- numbers behind each change of the owners
 numbered_swept : (f : Owner → Owner) (n : ℕ) (t : OwnerTree) (next : ℕ) → AreNumbered t next → AreNumbered (swept f n t) next
 numbered_swept f n t next k = record {
-  once = record { once = λ m. omega (arith, times_swept m f n t, k.once.once m) };
+  once = once_alike t (swept f n t) (alike_swept f n t) k.once;
   below = λ m u. k.below m (sym (has_swept f m n t) ∙ u);
 }
 

@@ -24,6 +24,7 @@ pub mod OrderSteps
 pub mod OrderPhase
 pub mod OrderEnds
 pub mod OrderLife
+pub mod StepsOf
 pub mod InsidePhases
 pub mod InsideWalk
 pub mod InsideHooks

@@ -2,7 +2,7 @@
 use Rattle.session_laws.proofs.Words.{◌≡◌, ℕ, ◌∙◌, true, false, Bool, Option, Some, None, List, ap, refl, ◌≢◌, zero, suc, ◌+◌, ◌≤◌, ◌⊎◌, inl, inr, cond, [], ◌∷◌, ◌++◌, length, sym, subst, arith, ◌-◌, ◌<◌, Result, Ok, Err, ◌==◌, replicate, slice_get, slice_set, slice_index_or, flat_map, sum_by, get_or-le-sum_by, sum_by-cons, sum_by-set, cases_eq, cases_lt, cond-false, ne_eqb, append-nil, length-set, length-replicate}
 use Rattle.session_laws.proofs.Scenes.{What, Error, Command, table_of, Moment, Scene, Around, Options, World, around, moment, opened, session_at, with_scene, Done, does_all, exited, recovered, level_rolled_back, line_elements, turn, turn_of, Course, Reading, Turn, after_command, after_exit, after_line, after_read, at_start, course_by, ended, exits, goes_on, missing, of_session, transcript_by, AreDistinct, Hook, waiting, SessionState, opening, top_context, AreHooks, StandsBetweenLines, IsSound, KindTable, Ended, context_gone, for_each, switched}
 use Rattle.session_laws.proofs.Rules.{EndLeaves, KeyLeaves, Part, Sight, item_comes, of_descriptors, of_kinds, owner_makes, unseen_owners, exit_follows, line_spoken, Reader, allows_all, events_of, seen_after, allows_all-append, events_of-append, events_of-other, events_of-own, seen_after-append, turn_stands, AreSaid, said_more, said_none}
-use Rattle.session_laws.proofs.Usual.{Usual, any, usual_any, any_turn_follows, usual_ends, usual_makes, usual_moves}
+use Rattle.session_laws.proofs.Usual.{Usual, any, usual_any, any_turn_follows, usual_makes, usual_moves, plain_ends}
 use Rattle.owner_kinds.proofs.Places.{table-closed, table-opened}
 use Rattle.std.proofs.lemmas.List.Concat.{flat_map-cons, length-flat_map}
 use Rattle.std.proofs.lemmas.Option.{get_or_from_slice_get, slice_get_within, slice_get_cases}
@@ -48,7 +48,7 @@ usual = assumption usual_any
 
 kinds_ends : EndLeaves KeepsKinds
 kinds_ends =
-    usual_ends sight usual refl refl refl (λ event h. refl) (λ item n. refl) keys
+    plain_ends sight usual keys refl refl refl (λ level. (refl, refl, refl, refl)) (λ item n. refl) (λ n. refl) (λ n parent. refl)
     (unseen_owners sees_kinds any KeepsKinds sight refl (λ item n. refl) (λ item n. refl) (item_comes sees_kinds any KeepsKinds sight refl refl (λ item n. refl)))
 
 turn_so : (w : Option ℕ) (line : Option Command) (m : Moment) → KeepsKinds m.scene (turn w line m).moment.scene (turn w line m).events

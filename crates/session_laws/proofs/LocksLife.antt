@@ -1,11 +1,13 @@
 -- Where no lock is held, none is behind what doesn't take one; and behind the end of level 1 none is held.
 use Rattle.session_laws.proofs.Words.{◌≡◌, ℕ, Bool, true, List, [], ◌∷◌, ◌++◌, Option, refl, ap, ◌∙◌, false, not, Some, None, sym, arith, ◌+◌, ◌≤◌, subst, inl, inr, option_map_or, option_and_then, children, has, at_some, ◌&&◌, is_some, ◌⊎◌, length, All, both_ways, All-head, All-tail, All-nil}
-use Rattle.session_laws.proofs.Scenes.{What, Mode, BeforeLocks, Locks, AfterLocks, table_of, KindTable, Owner, OwnerTree, own_released, ReleasesAllLocks, Step, own_steps, release_steps, steps_below, Scene, Moment, Around, for_each, where_so, where_there, Ended, switched, in_order, owner_released, phase_released, step_done, lock_given_back, at_owner, snapshot_popped, LevelState, OpenPortal, deepest_changed, first_of, is_aborted, level_context, owner_of, opening, portal_aborted, portal_closed, aborted, cleaned_up, committed, level_released, level_rolled_back, exited, given_up, recovered, IsLive, Stands, active_depth, AreOuter, FitLevels, IsDead, IsPortal, IsOpen, StandsBetweenLines, Contexts, Error, Element, LevelContext, NewContext, OfLevel, OfPortal, OwnerRole, PortalContext, RowContext, ScriptContext, Text, context_named, owner_in, portal_named, level_made, new_context_made, new_owner_made, lock_taken, snapshot_pushed, Done, fallible, refused_call, unless_refused, does, failing_turn, does_all, then_done, Command, AreLocks, has_owner, line_elements, turn, turn_of}
-use Rattle.session_laws.proofs.Rules.{Keeps, Follows, IsSpoken, AreSpoken, IsRun, has_swept, all_aborted, begins, off_begins, owner_when_active, resettled, settled, switched_off, aborted_stands, at_settled, is_left, rolled_stands, by_each, element_follows, fallible_so, unfailing_so, behind_commit, cleans_up, portal_aborts, portal_closes, Meets, command_leads, line_runs, refused_leads, allows_all, seen_after, line_spoken, said_one}
+use Rattle.session_laws.proofs.Scenes.{What, Mode, BeforeLocks, Locks, AfterLocks, table_of, KindTable, Owner, OwnerTree, own_released, ReleasesAllLocks, Step, own_steps, release_steps, steps_below, Scene, Moment, Around, for_each, where_so, where_there, Ended, switched, in_order, owner_released, phase_released, step_done, lock_given_back, at_owner, LevelState, OpenPortal, deepest_changed, first_of, is_aborted, level_context, owner_of, opening, portal_aborted, portal_closed, aborted, cleaned_up, committed, level_released, level_rolled_back, exited, given_up, recovered, IsLive, Stands, active_depth, AreOuter, FitLevels, IsDead, IsPortal, IsOpen, StandsBetweenLines, Contexts, Error, Element, LevelContext, NewContext, OfLevel, OfPortal, OwnerRole, PortalContext, RowContext, ScriptContext, Text, context_named, owner_in, portal_named, level_made, new_context_made, new_owner_made, lock_taken, snapshot_pushed, Done, fallible, refused_call, unless_refused, does, failing_turn, does_all, then_done, Command, AreLocks, has_owner, line_elements, turn, turn_of}
+use Rattle.session_laws.proofs.Rules.{Keeps, Follows, IsSpoken, AreSpoken, IsRun, has_swept, all_aborted, begins, off_begins, owner_when_active, resettled, settled, switched_off, aborted_stands, at_settled, is_left, rolled_stands, by_each, element_follows, fallible_so, behind_commit, cleans_up, portal_aborts, portal_closes, Meets, command_leads, line_runs, refused_leads, allows_all, seen_after, line_spoken, said_one}
+use Rattle.session_laws.proofs.OrderEnds.{own_mild}
+use Rattle.session_laws.proofs.OwnWork.{IsOwnWork}
 use Rattle.lock_local.specs.Changes.{given_back, passed, released}
 use Rattle.session_laws.proofs.OwnerEnds.{steps_stay}
 use Rattle.session_rules.proofs.Sight as part
-use Rattle.session_laws.proofs.LocksSight.{Sees, of_locks, files_hidden, Least, Turns, Base, least_of, least_acts, turn_ends, of_levels, locked_hidden, locks_hidden, pushed_hidden, unlocked_hidden, OwesApart, OwesUnlocks, element_keeps, least_leaves, lock_owed, owner_owed, touch_owed, turns_owed, unlock_owed, by_owner_made, stack_hidden}
+use Rattle.session_laws.proofs.LocksSight.{Sees, of_locks, files_hidden, Least, Turns, Base, least_of, least_acts, turn_ends, pushed_hidden, OwesUnlocks, least_leaves, owner_owed, touch_owed, turns_owed, unlock_owed, by_owner_made, stack_hidden}
 use Rattle.session_rules.proofs.Ending.{Leads, with_parts}
 use Rattle.session_rules.proofs.Replacing.{all_closed}
 use Rattle.session_rules.proofs.EndsStand.{Leaves}
@@ -144,50 +146,6 @@ rolled_none level s stands bare = go level.aborted refl
     go false e = cleaned (aborted st).scene (aborted_none level s stands bare)
 
 -- Where no lock may be held none is, behind each element, each line and the end of a session.
-
--- levels stay
-record KeepsLevels (s t : Scene) (events : List What) : Type 0 where
-  so : t.session.levels ≡ s.session.levels
-
-levels_seen : Sees of_levels KeepsLevels
-levels_seen = record { both = λ a b. record { so = b.so ∙ a.so }; aside = λ s t same plain. record { so = same.so part.of_levels refl } }
-
-levels_least : Least of_levels KeepsLevels
-levels_least = least_of of_levels KeepsLevels (record { sees = levels_seen; locks = locks_hidden of_levels KeepsLevels levels_seen refl; files = files_hidden of_levels KeepsLevels levels_seen refl }) refl
-
--- an element that changes no level
-abbrev IsSteady : Element → Type 0
-IsSteady (e.InTurn name x) = IsSteady x
-IsSteady (e.MakeLevel name implicit) = ⊥
-IsSteady (e.MakeContext new) = ⊥
-IsSteady (e.MakeOwner role) = ⊥
-IsSteady e.LevelStands = ⊥
-IsSteady e.CommitTop = ⊥
-IsSteady e.Subcommit = ⊥
-IsSteady e.Abort = ⊥
-IsSteady e.Cleanup = ⊥
-IsSteady other = Unit {0}
-
-steady_owed : (w : Option ℕ) (x : Element) (m : Moment) → IsSteady x → OwesApart KeepsLevels w x m
-unfolding does
-steady_owed w (e.InTurn name x) m h = steady_owed w x m h
-steady_owed w (e.MakeLevel name implicit) m h = absurd h
-steady_owed w (e.MakeContext new) m h = absurd h
-steady_owed w (e.MakeOwner role) m h = absurd h
-steady_owed w e.LevelStands m h = absurd h
-steady_owed w e.CommitTop m h = absurd h
-steady_owed w e.Subcommit m h = absurd h
-steady_owed w e.Abort m h = absurd h
-steady_owed w e.Cleanup m h = absurd h
-steady_owed w (e.TakeLock role object mode) m h = lock_owed of_levels KeepsLevels levels_least w role object mode m (locked_hidden of_levels KeepsLevels levels_seen refl object mode)
-steady_owed w (e.Unlock object mode) m h = unlock_owed of_levels KeepsLevels levels_least w object mode m (unlocked_hidden of_levels KeepsLevels levels_seen refl object mode)
-steady_owed w (e.Touch file) m h = touch_owed of_levels KeepsLevels levels_least w file m ((files_hidden of_levels KeepsLevels levels_seen refl).used file)
-steady_owed w (e.PushSnapshot snapshot) m h = fallible_so KeepsLevels (least_acts of_levels KeepsLevels levels_least) w m _ (snapshot_pushed snapshot) (pushed_hidden of_levels KeepsLevels levels_seen refl snapshot)
-steady_owed w e.PopSnapshot m h = unfailing_so KeepsLevels (least_acts of_levels KeepsLevels levels_least) m snapshot_popped (stack_hidden of_levels KeepsLevels levels_seen refl).popped
-steady_owed w other m h = tt
-
-steady_levels : (w : Option ℕ) (x : Element) (m : Moment) → IsSpoken false x → IsSteady x → (does w x m).moment.scene.session.levels ≡ m.scene.session.levels
-steady_levels w x m spoken h = let all : Follows KeepsLevels m.scene (does w x m) = element_keeps of_levels KeepsLevels levels_least w x m spoken (steady_owed w x m h) in all.so.so
 
 -- an element that takes no lock
 abbrev TakesNone : Element → Type 0
@@ -352,8 +310,8 @@ cleanup_bare w m stands level (next ∷ levels) is gone left b =
 shrinks_bare : (w : Option ℕ) (x : Element) (m : Moment) → IsSpoken false x → TakesNone x → (may_hold (does w x m).moment.scene.session.levels ≡ false → may_hold m.scene.session.levels ≡ false) → Bare m.scene → Bare (does w x m).moment.scene
 shrinks_bare w x m spoken takes shrinks b = record { so = λ none. none_behind w x m spoken takes (b.so (shrinks none)) }
 
-steady_bare : (w : Option ℕ) (x : Element) (m : Moment) → IsSpoken false x → IsSteady x → TakesNone x → Bare m.scene → Bare (does w x m).moment.scene
-steady_bare w x m spoken steady takes b = shrinks_bare w x m spoken takes (λ none. sym (ap may_hold (steady_levels w x m spoken steady)) ∙ none) b
+own_bare : (w : Option ℕ) (x : Element) (m : Moment) → IsSpoken false x → IsOwnWork x → TakesNone x → Bare m.scene → Bare (does w x m).moment.scene
+own_bare w x m spoken own takes b = shrinks_bare w x m spoken takes (λ none. sym (ap may_hold (own_mild w x m own).so.levels) ∙ none) b
 
 failing_bare : (name : Text) (done : Done) (refusal : Option Error) → Bare done.moment.scene → Bare (failing_turn name done refusal).moment.scene
 failing_bare name done None b = b
@@ -379,7 +337,8 @@ bare_behind w e.Abort m spoken meets checked b =
 bare_behind w e.Cleanup m spoken meets checked b =
     cleanup_bare w m meets.stands meets.asks.0.0 meets.asks.0.1 meets.asks.1 meets.asks.2
     (cleanup_stands w m meets.stands meets.asks.0.0 meets.asks.0.1 meets.asks.1 meets.asks.2) b
-bare_behind w other m spoken meets checked b = steady_bare w other m spoken tt tt b
+bare_behind w (e.Says event) m spoken meets checked b = shrinks_bare w (e.Says event) m spoken tt (λ none. none) b
+bare_behind w other m spoken meets checked b = own_bare w other m spoken tt tt b
 
 -- Locks are released as often as they are acquired, in the life of each session.
 

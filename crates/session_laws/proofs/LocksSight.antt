@@ -1,20 +1,19 @@
--- Laws that see locks alone, files alone, the stack of snapshots alone or levels alone, and what passes them by.
+-- Laws that see locks alone, files alone, the stack of snapshots alone or items alone, and what passes them by.
 use Rattle.session_laws.proofs.Words.{◌≡◌, ℕ, Bool, true, false, List, [], refl, sym, subst, Option, and_from}
-use Rattle.session_laws.proofs.Scenes.{What, KindId, Phase, Scene, Moment, item_released, owner_gone, owner_moved, phase_released, item_taken, files, lock_taken, snapshot_pushed, descriptor_given, Mode, LevelState, lock_given_back, at_kind, at_owner, at_portal, exited, Error, Command, Element, OfLevel, OwnerRole, new_context_made, new_owner_made, owner_made, plan_made, portal_ended, does, line_elements, turn}
-use Rattle.session_laws.proofs.Rules.{Reader, allows_all, Keeps, Law, is_word, Acts, EndLeaves, Follows, IsRun, IsSpoken, Leaves, MoveLeaves, Owes, OwesMakes, is_level_word, runs_anyhow, LockLeaves, OwnerLeaves, FileLeaves, ContextLeaves, Part, Sight, hook_waits_so, leaves_of, makes_context, moves_context, places, plans_one, says, unseen_contexts, KeyLeaves, phase_so, releases, taken_so, unseen_keys, AreSaid, said_more, said_none, by_kind, by_owner, by_portal_named, context_is_made, element_follows, fallible_so, levels_owed, moves_owed, owner_is_made, unfailing_so, ends_owed, exit_follows, portal_ends, StackLeaves, unseen_locks, unseen_stack, unseen_files, unlocks, locks_one, pushes, unseen_owners, item_comes, owner_makes, item_goes, owner_goes, owner_moves}
+use Rattle.session_laws.proofs.Scenes.{What, KindId, Phase, Scene, Moment, item_released, owner_gone, owner_moved, phase_released, item_taken, files, lock_taken, snapshot_pushed, descriptor_given, Mode, LevelState, lock_given_back, at_owner, exited, Error, Command, Element, OfLevel, OwnerRole, new_context_made, new_owner_made, owner_made, plan_made, does, line_elements, turn}
+use Rattle.session_laws.proofs.Rules.{Reader, allows_all, Keeps, Law, is_word, Acts, EndLeaves, Follows, IsRun, Leaves, MoveLeaves, Owes, OwesMakes, is_level_word, runs_anyhow, LockLeaves, OwnerLeaves, FileLeaves, ContextLeaves, Part, Sight, hook_waits_so, leaves_of, makes_context, moves_context, places, plans_one, says, unseen_contexts, KeyLeaves, phase_so, releases, taken_so, unseen_keys, AreSaid, said_more, said_none, by_owner, context_is_made, fallible_so, levels_owed, moves_owed, owner_is_made, unfailing_so, ends_owed, exit_follows, StackLeaves, unseen_locks, unseen_stack, unseen_files, unlocks, locks_one, pushes, unseen_owners, item_comes, owner_makes, item_goes, owner_goes, owner_moves}
 use Rattle.session_laws.proofs.Usual.{turn_follows}
 use Rattle.session_laws.proofs.Lives.{IsRead}
 use Rattle.pgs_step.specs.declared.events.What.TheVariants as what
 use Rattle.session_rules.specs.Elements as e
 use Rattle.session_rules.proofs.Sight as part
 
--- what an event is about, and what a law sees: locks, files, the stack of snapshots, items, or levels, of which no event is here
+-- what an event is about, and what a law sees: locks, files, the stack of snapshots, or items
 pub data Subject : Type 0 where
   of_none : Subject
   of_locks : Subject
   of_files : Subject
   of_stack : Subject
-  of_levels : Subject
   of_items : Subject
 
 abbrev pub subject : What → Subject
@@ -43,7 +42,6 @@ seen_by part.of_locks of_locks = true
 seen_by part.of_recent of_files = true
 seen_by part.of_descriptors of_files = true
 seen_by part.of_snapshots of_stack = true
-seen_by part.of_levels of_levels = true
 seen_by part.of_recent of_items = true
 seen_by part.of_owners of_items = true
 seen_by part.of_next_owner of_items = true
@@ -132,7 +130,7 @@ module _ (k : Subject) (R : Law) (sees : Sees k R) where
   pub stack_hidden : hides of_stack k ≡ true → StackLeaves R
   stack_hidden h = unseen_stack (sees_of k) (passing k) R sees (hidden_stack k h) (λ snapshot. h)
 
--- What follows where a law sees locks, files, snapshots, items or levels alone: it has all leaves, so elements, turns and the end of a session keep it.
+-- What follows where a law sees locks, files, snapshots or items alone: it has all leaves, so turns and the end of a session keep it.
 
 -- what a law owes for owners and their items, and besides for levels and the stack of snapshots
 pub record Least (k : Subject) (R : Law) : Type 0 where
@@ -143,24 +141,6 @@ pub record Turns (k : Subject) (R : Law) : Type 0 where
   pub least : Least k R
   pub levels : (levels : List LevelState) (s : Scene) → R s (record s { session = record s.session { levels = levels } }) []
   pub stack : StackLeaves R
-
--- what a law owes apart
-abbrev pub OwesApart : Law → Option ℕ → Element → Moment → Type 0
-OwesApart R w (e.InTurn name x) m = OwesApart R w x m
-OwesApart R w (e.MakeLevel name implicit) m = Follows R m.scene (does w (e.MakeLevel name implicit) m)
-OwesApart R w (e.MakeContext new) m = Follows R m.scene (does w (e.MakeContext new) m)
-OwesApart R w (e.MakeOwner role) m = Follows R m.scene (does w (e.MakeOwner role) m)
-OwesApart R w e.LevelStands m = Follows R m.scene (does w e.LevelStands m)
-OwesApart R w (e.TakeLock role object mode) m = Follows R m.scene (does w (e.TakeLock role object mode) m)
-OwesApart R w (e.Unlock object mode) m = Follows R m.scene (does w (e.Unlock object mode) m)
-OwesApart R w (e.PushSnapshot snapshot) m = Follows R m.scene (does w (e.PushSnapshot snapshot) m)
-OwesApart R w (e.Touch file) m = Follows R m.scene (does w (e.Touch file) m)
-OwesApart R w e.PopSnapshot m = Follows R m.scene (does w e.PopSnapshot m)
-OwesApart R w e.CommitTop m = Follows R m.scene (does w e.CommitTop m)
-OwesApart R w e.Subcommit m = Follows R m.scene (does w e.Subcommit m)
-OwesApart R w e.Abort m = Follows R m.scene (does w e.Abort m)
-OwesApart R w e.Cleanup m = Follows R m.scene (does w e.Cleanup m)
-OwesApart R w other m = Unit {0}
 
 module _ (k : Subject) (R : Law) (l : Least k R) where
   contexts : ContextLeaves R
@@ -187,24 +167,7 @@ module _ (k : Subject) (R : Law) (l : Least k R) where
   unfolding does
   touch_owed w file m h = fallible_so R least_acts w m _ (descriptor_given file) h
 
-  apart_owed : (w : Option ℕ) (x : Element) (m : Moment) → OwesApart R w x m → Owes R w x m
-  unfolding does
-  apart_owed w (e.InTurn name x) m owed = apart_owed w x m owed
-  apart_owed w (e.Take role kind key) m owed = fallible_so R least_acts w m _ (at_owner role (λ owner. item_taken owner kind key)) (by_owner R least_acts role (λ owner. item_taken owner kind key) (λ owner. l.items.taken owner kind key))
-  apart_owed w (e.TakeNamed name key) m owed =
-      fallible_so R least_acts w m _ (at_kind name (λ kind. at_owner OfLevel (λ owner. item_taken owner kind key)))
-      (by_kind R least_acts name (λ kind. at_owner OfLevel (λ owner. item_taken owner kind key)) (λ kind. by_owner R least_acts OfLevel (λ owner. item_taken owner kind key) (λ owner. l.items.taken owner kind key)))
-  apart_owed w (e.EndPortal name) m owed = unfailing_so R least_acts m (at_portal name portal_ended) (by_portal_named R least_acts name portal_ended (portal_ends R least_acts l.items.phase l.items.released l.items.gone))
-  apart_owed w (e.MakePlan plan) m owed = fallible_so R least_acts w m _ (plan_made plan) (plans_one (sees_of k) (passing k) R l.sees refl refl (makes_context (sees_of k) (passing k) R l.sees refl refl refl (λ n parent name. refl)) plan)
-  apart_owed w (e.Register name) m owed = moves_owed R least_acts move_leaves w (e.Register name) m
-  apart_owed w (e.Reparent name parent) m owed = moves_owed R least_acts move_leaves w (e.Reparent name parent) m
-  apart_owed w other m owed = owed
-
-  -- An element keeps the law where what is owed for it holds.
-  pub element_keeps : (w : Option ℕ) (x : Element) (m : Moment) → IsSpoken false x → OwesApart R w x m → Follows R m.scene (does w x m)
-  element_keeps w x m spoken owed = element_follows R least_leaves false w x m spoken (apart_owed w x m owed)
-
--- where all ends keep the law, in any scene, what is owed apart holds but for an owner that is made, a lock that is taken or given back, a file that is used and a snapshot that is pushed
+-- where all ends keep the law, in any scene, what is owed holds but for an owner that is made, a lock that is taken or given back, a file that is used and a snapshot that is pushed
 abbrev pub OwesUnlocks : Law → Option ℕ → Element → Moment → Type 0
 OwesUnlocks R w (e.InTurn name x) m = OwesUnlocks R w x m
 OwesUnlocks R w (e.MakeOwner role) m = Follows R m.scene (does w (e.MakeOwner role) m)

@@ -2,7 +2,7 @@
 use Rattle.session_laws.proofs.Words.{◌≡◌, ℕ, Bool, true, false, List, Option, refl, ◌+◌, ◌<◌, ◌≤◌, All, [], ◌∷◌, ◌++◌, Some, None, ap, ◌∙◌, subst, inl, inr, arith, ◌≢◌, zero, suc, ◌-◌, nat_le, IsTrue, sym, drop, ◌==◌, ◌&&◌, option_and_then, option_map_or, and_from, cases_Bool, and_parts, both_ways, cases_eq, eq-eqb, eqb-true, ne_eqb, or_cases, All-head, All-tail, has}
 use Rattle.session_laws.proofs.Scenes.{Error, What, Moment, Scene, Element, OfLevel, LevelContext, NewContext, OfPortal, OwnerRole, PortalContext, RowContext, ScriptContext, Text, at_owner, lock_given_back, descriptor_given, lock_taken, snapshot_pushed, does, does_all, failing_turn, then_done, exited, recovered, Command, KindTable, LevelState, OpenPortal, cache_context, first_of, level_above, level_owner, owner_of, portals_context, top_context, context_named, portal_named, Ended, where_there, context_made, level_parent, new_context_made, new_owner_made, owner_made, plan_made, Done, fallible, refused_call, unless_refused, AreLevels, IsPortal, Stands, StandsBetweenLines, line_elements, turn, turn_of, table_of}
 use Rattle.session_laws.proofs.Rules.{Acts, EndLeaves, Follows, IsSpoken, OwesMakes, AreSpoken, IsRun, by_owner, element_follows, fallible_so, levels_owed, moves_owed, unfailing_so, ends_owed, exit_follows, recovers, AreSaid, said_both, said_one, said_more, said_none, Sight, item_comes, no_part, unseen_keys, unseen_owners, line_spoken, Meets, line_runs, Reader, allows_all, seen_after, allows_all-append, BalancesFrom, count, covers, left}
-use Rattle.session_laws.proofs.Usual.{Usual, is_usual, level_words, usual_ends, usual_files, usual_locked, usual_moves, usual_pushed, usual_unlocked}
+use Rattle.session_laws.proofs.Usual.{Usual, is_usual, usual_files, usual_locked, usual_moves, usual_pushed, usual_unlocked, plain_ends}
 use Rattle.session_rules.proofs.ContextsKept.{protected_has, top_protected}
 use Rattle.session_rules.proofs.NamesStand.{named_there}
 use Rattle.session_rules.proofs.PortalsStand.{Named, named_in}
@@ -39,7 +39,7 @@ usual = assumption usual_unmade
 
 unmade_ends : EndLeaves NoneMade
 unmade_ends =
-    usual_ends sight usual refl refl refl (level_words is_unmade (λ level. (refl, refl, refl, refl))) (λ item n. refl) (unseen_keys no_part is_unmade NoneMade sight refl)
+    plain_ends sight usual (unseen_keys no_part is_unmade NoneMade sight refl) refl refl refl (λ level. (refl, refl, refl, refl)) (λ item n. refl) (λ n. refl) (λ n parent. refl)
     (unseen_owners no_part is_unmade NoneMade sight refl (λ item n. refl) (λ item n. refl) (item_comes no_part is_unmade NoneMade sight refl refl (λ item n. refl)))
 
 abbrev acts : Acts NoneMade

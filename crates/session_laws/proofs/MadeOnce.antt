@@ -145,7 +145,7 @@ shedding_life kinds =
     let c : IsLife kinds growing_contexts HasContexts opening_contexts (λ growth. growth.nodes ≡ []) = contexts_life kinds in
     let o : IsLife kinds growing_owners HasOwners opening_owners (λ growth. growth.nodes ≡ []) = owners_life kinds in
     record {
-      opens = λ around same. let x : HasContexts opening_contexts _ = c.opens around same in let y : HasOwners opening_owners _ = o.opens around same in record { contexts = x.fits; owners = y.fits };
+      opens = λ around same. record { contexts = (c.opens around same).fits; owners = (o.opens around same).fits };
       elsewhere = λ parents session a b same h. record {
         contexts = record { tree = h.contexts.tree; below = h.contexts.below };
         owners = record { tree = h.owners.tree; below = h.owners.below };

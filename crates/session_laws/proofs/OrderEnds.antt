@@ -1,8 +1,8 @@
 -- A reader of releases, where none is open, as one opens, and as it closes.
 use Rattle.session_laws.proofs.Words.{◌≡◌, ℕ, Bool, true, false, not, List, [], ◌∷◌, ◌++◌, map, Option, Some, None, refl, sym, subst, codes, ◌∙◌, ◌+◌, ◌<◌, cond, All, ap, arith, ◌≤◌, length, option_and_then, ◌==◌, option_map_or, list_all, and_from, All-cons, All-filter, All-nil, All-weaker, Empty, Node, AllNodes, children, order}
 use Rattle.session_laws.proofs.Scenes.{What, KindTable, portals_context, opening, LevelState, OpenPortal, deepest_changed, depth, first_of, level_owner, owner_of, top_context, Moment, Scene, Around, Element, Text, new_context_made, owner_made, owner_gone, descriptor_left, owner_moved, owner_released, does, Item, Phase, BeforeLocks, Locks, AfterLocks, table_of, is_of, without_newest, is_of_phase, Owner, OwnerTree, remembered, own_released, IsInOrder, Lock, has_owner, Ended, changes, context_gone, for_each, in_order, portal_gone, switched, where_so, where_there, portal_aborted, portal_closed, portal_passed, aborted, cleaned_up, committed, empty_context_gone, level_context_gone, level_owner_gone, level_popped, level_released, stack_lowered, stack_popped, subcommitted, switched_up, Stands, active_depth}
-use Rattle.session_laws.proofs.Rules.{allows_all, seen_after, allows_all-append, seen_after-append, AreSaid, said_more, said_none, said_both, said_one, said_pops, Acts, Follows, Keeps, last, next, EndLeaves, Law, MakeLeaves, Leaves, OwnerLeaves, ContextLeaves, KeyLeaves, Part, Sight, acts_of, children_go, goes, item_comes, item_goes, leaves_of, of_levels, owner_goes, owner_makes, phase_so, places, releases, taken_so, unseen_keys, unseen_owners, end_leaves_of, of_kinds, of_locks, of_next_serial, of_owners, owner_moves, by_order, moves_owed, by_each, by_so, by_there, all_swept, begins, off_begins, owner_when_active, resettled, settled, switched_off, aborted_leads, empty_context_goes, level_context_goes, portal_aborts, portal_cleans, portal_closes, portal_passes}
-use Rattle.session_laws.proofs.Usual.{Usual, any, usual_any, is_usual, usual_contexts, usual_files, usual_locked, usual_locks, usual_made, usual_moves, usual_placed, usual_planned, usual_pushed, usual_stack, usual_unlocked, usual_words}
+use Rattle.session_laws.proofs.Rules.{allows_all, seen_after, allows_all-append, seen_after-append, AreSaid, said_more, said_none, said_both, said_one, said_pops, Acts, Follows, Keeps, last, next, EndLeaves, Law, MakeLeaves, Leaves, OwnerLeaves, KeyLeaves, Part, Sight, acts_of, children_go, goes, item_comes, item_goes, leaves_of, of_levels, owner_goes, owner_makes, places, releases, unseen_keys, unseen_owners, of_kinds, of_locks, of_next_serial, of_owners, owner_moves, by_order, moves_owed, by_each, by_so, by_there, all_swept, begins, off_begins, owner_when_active, resettled, settled, switched_off, aborted_leads, empty_context_goes, level_context_goes, portal_aborts, portal_cleans, portal_closes, portal_passes}
+use Rattle.session_laws.proofs.Usual.{Usual, any, usual_any, is_usual, usual_contexts, usual_files, usual_locked, usual_locks, usual_made, usual_moves, usual_placed, usual_planned, usual_pushed, usual_stack, usual_unlocked, usual_words, usual_ends, usual_released, usual_taken, usual_phase}
 use Rattle.lifetime_laws.specs.Order.{Batch, Member, Owned, Releasing, batch_behind, may_precede, member_in, member_now, members_so_far, ordering}
 use Rattle.lifetime_laws.specs.Parents.{owners_behind}
 use Rattle.session_laws.proofs.Parents.{Growth, growing_owners, FitsOwners}
@@ -215,9 +215,6 @@ unlined_usual = assumption usual_unlined
 owners : OwnerLeaves Unlined
 owners = unseen_owners sees_levels is_unlined Unlined unlined_sight refl (λ item n. refl) (λ item n. refl) (item_comes sees_levels is_unlined Unlined unlined_sight refl refl (λ item n. refl))
 
-contexts : ContextLeaves Unlined
-contexts = usual_contexts unlined_sight unlined_usual
-
 keys : KeyLeaves Unlined
 keys = unseen_keys sees_levels is_unlined Unlined unlined_sight refl
 
@@ -226,19 +223,19 @@ gone_mild = owner_goes sees_levels is_unlined Unlined unlined_sight refl (λ n. 
 
 work_leaves : WorkLeaves Unlined
 work_leaves = record {
-  leaves = leaves_of sees_levels is_unlined Unlined unlined_sight refl refl contexts (usual_words unlined_sight unlined_usual)
-      (releases sees_levels is_unlined Unlined unlined_sight refl refl contexts.gone contexts.children (usual_files unlined_sight unlined_usual).closed keys.closed (item_goes sees_levels is_unlined Unlined unlined_sight refl (λ item n. refl)));
+  leaves = leaves_of sees_levels is_unlined Unlined unlined_sight refl refl (usual_contexts unlined_sight unlined_usual) (usual_words unlined_sight unlined_usual)
+      (usual_released unlined_sight unlined_usual keys (item_goes sees_levels is_unlined Unlined unlined_sight refl (λ item n. refl)));
   moves = usual_moves unlined_sight unlined_usual;
   made = usual_made unlined_sight unlined_usual (λ n parent name. refl);
   planned = usual_planned unlined_sight unlined_usual (λ n parent name. refl);
   owner = owner_makes sees_levels is_unlined Unlined unlined_sight refl refl (λ n. refl) (λ n parent. refl);
-  taken = taken_so sees_levels is_unlined Unlined unlined_sight refl refl owners (usual_files unlined_sight unlined_usual) keys;
+  taken = usual_taken unlined_sight unlined_usual keys owners;
   locked = usual_locked unlined_sight unlined_usual refl;
   unlocked = usual_unlocked unlined_sight unlined_usual refl;
   used = (usual_files unlined_sight unlined_usual).used;
   pushed = usual_pushed unlined_sight unlined_usual;
   popped = (usual_stack unlined_sight unlined_usual).popped;
-  phase = phase_so sees_levels is_unlined Unlined unlined_sight refl refl contexts.gone contexts.children (usual_files unlined_sight unlined_usual).closed keys.closed owners (usual_locks unlined_sight unlined_usual refl);
+  phase = usual_phase unlined_sight unlined_usual keys owners (usual_locks unlined_sight unlined_usual refl);
   discarded = gone_mild;
 }
 
@@ -347,25 +344,23 @@ module _ (kinds : KindTable) where
 
   pub base_leaves : EndLeaves R
   base_leaves =
-      end_leaves_of sees_base any R base_sight refl refl (usual_contexts base_sight usual) (usual_words base_sight usual) (λ event h. refl)
-      (record {
+      usual_ends base_sight usual (record {
+        opened = λ place key. record { so = λ s. same s _ _ refl refl refl (table-opened s.around.kinds place key) };
+        closed = λ place key. record { so = λ s. same s _ _ refl refl refl (table-closed s.around.kinds place key) };
+      }) refl (λ event h. refl) (record {
         releasing = λ item n. record { so = λ s. record { so = λ h. h } };
         warned = λ item n s. record { so = λ h. h };
         remembered = λ n kind key. record {
           so = λ s. record { so = λ h. record { places = h.places; locks = h.locks; items = recalled n (record { kind = kind; key = key; serial = s.session.next_serial }) s.session.owners h.items } };
         };
         swept = λ places phase n s. owners_change s _ (all_swept (own_released places phase) (Recalls s.session.next_serial) n s.session.owners (released_recalls places phase s.session.next_serial));
-      })
-      (λ n kind key item s is. owners_change s _
-      (all_changed (Recalls s.session.next_serial) n (λ owner. record owner { items = without_newest (is_of kind key) owner.items }) s.session.owners (forget s.session.next_serial (is_of kind key)))) (record {
+      }) (record {
         let_go = λ owner. record { so = λ s. locks_change s _ (λ h. IsInOrder-filter has_owner (map (without owner) s.session.locks) (IsInOrder-map (without owner) (keeps-without owner) s.session.locks h)) };
         passed = λ from to. record { so = λ s. locks_change s _ (IsInOrder-map (passed_lock from to) (keeps-passed from to) s.session.locks) };
         all_gone = λ top. record { so = λ s. locks_change s [] (λ h. tt) };
       })
-      (usual_files base_sight usual) (record {
-        opened = λ place key. record { so = λ s. same s _ _ refl refl refl (table-opened s.around.kinds place key) };
-        closed = λ place key. record { so = λ s. same s _ _ refl refl refl (table-closed s.around.kinds place key) };
-      }) refl (usual_stack base_sight usual)
+      (λ n kind key item s is. owners_change s _
+      (all_changed (Recalls s.session.next_serial) n (λ owner. record owner { items = without_newest (is_of kind key) owner.items }) s.session.owners (forget s.session.next_serial (is_of kind key))))
       (λ n. record { so = λ s. owners_change s _ (all_removed (Recalls s.session.next_serial) n s.session.owners) }) (λ n parent. record { so = λ s. owners_change s _ (all_moved (Recalls s.session.next_serial) n parent s.session.owners) })
 
   base_makes : MakeLeaves R

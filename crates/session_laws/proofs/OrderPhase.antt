@@ -1,47 +1,15 @@
 -- The three phases of a release, of an owner and all below it.
-use Rattle.session_laws.proofs.Words.{◌≡◌, ℕ, ◌<◌, Bool, true, false, not, if◌then◌else◌, List, [], ◌++◌, All, Option, Some, None, refl, sym, subst, ap, ◌∙◌, inl, inr, arith, ◌==◌, ◌||◌, option_map_or, cases_Bool, cond-false, cond-true, both_ways, eq-eqb, false_from_ne_true, ne_eqb, or_left, or_right, append-nil, All-append, All-nil, All-weaker, Forest, Empty, Node, Once, AllNodes, at, children, has, parent_of, size, times, all_changed, swept, Apart, apart_of, first_child_other, has_at, has_children}
+use Rattle.session_laws.proofs.Words.{◌≡◌, ℕ, ◌<◌, Bool, true, false, not, if◌then◌else◌, List, [], ◌++◌, All, Option, Some, None, refl, sym, subst, ap, ◌∙◌, inl, inr, arith, ◌==◌, ◌||◌, option_map_or, cond-false, cond-true, both_ways, eq-eqb, false_from_ne_true, ne_eqb, or_left, or_right, append-nil, All-append, All-nil, All-weaker, Forest, Empty, Node, Once, AllNodes, at, children, has, parent_of, Apart, apart_of, first_child_other, has_at, has_children}
 use Rattle.session_laws.proofs.Scenes.{What, Phase, BeforeLocks, Locks, AfterLocks, is_of_phase, KindTable, table_of, Owner, OwnerTree, own_released, Step, own_steps, release_steps, steps_below, top_locks, IsInOrder, Scene, Ended, for_each, owner_released, phase_released, step_done}
-use Rattle.session_laws.proofs.Rules.{all_swept, has_swept, parent_swept}
+use Rattle.session_laws.proofs.Rules.{all_swept}
+use Rattle.session_laws.proofs.ParentsLife.{fits_alike}
 use Rattle.forest.proofs.Walks.{children_in, once_children}
 use Rattle.lifetime_laws.specs.Parents.{is_above}
 use Rattle.lifetime_laws.specs.Order.{Member, owner_of, place_of, place_of_phase}
 use Rattle.session_rules.proofs.Guarded.{all_at, all_children}
 use Rattle.session_laws.proofs.OrderSteps.{Adds, AreApart, adds_both, adds_none, falling_filter, Grows, IsOwn, Releases, each_both, own_release, releases_both, releases_none, releases_weaker, AreClear, AreWalked, Falls, IsClear, IsOf, Splits, below_release, may_release, owner_locks}
-use Rattle.session_laws.proofs.Parents.{FitsTree, same_above}
+use Rattle.session_laws.proofs.Parents.{FitsTree, same_above, alike_swept}
 use Rattle.lifetime_laws.specs.Parents as replayed
-
-module _ {A : Type 0} (f : A → A) where
-  times_all : (m : ℕ) (t : Forest A) → times m (all_changed f t) ≡ times m t
-  times_all m Empty = refl
-  times_all m (Node k a below beside) = omega (arith, times_all m below, times_all m beside)
-
-  times_swept : (m n : ℕ) (t : Forest A) → times m (swept f n t) ≡ times m t
-  times_swept m n Empty = refl
-  times_swept m n (Node k a below beside) = elim (cases_Bool (k == n)) [
-    | inl y ↦ rw y (omega (arith, times_all m below, times_swept m n beside))
-    | inr y ↦ rw y (omega (arith, times_swept m n below, times_swept m n beside))
-  ]
-
-  size_all : (t : Forest A) → size (all_changed f t) ≡ size t
-  size_all Empty = refl
-  size_all (Node k a below beside) = omega (arith, size_all below, size_all beside)
-
-  size_swept : (n : ℕ) (t : Forest A) → size (swept f n t) ≡ size t
-  size_swept n Empty = refl
-  size_swept n (Node k a below beside) = elim (cases_Bool (k == n)) [
-    | inl y ↦ rw y (omega (arith, size_all below, size_swept n beside))
-    | inr y ↦ rw y (omega (arith, size_swept n below, size_swept n beside))
-  ]
-
-  -- other data at some nodes leaves the replayed parents as they are
-  pub fits_swept : (n : ℕ) (nodes : List replayed.Node) (t : Forest A) → FitsTree nodes t → FitsTree nodes (swept f n t)
-  fits_swept n nodes t h = record {
-    once = record { once = λ m. omega (arith, times_swept m n t, h.once.once m) };
-    there = λ m. h.there m ∙ sym (has_swept f m n t);
-    parent = λ m. h.parent m ∙ sym (parent_swept f m n t);
-    single = h.single;
-    length = h.length ∙ sym (size_swept n t);
-  }
 
 -- a number of a part of a tree has its children there
 record IsInside {A : Type 0} (x : ℕ) (part whole : Forest A) : Type 0 where
@@ -188,7 +156,7 @@ module _ (nodes : List replayed.Node) (phase : Phase) (commit top : Bool) (n : �
       let change : Owner → Owner = own_released kinds phase in
       record {
         grows = subst (Grows kinds nodes (not commit) (IsAt (place_of_phase phase)) old) (sym (append-nil (for_each step_done steps s).events)) r.grows;
-        fit = fits_swept change n nodes (for_each step_done steps s).scene.session.owners (subst (FitsTree nodes) (sym r.stays.owners) fit);
+        fit = fits_alike nodes (for_each step_done steps s).scene.session.owners _ (alike_swept change n (for_each step_done steps s).scene.session.owners) (subst (FitsTree nodes) (sym r.stays.owners) fit);
         places = r.stays.kinds;
         falls = all_swept change Falls n (for_each step_done steps s).scene.session.owners (still_falls kinds phase) (subst (AllNodes Falls) (sym r.stays.owners) falls);
         locks = r.stays.locks order;

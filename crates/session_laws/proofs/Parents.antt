@@ -2,6 +2,7 @@
 use Rattle.session_laws.proofs.Words.{◌≡◌, ◌≢◌, ℕ, zero, suc, ◌+◌, ◌<◌, ◌≤◌, Bool, true, false, not, List, [], ◌∷◌, length, Option, Some, None, refl, sym, ap, ◌∙◌, subst, unwrap_or, inl, inr, arith, ◌++◌, append-nil, if◌then◌else◌, ◌==◌, ◌||◌, ◌&&◌, option_map_or, both_ways, cases_Bool, cases_eq, cond-true, eq-eqb, eqb-true, false_from_ne_true, ne_eqb, or_from, or_parts, and_from, Forest, Empty, Node, Once, children, has, is_above, moved, parent_of, put, removed, size, times, with_children, at, changed, mapped, Moves, at_some, has_at, has_none, has_some, once_front, once_moved, once_put, parent_stays, removed_has, size_moved, size_put, size_removed, times_moved, times_none, times_some, Apart, apart_of, first_child_other, has_children, once_removed, removed_absent, lead, order, order_at, all_changed, swept}
 use Rattle.session_laws.proofs.Scenes.{Scene, Context, Contexts, callbacks, emptied, What}
 use Rattle.session_laws.proofs.Rules.{at_put, children_put, has_left, has_put_other, once_left, parent_left, parent_put, parent_put_other, emptied_absent, has_emptied, is_one_of, Reader, allows_all, seen_after, AreSaid, said_more, said_none}
+use Rattle.forest.proofs.Mapped.{mapped-times}
 use Rattle.forest.specs.Preorder.{level}
 use Rattle.forest.proofs.Moved.{above_by_parent, above_none, below_parent, level_up}
 use Rattle.forest.proofs.Neighbours.{parent_absent}
@@ -27,14 +28,17 @@ pub record FitsTree {A : Type 0} (nodes : List Kept) (t : Forest A) : Type 0 whe
   pub single : AreSingle nodes
   pub length : length nodes ≡ size t
 
--- The replayed contexts are those of the session, and so are the owners; each number is below the next one.
-pub record FitsContexts (nodes : List Kept) (s : Scene) : Type 0 where
-  pub tree : FitsTree nodes s.session.contexts
-  pub below : (n : ℕ) → has n s.session.contexts ≡ true → n < s.session.next_context
+-- besides, each number is below the next one
+pub record FitsBelow {A : Type 0} (nodes : List Kept) (t : Forest A) (next : ℕ) : Type 0 where
+  pub tree : FitsTree nodes t
+  pub below : (n : ℕ) → has n t ≡ true → n < next
 
-pub record FitsOwners (nodes : List Kept) (s : Scene) : Type 0 where
-  pub tree : FitsTree nodes s.session.owners
-  pub below : (n : ℕ) → has n s.session.owners ≡ true → n < s.session.next_owner
+-- The replayed contexts are those of the session, and so are the owners.
+abbrev pub FitsContexts : List Kept → Scene → Type 0
+FitsContexts nodes s = FitsBelow nodes s.session.contexts s.session.next_context
+
+abbrev pub FitsOwners : List Kept → Scene → Type 0
+FitsOwners nodes s = FitsBelow nodes s.session.owners s.session.next_owner
 
 -- nodes without one
 pub still_away : (m n : ℕ) (nodes : List Kept) → is_there m nodes ≡ false → is_there m (without n nodes) ≡ false
@@ -343,6 +347,9 @@ module _ {A : Type 0} where
 
   pub alike_swept : (f : A → A) (n : ℕ) (t : Forest A) → AreAlike t (swept f n t)
   alike_swept f n t = record { shape = shape_swept f n t }
+
+  pub once_alike : (t u : Forest A) → AreAlike t u → Once t → Once u
+  once_alike t u h once = record { once = λ n. omega (arith, once.once n, sym (mapped-times bare n u) ∙ ap (times n) h.shape ∙ mapped-times bare n t) }
 
 -- a context is reset
 pub alike_alone : (n : ℕ) (t : Contexts) → AreAlike t (ends.cleared_alone n t).contexts

@@ -1,12 +1,13 @@
 -- The replayed contexts are those of the session, whatever a line does.
 use Rattle.session_laws.proofs.Words.{◌≡◌, ℕ, ◌+◌, ◌<◌, Bool, true, false, List, [], ◌∷◌, Some, None, refl, sym, ap, ◌∙◌, subst, inl, inr, arith, zero, suc, length, map, Option, ◌==◌, ◌&&◌, ◌||◌, and_from, cases_Bool, cases_eq, eq-eqb, false_from_ne_true, ne_eqb, Forest, Empty, Node, Once, at, children, has, moved, parent_of, put, size, times, with_children, removed, order, order_at, Moves, at_absent, at_some, has_of_removed, has_some, put_absent, removed_absent, times_moved, times_some, nat_tests}
-use Rattle.session_laws.proofs.Scenes.{What, CtxKind, Hook, Context, Contexts, is_child, move_events, new_context, placed_under, gone_events, Scene, Around, Text, children_gone, context_cleared, context_cleared_alone, context_gone, context_moved, context_made, owner_made, hook_waits, item_taken, KindTable, opening, KindId, Phase, Owner, OwnerTree, own_released, owner_gone, owner_moved, phase_released}
-use Rattle.session_laws.proofs.Rules.{has_put_other, times_emptied, EndLeaves, Keeps, Law, LevelLeaves, MakeLeaves, MoveLeaves, is_level_word, is_word, AreSaid, said_alone, said_map, said_weaker, said_more, said_none, said_one, of_contexts, of_next_context, ContextLeaves, FileLeaves, KeyLeaves, Part, Sight, hook_waits_so, level_leaves_of, locks_one, makes_context, moves_context, of_next_owner, of_owners, phase_so, places, plans_one, pushes, releases, taken_so, unlocks, unseen_contexts, unseen_files, unseen_keys, unseen_locks, unseen_stack, seen_after, OwnerLeaves, moves_owed}
-use Rattle.forest.proofs.Mapped.{mapped-has, mapped-parent, mapped-size, mapped-times}
+use Rattle.session_laws.proofs.Scenes.{What, CtxKind, Hook, Contexts, is_child, move_events, new_context, placed_under, gone_events, Scene, Around, Text, children_gone, context_cleared, context_cleared_alone, context_gone, context_moved, context_made, owner_made, hook_waits, item_taken, KindTable, opening, KindId, Phase, Owner, OwnerTree, own_released, owner_gone, owner_moved, phase_released}
+use Rattle.session_laws.proofs.Rules.{has_put_other, times_emptied, EndLeaves, Keeps, Law, LevelLeaves, MakeLeaves, MoveLeaves, AreSaid, said_alone, said_map, said_weaker, said_more, said_none, said_one, of_contexts, of_next_context, KeyLeaves, Part, Sight, of_next_owner, of_owners, unseen_keys, seen_after, OwnerLeaves, moves_owed, Reader, allows_all}
+use Rattle.session_laws.proofs.Usual.{Usual, is_usual, level_words, usual_levels, usual_locks, usual_makes, usual_moves, usual_phase, usual_taken}
+use Rattle.forest.proofs.Mapped.{mapped-has, mapped-parent, mapped-size}
 use Rattle.session_rules.proofs.Aside.{ContextLaw, context_ends, is_apart, context_makes}
 use Rattle.lifetime_laws.specs.Parents.{Node as Kept, is_there, placed_where, first_contexts}
 use Rattle.session_laws.proofs.Lives.{Reads, read_both, IsLife, OwesTurns, life_by, owes_by}
-use Rattle.session_laws.proofs.Parents.{FitsContexts, FitsTree, fits_moved, fits_put, Plucked, plucked_children, plucked_gone, AreAlike, alike_alone, alike_changed, alike_same, bare, AreRead, Growth, IsPruned, Takes, growing_contexts, is_not_of_contexts, passed_context, pruned, read_past, taken_context, takes_both, takes_none, takes_one, takes_past, takes_quiet, FitsOwners, fits_front, alike_swept, growing_owners, is_not_of_owners, passed_owner, taken_owner}
+use Rattle.session_laws.proofs.Parents.{FitsTree, fits_moved, fits_put, Plucked, plucked_children, plucked_gone, AreAlike, alike_alone, alike_changed, alike_same, bare, AreRead, Growth, IsPruned, Takes, growing_contexts, is_not_of_contexts, passed_context, pruned, read_past, taken_context, takes_both, takes_none, takes_one, takes_past, takes_quiet, fits_front, alike_swept, growing_owners, is_not_of_owners, passed_owner, taken_owner, once_alike, FitsBelow}
 use Rattle.session_rules.proofs.ContextsKept.{moves_by}
 use Rattle.session_rules.proofs.Meeting.{StandingMoves, standing_moves}
 use Rattle.session_laws.proofs.OwnerEnds.{OwnerEnds, owes_where}
@@ -15,13 +16,22 @@ use Rattle.context_rules.specs.Ends as ends
 use Rattle.context_rules.specs.Opening as contexts
 use Rattle.lifetime_laws.specs.Parents as replayed
 
--- what is seen of a session's contexts
-pub record HasContexts (growth : Growth) (s : Scene) : Type 0 where
-  pub fits : FitsContexts growth.nodes s
-  pub next : growth.next ≡ s.session.next_context
+-- what is seen of a tree of a session
+pub record HasGrown {A : Type 0} (growth : Growth) (t : Forest A) (count : ℕ) : Type 0 where
+  pub fits : FitsBelow growth.nodes t count
+  pub next : growth.next ≡ count
+
+abbrev pub HasContexts : Growth → Scene → Type 0
+HasContexts growth s = HasGrown growth s.session.contexts s.session.next_context
+
+abbrev pub HasOwners : Growth → Scene → Type 0
+HasOwners growth s = HasGrown growth s.session.owners s.session.next_owner
 
 abbrev pub KeepsContexts : Law
 KeepsContexts = Reads growing_contexts HasContexts
+
+abbrev pub KeepsOwners : Law
+KeepsOwners = Reads growing_owners HasOwners
 
 -- trees of one shape
 module _ {A : Type 0} where
@@ -30,7 +40,7 @@ module _ {A : Type 0} where
 
   pub fits_alike : (nodes : List Kept) (t u : Forest A) → AreAlike t u → FitsTree nodes t → FitsTree nodes u
   fits_alike nodes t u h f = record {
-    once = record { once = λ n. omega (arith, f.once.once n, sym (mapped-times bare n u) ∙ ap (times n) h.shape ∙ mapped-times bare n t) };
+    once = once_alike t u h f.once;
     there = λ n. f.there n ∙ sym (alike_has n t u h);
     parent = λ n. f.parent n ∙ sym (sym (mapped-parent bare n u) ∙ ap (parent_of n) h.shape ∙ mapped-parent bare n t);
     single = f.single;
@@ -56,19 +66,46 @@ module _ {A : Type 0} where
       let same : times m (moved n p t) ≡ times m t = rw a.1 (times_moved m n p a.0 t o w) in
       has_some m t (omega (arith, same, times_some m (moved n p t) u))
 
+-- what is read of events, and is seen of the tree behind them
+record GrowsTo {A : Type 0} (reader : Reader Growth) (growth : Growth) (u : Forest A) (count : ℕ) (events : List What) : Type 0 where
+  allowed : allows_all reader growth events ≡ true
+  fits : HasGrown (seen_after reader growth events) u count
+
+module _ {A : Type 0} (t : Forest A) (n : ℕ) (growth : Growth) (h : HasGrown growth t n) where
+  -- what leaves the tree as it is
+  past_grows : (reader : Reader Growth) (u : Forest A) (m : ℕ) (events : List What) → AreAlike t u → m ≡ n → Takes reader [] events → GrowsTo reader growth u m events
+  past_grows reader u m events alike same past =
+      let k : AreRead reader growth events = read_past reader past growth in
+      let now : HasGrown growth u m = record {
+        fits = record { tree = fits_alike growth.nodes t u alike h.fits.tree; below = λ x v. subst (λ (y : ℕ). x < y) (sym same) (h.fits.below x (sym (alike_has x t u alike) ∙ v)) };
+        next = h.next ∙ sym same;
+      } in
+      record { allowed = k.allowed; fits = subst (λ (g : Growth). HasGrown g u m) (sym k.same) now }
+
+  -- nodes that go
+  left_grows : (reader : Reader Growth) (u : Forest A) (ns : List ℕ) (events : List What) → Plucked ns t u → Takes reader ns events → ((m : ℕ) → has m u ≡ true → has m t ≡ true) → GrowsTo reader growth u n events
+  left_grows reader u ns events plucked takes within =
+      let k : IsPruned reader growth u events = pruned reader takes plucked growth h.fits.tree in
+      record { allowed = k.allowed; fits = record { fits = record { tree = k.tree; below = λ m v. h.fits.below m (within m v) }; next = k.next ∙ h.next } }
+
+  -- a node that is made below another one, and one that moves
+  made_grows : (p : ℕ) (a : A) → HasGrown (record { nodes = placed_where (is_there p growth.nodes) n (Some p) growth.nodes; next = growth.next + 1 }) (put p n a Empty t) (n + 1)
+  made_grows p a = record {
+    fits = record { tree = made_fits p n a growth.nodes t h.fits.tree h.fits.below; below = λ m v. put_has m p n a t h.fits.below v };
+    next = ap (λ (k : ℕ). k + 1) h.next;
+  }
+
+  moved_grows : (m p : ℕ) → Moves m p t → HasGrown (record { nodes = placed_where (is_there m growth.nodes && is_there p growth.nodes) m (Some p) growth.nodes; next = growth.next }) (moved m p t) n
+  moved_grows m p w =
+      let node : is_there m growth.nodes ≡ true = h.fits.tree.there m ∙ w.node in
+      let parent : is_there p growth.nodes ≡ true = h.fits.tree.there p ∙ w.parent in
+      let tree : FitsTree (placed_where (is_there m growth.nodes && is_there p growth.nodes) m (Some p) growth.nodes) (moved m p t) = rw (node, parent) (fits_moved m p growth.nodes t h.fits.tree w) in
+      record { fits = record { tree = tree; below = λ x v. h.fits.below x (moved_has x m p t h.fits.tree.once w v) }; next = h.next }
+
 -- what leaves the contexts as they are
 pub contexts_past : (s t : Scene) {events : List What} → AreAlike s.session.contexts t.session.contexts → t.session.next_context ≡ s.session.next_context → Takes growing_contexts [] events → KeepsContexts s t events
 contexts_past s t {events = events} alike next past = record {
-  so = λ growth h.
-      let k : AreRead growing_contexts growth events = read_past growing_contexts past growth in
-      let now : HasContexts growth t = record {
-        fits = record {
-          tree = fits_alike growth.nodes s.session.contexts t.session.contexts alike h.fits.tree;
-          below = λ n u. subst (λ (m : ℕ). n < m) (sym next) (h.fits.below n (sym (alike_has n s.session.contexts t.session.contexts alike) ∙ u));
-        };
-        next = h.next ∙ sym next;
-      } in
-      record { allowed = k.allowed; fits = subst (λ (g : Growth). HasContexts g t) (sym k.same) now };
+  so = λ growth h. let k = past_grows s.session.contexts s.session.next_context growth h growing_contexts t.session.contexts t.session.next_context events alike next past in record { allowed = k.allowed; fits = k.fits };
 }
 
 -- contexts that go
@@ -78,33 +115,15 @@ takes_gone (Node n c below beside) =
     takes_both growing_contexts (takes_gone below)
     (takes_both growing_contexts (takes_quiet growing_contexts passed_context (said_map (λ (hook : Hook). what.Callback hook.word n) (λ hook. refl) c.hooks)) (takes_one (taken_context n) (takes_gone beside)))
 
--- what is left of contexts where some went
-left_so : (s : Scene) (ended : ends.Ended) (ns : List ℕ) → (Once s.session.contexts → Plucked ns s.session.contexts ended.contexts) → Takes growing_contexts ns ended.events
-    → ((m : ℕ) → Once s.session.contexts → has m ended.contexts ≡ true → has m s.session.contexts ≡ true) → (t : Scene) → t.session.contexts ≡ ended.contexts → t.session.next_context ≡ s.session.next_context
-    → KeepsContexts s t ended.events
-left_so s ended ns plucks takes within t is next = record {
-  so = λ growth h.
-      let o : Once s.session.contexts = h.fits.tree.once in
-      let k : IsPruned growing_contexts growth ended.contexts ended.events = pruned growing_contexts takes (plucks o) growth h.fits.tree in
-      record {
-        allowed = k.allowed;
-        fits = record {
-          fits = record {
-            tree = subst (λ (u : Contexts). FitsTree (seen_after growing_contexts growth ended.events).nodes u) (sym is) k.tree;
-            below = λ n u. subst (λ (m : ℕ). n < m) (sym next) (h.fits.below n (within n o (ap (has n) (sym is) ∙ u)));
-          };
-          next = k.next ∙ h.next ∙ sym next;
-        };
-      };
-}
-
 gone_so : (n : ℕ) (s : Scene) → KeepsContexts s (context_gone n s).scene (context_gone n s).events
 gone_so n s = elim (cases_Bool (has n s.session.contexts)) [
-  | inl y ↦
-      let a = at_some n s.session.contexts y in
-      left_so s (ends.gone n s.session.contexts) (order_at n s.session.contexts) (λ o. plucked_gone n s.session.contexts o y)
-      (rw a.1 (takes_gone (Node n a.0 (children n s.session.contexts) Empty)))
-      (λ m o u. has_of_removed m n s.session.contexts u) (context_gone n s).scene refl refl
+  | inl y ↦ record {
+    so = λ growth h.
+        let a = at_some n s.session.contexts y in
+        let k = left_grows s.session.contexts s.session.next_context growth h growing_contexts (removed n s.session.contexts) (order_at n s.session.contexts) (context_gone n s).events (plucked_gone n s.session.contexts h.fits.tree.once y)
+        (rw a.1 (takes_gone (Node n a.0 (children n s.session.contexts) Empty))) (λ m u. has_of_removed m n s.session.contexts u) in
+        record { allowed = k.allowed; fits = k.fits };
+  }
   | inr z ↦
       let none : at n s.session.contexts ≡ None = at_absent n s.session.contexts z in
       contexts_past s (context_gone n s).scene (subst (AreAlike s.session.contexts) (sym (removed_absent n s.session.contexts z)) (alike_same s.session.contexts)) refl (rw none takes_none)
@@ -114,27 +133,21 @@ emptied_has : (m n : ℕ) (t : Contexts) → Once t → has m (with_children n E
 emptied_has m n t o u = has_some m t (omega (arith, times_emptied m n t o, times_some m (with_children n Empty t) u))
 
 children_so : (n : ℕ) (s : Scene) → KeepsContexts s (children_gone n s).scene (children_gone n s).events
-children_so n s =
-    left_so s (ends.children_gone n s.session.contexts) (order (children n s.session.contexts)) (λ o. plucked_children n s.session.contexts o)
-    (takes_gone (children n s.session.contexts)) (λ m o u. emptied_has m n s.session.contexts o u) (children_gone n s).scene refl refl
+children_so n s = record {
+  so = λ growth h.
+      let k = left_grows s.session.contexts s.session.next_context growth h growing_contexts (with_children n Empty s.session.contexts) (order (children n s.session.contexts)) (children_gone n s).events
+      (plucked_children n s.session.contexts h.fits.tree.once) (takes_gone (children n s.session.contexts)) (λ m u. emptied_has m n s.session.contexts h.fits.tree.once u) in
+      record { allowed = k.allowed; fits = k.fits };
+}
 
 -- a context that is made
 made_so : (parent : ℕ) (name : Text) (protected : Bool) (kind : CtxKind) (s : Scene) → KeepsContexts s (context_made parent name protected kind s).scene (context_made parent name protected kind s).events
-made_so parent name protected kind s =
-    let n : ℕ = s.session.next_context in
-    let c : Context = new_context name kind protected in
-    record {
-      so = λ growth h. record {
-        allowed = and_from (n == growth.next) true (eq-eqb n growth.next (sym h.next)) refl;
-        fits = record {
-          fits = record {
-            tree = made_fits parent n c growth.nodes s.session.contexts h.fits.tree h.fits.below;
-            below = λ m u. put_has m parent n c s.session.contexts h.fits.below u;
-          };
-          next = ap (λ (k : ℕ). k + 1) h.next;
-        };
-      };
-    }
+made_so parent name protected kind s = record {
+  so = λ growth h. record {
+    allowed = and_from (s.session.next_context == growth.next) true (eq-eqb s.session.next_context growth.next (sym h.next)) refl;
+    fits = made_grows s.session.contexts s.session.next_context growth h parent (new_context name kind protected);
+  };
+}
 
 not_of_contexts : (event : What) → is_apart event ≡ true → is_not_of_contexts event ≡ true
 not_of_contexts (what.Create context name parent) h = absurd (cc h)
@@ -177,20 +190,7 @@ contexts_hook n hook = record { so = λ s. contexts_past s _ (alike_changed n _ 
 
 -- a context that moves
 moved_so : (n p : ℕ) (s : Scene) → Moves n p s.session.contexts → KeepsContexts s (record s { session = record s.session { contexts = moved n p s.session.contexts } }) (what.Move n p ∷ [])
-moved_so n p s w = record {
-  so = λ growth h.
-      let node : is_there n growth.nodes ≡ true = h.fits.tree.there n ∙ w.node in
-      let parent : is_there p growth.nodes ≡ true = h.fits.tree.there p ∙ w.parent in
-      let tree : FitsTree (placed_where (is_there n growth.nodes && is_there p growth.nodes) n (Some p) growth.nodes) (moved n p s.session.contexts) =
-      rw (node, parent) (fits_moved n p growth.nodes s.session.contexts h.fits.tree w) in
-      record {
-        allowed = refl;
-        fits = record {
-          fits = record { tree = tree; below = λ m u. h.fits.below m (moved_has m n p s.session.contexts h.fits.tree.once w u) };
-          next = h.next;
-        };
-      };
-}
+moved_so n p s w = record { so = λ growth h. record { allowed = refl; fits = moved_grows s.session.contexts s.session.next_context growth h n p w } }
 
 pub contexts_moved : (n p : ℕ) (s : Scene) → Moves n p s.session.contexts → KeepsContexts s (context_moved n p s).scene (context_moved n p s).events
 contexts_moved n p s w = go (is_child n p s.session.contexts)
@@ -274,27 +274,10 @@ contexts_life kinds =
 
 -- The replayed owners are those of the session, whatever it does but for owners that go or move.
 
--- what is seen of a session's owners
-pub record HasOwners (growth : Growth) (s : Scene) : Type 0 where
-  pub fits : FitsOwners growth.nodes s
-  pub next : growth.next ≡ s.session.next_owner
-
-abbrev pub KeepsOwners : Law
-KeepsOwners = Reads growing_owners HasOwners
-
 -- what leaves the owners as they are
 pub owners_past : (s t : Scene) {events : List What} → AreAlike s.session.owners t.session.owners → t.session.next_owner ≡ s.session.next_owner → Takes growing_owners [] events → KeepsOwners s t events
 owners_past s t {events = events} alike next past = record {
-  so = λ growth h.
-      let k : AreRead growing_owners growth events = read_past growing_owners past growth in
-      let now : HasOwners growth t = record {
-        fits = record {
-          tree = fits_alike growth.nodes s.session.owners t.session.owners alike h.fits.tree;
-          below = λ n u. subst (λ (m : ℕ). n < m) (sym next) (h.fits.below n (sym (alike_has n s.session.owners t.session.owners alike) ∙ u));
-        };
-        next = h.next ∙ sym next;
-      } in
-      record { allowed = k.allowed; fits = subst (λ (g : Growth). HasOwners g t) (sym k.same) now };
+  so = λ growth h. let k = past_grows s.session.owners s.session.next_owner growth h growing_owners t.session.owners t.session.next_owner events alike next past in record { allowed = k.allowed; fits = k.fits };
 }
 
 -- an owner that is made
@@ -325,20 +308,12 @@ owner_so None s =
         };
       };
     }
-owner_so (Some parent) s =
-    let n : ℕ = s.session.next_owner in
-    record {
-      so = λ growth h. record {
-        allowed = and_from (n == growth.next) true (eq-eqb n growth.next (sym h.next)) refl;
-        fits = record {
-          fits = record {
-            tree = made_fits parent n new_owner growth.nodes s.session.owners h.fits.tree h.fits.below;
-            below = λ m u. put_has m parent n new_owner s.session.owners h.fits.below u;
-          };
-          next = ap (λ (k : ℕ). k + 1) h.next;
-        };
-      };
-    }
+owner_so (Some parent) s = record {
+  so = λ growth h. record {
+    allowed = and_from (s.session.next_owner == growth.next) true (eq-eqb s.session.next_owner growth.next (sym h.next)) refl;
+    fits = made_grows s.session.owners s.session.next_owner growth h parent new_owner;
+  };
+}
 
 abbrev pub sees_owners : Part → Bool
 sees_owners of_owners = true
@@ -351,22 +326,15 @@ owners_sight = record {
   aside = λ s t same h. owners_past s t (subst (AreAlike s.session.owners) (sym (same.so of_owners refl)) (alike_same s.session.owners)) (same.so of_next_owner refl) (takes_quiet growing_owners passed_owner h);
 }
 
-owner_file_leaves : FileLeaves KeepsOwners
-owner_file_leaves = unseen_files sees_owners is_not_of_owners KeepsOwners owners_sight refl (λ file. refl) (λ file. refl)
-
-owner_contexts : ContextLeaves KeepsOwners
-owner_contexts = unseen_contexts sees_owners is_not_of_owners KeepsOwners owners_sight refl refl refl (λ word n. refl) (λ n. refl) (λ n. refl)
-
 owner_keys : KeyLeaves KeepsOwners
 owner_keys = unseen_keys sees_owners is_not_of_owners KeepsOwners owners_sight refl
 
-word_past : (event : What) → is_word event ≡ true → is_not_of_owners event ≡ true
-word_past (what.Owner owner) h = absurd (cc h)
-word_past other h = cc
+usual_owners : (event : What) → is_usual event ≡ true → is_not_of_owners event ≡ true
+usual_owners (what.Owner owner) h = absurd (cc h)
+usual_owners other h = cc
 
-level_past : (event : What) → is_level_word event ≡ true → is_not_of_owners event ≡ true
-level_past (what.Owner owner) h = absurd (cc h)
-level_past other h = cc
+owner_usual : Usual sees_owners is_not_of_owners
+owner_usual = assumption usual_owners
 
 -- owners whose data alone change
 data_so : (s : Scene) (t : OwnerTree) {events : List What} → AreAlike s.session.owners t → AreSaid is_not_of_owners events → KeepsOwners s (record s { session = record s.session { owners = t } }) events
@@ -382,35 +350,20 @@ owner_leaves = record {
 
 pub owner_level_leaves : LevelLeaves KeepsOwners
 owner_level_leaves =
-    level_leaves_of sees_owners is_not_of_owners KeepsOwners owners_sight refl refl owner_contexts (record { word = word_past; line = λ depth n name stats. refl; total = λ total. refl }) level_past
-    (releases sees_owners is_not_of_owners KeepsOwners owners_sight refl refl owner_contexts.gone owner_contexts.children owner_file_leaves.closed owner_keys.closed (λ n kind key item s is. data_so s _ (alike_changed n _ s.session.owners) (said_one (what.Release item n) refl)))
-    refl (unseen_stack sees_owners is_not_of_owners KeepsOwners owners_sight refl (λ snapshot. refl))
+    usual_levels owners_sight owner_usual owner_keys refl (level_words is_not_of_owners (λ level. (refl, refl, refl, refl)))
+    (λ n kind key item s is. data_so s _ (alike_changed n _ s.session.owners) (said_one (what.Release item n) refl))
 
 pub owner_phase : (commit top : Bool) (n : ℕ) (phase : Phase) → Keeps KeepsOwners (phase_released commit top n phase)
-owner_phase =
-    phase_so sees_owners is_not_of_owners KeepsOwners owners_sight refl refl owner_contexts.gone owner_contexts.children owner_file_leaves.closed owner_keys.closed owner_leaves
-    (unseen_locks sees_owners is_not_of_owners KeepsOwners owners_sight refl (λ object mode count owner. refl) (λ object mode count from to. refl))
+owner_phase = usual_phase owners_sight owner_usual owner_keys owner_leaves (usual_locks owners_sight owner_usual refl)
 
 pub owner_taken : (owner : ℕ) (kind : KindId) (key : ℕ) → Keeps KeepsOwners (item_taken owner kind key)
-owner_taken = taken_so sees_owners is_not_of_owners KeepsOwners owners_sight refl refl owner_leaves owner_file_leaves owner_keys
+owner_taken = usual_taken owners_sight owner_usual owner_keys owner_leaves
 
 pub owner_make_leaves : MakeLeaves KeepsOwners
-owner_make_leaves = record {
-  made = makes_context sees_owners is_not_of_owners KeepsOwners owners_sight refl refl refl (λ n parent name. refl);
-  placed = places sees_owners is_not_of_owners KeepsOwners owners_sight refl refl;
-  planned = plans_one sees_owners is_not_of_owners KeepsOwners owners_sight refl refl (makes_context sees_owners is_not_of_owners KeepsOwners owners_sight refl refl refl (λ n parent name. refl));
-  owner = λ parent. record { so = owner_so parent };
-  locked = locks_one sees_owners is_not_of_owners KeepsOwners owners_sight refl (λ object mode count owner. refl) (λ object mode owner. refl);
-  unlocked = unlocks sees_owners is_not_of_owners KeepsOwners owners_sight refl (λ object mode count owner. refl);
-  used = owner_file_leaves.used;
-  pushed = pushes sees_owners is_not_of_owners KeepsOwners owners_sight refl (λ snapshot. refl);
-}
+owner_make_leaves = usual_makes owners_sight owner_usual (λ n parent name. refl) refl (λ parent. record { so = owner_so parent })
 
 pub owner_move_leaves : MoveLeaves KeepsOwners
-owner_move_leaves = record {
-  hooked = hook_waits_so sees_owners is_not_of_owners KeepsOwners owners_sight refl refl refl (λ word n. refl);
-  shifted = moves_context sees_owners is_not_of_owners KeepsOwners owners_sight refl refl refl (λ n parent. refl);
-}
+owner_move_leaves = usual_moves owners_sight owner_usual
 
 -- an owner that is there goes with all below it
 takes_owners : (ns : List ℕ) → Takes growing_owners ns (map (λ n. what.OwnerGone n) ns)
@@ -420,33 +373,14 @@ takes_owners (n ∷ ns) = takes_one (taken_owner n) (takes_owners ns)
 pub owners_gone : (n : ℕ) (s : Scene) → has n s.session.owners ≡ true → KeepsOwners s (owner_gone n s).scene (owner_gone n s).events
 owners_gone n s there = record {
   so = λ growth h.
-      let k : IsPruned growing_owners growth (removed n s.session.owners) (owner_gone n s).events =
-      pruned growing_owners (takes_owners (order_at n s.session.owners)) (plucked_gone n s.session.owners h.fits.tree.once there) growth h.fits.tree in
-      record {
-        allowed = k.allowed;
-        fits = record {
-          fits = record { tree = k.tree; below = λ m u. h.fits.below m (has_of_removed m n s.session.owners u) };
-          next = k.next ∙ h.next;
-        };
-      };
+      let k = left_grows s.session.owners s.session.next_owner growth h growing_owners (removed n s.session.owners) (order_at n s.session.owners) (owner_gone n s).events
+      (plucked_gone n s.session.owners h.fits.tree.once there) (takes_owners (order_at n s.session.owners)) (λ m u. has_of_removed m n s.session.owners u) in
+      record { allowed = k.allowed; fits = k.fits };
 }
 
 -- an owner moves to another one that isn't below it
 pub owners_moved : (n p : ℕ) (s : Scene) → Moves n p s.session.owners → KeepsOwners s (owner_moved n p s).scene (owner_moved n p s).events
-owners_moved n p s w = record {
-  so = λ growth h.
-      let node : is_there n growth.nodes ≡ true = h.fits.tree.there n ∙ w.node in
-      let parent : is_there p growth.nodes ≡ true = h.fits.tree.there p ∙ w.parent in
-      let tree : FitsTree (placed_where (is_there n growth.nodes && is_there p growth.nodes) n (Some p) growth.nodes) (moved n p s.session.owners) =
-      rw (node, parent) (fits_moved n p growth.nodes s.session.owners h.fits.tree w) in
-      record {
-        allowed = refl;
-        fits = record {
-          fits = record { tree = tree; below = λ m u. h.fits.below m (moved_has m n p s.session.owners h.fits.tree.once w u) };
-          next = h.next;
-        };
-      };
-}
+owners_moved n p s w = record { so = λ growth h. record { allowed = refl; fits = moved_grows s.session.owners s.session.next_owner growth h n p w } }
 
 -- The replayed owners of a session, from its opening to its exit.
 

@@ -13,7 +13,7 @@ pub use Rattle.owner_kinds.specs.KindShelf.{table_of}
 pub use Rattle.owner_items.specs.ItemList.{AreFalling, is_of, uses, without_newest}
 pub use Rattle.owner_items.specs.Next.{by_rank, is_of_phase, is_phase, priority, release_order, with_item}
 pub use Rattle.owner_core.specs.Owners.{AllAt, HoldsNothing, Owner, OwnerTree, created, forgotten, held, remembered}
-pub use Rattle.owner_core.specs.Steps.{GivesBack, PassesLocks, ReleasesAllLocks, ReleasesLocks, Said, Step, lock_step, made_event, own_steps, release_of, release_steps, releases_of, steps_below, top_locks}
+pub use Rattle.owner_core.specs.Steps.{GivesBack, PassesLocks, ReleasesAllLocks, ReleasesLocks, Said, Step, lock_step, made_event, own_steps, release_steps, releases_of, steps_below, top_locks}
 pub use Rattle.owner_core.specs.Released.{left_of, own_released, released}
 pub use Rattle.lock_local.specs.Locks.{AreLocks, IsInOrder, Lock, comes_before, count_of, has_owner, is_lock, lock_total, owner_count}
 pub use Rattle.any_ctx.specs.declared.any.CtxKind.{CtxKind}

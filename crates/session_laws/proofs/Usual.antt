@@ -1,10 +1,10 @@
 -- Laws that see neither contexts, portals and plans nor descriptors and snapshots, and take no notice of what is said of these: the leaves that they have.
 use Rattle.session_laws.proofs.Words.{◌≡◌, ℕ, Bool, true, false, Option, Some, None, refl}
-use Rattle.session_laws.proofs.Scenes.{What, Error, Item, CtxKind, context_made, plan_made, portal_becomes, snapshot_pushed, Command, Mode, Text, Element, Moment, Scene, Done, say, lock_given_back, lock_taken, owner_made, does_all, line_elements, turn, turn_of}
-use Rattle.session_laws.proofs.Rules.{EndLeaves, Follows, IsRun, Keeps, Law, MakeLeaves, MoveLeaves, Owes, is_level_word, is_word, runs_anyhow, ContextLeaves, FileLeaves, KeyLeaves, LockLeaves, OwnerLeaves, Part, Sight, StackLeaves, Words, of_contexts, of_levels, of_locks, of_next_context, of_owners, of_plans, of_portals, of_recent, of_shelf, of_snapshots, end_leaves_of, hook_waits_so, item_goes, locks_one, makes_context, moves_context, owner_goes, owner_moves, places, plans_one, pushes, unlocks, unseen_contexts, unseen_files, unseen_locks, unseen_stack, all_owed, moves_owed, recovers, run_follows, line_spoken}
+use Rattle.session_laws.proofs.Scenes.{What, Error, Item, CtxKind, context_made, plan_made, portal_becomes, snapshot_pushed, Command, Mode, Text, Element, Moment, Scene, Done, say, lock_given_back, lock_taken, owner_made, does_all, line_elements, turn, turn_of, KindId, Phase, item_taken, item_released, phase_released, owner_gone, owner_moved}
+use Rattle.session_laws.proofs.Rules.{EndLeaves, Follows, IsRun, Keeps, Law, MakeLeaves, MoveLeaves, Owes, is_level_word, is_word, runs_anyhow, ContextLeaves, FileLeaves, KeyLeaves, LockLeaves, OwnerLeaves, Part, Sight, StackLeaves, Words, of_contexts, of_levels, of_locks, of_next_context, of_owners, of_plans, of_portals, of_recent, of_shelf, of_snapshots, hook_waits_so, item_goes, locks_one, makes_context, moves_context, owner_goes, owner_moves, places, plans_one, pushes, unlocks, unseen_contexts, unseen_files, unseen_locks, unseen_stack, all_owed, moves_owed, recovers, run_follows, line_spoken, phase_so, releases, taken_so, level_leaves_of, LevelLeaves, ItemGoes}
 use Rattle.pgs_step.specs.declared.events.What.TheVariants as what
 
--- an event that says nothing of an item, nor that something is made or that a level begins or ends
+-- an event that says nothing of an item or of an owner, nor that a context is made or that a level begins or ends
 abbrev pub is_usual : What → Bool
 is_usual (what.Acquire item owner) = false
 is_usual (what.Release item owner) = false
@@ -12,6 +12,8 @@ is_usual (what.NotClosed item owner) = false
 is_usual (what.Create context name parent) = false
 is_usual (what.Owner owner) = false
 is_usual (what.OwnerIn owner parent) = false
+is_usual (what.OwnerGone owner) = false
+is_usual (what.MoveOwner owner parent) = false
 is_usual (what.BeginLevel level) = false
 is_usual (what.CommitLevel level) = false
 is_usual (what.AbortLevel level) = false
@@ -104,11 +106,28 @@ module _ {sees : Part → Bool} {P : What → Bool} {R : Law} (o : Sight sees P 
       pushed = usual_pushed;
     }
 
-  -- where it sees neither locks, owners and levels
-  pub usual_ends : sees of_locks ≡ false → sees of_owners ≡ false → sees of_levels ≡ false → ((event : What) → is_level_word event ≡ true → P event ≡ true) → ((item : Item) (n : ℕ) → P (what.Release item n) ≡ true) → KeyLeaves R → OwnerLeaves R → EndLeaves R
-  usual_ends locks owners levels level released keys leaves =
-      end_leaves_of sees P R o u.portals u.plans usual_contexts usual_words level leaves (item_goes sees P R o owners released) (usual_locks locks) usual_files keys levels usual_stack
-      (owner_goes sees P R o owners (λ n. u.said (what.OwnerGone n) refl)) (owner_moves sees P R o owners (λ n parent. u.said (what.MoveOwner n parent) refl))
+  -- what it has of owners and their items, and of extension kinds, in all else that they are part of
+  module _ (keys : KeyLeaves R) where
+    pub usual_taken : OwnerLeaves R → (owner : ℕ) (kind : KindId) (key : ℕ) → Keeps R (item_taken owner kind key)
+    usual_taken leaves = taken_so sees P R o u.portals u.plans leaves usual_files keys
+
+    pub usual_released : ItemGoes R → (owner : ℕ) (kind : KindId) (key : ℕ) → Keeps R (item_released owner kind key)
+    usual_released = releases sees P R o u.portals u.plans usual_contexts.gone usual_contexts.children usual_files.closed keys.closed
+
+    pub usual_phase : OwnerLeaves R → LockLeaves R → (commit top : Bool) (n : ℕ) (phase : Phase) → Keeps R (phase_released commit top n phase)
+    usual_phase = phase_so sees P R o u.portals u.plans usual_contexts.gone usual_contexts.children usual_files.closed keys.closed
+
+    pub usual_levels : sees of_levels ≡ false → ((event : What) → is_level_word event ≡ true → P event ≡ true) → ItemGoes R → LevelLeaves R
+    usual_levels off level goes = level_leaves_of sees P R o u.portals u.plans usual_contexts usual_words level (usual_released goes) off usual_stack
+
+    pub usual_ends : sees of_levels ≡ false → ((event : What) → is_level_word event ≡ true → P event ≡ true) → OwnerLeaves R → LockLeaves R → ItemGoes R → ((n : ℕ) → Keeps R (owner_gone n)) → ((n parent : ℕ) → Keeps R (owner_moved n parent)) → EndLeaves R
+    usual_ends off level leaves locks goes gone moved = record { levels = usual_levels off level goes; taken = usual_taken leaves; phase = usual_phase leaves locks; discarded = gone; moved = moved }
+
+    -- where it sees neither locks, owners nor levels
+    pub plain_ends : sees of_locks ≡ false → sees of_owners ≡ false → sees of_levels ≡ false → ((level : ℕ) → (P (what.BeginLevel level) ≡ true) × (P (what.CommitLevel level) ≡ true) × (P (what.AbortLevel level) ≡ true) × (P (what.CleanupLevel level) ≡ true))
+        → ((item : Item) (n : ℕ) → P (what.Release item n) ≡ true) → ((n : ℕ) → P (what.OwnerGone n) ≡ true) → ((n parent : ℕ) → P (what.MoveOwner n parent) ≡ true) → OwnerLeaves R → EndLeaves R
+    plain_ends locks owners levels words released gone moved leaves =
+        usual_ends levels (level_words P words) leaves (usual_locks locks) (item_goes sees P R o owners released) (owner_goes sees P R o owners gone) (owner_moves sees P R o owners moved)
 
 -- A line keeps a law that is kept by the ends of levels, by an error and by the line's elements.
 module _ (R : Law) (ends : EndLeaves R) (error : (error : Error) → Keeps R (say (what.Error error))) where

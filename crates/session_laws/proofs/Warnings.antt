@@ -2,7 +2,7 @@
 use Rattle.session_laws.proofs.Words.{Bool, true, false, ◌≡◌, ℕ, not, List, [], ◌∷◌, Option, None, refl, subst, sym, ◌==◌, ◌&&◌, and_from, eq-eqb}
 use Rattle.session_laws.proofs.Scenes.{What, Error, Item, Command, KindTable, Moment, Scene, exited, turn}
 use Rattle.session_laws.proofs.Rules.{allows_all, seen_after, EndLeaves, Law, OwnerLeaves, AreSaid, said_more, said_none, said_one, Sight, item_comes, no_part, owner_makes, unseen_keys, exit_follows}
-use Rattle.session_laws.proofs.Usual.{Usual, any_turn_follows, is_usual, level_words, usual_ends, usual_makes, usual_moves}
+use Rattle.session_laws.proofs.Usual.{Usual, any_turn_follows, is_usual, usual_makes, usual_moves, plain_ends}
 use Rattle.lifetime_laws.specs.Once.{same_item}
 use Rattle.lifetime_laws.specs.Order.{Owned, warning, warning_behind}
 use Rattle.session_laws.proofs.Lives.{IsLife, IsRead, Reads, read_both}
@@ -93,7 +93,7 @@ usual : Usual no_part is_calm
 usual = assumption usual_calm
 
 end_leaves : EndLeaves Warns
-end_leaves = usual_ends sight usual refl refl refl (level_words is_calm (λ level. (refl, refl, refl, refl))) (λ item n. refl) (unseen_keys no_part is_calm Warns sight refl) owners
+end_leaves = plain_ends sight usual (unseen_keys no_part is_calm Warns sight refl) refl refl refl (λ level. (refl, refl, refl, refl)) (λ item n. refl) (λ n. refl) (λ n parent. refl) owners
 
 turn_warns : (w : Option ℕ) (line : Option Command) (m : Moment) → Warns m.scene (turn w line m).moment.scene (turn w line m).events
 turn_warns =
