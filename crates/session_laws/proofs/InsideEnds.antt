@@ -1,14 +1,14 @@
 -- A level that aborts names nothing outside it.
-use Rattle.session_laws.proofs.Words.{◌≡◌, ℕ, ◌-◌, ◌≤◌, Bool, true, false, if◌then◌else◌, List, [], ◌∷◌, ◌++◌, map, length, reverse, Option, Some, None, refl, sym, ap, ◌∙◌, subst, inl, arith, append-nil, ◌+◌, not, inr, ◌==◌, ◌&&◌, All, filter, option_to_list, ◌⊎◌, drop, is_none, unwrap_or, option_map_or, and_from, eqb-true, or_right, both_ways, cases_Bool, eq-eqb, or_left, All-head, All-tail, Empty, Node, Once, at, children, has, moved, subtree, Forest, removed, order, order_at, Moves}
+use Rattle.session_laws.proofs.Words.{◌≡◌, ℕ, ◌-◌, ◌≤◌, Bool, true, false, if◌then◌else◌, List, [], ◌∷◌, ◌++◌, map, length, reverse, Option, Some, None, refl, sym, ap, ◌∙◌, subst, inl, arith, append-nil, ◌+◌, not, inr, ◌==◌, ◌&&◌, All, filter, option_to_list, ◌⊎◌, drop, is_none, unwrap_or, option_map_or, and_from, eqb-true, or_right, both_ways, eq-eqb, or_left, All-head, All-tail, Empty, Node, Once, at, children, has, moved, subtree, Forest, removed, order, order_at, Moves, nat_tests}
 use Rattle.session_laws.proofs.Scenes.{What, Context, Contexts, gone_events, LevelState, OpenPortal, StandingPlan, top_context, level_above, abort_context, context_of, deepest_changed, first_of, level_context, level_owner, owner_of, Scene, has_failed, Ended, children_gone, context_gone, for_each, in_order, portal_becomes, where_so, where_there, changes, portal_gone, switched, owner_moved, owner_released, owner_gone, portal_aborted, portal_failed, portal_withdrawn, stack_popped, aborted, cleaned_up, level_context_gone, level_owner_gone, level_popped, level_released, switched_up, IsAttached, IsPlan, IsPortal, active_depth, Stands}
-use Rattle.session_laws.proofs.Rules.{is_one_of, seen_after, allows_all, allows_all-append, seen_after-append, aborted_leads, all_aborted, off_begins, owner_when_active, resettled, settled, switched_off, Keeps, last, next, by_each, by_order, by_there, level_context_goes, level_releases, portal_aborts, portal_cleans}
+use Rattle.session_laws.proofs.Rules.{is_one_of, seen_after, allows_all, aborted_leads, all_aborted, off_begins, owner_when_active, resettled, settled, switched_off, Keeps, last, next, by_each, by_order, by_there, level_context_goes, level_releases, portal_aborts, portal_cleans}
 use Rattle.snap_table.specs.declared.active.Active.{Active}
 use Rattle.snap_table.specs.Snapshots.{is_deep}
 use Rattle.lifetime_laws.specs.Parents.{Node as Replayed, contexts_behind, is_there, placed_where}
 use Rattle.lifetime_laws.specs.Inside.{Begun, Leaving, level_begun, staying, Awaited, ItsOwner, Neither, awaited_behind, contexts_inside, ends_behind, ends_with, owners_inside}
 use Rattle.session_rules.specs.Ending.{Ending, gone_levels}
 use Rattle.session_rules.proofs.Ending.{Leads, with_parts}
-use Rattle.session_laws.proofs.Lives.{IsRead, Reads, read_both, read_none}
+use Rattle.session_laws.proofs.Lives.{IsRead, Reads, read_both, read_none, then_read}
 use Rattle.session_laws.proofs.Parents.{FitsContexts, FitsTree, fits_moved, Growth, growing_contexts}
 use Rattle.session_laws.proofs.ParentsLife.{HasContexts, KeepsContexts, contexts_end_leaves}
 use Rattle.session_laws.proofs.InsidePhases.{Confined, GoInside, below_inside, confined, confined_sees, gone_confined, is_confined, node_inside, owner_confined, root_within, roots_of, AreBare, InRelease, IsBare, owner_read, InEnd, IsOver, Stayed, confined_stays, all_in, next_in, next_over, none_left, owners_confined}
@@ -238,16 +238,6 @@ module _ (entry : Begun) where
   pub stack_read : (n : ℕ) (leaving : Leaving) (s : Scene) → HasOwnersSeen leaving s → IsRead (confined entry) HasOwnersSeen leaving (stack_popped n s).scene (stack_popped n s).events
   stack_read n leaving s k = popped_read (filter (is_deep n) (reverse s.session.snapshots)) leaving s (stack_popped n s).scene refl k
 
--- one part of an end and then another
-pub read_then : {F G : Leaving → Scene → Type 0} (entry : Begun) (leaving : Leaving) (t u : Scene) (xs ys : List What) → IsRead (confined entry) F leaving t xs
-    → (F (seen_after (confined entry) leaving xs) t → IsRead (confined entry) G (seen_after (confined entry) leaving xs) u ys) → IsRead (confined entry) G leaving u (xs ++ ys)
-read_then {G = G} entry leaving t u xs ys a more =
-    let b : IsRead (confined entry) G (seen_after (confined entry) leaving xs) u ys = more a.fits in
-    record {
-      allowed = allows_all-append (confined entry) leaving xs ys a.allowed b.allowed;
-      fits = subst (λ (l : Leaving). G l u) (sym (seen_after-append (confined entry) leaving xs ys)) b.fits;
-    }
-
 -- The end of a level, from its abort to its cleanup, is read, and names nothing outside the level.
 
 -- what the parts of an end leave of levels, portals and plans
@@ -356,12 +346,12 @@ module _ (level : LevelState) (levels : List LevelState) (s : Scene) (h : Stands
   tail_part l i =
       let z2 : Scene = (level_released false (n == 1) z1).scene in
       let z3 : Scene = (stack_popped n z2).scene in
-      read_then entry l z2 (tail z1).scene (level_released false (n == 1) z1).events ((stack_popped n z2).events ++ [])
+      then_read (confined entry) l z2 (tail z1).scene (level_released false (n == 1) z1).events ((stack_popped n z2).events ++ [])
       (release_read entry (n == 1) (level_owner z1.session) z1 l (own_owner ∙ sym still_level) i plans_there)
-      (λ a. read_then entry _ z3 (tail z1).scene (stack_popped n z2).events [] (stack_read entry n _ z2 a) (λ b. record { allowed = refl; fits = record { tree = b.tree } }))
+      (λ a. then_read (confined entry) _ z3 (tail z1).scene (stack_popped n z2).events [] (stack_read entry n _ z2 a) (λ b. record { allowed = refl; fits = record { tree = b.tree } }))
 
   rest : IsRead (confined entry) HasOwnersSeen later (tail z1).scene ((for_each (portal_aborted n level.owner) s.session.portals z0).events ++ (tail z1).events)
-  rest = read_then entry later z1 (tail z1).scene (for_each (portal_aborted n level.owner) s.session.portals z0).events (tail z1).events portals_part (λ i. tail_part _ i)
+  rest = then_read (confined entry) later z1 (tail z1).scene (for_each (portal_aborted n level.owner) s.session.portals z0).events (tail z1).events portals_part (λ i. tail_part _ i)
 
   first_ends : leaving.ends ≡ [] → InEnd entry later.ends
   first_ends e = subst (λ (ends : List Begun). InEnd entry (ends_behind (what.AbortLevel n) leaving.begun ends)) (sym e) (refl, tt)
@@ -455,10 +445,7 @@ module _ (entry : Begun) where
 
 gone_away : {A : Type 0} (n : ℕ) (t : Forest A) → has n (removed n t) ≡ false
 gone_away n Empty = refl
-gone_away n (Node k a below beside) = elim (cases_Bool (k == n)) [
-  | inl y ↦ rw y (gone_away n beside)
-  | inr z ↦ rw (z, z, gone_away n below, gone_away n beside) refl
-]
+gone_away n (Node k a below beside) = grind (arith, nat_tests, gone_away n beside, gone_away n below)
 
 pub record CleanRead (leaving : Leaving) (s : Scene) : Type 0 where
   pub allowed : allows_all staying leaving (cleaned_up s).events ≡ true
@@ -517,7 +504,7 @@ module _ (level : LevelState) (levels : List LevelState) (s : Scene) (leaving : 
 
   context_part : (l : Leaving) → HasContextsSeen l c2 → IsRead (confined ending) HasContextsSeen l c_last.scene c_last.events
   context_part l i =
-      read_then ending l (level_context_gone c3).scene c_last.scene (level_context_gone c3).events []
+      then_read (confined ending) l (level_context_gone c3).scene c_last.scene (level_context_gone c3).events []
       (context_gone_read ending (level_context c3.session) l c3 (ending_context ∙ sym third_level) (record { contexts = record { tree = i.contexts.tree; below = i.contexts.below } }))
       (λ a. record { allowed = refl; fits = record { contexts = record { tree = a.contexts.tree; below = a.contexts.below } } })
 
@@ -526,9 +513,9 @@ module _ (level : LevelState) (levels : List LevelState) (s : Scene) (leaving : 
 
   whole : IsRead (confined ending) HasContextsSeen behind c_last.scene all_events
   whole =
-      read_then ending behind c1 c_last.scene (for_each (sweep m) s.session.portals c0).events ((level_owner_gone c1).events ++ c_last.events)
+      then_read (confined ending) behind c1 c_last.scene (for_each (sweep m) s.session.portals c0).events ((level_owner_gone c1).events ++ c_last.events)
       ((sweeps_read ending m s.session.portals c0 (seen_in m leaving.begun (omega arith) s.session.portals k.sees.portals)).so behind swept_in)
-      (λ i. read_then ending _ c2 c_last.scene (level_owner_gone c1).events c_last.events (owner_gone_read ending (level_owner c1.session) _ c1 (ending_owner ∙ sym first_level) i) (λ j. context_part _ j))
+      (λ i. then_read (confined ending) _ c2 c_last.scene (level_owner_gone c1).events c_last.events (owner_gone_read ending (level_owner c1.session) _ c1 (ending_owner ∙ sym first_level) i) (λ j. context_part _ j))
 
   -- in the end the level isn't in its end any more
   none_named : level.context ≡ None → InEnd ending leaving.ends → behind.ends ≡ []

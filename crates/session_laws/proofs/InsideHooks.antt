@@ -1,5 +1,5 @@
 -- No hook waits on a context of the session itself below the one for caches.
-use Rattle.session_laws.proofs.Words.{◌≡◌, ℕ, Bool, true, false, if◌then◌else◌, [], Option, Some, None, refl, sym, ap, ◌∙◌, subst, inl, inr, ◌≢◌, not, List, ◌∷◌, ◌++◌, codes, reverse, arith, ◌==◌, ◌&&◌, ◌||◌, ◌⊎◌, option_map_or, both_ways, cases_Bool, cond-false, eqb-true, false_from_ne_true, eq-eqb, ne_eqb, Empty, Node, Once, at, changed, children, either, has, is_root, moved, parent_of, put, removed, with_children, Apart, Below, Beside, Here, at_absent, at_some, apart_of, changed_absent, has_at, where_is, reverse-append}
+use Rattle.session_laws.proofs.Words.{◌≡◌, ℕ, Bool, true, false, if◌then◌else◌, [], Option, Some, None, refl, sym, ap, ◌∙◌, subst, inl, inr, not, List, ◌∷◌, ◌++◌, codes, reverse, arith, ◌==◌, ◌⊎◌, option_map_or, both_ways, cases_Bool, cond-false, eqb-true, false_from_ne_true, eq-eqb, ne_eqb, Empty, Node, Once, at, changed, children, has, is_root, moved, parent_of, put, removed, with_children, at_absent, at_some, apart_of, changed_absent, has_at, where_is, reverse-append, nat_tests}
 use Rattle.session_laws.proofs.Scenes.{Context, Contexts, is_child, is_protected, new_context, placed_under, emptied, reset_of, unchanged, cache_context, LevelState, context_of, first_of, last_of, level_context, top_context, What, CtxKind, Hook, Scene, Text, context_named, hook_waits, AreLevels, Stands}
 use Rattle.session_laws.proofs.Rules.{ContextLeaves, of_contexts, EndLeaves}
 use Rattle.forest.proofs.Neighbours.{parent_root, root_absent}
@@ -25,17 +25,11 @@ AreQuiet parent (Node n c below beside) = IsQuiet parent c × AreQuiet (Some n) 
 
 pub quiet_removed : (p : Option ℕ) (n : ℕ) (t : Contexts) → AreQuiet p t → AreQuiet p (removed n t)
 quiet_removed p n Empty h = tt
-quiet_removed p n (Node k c below beside) h = elim (cases_Bool (k == n)) [
-  | inl y ↦ rw y (quiet_removed p n beside h.2)
-  | inr z ↦ rw z (h.0, quiet_removed (Some k) n below h.1, quiet_removed p n beside h.2)
-]
+quiet_removed p n (Node k c below beside) h = grind (arith, nat_tests, quiet_removed p n beside, quiet_removed (Some k) n below)
 
 pub quiet_emptied : (p : Option ℕ) (n : ℕ) (t : Contexts) → AreQuiet p t → AreQuiet p (with_children n Empty t)
 quiet_emptied p n Empty h = tt
-quiet_emptied p n (Node k c below beside) h = elim (cases_Bool (k == n)) [
-  | inl y ↦ rw y (h.0, tt, quiet_emptied p n beside h.2)
-  | inr z ↦ rw z (h.0, quiet_emptied (Some k) n below h.1, quiet_emptied p n beside h.2)
-]
+quiet_emptied p n (Node k c below beside) h = grind (arith, nat_tests, quiet_emptied p n beside, quiet_emptied (Some k) n below)
 
 -- a change that keeps whether hooks wait, or takes them away
 pub record Hushes (f : Context → Context) : Type 0 where
@@ -44,11 +38,7 @@ pub record Hushes (f : Context → Context) : Type 0 where
 
 pub quiet_changed : (p : Option ℕ) (n : ℕ) (f : Context → Context) (t : Contexts) → Hushes f → AreQuiet p t → AreQuiet p (changed n f t)
 quiet_changed p n f Empty l h = tt
-quiet_changed p n f (Node k c below beside) l h = (one (k == n), quiet_changed (Some k) n f below l h.1, quiet_changed p n f beside l h.2)
-  where
-    one : (b : Bool) → IsQuiet p (if b then f c else c)
-    one true = λ e own. l.hooks c (h.0 e (sym (l.protected c) ∙ own))
-    one false = h.0
+quiet_changed p n f (Node k c below beside) l h = grind (arith, nat_tests, quiet_changed (Some k) n f below, quiet_changed p n f beside)
 
 pub quiet_put : (p : Option ℕ) (q n : ℕ) (c : Context) (sub t : Contexts) → ((o : Option ℕ) → IsQuiet o c) → AreQuiet (Some n) sub → AreQuiet p t → AreQuiet p (put q n c sub t)
 quiet_put p q n c sub Empty new low h = tt
@@ -59,13 +49,7 @@ quiet_put p q n c sub (Node k a below beside) new low h = elim (cases_Bool (k ==
 
 pub quiet_children : (p : Option ℕ) (n : ℕ) (t : Contexts) → AreQuiet p t → AreQuiet (Some n) (children n t)
 quiet_children p n Empty h = tt
-quiet_children p n (Node k c below beside) h = elim (cases_Bool (k == n)) [
-  | inl y ↦ rw y (subst (λ (m : ℕ). AreQuiet (Some m) below) (eqb-true k n y) h.1)
-  | inr z ↦ elim (cases_Bool (has n below)) [
-    | inl u ↦ rw (z, u) (quiet_children (Some k) n below h.1)
-    | inr u ↦ rw (z, u) (quiet_children p n beside h.2)
-  ]
-]
+quiet_children p n (Node k c below beside) h = grind (arith, nat_tests, quiet_children (Some k) n below, quiet_children p n beside)
 
 -- the parent of a number, where this is that of the first ones
 abbrev up : Option ℕ → ℕ → Contexts → Option ℕ
@@ -74,22 +58,7 @@ up p n t = if is_root n t then p else parent_of n t
 -- what is so of the context at a number is so wherever it stands
 pub quiet_at : (p : Option ℕ) (n : ℕ) (c : Context) (t : Contexts) → Once t → has n t ≡ true → at n t ≡ Some c → AreQuiet p t → IsQuiet (up p n t) c
 quiet_at p n c Empty o u is h = absurd (cc is)
-quiet_at p n c (Node k a below beside) o u is h =
-    let apart : Apart k below beside = apart_of k a below beside o in
-    elim (where_is n k a below beside o u) [
-      | Here e y low side ↦
-          let same : a ≡ c = let w : Some a ≡ Some c = rw y at is in cc w in
-          rw y (subst (IsQuiet p) same h.0)
-      | Below ne z low side ↦
-          let w = at_some n below low in
-          let r : at n below ≡ Some c = let j : either (at n below) (at n beside) ≡ Some c = rw z at is in w.1 ∙ (rw w.1 at j) in
-          let inner : IsQuiet (up (Some k) n below) c = quiet_at (Some k) n c below apart.once_below low r h.1 in
-          rw (z, root_absent n beside side, low) inner
-      | Beside ne z low side ↦
-          let r : at n beside ≡ Some c = rw (z, at_absent n below low) at is in
-          let inner : IsQuiet (up p n beside) c = quiet_at p n c beside apart.once_beside side r h.2 in
-          rw (z, root_absent n below low, low) inner
-    ]
+quiet_at p n c (Node k a below beside) o u is h = grind (arith, nat_tests, quiet_at (Some k) n c below, quiet_at p n c beside, apart_of, where_is, at_some, root_absent, at_absent)
 
 still_absent : (q : Option ℕ) (n : ℕ) (f : Context → Context) (t : Contexts) → has n t ≡ false → AreQuiet q t → AreQuiet q (changed n f t)
 still_absent q n f t away h = subst (AreQuiet q) (sym (changed_absent n f t away)) h
@@ -97,24 +66,7 @@ still_absent q n f t away h = subst (AreQuiet q) (sym (changed_absent n f t away
 -- a context changes, where it may
 pub quiet_changed_at : (p : Option ℕ) (n : ℕ) (f : Context → Context) (t : Contexts) → Once t → ((c : Context) → at n t ≡ Some c → IsQuiet (up p n t) (f c)) → AreQuiet p t → AreQuiet p (changed n f t)
 quiet_changed_at p n f Empty o k h = tt
-quiet_changed_at p n f (Node m a below beside) o k h =
-    let apart : Apart m below beside = apart_of m a below beside o in
-    elim (cases_Bool (m == n)) [
-      | inl y ↦
-          let here : IsQuiet p (f a) = let z : (c : Context) → Some a ≡ Some c → IsQuiet p (f c) = rw y at k in z a refl in
-          rw y (here, still_absent (Some m) n f below (ap (λ (j : ℕ). has j below) (sym (eqb-true m n y)) ∙ apart.not_below) h.1, still_absent p n f beside (ap (λ (j : ℕ). has j beside) (sym (eqb-true m n y)) ∙ apart.not_beside) h.2)
-      | inr z ↦ elim (cases_Bool (has n below)) [
-        | inl u ↦
-            let side : has n beside ≡ false = apart.apart n u in
-            let low : (c : Context) → at n below ≡ Some c → IsQuiet (up (Some m) n below) (f c) = λ c is.
-            let j : (c : Context) → either (at n below) (at n beside) ≡ Some c → IsQuiet (up (Some m) n below) (f c) = rw (z, root_absent n beside side, u) at k in
-            j c (ap (λ (o : Option Context). either o (at n beside)) is) in
-            rw z (h.0, quiet_changed_at (Some m) n f below apart.once_below low h.1, still_absent p n f beside side h.2)
-        | inr u ↦
-            let next : (c : Context) → at n beside ≡ Some c → IsQuiet (up p n beside) (f c) = rw (z, at_absent n below u, root_absent n below u, u) at k in
-            rw z (h.0, still_absent (Some m) n f below u h.1, quiet_changed_at p n f beside apart.once_beside next h.2)
-      ]
-    ]
+quiet_changed_at p n f (Node m a below beside) o k h = grind (arith, nat_tests, quiet_changed_at (Some m) n f below, quiet_changed_at p n f beside, apart_of, still_absent, eqb-true, root_absent, at_absent)
 
 -- what waits nowhere
 pub no_hooks : (n : ℕ) (c : Context) (t : Contexts) → Once t → AreQuiet None t → at n t ≡ Some c → is_protected n t ≡ true → parent_of n t ≡ Some cache_context → c.hooks ≡ []
@@ -211,50 +163,11 @@ levels_elsewhere (level ∷ levels) s n l i e = elim i [
 -- a context of the script is none of the session's own
 script_there : (name : Text) (t : Contexts) (n : ℕ) → rules.context_named name t ≡ Some n → has n t ≡ true
 script_there name Empty n e = absurd (cc e)
-script_there name (Node k c below beside) n e =
-    by_name (not c.protected && same_name c.name name) (rules.context_named name below) refl e (λ q. script_there name below n q) (λ q. script_there name beside n q)
-  where
-    second : (x y z : Bool) → y ≡ true → (x || (y || z)) ≡ true
-    second true y z h = refl
-    second false true z h = refl
-    second false false z h = absurd (cc h)
-
-    third : (x y z : Bool) → z ≡ true → (x || (y || z)) ≡ true
-    third true y z h = refl
-    third false true z h = refl
-    third false false z h = h
-
-    by_name : (b : Bool) (o : Option ℕ) → rules.context_named name below ≡ o → (if b then Some k else either o (rules.context_named name beside)) ≡ Some n
-        → (rules.context_named name below ≡ Some n → has n below ≡ true) → (rules.context_named name beside ≡ Some n → has n beside ≡ true) → has n (Node k c below beside) ≡ true
-    by_name true o q e low high = rw (eq-eqb k n (some_is k n e)) refl
-    by_name false None q e low high = third (k == n) (has n below) (has n beside) (high e)
-    by_name false (Some m) q e low high = second (k == n) (has n below) (has n beside) (low (q ∙ e))
+script_there name (Node k c below beside) n e = grind (arith, nat_tests, script_there name below, script_there name beside)
 
 script_free : (name : Text) (t : Contexts) (n : ℕ) → Once t → rules.context_named name t ≡ Some n → is_protected n t ≡ false
 script_free name Empty n o e = refl
-script_free name (Node k c below beside) n o e =
-    by_name (not c.protected && same_name c.name name) refl (rules.context_named name below) refl e
-    (λ once q. script_free name below n once q) (λ once q. script_free name beside n once q)
-  where
-    free : (a b : Bool) → (not a && b) ≡ true → a ≡ false
-    free true b q = absurd (cc q)
-    free false b q = refl
-
-    by_name : (b : Bool) → (not c.protected && same_name c.name name) ≡ b → (o : Option ℕ) → rules.context_named name below ≡ o → (if b then Some k else either o (rules.context_named name beside)) ≡ Some n
-        → (Once below → rules.context_named name below ≡ Some n → is_protected n below ≡ false) → (Once beside → rules.context_named name beside ≡ Some n → is_protected n beside ≡ false)
-        → is_protected n (Node k c below beside) ≡ false
-    by_name true y o q e low high = rw (eq-eqb k n (some_is k n e)) (free c.protected (same_name c.name name) y)
-    by_name false y None q e low high =
-        let u : has n beside ≡ true = script_there name beside n e in
-        let ne : k ≢ n = λ z. both_ways (has n beside) (ap (λ (j : ℕ). has j beside) (sym z) ∙ (apart_of k c below beside o).not_beside) u in
-        rw (ne_eqb k n ne, at_absent n below ((apart_of k c below beside o).apart_back n u)) (high (apart_of k c below beside o).once_beside e)
-    by_name false y (Some m) q e low high =
-        let there : rules.context_named name below ≡ Some n = q ∙ e in
-        let u : has n below ≡ true = script_there name below n there in
-        let ne : k ≢ n = λ z. both_ways (has n below) (ap (λ (j : ℕ). has j below) (sym z) ∙ (apart_of k c below beside o).not_below) u in
-        let w = at_some n below u in
-        let known : w.0.protected ≡ false = rw w.1 at (low (apart_of k c below beside o).once_below there) in
-        rw (ne_eqb k n ne, w.1) known
+script_free name (Node k c below beside) n o e = grind (arith, nat_tests, script_free name below, script_free name beside, same_name, eq-eqb, some_is, script_there, both_ways, apart_of, ne_eqb, at_absent, at_some)
 
 -- so a context that a name leads to isn't one of the session below the one for caches
 named_elsewhere : (name : Text) (s : Scene) (n : ℕ) → Stands s → context_named name s.session ≡ Some n → is_protected n s.session.contexts ≡ true → parent_of n s.session.contexts ≡ Some cache_context → ⊥

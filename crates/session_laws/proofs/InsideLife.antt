@@ -1,10 +1,10 @@
 -- A line is read: its elements one by one, and what a recovery does.
 use Rattle.session_laws.proofs.Words.{◌≡◌, ℕ, ◌+◌, Bool, true, false, not, if◌then◌else◌, List, [], ◌∷◌, ◌++◌, length, Option, Some, None, refl, sym, ap, ◌∙◌, subst, inl, inr, and_from, both_ways}
 use Rattle.session_laws.proofs.Scenes.{Error, What, Command, LevelState, first_of, is_aborted, SessionState, opening, top_context, Moment, Scene, Around, Element, Ended, in_order, where_so, where_there, context_gone, for_each, say, switched, aborted, cleaned_up, given_up, level_rolled_back, recovered, exited, Done, does, does_all, then_done, Stands, StandsBetweenLines, line_elements, turn, turn_of, KindTable, table_of}
-use Rattle.session_laws.proofs.Rules.{allows_all, seen_after, allows_all-append, seen_after-append, rolled_stands, settled, AreSpoken, IsRun, Keeps, last, next, line_spoken, Meets, Runs, command_leads, refused_leads, aborts, by_order}
+use Rattle.session_laws.proofs.Rules.{allows_all, seen_after, allows_all-append, seen_after-append, rolled_stands, settled, AreSpoken, IsRun, Keeps, last, next, line_spoken, Meets, Runs, aborts, by_order}
 use Rattle.lifetime_laws.specs.Inside.{Leaving, awaited_behind, ends_behind, level_begun, staying, nothing_leaving}
 use Rattle.session_rules.proofs.EndsStand.{Leaves as LeavesLevels}
-use Rattle.session_laws.proofs.Lives.{Reads, turn_keeps, IsLife}
+use Rattle.session_laws.proofs.Lives.{Reads, turn_keeps, IsLife, then_read, line_leads}
 use Rattle.session_laws.proofs.Parents.{FitsContexts}
 use Rattle.session_laws.proofs.ParentsLife.{KeepsContexts, contexts_end_leaves, KeepsOwners, contexts_owed, owners_owed, HasContexts, HasOwners, contexts_life, opening_contexts, opening_owners, owners_life}
 use Rattle.session_laws.proofs.OwnWork.{AreDue, ContextNext, Hushed, IsRest, OwnerNext, Stage, Working, above_of, line_due, stage_next, stage_of}
@@ -13,7 +13,6 @@ use Rattle.session_laws.proofs.InsideWalk.{nothing_ends, AreBegun, Lessens, by_s
 use Rattle.session_laws.proofs.InsideHooks.{KeepsQuiet, quiet_ends, quiet_owed, AreQuiet}
 use Rattle.session_laws.proofs.InsideEnds.{contexts_fit, AbortRead, CleanRead, Halted, IsSoon}
 use Rattle.session_laws.proofs.InsideSteps.{Active, AwaitsNothing, OneRead, At, KeepsTrees, Stepped, Trees, aborts_at, cleans_at, step_read, trees_behind, trees_element, word_stays, lessened}
-use Rattle.pgs_step.specs.declared.errors.Error.TheVariants as error
 use Rattle.pgs_step.specs.declared.events.What.TheVariants as what
 use Rattle.context_rules.specs.Opening as contexts
 
@@ -109,15 +108,6 @@ rest_at leaving s r = go r.stage r.rest r.at
     go OwnerNext rest k = elim rest [ ]
     go Hushed rest k = halted_at leaving s k
 
--- one part after another
-pub one_then : {F G : Leaving → Scene → Type 0} (leaving : Leaving) (t u : Scene) (xs ys : List What) → OneRead F leaving t xs → (F (seen_after staying leaving xs) t → OneRead G (seen_after staying leaving xs) u ys) → OneRead G leaving u (xs ++ ys)
-one_then {G = G} leaving t u xs ys a more =
-    let b : OneRead G (seen_after staying leaving xs) u ys = more a.fits in
-    record {
-      allowed = allows_all-append staying leaving xs ys a.allowed b.allowed;
-      fits = subst (λ (l : Leaving). G l u) (sym (seen_after-append staying leaving xs ys)) b.fits;
-    }
-
 one_nothing : {F : Leaving → Scene → Type 0} (leaving : Leaving) (s : Scene) → F leaving s → OneRead F leaving s []
 one_nothing leaving s k = record { allowed = refl; fits = k }
 
@@ -139,8 +129,8 @@ rolled_read level levels s leaving h are un trees k soon =
     let contexts : FitsContexts after.parents.contexts z = contexts_fit s z (aborted s).events leaving (aborts_contexts s) trees.contexts in
     let c : CleanRead after z = cleans_at z after a.halted contexts a.owners ((aborts_quiet s).so trees.quiet) in
     let both : OneRead AwaitsNothing leaving (cleaned_up z).scene ((aborted s).events ++ ((cleaned_up z).events ++ [])) =
-    one_then {F = Halted} {G = AwaitsNothing} leaving z (cleaned_up z).scene (aborted s).events ((cleaned_up z).events ++ []) (record { allowed = a.allowed; fits = a.halted })
-    (λ i. one_then {F = AwaitsNothing} {G = AwaitsNothing} after (cleaned_up z).scene (cleaned_up z).scene (cleaned_up z).events []
+    then_read {F = Halted} {G = AwaitsNothing} staying leaving z (cleaned_up z).scene (aborted s).events ((cleaned_up z).events ++ []) (record { allowed = a.allowed; fits = a.halted })
+    (λ i. then_read {F = AwaitsNothing} {G = AwaitsNothing} staying after (cleaned_up z).scene (cleaned_up z).scene (cleaned_up z).events []
     (record { allowed = c.allowed; fits = record { active = record { sees = c.sees; ends = c.ends }; awaited = c.awaited } })
     (λ j. one_nothing {F = AwaitsNothing} _ (cleaned_up z).scene j)) in
     subst (λ (b : Bool). OneRead AwaitsNothing leaving (in_order (where_so (not b) aborted ∷ cleaned_up ∷ []) s).scene (in_order (where_so (not b) aborted ∷ cleaned_up ∷ []) s).events) (sym un) both
@@ -240,8 +230,8 @@ gives_read level levels s leaving h are un trees k soon = by_start level.startin
       | false ↦ elim level.implicit as (λ _. Ended) [ true ↦ level_rolled_back level s | false ↦ aborted s ]
     ] in OneRead AtRest leaving given.scene given.events
     by_start true =
-        one_then {F = AwaitsNothing} {G = AtRest} leaving z (act z).scene (level_rolled_back level s).events ((act z).events ++ []) rolled
-        (λ i. one_then {F = AtRest} {G = AtRest} _ (act z).scene (act z).scene (act z).events [] (above_read levels _ z (rolled_left level levels s leaving h are un trees) i) (λ j. one_nothing {F = AtRest} _ (act z).scene j))
+        then_read {F = AwaitsNothing} {G = AtRest} staying leaving z (act z).scene (level_rolled_back level s).events ((act z).events ++ []) rolled
+        (λ i. then_read {F = AtRest} {G = AtRest} staying _ (act z).scene (act z).scene (act z).events [] (above_read levels _ z (rolled_left level levels s leaving h are un trees) i) (λ j. one_nothing {F = AtRest} _ (act z).scene j))
     by_start false = by_kind level.implicit
 
 same_level : (a b : LevelState) (cs ds : List LevelState) (ls : List LevelState) → ls ≡ a ∷ cs → ls ≡ b ∷ ds → a ≡ b
@@ -272,24 +262,15 @@ pub recovered_read : (error : Error) (s : Scene) (leaving : Leaving) → Stands 
 unfolding recovered
 recovered_read error s leaving h trees k =
     let act : Scene → Ended = where_so (not (is_aborted s.session.levels)) (given_up s.session.levels) in
-    one_then {F = After} {G = AtRest} leaving s (act s).scene (what.Error error ∷ []) ((act s).events ++ []) (error_read error leaving s k)
-    (λ a. one_then {F = AtRest} {G = AtRest} _ (act s).scene (act s).scene (act s).events [] (given_read s.session.levels s _ h refl (trees_error error leaving s trees) a) (λ j. one_nothing {F = AtRest} _ (act s).scene j))
+    then_read {F = After} {G = AtRest} staying leaving s (act s).scene (what.Error error ∷ []) ((act s).events ++ []) (error_read error leaving s k)
+    (λ a. then_read {F = AtRest} {G = AtRest} staying _ (act s).scene (act s).scene (act s).events [] (given_read s.session.levels s _ h refl (trees_error error leaving s trees) a) (λ j. one_nothing {F = AtRest} _ (act s).scene j))
 
 -- a turn is read
-line_leads : (w : Option ℕ) (line : Option Command) (m : Moment) → StandsBetweenLines m.scene → Runs w StandsBetweenLines (line_elements line m.scene.session) m
-line_leads w None m h = refused_leads w StandsBetweenLines error.SyntaxError m h.stands
-line_leads w (Some c) m h = command_leads w c m h
-
 turn_of_read : (leaving : Leaving) (done : Done) (r : Option Error) → done.refusal ≡ r → Stands done.moment.scene → Walked leaving done → OneRead AtRest leaving (turn_of done r).moment.scene (turn_of done r).events
 turn_of_read leaving done None is h k = record { allowed = k.allowed; fits = k.passed is }
 turn_of_read leaving done (Some error) is h k =
-    let after : Leaving = seen_after staying leaving done.events in
-    let s : Scene = done.moment.scene in
-    let o : OneRead AtRest after (recovered error s).scene (recovered error s).events = recovered_read error s after h k.trees (k.stopped error is) in
-    record {
-      allowed = allows_all-append staying leaving done.events (recovered error s).events k.allowed o.allowed;
-      fits = subst (λ (l : Leaving). AtRest l (recovered error s).scene) (sym (seen_after-append staying leaving done.events (recovered error s).events)) o.fits;
-    }
+    then_read {F = AtSome} {G = AtRest} staying leaving done.moment.scene (recovered error done.moment.scene).scene done.events (recovered error done.moment.scene).events (record { allowed = k.allowed; fits = k.stopped error is })
+    (recovered_read error done.moment.scene (seen_after staying leaving done.events) h k.trees)
 
 turn_rests : (w : Option ℕ) (line : Option Command) (m : Moment) (leaving : Leaving) → StandsBetweenLines m.scene → FitsInside leaving m.scene → OneRead AtRest leaving (turn w line m).moment.scene (turn w line m).events
 unfolding turn
@@ -452,7 +433,7 @@ work_read : (level : LevelState) (levels : List LevelState) (s : Scene) (leaving
     → OneRead AwaitsNothing leaving (in_order (where_so (not b) aborted ∷ cleaned_up ∷ []) s).scene (in_order (where_so (not b) aborted ∷ cleaned_up ∷ []) s).events
 work_read level levels s leaving true h are e trees k =
     let c : CleanRead leaving s = cleans_at s leaving k trees.contexts trees.owners.tree trees.quiet in
-    one_then {F = AwaitsNothing} {G = AwaitsNothing} leaving (cleaned_up s).scene (cleaned_up s).scene (cleaned_up s).events []
+    then_read {F = AwaitsNothing} {G = AwaitsNothing} staying leaving (cleaned_up s).scene (cleaned_up s).scene (cleaned_up s).events []
     (record { allowed = c.allowed; fits = record { active = record { sees = c.sees; ends = c.ends }; awaited = c.awaited } }) (λ j. record { allowed = refl; fits = j })
 work_read level levels s leaving false h are e trees k =
     subst (λ (b : Bool). OneRead AwaitsNothing leaving (in_order (where_so (not b) aborted ∷ cleaned_up ∷ []) s).scene (in_order (where_so (not b) aborted ∷ cleaned_up ∷ []) s).events) e
@@ -480,7 +461,7 @@ levels_read [] s leaving h are trees k = record { allowed = refl; fits = k }
 levels_read (level ∷ levels) s leaving h are trees k =
     let z : Scene = (level_rolled_back level s).scene in
     let after : Leaving = seen_after staying leaving (level_rolled_back level s).events in
-    one_then {F = LevelRead levels} {G = AwaitsNothing} leaving z (for_each level_rolled_back levels z).scene (level_rolled_back level s).events (for_each level_rolled_back levels z).events (level_read level levels s leaving h are trees k)
+    then_read {F = LevelRead levels} {G = AwaitsNothing} staying leaving z (for_each level_rolled_back levels z).scene (level_rolled_back level s).events (for_each level_rolled_back levels z).events (level_read level levels s leaving h are trees k)
     (λ i. levels_read levels z after i.stands i.are i.trees
     (subst (λ (ls : List LevelState). At (stage_of ls) after z) i.are (rest_at after z (record { stage = Working; rest = tt; at = i.work }))))
 

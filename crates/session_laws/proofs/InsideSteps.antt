@@ -81,9 +81,8 @@ outer_seen n begun (p ∷ ps) most below low h = (
 )
 
 -- what is seen behind one event
-pub record OneRead (F : Leaving → Scene → Type 0) (leaving : Leaving) (t : Scene) (events : List What) : Type 0 where
-  pub allowed : allows_all staying leaving events ≡ true
-  pub fits : F (seen_after staying leaving events) t
+abbrev pub OneRead : (Leaving → Scene → Type 0) → Leaving → Scene → List What → Type 0
+OneRead F = IsRead staying F
 
 -- where a context is awaited, and where an owner is
 pub record AwaitsContext (leaving : Leaving) (s : Scene) : Type 0 where

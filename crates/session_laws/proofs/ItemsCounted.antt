@@ -1,5 +1,5 @@
 -- How often the owner of a number has an item, behind each change of the owners, and how often a phase of a release says that it releases it.
-use Rattle.session_laws.proofs.Words.{◌≡◌, ℕ, ◌+◌, count_by, find, Bool, true, false, cond, Option, Some, None, List, [], ◌∷◌, ◌++◌, refl, ap, ◌∙◌, inl, inr, arith, ◌-◌, ◌<◌, ◌≤◌, sym, subst, ◌==◌, ◌&&◌, ◌||◌, if◌then◌else◌, nat_le, cases_Bool, or_parts, and_from, cases_eq, false_from_ne_true, le-leb, ne_eqb, sum_by-cons, Empty, Node, Once, either, has, at, changed, children, moved, parent_of, put, removed, AllNodes, times, all_changed, swept, order_at, Apart, Below, Beside, Here, Moves, apart_of, at_absent, at_some, changed_absent, has_at, once_removed, parent_stays, put_absent, removed_absent, where_is, has_changed, has_of_removed, has_some, once_changed, once_front, once_put, times_moved, times_some, option_map_or}
+use Rattle.session_laws.proofs.Words.{◌≡◌, ℕ, ◌+◌, count_by, find, Bool, true, false, cond, Option, Some, None, List, [], ◌∷◌, ◌++◌, refl, ap, ◌∙◌, inl, inr, arith, ◌-◌, ◌<◌, ◌≤◌, sym, subst, ◌==◌, ◌&&◌, if◌then◌else◌, nat_le, cases_Bool, and_from, cases_eq, false_from_ne_true, le-leb, ne_eqb, sum_by-cons, Empty, Node, Once, has, at, changed, children, moved, parent_of, put, removed, AllNodes, times, all_changed, swept, order_at, Moves, apart_of, at_absent, at_some, changed_absent, has_at, once_removed, parent_stays, put_absent, removed_absent, where_is, has_changed, has_of_removed, has_some, once_changed, once_front, once_put, times_moved, times_some, option_map_or, nat_tests}
 use Rattle.session_laws.proofs.Scenes.{Item, KindId, Phase, BeforeLocks, Locks, AfterLocks, KindTable, is_of, without_newest, is_of_phase, priority, release_order, Owner, OwnerTree, AllAt, HoldsNothing, created, forgotten, remembered, left_of, own_released, released, Said, Step, lock_step, own_steps, release_steps, releases_of, steps_below, top_locks, GivesBack, ReleasesLocks, PassesLocks, ReleasesAllLocks, made_event, What, table_of, Scene, newest, for_each, owner_made, given_back, owner_gone, owner_moved, phase_released, step_done, remembers}
 use Rattle.session_laws.proofs.Rules.{Reader, allows_all, seen_after, count, allows_all-append, seen_after-append, has_put_other, once_left, has_swept, AreReleaseSteps, IsReleaseStep, is_release, no_step, phase_release, then_step, warned_step, AreSaid, said_all_locks, said_lock_passes, said_lock_releases, said_map, said_more, said_none, said_one, said_weaker}
 use Rattle.session_laws.proofs.Parents.{alike_swept, once_alike}
@@ -39,11 +39,7 @@ module _ (item : Item) (owner : ℕ) where
   -- a new owner has nothing
   it_put_bare : (p n : ℕ) (t : OwnerTree) → has_it (put p n (record { begun = false; items = [] }) Empty t) ≡ has_it t
   it_put_bare p n Empty = refl
-  it_put_bare p n (Node k b below beside) =
-      elim (cases_Bool (k == p)) [
-        | inl y ↦ rw y (omega (arith, it_put_bare p n beside))
-        | inr y ↦ rw y (omega (arith, it_put_bare p n below, it_put_bare p n beside))
-      ]
+  it_put_bare p n (Node k b below beside) = grind (arith, nat_tests, it_put_bare p n beside, it_put_bare p n below)
 
   pub it_created : (parent : Option ℕ) (n : ℕ) (t : OwnerTree) → has_it (created parent n t) ≡ has_it t
   it_created None n t = omega arith
@@ -52,31 +48,11 @@ module _ (item : Item) (owner : ℕ) where
   -- an owner and those below it
   it_put : (p n : ℕ) (a : Owner) (sub t : OwnerTree) → Once t → has p t ≡ true → has_it (put p n a sub t) ≡ has_it t + (own n a.items + has_it sub)
   it_put p n a sub Empty o h = absurd (cc)
-  it_put p n a sub (Node k b below beside) o h =
-      let apart : Apart k below beside = apart_of k b below beside o in
-      elim (where_is p k b below beside o h) [
-        | Here e y u v ↦ rw (y, put_absent p n a sub beside v) (omega arith)
-        | Below ne y u v ↦ rw (y, put_absent p n a sub beside v) (omega (arith, it_put p n a sub below apart.once_below u))
-        | Beside ne y u v ↦ rw (y, put_absent p n a sub below u) (omega (arith, it_put p n a sub beside apart.once_beside v))
-      ]
+  it_put p n a sub (Node k b below beside) o h = grind (arith, nat_tests, it_put p n a sub below, it_put p n a sub beside, apart_of, where_is, put_absent)
 
   it_parts : (n : ℕ) (a : Owner) (t : OwnerTree) → Once t → at n t ≡ Some a → has_it (removed n t) + (own n a.items + has_it (children n t)) ≡ has_it t
   it_parts n a Empty o h = absurd (cc)
-  it_parts n a (Node k b below beside) o h =
-      let apart : Apart k below beside = apart_of k b below beside o in
-      elim (where_is n k b below beside o (has_at n (Node k b below beside) a h)) [
-        | Here e y u v ↦
-            let same : b ≡ a = let w : Some b ≡ Some a = rw y at h in cc in
-            let number : own k a.items ≡ own n a.items = ap (λ (j : ℕ). own j a.items) e in
-            rw (y, removed_absent n beside v, same) (omega (arith, number))
-        | Below ne y u v ↦
-            let w = at_some n below u in
-            let r : at n below ≡ Some a = let z : either (at n below) (at n beside) ≡ Some a = rw y at h in w.1 ∙ (rw w.1 at z) in
-            rw (y, u, removed_absent n beside v) (omega (arith, it_parts n a below apart.once_below r))
-        | Beside ne y u v ↦
-            let r : at n beside ≡ Some a = rw (y, at_absent n below u) at h in
-            rw (y, u, removed_absent n below u) (omega (arith, it_parts n a beside apart.once_beside r))
-      ]
+  it_parts n a (Node k b below beside) o h = grind (arith, nat_tests, it_parts n a below, it_parts n a beside, apart_of, where_is, has_at, removed_absent, at_some, at_absent)
 
   it_nothing : (t : OwnerTree) → AllNodes HoldsNothing t → has_it t ≡ 0
   it_nothing Empty h = refl
@@ -102,22 +78,7 @@ module _ (item : Item) (owner : ℕ) where
   -- the items of one owner change
   it_changed : (n : ℕ) (f : Owner → Owner) (a : Owner) (t : OwnerTree) → Once t → at n t ≡ Some a → has_it (changed n f t) + own n a.items ≡ has_it t + own n (f a).items
   it_changed n f a Empty o h = absurd (cc)
-  it_changed n f a (Node k b below beside) o h =
-      let apart : Apart k below beside = apart_of k b below beside o in
-      elim (where_is n k b below beside o (has_at n (Node k b below beside) a h)) [
-        | Here e y u v ↦
-            let same : b ≡ a = let w : Some b ≡ Some a = rw y at h in cc in
-            let was : own k a.items ≡ own n a.items = ap (λ (j : ℕ). own j a.items) e in
-            let now : own k (f a).items ≡ own n (f a).items = ap (λ (j : ℕ). own j (f a).items) e in
-            rw (y, changed_absent n f below u, changed_absent n f beside v, same) (omega (arith, was, now))
-        | Below ne y u v ↦
-            let w = at_some n below u in
-            let r : at n below ≡ Some a = let z : either (at n below) (at n beside) ≡ Some a = rw y at h in w.1 ∙ (rw w.1 at z) in
-            rw (y, changed_absent n f beside v) (omega (arith, it_changed n f a below apart.once_below r))
-        | Beside ne y u v ↦
-            let r : at n beside ≡ Some a = rw (y, at_absent n below u) at h in
-            rw (y, changed_absent n f below u) (omega (arith, it_changed n f a beside apart.once_beside r))
-      ]
+  it_changed n f a (Node k b below beside) o h = grind (arith, nat_tests, it_changed n f a below, it_changed n f a beside, apart_of, where_is, has_at, changed_absent, at_some, at_absent)
 
   -- one item more
   pub it_remembered : (n : ℕ) (new : Item) (a : Owner) (t : OwnerTree) → Once t → at n t ≡ Some a → has_it (remembered n new t) ≡ has_it t + cond (is_it n new) 1 0
@@ -178,45 +139,17 @@ module _ (item : Item) (owner : ℕ) where
   says_below : (kinds : KindTable) (phase : Phase) (commit top : Bool) (parent : ℕ) (t : OwnerTree)
       → says (steps_below kinds phase commit top parent t) + has_it (all_changed (own_released kinds phase) t) ≡ has_it t
   says_below kinds phase commit top parent Empty = refl
-  says_below kinds phase commit top parent (Node n o below beside) =
-      let locks : List Step = if top then [] else lock_step commit n parent ∷ [] in
-      let steps : List Step = own_steps kinds phase commit n o locks in
-      omega (
-        arith,
-        says_both (steps_below kinds phase commit top n below) (steps ++ steps_below kinds phase commit top parent beside),
-        says_both steps (steps_below kinds phase commit top parent beside),
-        says_own kinds phase commit n o locks (locks_say top commit n parent),
-        says_below kinds phase commit top n below,
-        says_below kinds phase commit top parent beside,
-      )
+  says_below kinds phase commit top parent (Node n o below beside) = grind (arith, nat_tests, says_below kinds phase commit top n below, says_below kinds phase commit top parent beside, says_both, says_own, locks_say)
 
   -- what a change of an owner and of all below it does to the sum
   unswept : (f : Owner → Owner) (n : ℕ) (t : OwnerTree) → has n t ≡ false → swept f n t ≡ t
   unswept f n Empty h = refl
-  unswept f n (Node k a below beside) h =
-      let p = or_parts (k == n) (has n below || has n beside) h in
-      let q = or_parts (has n below) (has n beside) p.1 in
-      rw (p.0, unswept f n below q.0, unswept f n beside q.1) refl
+  unswept f n (Node k a below beside) h = grind (arith, nat_tests, unswept f n below, unswept f n beside)
 
   it_swept : (f : Owner → Owner) (n : ℕ) (a : Owner) (t : OwnerTree) → Once t → at n t ≡ Some a
       → has_it (swept f n t) + (own n a.items + has_it (children n t)) ≡ has_it t + (own n (f a).items + has_it (all_changed f (children n t)))
   it_swept f n a Empty o h = absurd (cc h)
-  it_swept f n a (Node k b below beside) o h =
-      let apart : Apart k below beside = apart_of k b below beside o in
-      elim (where_is n k b below beside o (has_at n (Node k b below beside) a h)) [
-        | Here e y u v ↦
-            let same : b ≡ a = let w : Some b ≡ Some a = rw y at h in cc w in
-            let was : own k a.items ≡ own n a.items = ap (λ (j : ℕ). own j a.items) e in
-            let now : own k (f a).items ≡ own n (f a).items = ap (λ (j : ℕ). own j (f a).items) e in
-            rw (y, unswept f n beside v, same) (omega (arith, was, now))
-        | Below ne y u v ↦
-            let w = at_some n below u in
-            let r : at n below ≡ Some a = let z : either (at n below) (at n beside) ≡ Some a = rw y at h in w.1 ∙ (rw w.1 at z) in
-            rw (y, u, unswept f n beside v) (omega (arith, it_swept f n a below apart.once_below r))
-        | Beside ne y u v ↦
-            let r : at n beside ≡ Some a = rw (y, at_absent n below u) at h in
-            rw (y, u, unswept f n below u) (omega (arith, it_swept f n a beside apart.once_beside r))
-      ]
+  it_swept f n a (Node k b below beside) o h = grind (arith, nat_tests, it_swept f n a below, it_swept f n a beside, apart_of, where_is, has_at, unswept, at_some, at_absent)
 
   -- A phase says of what it takes off the owners that it is released.
   pub says_phase : (kinds : KindTable) (phase : Phase) (commit top : Bool) (n : ℕ) (t : OwnerTree) → Once t

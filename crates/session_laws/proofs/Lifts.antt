@@ -16,7 +16,7 @@ use Rattle.owner_kinds.specs.Kind.{Kind}
 use Rattle.session_rules.proofs.HookLaws.{exited_counts_hooks, turn_counts_hooks}
 use Rattle.session_rules.proofs.OpeningStands.{opening_stands}
 use Rattle.session_rules.proofs.Standings.{stands_between_elsewhere}
-use Rattle.session_laws.proofs.Lives.{IsLife, IsRead, Reads, read_both}
+use Rattle.session_laws.proofs.Lives.{IsLife, IsRead, Reads, read_both, then_read}
 use Rattle.lifetime_laws.specs.Once.{ending}
 use Rattle.session_rules.proofs.Ordinary.{elements_ordinary, gone_ordinary, is_ordinary, recovery_ordinary, rollback_ordinary}
 use Rattle.pgs_step.specs.declared.events.What.TheVariants as what
@@ -407,12 +407,7 @@ module _ {Seen : Type 0} (kinds : KindTable) (reader : Reader Seen) (Fits : Seen
     beside : (n : ℕ) → IsOutside sessions n → Has (record { session = opening; around = nowhere }) (events_of n events)
 
   read_on : (s t : Scene) (before whats : List What) → Has s before → Reads reader Fits s t whats → Has t (before ++ whats)
-  read_on s t before whats h k =
-      let more : IsRead reader Fits (seen_after reader start before) t whats = k.so (seen_after reader start before) h.fits in
-      record {
-        allowed = allows_all-append reader start before whats h.allowed more.allowed;
-        fits = subst (λ (seen : Seen). Fits seen t) (sym (seen_after-append reader start before whats)) more.fits;
-      }
+  read_on s t before whats h k = then_read reader start s t before whats h (k.so (seen_after reader start before))
 
   read_elsewhere : (session : SessionState) (a b : Around) (whats : List What) → table_of b.kinds ≡ table_of a.kinds → b.descriptors ≡ a.descriptors → Has (record { session = session; around = a }) whats → Has (record { session = session; around = b }) whats
   read_elsewhere session a b whats same descriptors h = record { allowed = h.allowed; fits = life.elsewhere (seen_after reader start whats) session a b same descriptors h.fits }

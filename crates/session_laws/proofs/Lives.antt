@@ -11,6 +11,16 @@ pub record IsRead {Seen : Type 0} (reader : Reader Seen) (Fits : Seen → Scene 
   pub allowed : allows_all reader seen events ≡ true
   pub fits : Fits (seen_after reader seen events) behind
 
+-- one part of what is read and then another
+pub then_read : {Seen : Type 0} {F G : Seen → Scene → Type 0} (reader : Reader Seen) (seen : Seen) (t u : Scene) (xs ys : List What) → IsRead reader F seen t xs
+    → (F (seen_after reader seen xs) t → IsRead reader G (seen_after reader seen xs) u ys) → IsRead reader G seen u (xs ++ ys)
+then_read {Seen} {G = G} reader seen t u xs ys a more =
+    let b : IsRead reader G (seen_after reader seen xs) u ys = more a.fits in
+    record {
+      allowed = allows_all-append reader seen xs ys a.allowed b.allowed;
+      fits = subst (λ (after : Seen). G after u) (sym (seen_after-append reader seen xs ys)) b.fits;
+    }
+
 -- The law of a reader: where what it has seen fits the scene, it allows the events, and fits the scene behind.
 pub record Reads {Seen : Type 0} (reader : Reader Seen) (Fits : Seen → Scene → Type 0) (s t : Scene) (events : List What) : Type 0 where
   pub so : (seen : Seen) → Fits seen s → IsRead reader Fits seen t events
@@ -20,15 +30,7 @@ module _ {Seen : Type 0} (reader : Reader Seen) (Fits : Seen → Scene → Type 
   read_none s = record { so = λ seen h. record { allowed = refl; fits = h } }
 
   pub read_both : {s t u : Scene} {xs ys : List What} → Reads reader Fits s t xs → Reads reader Fits t u ys → Reads reader Fits s u (xs ++ ys)
-  read_both {u = u} {xs = xs} {ys = ys} a b = record {
-    so = λ seen h.
-        let one = a.so seen h in
-        let two = b.so (seen_after reader seen xs) one.fits in
-        record {
-          allowed = allows_all-append reader seen xs ys one.allowed two.allowed;
-          fits = subst (λ (after : Seen). Fits after u) (sym (seen_after-append reader seen xs ys)) two.fits;
-        };
-  }
+  read_both {t = t} {u = u} {xs = xs} {ys = ys} a b = record { so = λ seen h. then_read reader seen t u xs ys (a.so seen h) (b.so (seen_after reader seen xs)) }
 
 -- What a law owes for the end of the deepest level, where the scene stands: it aborts, it is cleaned up, or both in one.
 pub record OwesEnds (R : Law) : Type 0 where
@@ -65,6 +67,11 @@ pub record HasGone (R : Law) (s : Scene) (behind : Ended) : Type 0 where
   pub stands : Stands (settled [] left)
   pub is : behind.scene ≡ settled [] left
   pub keeps : R s behind.scene behind.events
+
+-- each element of a line meets what it asks
+pub line_leads : (w : Option ℕ) (line : Option Command) (m : Moment) → StandsBetweenLines m.scene → Runs w StandsBetweenLines (line_elements line m.scene.session) m
+line_leads w None m h = refused_leads w StandsBetweenLines error.SyntaxError m h.stands
+line_leads w (Some c) m h = command_leads w c m h
 
 module _ (R : Law) (o : OwesTurns R) where
   -- a level is rolled back, whether it is aborted already or not
@@ -115,10 +122,6 @@ module _ (R : Law) (o : OwesTurns R) where
   turn_of_keeps : (s : Scene) (done : Done) (refusal : Option Error) → Stands done.moment.scene → Follows R s done → R s (turn_of done refusal).moment.scene (turn_of done refusal).events
   turn_of_keeps s done None h k = k.so
   turn_of_keeps s done (Some error) h k = o.leaves.acts.both k.so (recovered_keeps error done.moment.scene h)
-
-  line_leads : (w : Option ℕ) (line : Option Command) (m : Moment) → StandsBetweenLines m.scene → Runs w StandsBetweenLines (line_elements line m.scene.session) m
-  line_leads w None m h = refused_leads w StandsBetweenLines error.SyntaxError m h.stands
-  line_leads w (Some c) m h = command_leads w c m h
 
   -- A turn keeps the law.
   pub turn_keeps : (w : Option ℕ) (line : Option Command) (m : Moment) → StandsBetweenLines m.scene → R m.scene (turn w line m).moment.scene (turn w line m).events

@@ -1,7 +1,7 @@
 -- Where no lock is held, none is behind what doesn't take one; and behind the end of level 1 none is held.
 use Rattle.session_laws.proofs.Words.{◌≡◌, ℕ, Bool, true, List, [], ◌∷◌, ◌++◌, Option, refl, ap, ◌∙◌, false, not, Some, None, sym, arith, ◌+◌, ◌≤◌, subst, inl, inr, option_map_or, option_and_then, children, has, at_some, ◌&&◌, is_some, ◌⊎◌, length, All, both_ways, All-head, All-tail, All-nil}
 use Rattle.session_laws.proofs.Scenes.{What, Mode, BeforeLocks, Locks, AfterLocks, table_of, KindTable, Owner, OwnerTree, own_released, ReleasesAllLocks, Step, own_steps, release_steps, steps_below, Scene, Moment, Around, for_each, where_so, where_there, Ended, switched, in_order, owner_released, phase_released, step_done, lock_given_back, at_owner, LevelState, OpenPortal, deepest_changed, first_of, is_aborted, level_context, owner_of, opening, portal_aborted, portal_closed, aborted, cleaned_up, committed, level_released, level_rolled_back, exited, given_up, recovered, IsLive, Stands, active_depth, AreOuter, FitLevels, IsDead, IsPortal, IsOpen, StandsBetweenLines, Contexts, Error, Element, LevelContext, NewContext, OfLevel, OfPortal, OwnerRole, PortalContext, RowContext, ScriptContext, Text, context_named, owner_in, portal_named, level_made, new_context_made, new_owner_made, lock_taken, snapshot_pushed, Done, fallible, refused_call, unless_refused, does, failing_turn, does_all, then_done, Command, AreLocks, has_owner, line_elements, turn, turn_of}
-use Rattle.session_laws.proofs.Rules.{Keeps, Follows, IsSpoken, AreSpoken, IsRun, has_swept, all_aborted, begins, off_begins, owner_when_active, resettled, settled, switched_off, aborted_stands, at_settled, is_left, rolled_stands, by_each, element_follows, fallible_so, behind_commit, cleans_up, portal_aborts, portal_closes, Meets, command_leads, line_runs, refused_leads, allows_all, seen_after, line_spoken, said_one}
+use Rattle.session_laws.proofs.Rules.{Keeps, Follows, IsSpoken, AreSpoken, IsRun, has_swept, all_aborted, begins, off_begins, owner_when_active, resettled, settled, switched_off, aborted_stands, at_settled, is_left, rolled_stands, by_each, element_follows, fallible_so, behind_commit, cleans_up, portal_aborts, portal_closes, Meets, line_runs, allows_all, seen_after, line_spoken, said_one}
 use Rattle.session_laws.proofs.OrderEnds.{own_mild}
 use Rattle.session_laws.proofs.OwnWork.{IsOwnWork}
 use Rattle.lock_local.specs.Changes.{given_back, passed, released}
@@ -16,10 +16,9 @@ use Rattle.session_rules.proofs.StepsStand.{abort_stands, cleanup_stands, merge_
 use Rattle.session_rules.proofs.PortalsStand.{Named, named_in}
 use Rattle.session_laws.proofs.LocksChecked.{IsChecked, line_checked, locks_exit, locks_turn}
 use Rattle.lock_local.proofs.ChangeLemmas.{WellCounted}
-use Rattle.session_laws.proofs.Lives.{IsLife, IsRead, Reads}
+use Rattle.session_laws.proofs.Lives.{IsLife, IsRead, Reads, line_leads}
 use Rattle.session_laws.proofs.LocksRead.{LocksFit, lock_reader, there, locks_aside}
 use Rattle.session_rules.specs.Elements as e
-use Rattle.pgs_step.specs.declared.errors.Error.TheVariants as error
 use Rattle.pgs_step.specs.declared.events.What.TheVariants as what
 
 -- where no lock is held, none is behind
@@ -400,8 +399,7 @@ recovered_bare error s h b = at_settled (λ (z : Scene). Bare z → Bare (recove
 
 -- a line
 line_stands : (w : Option ℕ) (line : Option Command) (m : Moment) → StandsBetweenLines m.scene → Stands (does_all w (line_elements line m.scene.session) m).moment.scene
-line_stands w None m h = let k = refused_leads w StandsBetweenLines error.SyntaxError m h.stands in k.stands
-line_stands w (Some c) m h = let k = command_leads w c m h in k.stands
+line_stands w line m h = (line_leads w line m h).stands
 
 turn_of_bare : (done : Done) (refusal : Option Error) → Stands done.moment.scene → Bare done.moment.scene → Bare (turn_of done refusal).moment.scene
 turn_of_bare done None h b = b

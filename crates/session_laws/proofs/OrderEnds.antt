@@ -1,5 +1,5 @@
 -- A reader of releases, where none is open, as one opens, and as it closes.
-use Rattle.session_laws.proofs.Words.{◌≡◌, ℕ, Bool, true, false, not, List, [], ◌∷◌, ◌++◌, map, Option, Some, None, refl, sym, subst, codes, ◌∙◌, ◌+◌, ◌<◌, cond, All, ap, arith, ◌≤◌, length, option_and_then, ◌==◌, option_map_or, list_all, and_from, All-cons, All-filter, All-nil, All-weaker, Empty, Node, AllNodes, children, order}
+use Rattle.session_laws.proofs.Words.{◌≡◌, ℕ, Bool, true, false, not, List, [], ◌∷◌, ◌++◌, map, Option, Some, None, refl, sym, subst, codes, ◌∙◌, ◌+◌, ◌<◌, All, ap, arith, ◌≤◌, length, option_and_then, ◌==◌, option_map_or, list_all, and_from, All-cons, All-filter, All-nil, All-weaker, Empty, Node, AllNodes, children, order, nat_tests}
 use Rattle.session_laws.proofs.Scenes.{What, KindTable, portals_context, opening, LevelState, OpenPortal, deepest_changed, depth, first_of, level_owner, owner_of, top_context, Moment, Scene, Around, Element, Text, new_context_made, owner_made, owner_gone, descriptor_left, owner_moved, owner_released, does, Item, Phase, BeforeLocks, Locks, AfterLocks, table_of, is_of, without_newest, is_of_phase, Owner, OwnerTree, remembered, own_released, IsInOrder, Lock, has_owner, Ended, changes, context_gone, for_each, in_order, portal_gone, switched, where_so, where_there, portal_aborted, portal_closed, portal_passed, aborted, cleaned_up, committed, empty_context_gone, level_context_gone, level_owner_gone, level_popped, level_released, stack_lowered, stack_popped, subcommitted, switched_up, Stands, active_depth}
 use Rattle.session_laws.proofs.Rules.{allows_all, seen_after, allows_all-append, seen_after-append, AreSaid, said_more, said_none, said_both, said_one, said_pops, Acts, Follows, Keeps, last, next, EndLeaves, Law, MakeLeaves, Leaves, OwnerLeaves, KeyLeaves, Part, Sight, acts_of, children_go, goes, item_comes, item_goes, leaves_of, of_levels, owner_goes, owner_makes, places, releases, unseen_keys, unseen_owners, of_kinds, of_locks, of_next_serial, of_owners, owner_moves, by_order, moves_owed, by_each, by_so, by_there, all_swept, begins, off_begins, owner_when_active, resettled, settled, switched_off, aborted_leads, empty_context_goes, level_context_goes, portal_aborts, portal_cleans, portal_closes, portal_passes}
 use Rattle.session_laws.proofs.Usual.{Usual, any, usual_any, is_usual, usual_contexts, usual_files, usual_locked, usual_locks, usual_made, usual_moves, usual_placed, usual_planned, usual_pushed, usual_stack, usual_unlocked, usual_words, usual_ends, usual_released, usual_taken, usual_phase}
@@ -316,11 +316,7 @@ module _ (kinds : KindTable) where
 
   recalled : (n : ℕ) (item : Item) (t : OwnerTree) → AllNodes (Recalls item.serial) t → AllNodes (Recalls (item.serial + 1)) (remembered n item t)
   recalled n item Empty h = tt
-  recalled n item (Node k owner below beside) h = (go (k == n), recalled n item below h.1, recalled n item beside h.2)
-    where
-      go : (b : Bool) → Recalls (item.serial + 1) (cond b (record owner { items = item ∷ owner.items }) owner)
-      go true = recall item owner h.0
-      go false = later item.serial owner h.0
+  recalled n item (Node k owner below beside) h = grind (arith, nat_tests, recalled n item below, recalled n item beside)
 
   released_recalls : (places : KindTable) (phase : Phase) (bound : ℕ) (owner : Owner) → Recalls bound owner → Recalls bound (own_released places phase owner)
   released_recalls places Locks bound owner h = record { falls = h.falls; older = h.older }

@@ -1,19 +1,18 @@
 -- In each session's life the end of a level releases descendants first, by phase and priority.
 use Rattle.session_laws.proofs.Words.{◌≡◌, ℕ, ◌+◌, Bool, true, false, List, [], ◌∷◌, ◌++◌, Option, Some, None, refl, sym, ap, ◌∙◌, subst, inl, inr, not, ◌⊎◌, is_some, option_and_then, if◌then◌else◌, and_from, both_ways, subtree}
 use Rattle.session_laws.proofs.Scenes.{Error, What, KindTable, LevelState, deepest_changed, is_aborted, level_above, level_context, owner_of, first_of, opening, top_context, Moment, Scene, Around, Element, failure, Ended, nothing, switched, where_there, for_each, in_order, where_so, context_gone, say, aborted, cleaned_up, committed, subcommitted, given_up, level_rolled_back, recovered, exited, level_made, new_context_made, new_owner_made, owner_made, Done, fallible, refused_call, unless_refused, does, does_all, then_done, AreOuter, IsOpen, Stands, AreOpen, FitLevels, StandsBetweenLines, Command, table_of, line_elements, turn, turn_of}
-use Rattle.session_laws.proofs.Rules.{allows_all, seen_after, aborted_stands, at_settled, is_left, rolled_stands, settled, AreSpoken, Follows, IsRun, IsSpoken, Meets, Runs, command_leads, refused_leads, element_follows, AreSaid, said_both, said_none, said_one, said_gone, line_spoken}
+use Rattle.session_laws.proofs.Rules.{allows_all, seen_after, aborted_stands, at_settled, is_left, rolled_stands, settled, AreSpoken, Follows, IsRun, IsSpoken, Meets, Runs, element_follows, AreSaid, said_both, said_none, said_one, said_gone, line_spoken}
 use Rattle.lifetime_laws.specs.Order.{Batch, Releasing, member_in, ordering, nothing_releasing}
 use Rattle.lifetime_laws.specs.Parents.{Node}
 use Rattle.session_rules.proofs.EndsStand.{Leaves as Leaving}
 use Rattle.session_rules.proofs.LevelsKept.{is_there}
 use Rattle.session_rules.proofs.StepsStand.{abort_stands, cleanup_stands, commit_stands, merge_stands, settled_as}
-use Rattle.session_laws.proofs.Lives.{OwesTurns, level_keeps, IsLife, Reads, turn_keeps}
+use Rattle.session_laws.proofs.Lives.{OwesTurns, level_keeps, IsLife, Reads, turn_keeps, line_leads}
 use Rattle.session_laws.proofs.OwnWork.{AreDue, ContextNext, Hushed, IsDue, IsHushed, IsLevelContext, IsLevelOwner, IsLively, IsOwnWork, IsRest, IsSaid, OwnerNext, Stage, Working, above_of, hushed_next, stage_next, working_next, line_due, stage_of}
 use Rattle.session_laws.proofs.ParentsLife.{KeepsOwners, owners_owed, HasOwners, opening_owners, owners_life}
 use Rattle.session_laws.proofs.OrderEnds.{Mild, own_mild, KeepsBase, base_owed, Fit, abort_goes, clean_goes, commit_goes, keeps_fit, merge_goes, Goes, IsClosed, closed_goes, goes_both, goes_none, goes_weaker, lone_allows, is_unlined, nodes_after, ordered_nodes, by_error, closes, opening_based}
 use Rattle.pgs_step.specs.declared.events.What.TheVariants as what
 use Rattle.session_rules.specs.Elements as e
-use Rattle.pgs_step.specs.declared.errors.Error.TheVariants as error
 
 -- the deepest level has its owner
 abbrev pub HasOwner : List LevelState → Type 0
@@ -362,10 +361,6 @@ begins_at s h seen opened = go (is_aborted s.session.levels) refl
     go : (b : Bool) → is_aborted s.session.levels ≡ b → At (if b then Hushed else Working) seen s
     go true is = is
     go false is = (opened is, between_owned s.session.levels s h.open_levels h.stands.fit)
-
-line_leads : (w : Option ℕ) (line : Option Command) (m : Moment) → StandsBetweenLines m.scene → Runs w StandsBetweenLines (line_elements line m.scene.session) m
-line_leads w None m h = refused_leads w StandsBetweenLines error.SyntaxError m h.stands
-line_leads w (Some c) m h = command_leads w c m h
 
 module _ (kinds : KindTable) where
   turn_opened : (w : Option ℕ) (done : Done) (refusal : Option Error) → done.refusal ≡ refusal → Stands done.moment.scene → (seen : Releasing) → Goes kinds seen done.events (HasRun kinds w done)

@@ -1,5 +1,5 @@
 -- The three phases of a release, of an owner and all below it.
-use Rattle.session_laws.proofs.Words.{◌≡◌, ℕ, ◌<◌, Bool, true, false, not, if◌then◌else◌, List, [], ◌++◌, All, Option, Some, None, refl, sym, subst, ap, ◌∙◌, inl, inr, arith, ◌==◌, ◌||◌, option_map_or, cond-false, cond-true, both_ways, eq-eqb, false_from_ne_true, ne_eqb, or_left, or_right, append-nil, All-append, All-nil, All-weaker, Forest, Empty, Node, Once, AllNodes, at, children, has, parent_of, Apart, apart_of, first_child_other, has_at, has_children}
+use Rattle.session_laws.proofs.Words.{◌≡◌, ℕ, ◌<◌, Bool, true, false, not, if◌then◌else◌, List, [], ◌++◌, All, Option, Some, None, refl, sym, subst, ap, ◌∙◌, inl, inr, arith, ◌==◌, ◌||◌, option_map_or, cond-false, cond-true, both_ways, eq-eqb, false_from_ne_true, ne_eqb, or_left, or_right, append-nil, All-append, All-nil, All-weaker, Forest, Empty, Node, Once, AllNodes, at, children, has, parent_of, Apart, apart_of, first_child_other, has_at, has_children, nat_tests}
 use Rattle.session_laws.proofs.Scenes.{What, Phase, BeforeLocks, Locks, AfterLocks, is_of_phase, KindTable, table_of, Owner, OwnerTree, own_released, Step, own_steps, release_steps, steps_below, top_locks, IsInOrder, Scene, Ended, for_each, owner_released, phase_released, step_done}
 use Rattle.session_laws.proofs.Rules.{all_swept}
 use Rattle.session_laws.proofs.ParentsLife.{fits_alike}
@@ -70,12 +70,7 @@ module _ (nodes : List replayed.Node) (whole : OwnerTree) (fit : FitsTree nodes 
 
   walked_of : (part : OwnerTree) → Once part → ((x : ℕ) → has x part ≡ true → IsInside x part whole) → AreWalked nodes part
   walked_of Empty once inside = tt
-  walked_of (Node k a below beside) once inside =
-      let p : Apart k below beside = apart_of k a below beside once in (
-        splits_of k a below beside once inside,
-        walked_of below p.once_below (λ x h. inside_below nodes whole fit k a below beside p x h (inside x (or_right (k == x) (has x below || has x beside) (or_left (has x below) (has x beside) h)))),
-        walked_of beside p.once_beside (λ x h. inside_beside nodes whole fit k a below beside p x h (inside x (or_right (k == x) (has x below || has x beside) (or_right (has x below) (has x beside) h)))),
-      )
+  walked_of (Node k a below beside) once inside = grind (arith, nat_tests, walked_of below, walked_of beside, apart_of, splits_of, inside_below, or_right, or_left, inside_beside)
 
   inside_children : (n x : ℕ) → has x (children n whole) ≡ true → IsInside x (children n whole) whole
   inside_children n x h = record { there = has_children x n whole fit.once h; same = sym (children_in x n whole fit.once h) }

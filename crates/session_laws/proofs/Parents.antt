@@ -1,5 +1,5 @@
 -- Replayed parents that fit the trees of a session.
-use Rattle.session_laws.proofs.Words.{◌≡◌, ◌≢◌, ℕ, zero, suc, ◌+◌, ◌<◌, ◌≤◌, Bool, true, false, not, List, [], ◌∷◌, length, Option, Some, None, refl, sym, ap, ◌∙◌, subst, unwrap_or, inl, inr, arith, ◌++◌, append-nil, if◌then◌else◌, ◌==◌, ◌||◌, ◌&&◌, option_map_or, both_ways, cases_Bool, cases_eq, cond-true, eq-eqb, eqb-true, false_from_ne_true, ne_eqb, or_from, or_parts, and_from, Forest, Empty, Node, Once, children, has, is_above, moved, parent_of, put, removed, size, times, with_children, at, changed, mapped, Moves, at_some, has_at, has_none, has_some, once_front, once_moved, once_put, parent_stays, removed_has, size_moved, size_put, size_removed, times_moved, times_none, times_some, Apart, apart_of, first_child_other, has_children, once_removed, removed_absent, lead, order, order_at, all_changed, swept}
+use Rattle.session_laws.proofs.Words.{◌≡◌, ◌≢◌, ℕ, zero, suc, ◌+◌, ◌<◌, ◌≤◌, Bool, true, false, not, List, [], ◌∷◌, length, Option, Some, None, refl, sym, ap, ◌∙◌, subst, unwrap_or, inl, inr, arith, ◌++◌, append-nil, if◌then◌else◌, ◌==◌, ◌||◌, ◌&&◌, option_map_or, both_ways, cases_Bool, cases_eq, cond-true, eq-eqb, eqb-true, false_from_ne_true, ne_eqb, or_from, or_parts, and_from, Forest, Empty, Node, Once, children, has, is_above, moved, parent_of, put, removed, size, times, with_children, at, changed, mapped, Moves, at_some, has_at, has_none, has_some, once_front, once_moved, once_put, parent_stays, removed_has, size_moved, size_put, size_removed, times_moved, times_none, times_some, apart_of, first_child_other, has_children, once_removed, removed_absent, lead, order, order_at, all_changed, swept, nat_tests}
 use Rattle.session_laws.proofs.Scenes.{Scene, Context, Contexts, callbacks, emptied, What}
 use Rattle.session_laws.proofs.Rules.{at_put, children_put, has_left, has_put_other, once_left, parent_left, parent_put, parent_put_other, emptied_absent, has_emptied, is_one_of, Reader, allows_all, seen_after, AreSaid, said_more, said_none}
 use Rattle.forest.proofs.Mapped.{mapped-times}
@@ -236,49 +236,15 @@ module _ {A : Type 0} where
   -- what goes below a node that loses all below it
   emptied_below : (m n : ℕ) (t : Forest A) → Once t → has m (children n t) ≡ true → with_children n Empty (removed m t) ≡ with_children n Empty t
   emptied_below m n Empty o h = refl
-  emptied_below m n (Node k a below beside) o h =
-      let apart : Apart k below beside = apart_of k a below beside o in
-      elim (cases_Bool (k == n)) [
-        | inl y ↦
-            let u : has m below ≡ true = rw y at h in
-            rw (ne_eqb k m (other m k below u apart.not_below), removed_absent m beside (apart.apart m u), y) refl
-        | inr y ↦ elim (cases_Bool (has n below)) [
-          | inl v ↦
-              let u : has m (children n below) ≡ true = rw (y, v) at h in
-              let w : has m below ≡ true = has_children m n below apart.once_below u in
-              rw (ne_eqb k m (other m k below w apart.not_below), removed_absent m beside (apart.apart m w), y, emptied_below m n below apart.once_below u) refl
-          | inr v ↦
-              let u : has m (children n beside) ≡ true = rw (y, v) at h in
-              let w : has m beside ≡ true = has_children m n beside apart.once_beside u in
-              rw (ne_eqb k m (other m k beside w apart.not_beside), removed_absent m below (apart.apart_back m w), y, emptied_below m n beside apart.once_beside u) refl
-        ]
-      ]
+  emptied_below m n (Node k a below beside) o h = grind (arith, nat_tests, emptied_below m n below, emptied_below m n beside, apart_of, ne_eqb, other, removed_absent, has_children)
 
   emptied_none : (n : ℕ) (t : Forest A) → Once t → children n t ≡ Empty → with_children n Empty t ≡ t
   emptied_none n Empty o e = refl
-  emptied_none n (Node k a below beside) o e =
-      let apart : Apart k below beside = apart_of k a below beside o in
-      elim (cases_Bool (k == n)) [
-        | inl y ↦
-            let z : below ≡ Empty = rw y at e in
-            let out : has n beside ≡ false = rw (eqb-true k n y) at apart.not_beside in
-            rw (y, z, emptied_absent n Empty beside out) refl
-        | inr y ↦ elim (cases_Bool (has n below)) [
-          | inl v ↦
-              let z : children n below ≡ Empty = rw (y, v) at e in
-              rw (y, emptied_absent n Empty beside (apart.apart n v), emptied_none n below apart.once_below z) refl
-          | inr v ↦
-              let z : children n beside ≡ Empty = rw (y, v) at e in
-              rw (y, emptied_absent n Empty below v, emptied_none n beside apart.once_beside z) refl
-        ]
-      ]
+  emptied_none n (Node k a below beside) o e = grind (arith, nat_tests, emptied_none n below, emptied_none n beside, apart_of, eqb-true, emptied_absent)
 
   removed_emptied : (n : ℕ) (t : Forest A) → removed n (with_children n Empty t) ≡ removed n t
   removed_emptied n Empty = refl
-  removed_emptied n (Node k a below beside) = elim (cases_Bool (k == n)) [
-    | inl y ↦ rw y (removed_emptied n beside)
-    | inr y ↦ rw (y, removed_emptied n below, removed_emptied n beside) refl
-  ]
+  removed_emptied n (Node k a below beside) = grind (arith, nat_tests, removed_emptied n beside, removed_emptied n below)
 
   -- all below a node goes
   children_from : (k n : ℕ) (t : Forest A) → size (children n t) < k → Once t → Plucked (order (children n t)) t (with_children n Empty t)
@@ -340,10 +306,7 @@ module _ {A : Type 0} where
 
   shape_swept : (f : A → A) (n : ℕ) (t : Forest A) → mapped bare (swept f n t) ≡ mapped bare t
   shape_swept f n Empty = refl
-  shape_swept f n (Node k a below beside) = elim (cases_Bool (k == n)) [
-    | inl y ↦ rw (y, shape_all f below, shape_swept f n beside) refl
-    | inr z ↦ rw (z, shape_swept f n below, shape_swept f n beside) refl
-  ]
+  shape_swept f n (Node k a below beside) = grind (arith, nat_tests, shape_swept f n beside, shape_swept f n below, shape_all)
 
   pub alike_swept : (f : A → A) (n : ℕ) (t : Forest A) → AreAlike t (swept f n t)
   alike_swept f n t = record { shape = shape_swept f n t }

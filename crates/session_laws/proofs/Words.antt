@@ -10,4 +10,4 @@ pub use Rattle.std.proofs.lemmas.List.Elements.{All-append, All-cons, All-filter
 pub use Rattle.std.proofs.lemmas.List.Sums.{get_or-le-sum_by, list_all-from_AllPass, sum_by-append, sum_by-cons, sum_by-set}
 pub use Rattle.forest.specs.Forest.{AllNodes, Empty, Forest, Node, Once, at, changed, children, either, has, is_above, is_root, mapped, moved, parent_of, put, removed, size, subtree, times, with_children}
 pub use Rattle.forest.specs.Walk.{all_changed, lead, order, order_at, swept}
-pub use Rattle.forest.proofs.Trees.{Apart, Below, Beside, Here, Moves, apart_of, at_absent, at_some, changed_absent, children_absent, first_child_other, has_at, has_changed, has_children, has_none, has_of_removed, has_some, left_apart, once_changed, once_front, once_moved, once_put, once_removed, parent_stays, put_absent, removed_absent, removed_has, size_moved, size_put, size_removed, times_moved, times_none, times_put, times_removed, times_some, where_is}
+pub use Rattle.forest.proofs.Trees.{Apart, Moves, apart_of, at_absent, at_some, changed_absent, children_absent, first_child_other, has_at, has_changed, has_children, has_none, has_of_removed, has_some, left_apart, once_changed, once_front, once_moved, once_put, once_removed, parent_stays, put_absent, removed_absent, removed_has, size_moved, size_put, size_removed, times_moved, times_none, times_put, times_removed, times_some, where_is}
