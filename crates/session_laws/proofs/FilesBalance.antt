@@ -4,8 +4,7 @@ use Rattle.session_laws.proofs.Scenes.{What, Item, is_of, file_kind, SessionStat
 use Rattle.session_laws.proofs.Rules.{allows_all, seen_after, Reader, BalancesFrom, count, covers, left, said_one}
 use Rattle.lifetime_laws.specs.Once.{acquires, one_where, releases, same_item, closes, opens}
 use Rattle.session_laws.proofs.FilesHeld.{item_reader, leaves_file, takes_file, ItemFits, items_exit, items_turn, items_aside}
-use Rattle.session_laws.proofs.Lives.{IsRead, Reads}
-use Rattle.session_laws.proofs.Lifts.{IsLifeAmong}
+use Rattle.session_laws.proofs.Lives.{IsRead, Reads, IsLife}
 use Rattle.session_laws.proofs.MadeOnce.{FitsPair, IsPaired, Pair, pair_reads, paired}
 use Rattle.session_laws.proofs.FilesLife.{AreOpened, FilesFit, opening_turns, files_elsewhere, files_error, files_exit, files_open, files_turn}
 use Rattle.file_table.proofs.FileCounts.{times}
@@ -258,7 +257,7 @@ module _ (file : ℕ) (items : Reader ℕ) (Fits : ℕ → Scene → Type 0) (co
       (read.allowed, omega (arith, read.fits.first.counted, covered.few after.second (exited s).scene read.fits.second))
 
   -- In the life of a session a file has no more descriptors in the end than items of it are left.
-  pub files_life : (kinds : KindTable) → IsLifeAmong kinds (paired files items) FitsBoth nothing_seen (λ seen. seen.first ≤ seen.second)
+  pub files_life : (kinds : KindTable) → IsLife kinds (paired files items) FitsBoth nothing_seen (λ seen. seen.first ≤ seen.second)
   files_life kinds = record {
     opens = λ around table. record { first = files_open file AreOpened 0 around refl; second = covered.opens around };
     elsewhere = λ seen session a b table descriptors fit. record {

@@ -1,6 +1,6 @@
 -- What becomes of owners makes them hold no more, and leaves each number once.
 use Rattle.session_laws.proofs.Words.{◌≡◌, ℕ, ◌≤◌, true, Some, List, [], ◌∷◌, refl, ap, inl, inr, arith, ◌+◌, ◌-◌, Bool, false, cond, nat_eq, if◌then◌else◌, ◌++◌, Option, None, sym, subst, ◌∙◌, zero, suc, find, take, ◌==◌, ◌&&◌, nat_le, nat_lt, list_any, cases_Bool, and_from, eqb-true, le-leb, Empty, Node, Once, at, children, has, moved, put, removed, times as node_times, subtree, size, order_at, at_absent, at_some, once_removed, put_absent, removed_absent, times_put, times_removed, changed_absent, once_changed, option_map_or}
-use Rattle.session_laws.proofs.Scenes.{Item, KindId, is_of, uses, without_newest, Owner, OwnerTree, held, created, forgotten, remembered, What, Phase, KindTable, Step, GivesBack, ReleasesLocks, PassesLocks, ReleasesAllLocks, release_steps, StandingPlan, file_kind, level_above, level_owner, owner_of, opening, Scene, Around, Moment, plan_at, newest, Ended, for_each, where_so, where_there, changes, in_order, say, NoOne, TheDescriptors, TheKind, ThePlans, given_back, left_to, plan_becomes, plan_settled, plan_stays, step_done, item_released, keeper_of, owner_gone, owner_moved, phase_released, table_of, own_released, released, OfLevel, OfPortal, OwnerRole, Element, new_owner_made, owner_made, limit, descriptor_given, files, item_taken, remembers, taken_by, snapshot_pushed, Error, Command, failure, unless, refused_call, unless_refused, does, exited, Stands, StandsBetweenLines, line_elements, turn}
+use Rattle.session_laws.proofs.Scenes.{Item, KindId, is_of, uses, without_newest, Owner, OwnerTree, held, created, forgotten, remembered, What, Phase, KindTable, Step, GivesBack, ReleasesLocks, PassesLocks, ReleasesAllLocks, release_steps, StandingPlan, file_kind, level_above, level_owner, owner_of, opening, Scene, Around, Moment, plan_at, newest, Ended, for_each, where_so, where_there, changes, in_order, say, NoOne, TheDescriptors, TheKind, ThePlans, given_back, left_to, plan_becomes, plan_settled, plan_stays, step_done, item_released, keeper_of, owner_gone, owner_moved, phase_released, table_of, own_released, released, OfLevel, OfPortal, OwnerRole, Element, new_owner_made, owner_made, limit, descriptor_given, files, item_taken, remembers, taken_by, snapshot_pushed, Error, Command, failure, refused_call, unless_refused, does, exited, Stands, StandsBetweenLines, line_elements, turn}
 use Rattle.session_laws.proofs.Rules.{Reader, allows_all, seen_after, count, allows_all-append, seen_after-append, Law, Follows, IsRun, Meets, line_runs, fallible_at, fallible_so, said_none, said_more, said_map, said_gone, said_lock_releases, said_lock_passes, said_all_locks, of_recent, of_owners}
 use Rattle.session_laws.proofs.Parents.{alike_swept, once_alike}
 use Rattle.session_laws.proofs.StepsOf.{AreOf, gives_up, no_step, numbers_of, passes, steps_of, unlocks, unlocks_all, warns}
@@ -17,7 +17,7 @@ use Rattle.file_table.specs.Files.{given_events, given_file, loser, touch_events
 use Rattle.session_laws.proofs.Lives.{IsRead, Reads, read_both}
 use Rattle.session_laws.proofs.OwnerEnds.{steps_stay}
 use Rattle.session_rules.proofs.StepsStand.{below_limit, own_refusal}
-use Rattle.session_laws.proofs.LocksChecked.{IsChecked, line_checked}
+use Rattle.session_laws.proofs.LocksChecked.{IsChecked, line_checked, passed_unless}
 use Rattle.pgs_step.specs.declared.events.What.TheVariants as what
 use Rattle.session_rules.specs.Elements as e
 
@@ -492,10 +492,6 @@ module _ (f : ℕ) where
 run_both : (P Q : Element → Scene → Type 0) (w : Option ℕ) (xs : List Element) (m : Moment) → IsRun P w xs m → IsRun Q w xs m → IsRun (λ x s. P x s × Q x s) w xs m
 run_both P Q w [] m p q = tt
 run_both P Q w (x ∷ xs) m p q = ((p.0, q.0), λ none. run_both P Q w xs (does w x m).moment (p.1 none) (q.1 none))
-
-passed_unless : (b : Bool) (error : Error) → unless b error ≡ None → b ≡ true
-passed_unless true error e = refl
-passed_unless false error e = absurd (cc e)
 
 module _ (f : ℕ) where
   abbrev least : Least of_items (ReadsItems f)

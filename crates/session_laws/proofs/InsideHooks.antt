@@ -1,5 +1,5 @@
 -- No hook waits on a context of the session itself below the one for caches.
-use Rattle.session_laws.proofs.Words.{◌≡◌, ℕ, Bool, true, false, if◌then◌else◌, [], Option, Some, None, refl, sym, ap, ◌∙◌, subst, inl, inr, not, List, ◌∷◌, ◌++◌, codes, reverse, arith, ◌==◌, ◌⊎◌, option_map_or, both_ways, cases_Bool, cond-false, eqb-true, false_from_ne_true, eq-eqb, ne_eqb, Empty, Node, Once, at, changed, children, has, is_root, moved, parent_of, put, removed, with_children, at_absent, at_some, apart_of, changed_absent, has_at, where_is, reverse-append, nat_tests}
+use Rattle.session_laws.proofs.Words.{◌≡◌, ℕ, Bool, true, false, if◌then◌else◌, [], Option, Some, None, refl, sym, ap, ◌∙◌, subst, inl, inr, List, ◌∷◌, ◌++◌, codes, reverse, arith, ◌==◌, ◌⊎◌, option_map_or, both_ways, cases_Bool, cond-false, eqb-true, false_from_ne_true, eq-eqb, ne_eqb, Empty, Node, Once, at, changed, children, has, is_root, moved, parent_of, put, removed, with_children, at_absent, at_some, apart_of, changed_absent, has_at, where_is, reverse-append, nat_tests}
 use Rattle.session_laws.proofs.Scenes.{Context, Contexts, is_child, is_protected, new_context, placed_under, emptied, reset_of, unchanged, cache_context, LevelState, context_of, first_of, last_of, level_context, top_context, What, CtxKind, Hook, Scene, Text, context_named, hook_waits, AreLevels, Stands}
 use Rattle.session_laws.proofs.Rules.{ContextLeaves, of_contexts, EndLeaves}
 use Rattle.forest.proofs.Neighbours.{parent_root, root_absent}

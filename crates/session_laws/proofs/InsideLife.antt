@@ -12,7 +12,7 @@ use Rattle.session_laws.proofs.InsidePhases.{InEnd}
 use Rattle.session_laws.proofs.InsideWalk.{nothing_ends, AreBegun, Lessens, by_said, by_switch, inside_acts}
 use Rattle.session_laws.proofs.InsideHooks.{KeepsQuiet, quiet_ends, quiet_owed, AreQuiet}
 use Rattle.session_laws.proofs.InsideEnds.{contexts_fit, AbortRead, CleanRead, Halted, IsSoon}
-use Rattle.session_laws.proofs.InsideSteps.{Active, AwaitsNothing, OneRead, At, KeepsTrees, Stepped, Trees, aborts_at, cleans_at, step_read, trees_behind, trees_element, word_stays, lessened}
+use Rattle.session_laws.proofs.InsideSteps.{IsLast, Active, AwaitsNothing, OneRead, At, KeepsTrees, Stepped, Trees, aborts_at, cleans_at, step_read, trees_behind, trees_element, word_stays, lessened}
 use Rattle.pgs_step.specs.declared.events.What.TheVariants as what
 use Rattle.context_rules.specs.Opening as contexts
 
@@ -306,39 +306,22 @@ turn_read w line m h = record {
 -- In the life of a session the end of a level that aborts names nothing outside the level.
 
 -- what was seen fits the same session in other surroundings
+last_elsewhere : (leaving : Leaving) (session : SessionState) (a b : Around) → IsLast leaving (record { session = session; around = a }) → IsLast leaving (record { session = session; around = b })
+last_elsewhere leaving session a b k = record {
+  level = k.level;
+  levels = k.levels;
+  are = k.are;
+  unaborted = k.unaborted;
+  first = k.first;
+  rest = k.rest;
+  begun = k.begun;
+  number = k.number;
+}
+
 at_elsewhere : (stage : Stage) (leaving : Leaving) (session : SessionState) (a b : Around) → At stage leaving (record { session = session; around = a }) → At stage leaving (record { session = session; around = b })
-at_elsewhere Working leaving session a b k = record {
-  active = record { sees = record { begun = k.active.sees.begun; portals = k.active.sees.portals; plans = k.active.sees.plans }; ends = k.active.ends };
-  awaited = k.awaited;
-}
-at_elsewhere ContextNext leaving session a b k = record {
-  active = record { sees = record { begun = k.active.sees.begun; portals = k.active.sees.portals; plans = k.active.sees.plans }; ends = k.active.ends };
-  awaited = k.awaited;
-  is_last = record {
-    level = k.is_last.level;
-    levels = k.is_last.levels;
-    are = k.is_last.are;
-    unaborted = k.is_last.unaborted;
-    first = k.is_last.first;
-    rest = k.is_last.rest;
-    begun = k.is_last.begun;
-    number = k.is_last.number;
-  };
-}
-at_elsewhere OwnerNext leaving session a b k = record {
-  active = record { sees = record { begun = k.active.sees.begun; portals = k.active.sees.portals; plans = k.active.sees.plans }; ends = k.active.ends };
-  awaited = k.awaited;
-  is_last = record {
-    level = k.is_last.level;
-    levels = k.is_last.levels;
-    are = k.is_last.are;
-    unaborted = k.is_last.unaborted;
-    first = k.is_last.first;
-    rest = k.is_last.rest;
-    begun = k.is_last.begun;
-    number = k.is_last.number;
-  };
-}
+at_elsewhere Working leaving session a b k = assumption
+at_elsewhere ContextNext leaving session a b k = record { active = assumption; awaited = k.awaited; is_last = last_elsewhere leaving session a b k.is_last }
+at_elsewhere OwnerNext leaving session a b k = record { active = assumption; awaited = k.awaited; is_last = last_elsewhere leaving session a b k.is_last }
 at_elsewhere Hushed leaving session a b k = record {
   level = k.level;
   levels = k.levels;
@@ -352,11 +335,7 @@ at_elsewhere Hushed leaving session a b k = record {
 
 elsewhere_fits : (leaving : Leaving) (session : SessionState) (a b : Around) → FitsInside leaving (record { session = session; around = a }) → FitsInside leaving (record { session = session; around = b })
 elsewhere_fits leaving session a b k = record {
-  trees = record {
-    contexts = record { tree = k.trees.contexts.tree; below = k.trees.contexts.below };
-    owners = record { tree = k.trees.owners.tree; below = k.trees.owners.below };
-    quiet = k.trees.quiet;
-  };
+  trees = record { contexts = k.trees.contexts; owners = k.trees.owners; quiet = k.trees.quiet };
   at = at_elsewhere (stage_of session.levels) leaving session a b k.at;
 }
 
@@ -486,7 +465,7 @@ exit_read s h leaving k =
 pub inside_life : (kinds : KindTable) → IsLife kinds staying FitsInside nothing_leaving (λ leaving. Unit {0})
 inside_life kinds = record {
   opens = λ around same. opens_fit kinds around same;
-  elsewhere = λ leaving session a b same k. elsewhere_fits leaving session a b k;
+  elsewhere = λ leaving session a b same descriptors k. elsewhere_fits leaving session a b k;
   error = error_stays;
   turns = λ w line m h. turn_read w line m h;
   exits = λ s h leaving k. (exit_read s h leaving k, tt);

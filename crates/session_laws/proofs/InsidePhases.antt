@@ -1,13 +1,12 @@
 -- The end of one level, read by itself: what each event of it may name, and the events of contexts and owners that go.
-use Rattle.session_laws.proofs.Words.{◌≡◌, ℕ, zero, suc, ◌+◌, ◌<◌, Bool, true, false, not, List, [], ◌∷◌, ◌++◌, map, Option, Some, refl, sym, ap, ◌∙◌, subst, inl, inr, arith, append-nil, append_assoc, ◌≢◌, ◌-◌, if◌then◌else◌, None, ◌==◌, ◌&&◌, ◌||◌, filter, option_to_list, ◌⊎◌, nat_lt, option_map_or, list_all, and_from, and_parts, cases_Bool, cases_eq, eq-eqb, eqb-true, or_cases, or_left, or_right, Forest, Empty, Node, Once, children, has, is_above, removed, size, at, subtree, lead, order, order_at, has_children, size_removed, at_absent, children_absent, left_apart, removed_absent}
+use Rattle.session_laws.proofs.Words.{◌≡◌, ℕ, ◌+◌, Bool, true, false, not, List, [], ◌∷◌, ◌++◌, map, Option, Some, refl, sym, ap, ◌∙◌, subst, inl, inr, arith, append-nil, append_assoc, ◌≢◌, ◌-◌, if◌then◌else◌, None, ◌==◌, ◌&&◌, ◌||◌, filter, option_to_list, ◌⊎◌, nat_lt, option_map_or, list_all, and_from, and_parts, cases_Bool, cases_eq, eq-eqb, eqb-true, or_cases, or_left, or_right, Forest, Empty, Node, Once, children, has, is_above, removed, size, at, subtree, order, order_at, has_children, at_absent, children_absent, left_apart, removed_absent}
 use Rattle.session_laws.proofs.Scenes.{What, Hook, Contexts, Context, callbacks, gone_events, Item, Phase, BeforeLocks, Locks, AfterLocks, Lock, owner_count, table_of, KindTable, Owner, own_released, released, Step, ReleasesLocks, ReleasesAllLocks, release_steps, StandingPlan, Scene, plan_at, plan_changed, plans_but, Ended, for_each, where_there, Keeper, NoOne, TheDescriptors, TheKind, ThePlans, descriptor_left, given_back, left_to, owner_released, phase_released, plan_becomes, plan_left, plan_settled, plan_stays, step_done}
 use Rattle.session_laws.proofs.Rules.{Reader, allows_all, is_one_of, seen_after, allows_all-append, seen_after-append, at_left, once_left}
 use Rattle.session_laws.proofs.StepsOf.{AreOf, no_step, numbers_of, passes, steps_of, unlocks, unlocks_all, warns, gives_up}
-use Rattle.forest.proofs.Walks.{children_in, children_removed, lead_leaf, lead_of_node, once_children, order_lead}
 use Rattle.lifetime_laws.specs.Parents.{Node as Kept, is_there, is_within, placed, placed_where, without}
 use Rattle.lifetime_laws.proofs.Replays.{is_there-placed_other, is_there-placed_same, is_there-without_other}
 use Rattle.lifetime_laws.specs.Inside.{Awaited, Begun, Leaving, Neither, awaited_behind, begun_behind, contexts_inside, ends_behind, ends_with, is_plan_left, is_within_some, owners_inside, plans_behind, staying, with_end}
-use Rattle.session_laws.proofs.Parents.{FitsTree, fits_gone, same_within, alike_swept}
+use Rattle.session_laws.proofs.Parents.{by_children, FitsTree, fits_gone, same_within, alike_swept}
 use Rattle.pgs_step.specs.declared.ids.TheConstants.KindId.{PLAN_REFERENCE, FILE, FIRST_EXTENSION}
 use Rattle.file_table.specs.Descriptors.{is_among}
 use Rattle.session_rules.proofs.Lone.{lone_left}
@@ -187,32 +186,10 @@ module _ {A : Type 0} where
       same_within n m nodes t f (has_children m n t f.once here) ∙ or_right (m == n) (is_above n m t) here
 
   -- what is below a node, in the order in which it goes
-  below_from : (k n : ℕ) (nodes : List Kept) (t : Forest A) → size (children n t) < k → FitsTree nodes t → GoInside n nodes (order (children n t))
-  below_from zero n nodes t small f = absurd (omega (arith, small))
-  below_from (suc k) n nodes t small f =
-      go (children n t) refl (λ m h leaf less. below_from k n (without m nodes) (removed m t) less (fits_gone m nodes t f h leaf))
-    where
-      go : (low : Forest A) → children n t ≡ low
-          → ((m : ℕ) → has m t ≡ true → children m t ≡ Empty → size (children n (removed m t)) < k → GoInside n (without m nodes) (order (children n (removed m t))))
-          → GoInside n nodes (order low)
-      go Empty e more = tt
-      go (Node c a below beside) e more =
-          let low : Forest A = Node c a below beside in
-          let once_low : Once low = subst Once e (once_children n t f.once) in
-          let m : ℕ = lead n low in
-          let inside : has m low ≡ true = lead_of_node n c a below beside in
-          let here : has m (children n t) ≡ true = ap (has m) e ∙ inside in
-          let there : has m t ≡ true = has_children m n t f.once here in
-          let leaf : children m t ≡ Empty = sym (children_in m n t f.once here) ∙ ap (children m) e ∙ lead_leaf n low once_low inside in
-          let lower : children n (removed m t) ≡ removed m low = children_removed m n t f.once here ∙ ap (removed m) e in
-          let less : size (children n (removed m t)) < k = omega (arith, small, ap size e, ap size lower, size_removed m low once_low inside) in
-          let names : order low ≡ m ∷ order (removed m low) =
-          sym (append-nil (order low)) ∙ order_lead n low [] once_low inside ∙ ap (λ (ns : List ℕ). m ∷ ns) (append-nil (order (removed m low))) in
-          subst (GoInside n nodes) (sym names)
-          (below_within m n nodes t f here, subst (λ (x : Forest A). GoInside n (without m nodes) (order x)) lower (more m there leaf less))
-
   pub below_inside : (n : ℕ) (nodes : List Kept) (t : Forest A) → FitsTree nodes t → GoInside n nodes (order (children n t))
-  below_inside n nodes t f = below_from (size (children n t) + 1) n nodes t (omega arith) f
+  below_inside n nodes t f =
+      by_children (λ u ns. (kept : List Kept) → FitsTree kept u → GoInside n kept ns) n (λ u once e kept fit. tt)
+      (λ m ns u once here leaf rest kept fit. (below_within m n kept u fit here, rest (without m kept) (fits_gone m kept u fit (has_children m n u once here) leaf))) (size (children n t) + 1) t (omega arith) f.once nodes f
 
   pub node_inside : (n : ℕ) (nodes : List Kept) (t : Forest A) → FitsTree nodes t → GoInside n nodes (order_at n t)
   node_inside n nodes t f = and_the_root n nodes (order (children n t)) (below_inside n nodes t f)

@@ -12,7 +12,7 @@ use Rattle.lifetime_laws.specs.Inside.{StaysInside}
 use Rattle.lifetime_laws.specs.Called.{CallsBack}
 use Rattle.lifetime_laws.specs.Laws.{IsLawful}
 use Rattle.session_laws.proofs.Lives.{IsLife, IsRead}
-use Rattle.session_laws.proofs.Lifts.{HaveLived, IsLifeAmong, last_of_all, lives_among, lives_in_run, exits_life}
+use Rattle.session_laws.proofs.Lifts.{HaveLived, last_of_all, lives_in_run, exits_life}
 use Rattle.session_laws.proofs.Calls.{transcript_calls_back}
 use Rattle.session_laws.proofs.FilesLife.{FilesFit, MayOpen, closing_turns, files_elsewhere, files_error, files_exit, files_open, files_turn}
 use Rattle.session_laws.proofs.MadeOnce.{paired, FitsParents, NoneLeft, shedding_life, made_once_of}
@@ -57,7 +57,7 @@ module _ (reads : Reading) (w : Option ℕ) (options : Options) (kinds : List Ki
   locks_kept n l u object mode = let life = lived (lock_life object mode (table_of kinds)) in balances (locks object mode) (unlocks object mode) 0 (own n) (life.allowed n) (life.lasts n l u)
 
   -- a file's descriptor is opened only where it has none
-  turns_life : (file : ℕ) → IsLifeAmong (table_of kinds) (count (closes file) (opens file)) (FilesFit file MayOpen) 1 (λ n. Unit {0})
+  turns_life : (file : ℕ) → IsLife (table_of kinds) (count (closes file) (opens file)) (FilesFit file MayOpen) 1 (λ n. Unit {0})
   turns_life file = record {
     opens = λ around table. files_open file MayOpen 1 around refl;
     elsewhere = λ n session a b table descriptors h. files_elsewhere file MayOpen n session a b descriptors h;
@@ -70,7 +70,7 @@ module _ (reads : Reading) (w : Option ℕ) (options : Options) (kinds : List Ki
 
   pub turns_kept : (n : ℕ) (file : ℕ) → Covers (closes file) (opens file) 1 (own n)
   turns_kept n file =
-      let life = lives_among (count (closes file) (opens file)) (FilesFit file MayOpen) 1 (λ n. Unit {0}) reads w options kinds shelf lines sound differ (turns_life file) in
+      let life = lives_in_run (count (closes file) (opens file)) (FilesFit file MayOpen) 1 (λ n. Unit {0}) reads w options kinds shelf lines sound differ (turns_life file) in
       life.allowed n
 
   -- each pop is of the newest active snapshot, and none is left
@@ -118,7 +118,7 @@ module _ (reads : Reading) (w : Option ℕ) (options : Options) (kinds : List Ki
   descriptors_kept : (n : ℕ) → 1 ≤ n → n ≤ options.sessions → (file : ℕ) → BalancesFrom 0 (opens file) (closes file) (own n)
   descriptors_kept n l u file =
       let items = item_reader file in
-      let life = lives_among (paired (count (opens file) (closes file)) items) (FitsBoth file items (ItemFits file) (items_cover file)) (nothing_seen file items (ItemFits file) (items_cover file))
+      let life = lives_in_run (paired (count (opens file) (closes file)) items) (FitsBoth file items (ItemFits file) (items_cover file)) (nothing_seen file items (ItemFits file) (items_cover file))
       (λ seen. seen.first ≤ seen.second) reads w options kinds shelf lines sound differ (files_life file items (ItemFits file) (items_cover file) (table_of kinds)) in
       files_balance file (own n) (items_kept n l u) (life.allowed n) (life.lasts n l u)
 

@@ -357,26 +357,6 @@ module _ (kinds : KindTable) (sessions : ℕ) where
         (all_end (goes_on reads w lines (at_start (opened options all shelf)))
         (lines_hold reads w lines (at_start (opened options all shelf)) (record { stands = stand_first options all shelf table sound differ many; keeps = first }))).keeps
 
--- The life of a session by what a reader has seen of it, where that may fit other surroundings only if there are as many descriptors.
-pub record IsLifeAmong {Seen : Type 0} (kinds : KindTable) (reader : Reader Seen) (Fits : Seen → Scene → Type 0) (start : Seen) (Last : Seen → Type 0) : Type 0 where
-  pub opens : (around : Around) → table_of around.kinds ≡ kinds → Fits start (record { session = opening; around = around })
-  pub elsewhere : (seen : Seen) (session : SessionState) (a b : Around) → table_of b.kinds ≡ table_of a.kinds → b.descriptors ≡ a.descriptors
-      → Fits seen (record { session = session; around = a }) → Fits seen (record { session = session; around = b })
-  pub error : (error : Error) (s : Scene) → Reads reader Fits s s (what.Error error ∷ [])
-  pub turns : (w : Option ℕ) (line : Option Command) (m : Moment) → StandsBetweenLines m.scene
-      → Reads reader Fits m.scene (turn w line m).moment.scene (turn w line m).events
-  pub exits : (s : Scene) → StandsBetweenLines s → (seen : Seen) → Fits seen s
-      → (allows_all reader seen (exited s).events ≡ true) × Last (seen_after reader seen (exited s).events)
-
-pub life_among : {Seen : Type 0} {kinds : KindTable} {reader : Reader Seen} {Fits : Seen → Scene → Type 0} {start : Seen} {Last : Seen → Type 0} → IsLife kinds reader Fits start Last → IsLifeAmong kinds reader Fits start Last
-life_among life = record {
-  opens = life.opens;
-  elsewhere = λ seen session a b table descriptors fit. life.elsewhere seen session a b table fit;
-  error = life.error;
-  turns = life.turns;
-  exits = life.exits;
-}
-
 -- What the events of each session in a transcript owe a reader: those of a session of the run are allowed, and what is seen in the end is as it is to be;
 -- of a number that no session has there are only errors, and what is seen fits a session that has just opened.
 pub record HaveLived {Seen : Type 0} (kinds : KindTable) (reader : Reader Seen) (Fits : Seen → Scene → Type 0) (start : Seen) (Last : Seen → Type 0) (sessions : ℕ) (events : List Event) : Type 0 where
@@ -391,7 +371,7 @@ other_events : (n m : ℕ) (events : List Event) (whats : List What) → m ≢ n
 other_events n m events whats differ =
     events_of-append n events (of_session m whats) ∙ (ap (λ (more : List What). events_of n events ++ more) (events_of-other n m whats differ) ∙ append-nil (events_of n events))
 
-module _ {Seen : Type 0} (kinds : KindTable) (reader : Reader Seen) (Fits : Seen → Scene → Type 0) (start : Seen) (Last : Seen → Type 0) (life : IsLifeAmong kinds reader Fits start Last) (sessions : ℕ) (nowhere : Around) where
+module _ {Seen : Type 0} (kinds : KindTable) (reader : Reader Seen) (Fits : Seen → Scene → Type 0) (start : Seen) (Last : Seen → Type 0) (life : IsLife kinds reader Fits start Last) (sessions : ℕ) (nowhere : Around) where
   -- what was read so far, and what is read of it in the end
   abbrev Has : Scene → List What → Type 0
   Has s whats = IsRead reader Fits start s whats
@@ -522,21 +502,16 @@ module _ {Seen : Type 0} (kinds : KindTable) (reader : Reader Seen) (Fits : Seen
       ]
 
 -- From the life of a session to the events of each session in a transcript, where the hooks on the shelf differ and the kinds are sound.
-pub lives_among : {Seen : Type 0} (reader : Reader Seen) (Fits : Seen → Scene → Type 0) (start : Seen) (Last : Seen → Type 0) (reads : Reading) (w : Option ℕ) (options : Options) (kinds : List Kind) (shelf : ShelfState) (lines : List (List ℕ))
-    → IsSound (table_of kinds) → AreDistinct (held shelf) → IsLifeAmong (table_of kinds) reader Fits start Last
+pub lives_in_run : {Seen : Type 0} (reader : Reader Seen) (Fits : Seen → Scene → Type 0) (start : Seen) (Last : Seen → Type 0) (reads : Reading) (w : Option ℕ) (options : Options) (kinds : List Kind) (shelf : ShelfState) (lines : List (List ℕ))
+    → IsSound (table_of kinds) → AreDistinct (held shelf) → IsLife (table_of kinds) reader Fits start Last
     → HaveLived (table_of kinds) reader Fits start Last options.sessions (transcript_by reads w options kinds shelf lines)
-lives_among reader Fits start Last reads w options kinds shelf lines sound differ life =
+lives_in_run reader Fits start Last reads w options kinds shelf lines sound differ life =
     let x : World = opened options kinds shelf in
     let nowhere : Around = around 0 x in
     have_lived (table_of kinds) reader Fits start Last life options.sessions nowhere (ended (course_by reads w options kinds shelf lines)).world (transcript_by reads w options kinds shelf lines) refl
     (run_keeps (table_of kinds) options.sessions (AreReading (table_of kinds) reader Fits start Last life options.sessions nowhere) (reading_law (table_of kinds) reader Fits start Last life options.sessions nowhere)
     reads w options kinds shelf lines refl refl sound differ
     (first_read (table_of kinds) reader Fits start Last life options.sessions nowhere x (λ n session u. replicated options.sessions (n - 1) opening session u.there) refl refl))
-
-pub lives_in_run : {Seen : Type 0} (reader : Reader Seen) (Fits : Seen → Scene → Type 0) (start : Seen) (Last : Seen → Type 0) (reads : Reading) (w : Option ℕ) (options : Options) (kinds : List Kind) (shelf : ShelfState) (lines : List (List ℕ))
-    → IsSound (table_of kinds) → AreDistinct (held shelf) → IsLife (table_of kinds) reader Fits start Last
-    → HaveLived (table_of kinds) reader Fits start Last options.sessions (transcript_by reads w options kinds shelf lines)
-lives_in_run reader Fits start Last reads w options kinds shelf lines sound differ life = lives_among reader Fits start Last reads w options kinds shelf lines sound differ (life_among life)
 
 -- What is seen in the end is as it is to be for each number, where that is so of a session that has just opened.
 pub last_of_all : {Seen : Type 0} {kinds : KindTable} {reader : Reader Seen} {Fits : Seen → Scene → Type 0} {start : Seen} {Last : Seen → Type 0} {sessions : ℕ} {events : List Event}
@@ -605,7 +580,7 @@ exit_said s =
 pub exits_life : (kinds : KindTable) → IsLife kinds ending IsOn false (λ ended. ended ≡ true)
 exits_life kinds = record {
   opens = λ around table. refl;
-  elsewhere = λ ended session a b same on. on;
+  elsewhere = λ ended session a b same descriptors on. on;
   error = λ error s. record { so = from_going s (what.Error error ∷ []) (refl, refl) };
   turns = λ w line m h. turn_goes w line m;
   exits = λ s h ended on. subst (λ (b : Bool). (allows_all ending b (exited s).events ≡ true) × (seen_after ending b (exited s).events ≡ true)) (sym on) (exit_said s);

@@ -48,10 +48,11 @@ pub record OwesTurns (R : Law) : Type 0 where
   pub owed : (w : Option ℕ) (x : Element) (m : Moment) → Meets x m.scene → Owes R w x m
   pub ends : OwesEnds R
 
--- A reader of the events of a session, from its opening to its exit. What it has seen in the end is as `Last` says.
+-- A reader of the events of a session, from its opening to its exit. What it has seen in the end is as `Last` says, and fits other surroundings
+-- with the same kinds and as many descriptors.
 pub record IsLife {Seen : Type 0} (kinds : KindTable) (reader : Reader Seen) (Fits : Seen → Scene → Type 0) (start : Seen) (Last : Seen → Type 0) : Type 0 where
   pub opens : (around : Around) → table_of around.kinds ≡ kinds → Fits start (record { session = opening; around = around })
-  pub elsewhere : (seen : Seen) (session : SessionState) (a b : Around) → table_of b.kinds ≡ table_of a.kinds
+  pub elsewhere : (seen : Seen) (session : SessionState) (a b : Around) → table_of b.kinds ≡ table_of a.kinds → b.descriptors ≡ a.descriptors
       → Fits seen (record { session = session; around = a }) → Fits seen (record { session = session; around = b })
   pub error : (error : Error) (s : Scene) → Reads reader Fits s s (what.Error error ∷ [])
   pub turns : (w : Option ℕ) (line : Option Command) (m : Moment) → StandsBetweenLines m.scene
@@ -191,7 +192,7 @@ module _ {Seen : Type 0} (kinds : KindTable) (reader : Reader Seen) (Fits : Seen
       → OwesTail → IsLife kinds reader Fits start Last
   life_of opens elsewhere tail = record {
     opens = opens;
-    elsewhere = elsewhere;
+    elsewhere = λ seen session a b same descriptors fit. elsewhere seen session a b same fit;
     error = o.error;
     turns = λ w line m h. turn_keeps (Reads reader Fits) o w line m h;
     exits = λ s h seen fit.

@@ -353,7 +353,7 @@ line_checked w (Some c) m = elim (elements_safe c m.scene.session) [
 
 -- A line keeps the law of a lock, and so does the end of a session.
 
-passed_unless : (b : Bool) (error : Error) → unless b error ≡ None → b ≡ true
+pub passed_unless : (b : Bool) (error : Error) → unless b error ≡ None → b ≡ true
 passed_unless true error e = refl
 passed_unless false error e = absurd (cc e)
 

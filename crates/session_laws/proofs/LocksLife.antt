@@ -458,7 +458,7 @@ module _ (object mode : ℕ) where
   pub lock_life : (kinds : KindTable) → IsLife kinds (lock_reader object mode) LockFits 0 (λ n. n ≡ 0)
   lock_life kinds = record {
     opens = λ around same. opens_so around;
-    elsewhere = λ n session a b same f. record { fit = record { counted = f.fit.counted; sound = f.fit.sound }; bare = record { so = f.bare.so } };
+    elsewhere = λ n session a b same descriptors f. record { fit = record { counted = f.fit.counted; sound = f.fit.sound }; bare = record { so = f.bare.so } };
     error = λ error s. record {
       so = λ n f.
           let read : IsRead (lock_reader object mode) (LocksFit object mode) n s (what.Error error ∷ []) = (locks_aside object mode s s refl (said_one (what.Error error) refl)).so n f.fit in

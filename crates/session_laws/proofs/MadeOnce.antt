@@ -146,10 +146,7 @@ shedding_life kinds =
     let o : IsLife kinds growing_owners HasOwners opening_owners (λ growth. growth.nodes ≡ []) = owners_life kinds in
     record {
       opens = λ around same. record { contexts = (c.opens around same).fits; owners = (o.opens around same).fits };
-      elsewhere = λ parents session a b same h. record {
-        contexts = record { tree = h.contexts.tree; below = h.contexts.below };
-        owners = record { tree = h.owners.tree; below = h.owners.below };
-      };
+      elsewhere = λ parents session a b same descriptors h. record { contexts = h.contexts; owners = h.owners };
       error = λ error s. shed_reads (c.error error s) (o.error error s);
       turns = λ w line m stands. shed_reads (c.turns w line m stands) (o.turns w line m stands);
       exits = λ s stands parents h.

@@ -419,11 +419,8 @@ module _ (kinds : KindTable) where
   pub order : IsLife kinds (ordering kinds) (FitsOrder kinds) nothing_releasing (λ last. Unit {0})
   order = record {
     opens = opening_fits;
-    elsewhere = λ seen session a b same fits. record {
-      fit = record {
-        owners = record { tree = fits.fit.owners.tree; below = fits.fit.owners.below };
-        based = record { places = same ∙ fits.fit.based.places; locks = fits.fit.based.locks; items = fits.fit.based.items };
-      };
+    elsewhere = λ seen session a b same descriptors fits. record {
+      fit = record { owners = fits.fit.owners; based = record { places = same ∙ fits.fit.based.places; locks = fits.fit.based.locks; items = fits.fit.based.items } };
       opened = fits.opened;
     };
     error = error_reads;

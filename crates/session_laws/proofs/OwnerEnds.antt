@@ -287,13 +287,16 @@ module _ (R : Law) (h : OwnerEnds R) where
   abbrev a : Acts R
   a = l.acts
 
+  -- an act on what may be there
+  if_there : {A : Type 0} (o : Option A) (act : A → Scene → Ended) (s : Scene) → ((x : A) → o ≡ Some x → R s (act x s).scene (act x s).events) → R s (where_there o act s).scene (where_there o act s).events
+  if_there None act s reads = a.none s
+  if_there (Some x) act s reads = reads x refl
+
   -- a portal ends
   owner_ends : (o : Option ℕ) (s : Scene) → Known s → ((n : ℕ) → o ≡ Some n → has n s.session.owners ≡ true)
       → R s (where_there o (λ owner. in_order (owner_released true false owner ∷ owner_gone owner ∷ [])) s).scene (where_there o (λ owner. in_order (owner_released true false owner ∷ owner_gone owner ∷ [])) s).events
-  owner_ends None s k there = a.none s
-  owner_ends (Some n) s k there =
-      let z : Scene = (owner_released true false n s).scene in
-      a.both ((owner_releases R a h.phase true false n).so s) (a.both (h.gone n z (release_leaving true false n s k (there n refl))) (a.none _))
+  owner_ends o s k there =
+      if_there o _ s (λ n is. a.both ((owner_releases R a h.phase true false n).so s) (a.both (h.gone n (owner_released true false n s).scene (release_leaving true false n s k (there n is))) (a.none _)))
 
   portal_ends : (name : Text) (p : OpenPortal) (s : Scene) → Stands s → IsWorking s.session.levels → portal_named name s.session.portals ≡ Some p → R s (portal_ended p s).scene (portal_ended p s).events
   portal_ends name p s k working named = a.both (go (is_ready p.state)) ((by_order R a (next (context_goes R a p.context) (next (a.portal_goes p.name) last))).so _)
@@ -307,32 +310,19 @@ module _ (R : Law) (h : OwnerEnds R) where
           (a.both (owner_ends p.owner z (known_stands z b.works.stands) (λ n is. portal_owner_there name p z b.works.stands (subst IsWorking (sym b.works.levels) working) (ap (portal_named name) b.portals ∙ named) n is)) (a.none _))
 
   end_portal : (s : Scene) → Stands s → IsWorking s.session.levels → (name : Text) → R s (where_there (portal_named name s.session.portals) portal_ended s).scene (where_there (portal_named name s.session.portals) portal_ended s).events
-  end_portal s k working name = go (portal_named name s.session.portals) refl
-    where
-      go : (o : Option OpenPortal) → portal_named name s.session.portals ≡ o → R s (where_there o portal_ended s).scene (where_there o portal_ended s).events
-      go None is = a.none s
-      go (Some p) is = portal_ends name p s k working is
+  end_portal s k working name = if_there (portal_named name s.session.portals) portal_ended s (λ p is. portal_ends name p s k working is)
 
   -- an item is taken
   role_takes : (role : OwnerRole) (kind : KindId) (key : ℕ) (s : Scene) → Stands s → IsWorking s.session.levels → R s (at_owner role (λ o. item_taken o kind key) s).scene (at_owner role (λ o. item_taken o kind key) s).events
-  role_takes role kind key s k working = go (owner_in role s.session) refl
-    where
-      go : (o : Option ℕ) → owner_in role s.session ≡ o → R s (where_there o (λ n. item_taken n kind key) s).scene (where_there o (λ n. item_taken n kind key) s).events
-      go None e = a.none s
-      go (Some n) e = h.taken n kind key s (role_there role s k working n e)
+  role_takes role kind key s k working = if_there (owner_in role s.session) (λ n. item_taken n kind key) s (λ n is. h.taken n kind key s (role_there role s k working n is))
 
   kind_takes : (o : Option KindId) (key : ℕ) (s : Scene) → Stands s → IsWorking s.session.levels
       → R s (where_there o (λ kind. at_owner OfLevel (λ n. item_taken n kind key)) s).scene (where_there o (λ kind. at_owner OfLevel (λ n. item_taken n kind key)) s).events
-  kind_takes None key s k working = a.none s
-  kind_takes (Some kind) key s k working = role_takes OfLevel kind key s k working
+  kind_takes o key s k working = if_there o (λ kind. at_owner OfLevel (λ n. item_taken n kind key)) s (λ kind is. role_takes OfLevel kind key s k working)
 
   -- the deepest level's owner goes
   owner_goes : (s : Scene) → MayEndLevel s → R s (level_owner_gone s).scene (level_owner_gone s).events
-  owner_goes s may = go (level_owner s.session) refl
-    where
-      go : (o : Option ℕ) → level_owner s.session ≡ o → R s (where_there o owner_gone s).scene (where_there o owner_gone s).events
-      go None e = a.none s
-      go (Some n) e = h.gone n s (may n e)
+  owner_goes s may = if_there (level_owner s.session) owner_gone s (λ n is. h.gone n s (may n is))
 
   -- the release of the deepest level and what comes behind it
   released_reads : (commit top : Bool) (stack : Scene → Ended) (acts : List (Scene → Ended)) → Keeps R stack → ((s : Scene) → (stack s).scene.session.owners ≡ s.session.owners) → ((s : Scene) → (stack s).scene.session.levels ≡ s.session.levels)

@@ -246,33 +246,33 @@ module _ {A : Type 0} where
   removed_emptied n Empty = refl
   removed_emptied n (Node k a below beside) = grind (arith, nat_tests, removed_emptied n beside, removed_emptied n below)
 
-  -- all below a node goes
-  children_from : (k n : ℕ) (t : Forest A) → size (children n t) < k → Once t → Plucked (order (children n t)) t (with_children n Empty t)
-  children_from zero n t small o = absurd (omega (arith, small))
-  children_from (suc k) n t small o = go (children n t) refl (λ m h less. children_from k n (removed m t) less (once_removed m t o h))
+  -- what is so of a tree and of the numbers below a node in the order in which these go, where it is so of the tree without the next of them
+  pub by_children : (P : Forest A → List ℕ → Type 0) (n : ℕ) → ((t : Forest A) → Once t → children n t ≡ Empty → P t [])
+      → ((m : ℕ) (ns : List ℕ) (t : Forest A) → Once t → has m (children n t) ≡ true → children m t ≡ Empty → P (removed m t) ns → P t (m ∷ ns))
+      → (k : ℕ) (t : Forest A) → size (children n t) < k → Once t → P t (order (children n t))
+  by_children P n none more zero t small o = absurd (omega (arith, small))
+  by_children P n none more (suc k) t small o = go (children n t) refl (λ m less h. by_children P n none more k (removed m t) less (once_removed m t o h))
     where
-      go : (low : Forest A) → children n t ≡ low → ((m : ℕ) → has m t ≡ true → size (children n (removed m t)) < k → Plucked (order (children n (removed m t))) (removed m t) (with_children n Empty (removed m t)))
-          → Plucked (order low) t (with_children n Empty t)
-      go Empty e more = subst (λ (u : Forest A). Plucked [] t u) (sym (emptied_none n t o e)) none_left
-      go (Node c a below beside) e more =
+      go : (low : Forest A) → children n t ≡ low → ((m : ℕ) → size (children n (removed m t)) < k → has m t ≡ true → P (removed m t) (order (children n (removed m t)))) → P t (order low)
+      go Empty e rest = none t o e
+      go (Node c a below beside) e rest =
           let low : Forest A = Node c a below beside in
           let once_low : Once low = subst Once e (once_children n t o) in
           let m : ℕ = lead n low in
           let inside : has m low ≡ true = lead_of_node n c a below beside in
           let here : has m (children n t) ≡ true = ap (has m) e ∙ inside in
-          let there : has m t ≡ true = has_children m n t o here in
           let leaf : children m t ≡ Empty = sym (children_in m n t o here) ∙ ap (children m) e ∙ lead_leaf n low once_low inside in
           let lower : children n (removed m t) ≡ removed m low = children_removed m n t o here ∙ ap (removed m) e in
           let less : size (children n (removed m t)) < k = omega (arith, small, ap size e, ap size lower, size_removed m low once_low inside) in
-          let rest : Plucked (order (removed m low)) (removed m t) (with_children n Empty t) =
-          subst (λ (u : Forest A). Plucked (order (removed m low)) (removed m t) u) (emptied_below m n t o here)
-          (subst (λ (x : Forest A). Plucked (order x) (removed m t) (with_children n Empty (removed m t))) lower (more m there less)) in
           let names : order low ≡ m ∷ order (removed m low) =
           sym (append-nil (order low)) ∙ order_lead n low [] once_low inside ∙ ap (λ (ns : List ℕ). m ∷ ns) (append-nil (order (removed m low))) in
-          subst (λ (ns : List ℕ). Plucked ns t (with_children n Empty t)) (sym names) (one_less there leaf rest)
+          subst (P t) (sym names) (more m (order (removed m low)) t o here leaf (subst (λ (x : Forest A). P (removed m t) (order x)) lower (rest m less (has_children m n t o here))))
 
+  -- all below a node goes
   pub plucked_children : (n : ℕ) (t : Forest A) → Once t → Plucked (order (children n t)) t (with_children n Empty t)
-  plucked_children n t o = children_from (size (children n t) + 1) n t (omega arith) o
+  plucked_children n t o =
+      by_children (λ u ns. Plucked ns u (with_children n Empty u)) n (λ u once e. subst (λ (v : Forest A). Plucked [] u v) (sym (emptied_none n u once e)) none_left)
+      (λ m ns u once here leaf rest. one_less (has_children m n u once here) leaf (subst (λ (v : Forest A). Plucked ns (removed m u) v) (emptied_below m n u once here) rest)) (size (children n t) + 1) t (omega arith) o
 
   -- a node goes with all below it
   pub plucked_gone : (n : ℕ) (t : Forest A) → Once t → has n t ≡ true → Plucked (order_at n t) t (removed n t)

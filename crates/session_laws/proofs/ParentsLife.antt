@@ -1,5 +1,5 @@
 -- The replayed contexts are those of the session, whatever a line does.
-use Rattle.session_laws.proofs.Words.{◌≡◌, ℕ, ◌+◌, ◌<◌, Bool, true, false, List, [], ◌∷◌, Some, None, refl, sym, ap, ◌∙◌, subst, inl, inr, arith, zero, suc, length, map, Option, ◌==◌, ◌&&◌, ◌||◌, and_from, cases_Bool, cases_eq, eq-eqb, false_from_ne_true, ne_eqb, Forest, Empty, Node, Once, at, children, has, moved, parent_of, put, size, times, with_children, removed, order, order_at, Moves, at_absent, at_some, has_of_removed, has_some, put_absent, removed_absent, times_moved, times_some, nat_tests}
+use Rattle.session_laws.proofs.Words.{◌≡◌, ℕ, ◌+◌, ◌<◌, Bool, true, false, List, [], ◌∷◌, Some, None, refl, sym, ap, ◌∙◌, subst, inl, inr, arith, length, map, Option, ◌==◌, ◌&&◌, ◌||◌, and_from, cases_Bool, cases_eq, eq-eqb, false_from_ne_true, ne_eqb, Forest, Empty, Node, Once, at, children, has, moved, parent_of, put, size, times, with_children, removed, order, order_at, Moves, at_absent, at_some, has_of_removed, has_some, put_absent, removed_absent, times_moved, times_some, nat_tests}
 use Rattle.session_laws.proofs.Scenes.{What, CtxKind, Hook, Contexts, is_child, move_events, new_context, placed_under, gone_events, Scene, Around, Text, children_gone, context_cleared, context_cleared_alone, context_gone, context_moved, context_made, owner_made, hook_waits, item_taken, KindTable, opening, KindId, Phase, Owner, OwnerTree, own_released, owner_gone, owner_moved, phase_released}
 use Rattle.session_laws.proofs.Rules.{has_put_other, times_emptied, EndLeaves, Keeps, Law, LevelLeaves, MakeLeaves, MoveLeaves, AreSaid, said_alone, said_map, said_weaker, said_more, said_none, said_one, of_contexts, of_next_context, KeyLeaves, Part, Sight, of_next_owner, of_owners, unseen_keys, seen_after, OwnerLeaves, moves_owed, Reader, allows_all}
 use Rattle.session_laws.proofs.Usual.{Usual, is_usual, level_words, usual_levels, usual_locks, usual_makes, usual_moves, usual_phase, usual_taken}
@@ -202,28 +202,11 @@ contexts_moved n p s w = go (is_child n p s.session.contexts)
 -- The replayed contexts of a session, from its opening to its exit.
 
 -- the contexts that a session opens with
-later : (k n : ℕ) → k < 6 → (k == suc (suc (suc (suc (suc (suc n)))))) ≡ false
-later k n h = ne_eqb k (suc (suc (suc (suc (suc (suc n)))))) (λ e. omega (arith, e, h))
-
 first_there : (n : ℕ) → is_there n first_contexts ≡ has n contexts.opening
-first_there zero = refl
-first_there (suc zero) = refl
-first_there (suc (suc zero)) = refl
-first_there (suc (suc (suc zero))) = refl
-first_there (suc (suc (suc (suc zero)))) = refl
-first_there (suc (suc (suc (suc (suc zero))))) = refl
-first_there (suc (suc (suc (suc (suc (suc n)))))) =
-    rw (later 1 n (omega arith), later 2 n (omega arith), later 3 n (omega arith), later 4 n (omega arith), later 5 n (omega arith)) refl
+first_there n = grind (arith, nat_tests)
 
 first_parent : (n : ℕ) → replayed.parent_of n first_contexts ≡ parent_of n contexts.opening
-first_parent zero = refl
-first_parent (suc zero) = refl
-first_parent (suc (suc zero)) = refl
-first_parent (suc (suc (suc zero))) = refl
-first_parent (suc (suc (suc (suc zero)))) = refl
-first_parent (suc (suc (suc (suc (suc zero))))) = refl
-first_parent (suc (suc (suc (suc (suc (suc n)))))) =
-    rw (later 1 n (omega arith), later 2 n (omega arith), later 3 n (omega arith), later 4 n (omega arith), later 5 n (omega arith)) refl
+first_parent n = grind (arith, nat_tests)
 
 first_once : Once contexts.opening
 first_once = record { once = λ n. grind (arith, nat_tests) }
@@ -268,7 +251,7 @@ pub contexts_life : (kinds : KindTable) → IsLife kinds growing_contexts HasCon
 contexts_life kinds =
     life_by kinds growing_contexts HasContexts opening_contexts (λ growth. growth.nodes ≡ []) contexts_owed
     (λ around same. opening_fits around)
-    (λ growth session a b same h. record { fits = record { tree = h.fits.tree; below = h.fits.below }; next = h.next })
+    (λ growth session a b same h. h)
     (record { so = λ s. contexts_past s s (alike_same s.session.contexts) refl (takes_past (passed_context what.Exit refl) takes_none) })
     (λ growth s gone h. none_fit growth.nodes s.session.contexts gone.contexts h.fits.tree)
 
@@ -419,6 +402,6 @@ pub owners_life : (kinds : KindTable) → IsLife kinds growing_owners HasOwners 
 owners_life kinds =
     life_by kinds growing_owners HasOwners opening_owners (λ growth. growth.nodes ≡ []) owners_owed
     (λ around same. first_owners_fit around)
-    (λ growth session a b same h. record { fits = record { tree = h.fits.tree; below = h.fits.below }; next = h.next })
+    (λ growth session a b same h. h)
     (record { so = λ s. owners_past s s (alike_same s.session.owners) refl (takes_past (passed_owner what.Exit refl) takes_none) })
     (λ growth s gone h. none_fit growth.nodes s.session.owners gone.owners h.fits.tree)

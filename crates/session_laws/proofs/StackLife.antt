@@ -282,7 +282,7 @@ stack_exit s h stack fits =
 pub stack_life : (kinds : KindTable) → IsLife kinds stacking StackFits [] (λ stack. none_left stack ≡ true)
 stack_life kinds = record {
   opens = λ around same. stack_opens around;
-  elsewhere = λ stack session a b same h. record { is = h.is; rises = h.rises };
+  elsewhere = λ stack session a b same descriptors h. record { is = h.is; rises = h.rises };
   error = λ error s. stack_aside s s refl (said_one (what.Error error) refl);
   turns = stack_turn;
   exits = stack_exit;

@@ -103,7 +103,7 @@ turn_warns =
 pub warnings : (kinds : KindTable) → IsLife kinds warning IsSettled None (λ last. last ≡ None)
 warnings kinds = record {
   opens = λ around same. refl;
-  elsewhere = λ seen session a b same h. h;
+  elsewhere = λ seen session a b same descriptors h. h;
   error = λ error s. one_reads s s (what.Error error) refl;
   turns = λ w line m h. turn_warns w line m;
   exits = λ s h seen fits.
