@@ -40,32 +40,20 @@ words_at n t = option_map_or (λ c. words_of c.hooks) (at n t) []
 -- the newest of a context is called
 pub next_is : (word n : ℕ) (rest : List ℕ) (seen : List Waiting) → words_on n seen ≡ word ∷ rest → is_next word n seen ≡ true
 next_is word n rest [] h = absurd (cc h)
-next_is word n rest (hook ∷ seen) h = elim (cases_Bool (hook.context == n)) [
-  | inl y ↦ let z : hook.word ∷ words_on n seen ≡ word ∷ rest = rw y at h in rw y (eq-eqb hook.word word (cc z))
-  | inr y ↦ let z : words_on n seen ≡ word ∷ rest = rw y at h in rw y (next_is word n rest seen z)
-]
+next_is word n rest (hook ∷ seen) h = grind (arith, nat_tests, next_is word n rest seen, eq-eqb)
 
 pub without_own : (word n : ℕ) (rest : List ℕ) (seen : List Waiting) → words_on n seen ≡ word ∷ rest → words_on n (without_next n seen) ≡ rest
 without_own word n rest [] h = absurd (cc h)
-without_own word n rest (hook ∷ seen) h = elim (cases_Bool (hook.context == n)) [
-  | inl y ↦ let z : hook.word ∷ words_on n seen ≡ word ∷ rest = rw y at h in rw y (cc z)
-  | inr y ↦ let z : words_on n seen ≡ word ∷ rest = rw y at h in rw (y, y) (without_own word n rest seen z)
-]
+without_own word n rest (hook ∷ seen) h = grind (arith, nat_tests, without_own word n rest seen)
 
 pub without_other : (m n : ℕ) (seen : List Waiting) → m ≢ n → words_on m (without_next n seen) ≡ words_on m seen
 without_other m n [] differ = refl
-without_other m n (hook ∷ seen) differ = elim (cases_Bool (hook.context == n)) [
-  | inl y ↦ rw (y, ne_eqb hook.context m (λ e. differ (sym e ∙ eqb-true hook.context n y))) refl
-  | inr y ↦ rw (y, without_other m n seen differ) refl
-]
+without_other m n (hook ∷ seen) differ = grind (arith, nat_tests, without_other m n seen differ, ne_eqb, eqb-true)
 
 -- where none waits on a context, none is awaited
 pub none_awaited : (n : ℕ) (seen : List Waiting) → words_on n seen ≡ [] → is_awaited n seen ≡ false
 none_awaited n [] h = refl
-none_awaited n (hook ∷ seen) h = elim (cases_Bool (hook.context == n)) [
-  | inl y ↦ let z : hook.word ∷ words_on n seen ≡ [] = rw y at h in absurd (cc z)
-  | inr y ↦ let z : words_on n seen ≡ [] = rw y at h in rw y (none_awaited n seen z)
-]
+none_awaited n (hook ∷ seen) h = grind (arith, nat_tests, none_awaited n seen)
 
 -- where none waits on any, none is left
 pub all_called : (seen : List Waiting) → ((n : ℕ) → words_on n seen ≡ []) → none_left seen ≡ true
@@ -82,35 +70,12 @@ pub record Calls (gone : ℕ → Bool) (seen : List Waiting) (events : List What
 
 -- the hooks of one context are called
 pub callbacks_called : (n : ℕ) (hooks : List Hook) (seen : List Waiting) → words_on n seen ≡ words_of hooks → Calls (λ k. n == k) seen (callbacks n hooks)
-callbacks_called n [] seen h = record {
-  allowed = refl;
-  none = λ k u. ap (λ (j : ℕ). words_on j seen) (sym (eqb-true n k u)) ∙ h;
-  others = λ k u. refl;
-}
-callbacks_called n (hook ∷ hooks) seen h =
-    let more : Calls (λ k. n == k) (without_next n seen) (callbacks n hooks) = callbacks_called n hooks (without_next n seen) (without_own hook.word n (words_of hooks) seen h) in
-    record {
-      allowed = rw (next_is hook.word n (words_of hooks) seen h) more.allowed;
-      none = more.none;
-      others = λ k u. more.others k u ∙ without_other k n seen (λ e. both_ways (n == k) u (eq-eqb n k (sym e)));
-    }
+callbacks_called n [] seen h = grind (arith, nat_tests, eqb-true)
+callbacks_called n (hook ∷ hooks) seen h = grind (arith, nat_tests, callbacks_called n hooks (without_next n seen) (without_own hook.word n (words_of hooks) seen h), without_own, next_is, without_other, both_ways, eq-eqb)
 
 -- one stretch of events and then another
 pub both_called : (one two : ℕ → Bool) (seen : List Waiting) (xs ys : List What) → Calls one seen xs → Calls two (seen_after calling seen xs) ys → ((k : ℕ) → one k ≡ true → two k ≡ false) → Calls (λ k. cond (one k) true (two k)) seen (xs ++ ys)
-both_called one two seen xs ys a b apart =
-    let after : (k : ℕ) → words_on k (seen_after calling seen (xs ++ ys)) ≡ words_on k (seen_after calling (seen_after calling seen xs) ys) =
-    λ k. ap (words_on k) (seen_after-append calling seen xs ys) in
-    record {
-      allowed = allows_all-append calling seen xs ys a.allowed b.allowed;
-      none = λ k u. after k ∙ elim (cases_Bool (one k)) [
-        | inl y ↦ b.others k (apart k y) ∙ a.none k y
-        | inr y ↦ b.none k (sym (cond-false (one k) true (two k) y) ∙ u)
-      ];
-      others = λ k u. elim (cases_Bool (one k)) [
-        | inl y ↦ let z : true ≡ false = sym (cond-true (one k) true (two k) y) ∙ u in absurd (cc z)
-        | inr y ↦ after k ∙ (b.others k (sym (cond-false (one k) true (two k) y) ∙ u) ∙ a.others k y)
-      ];
-    }
+both_called one two seen xs ys a b apart = grind (arith, nat_tests, seen_after-append, allows_all-append, cond-false, cond-true)
 
 -- a context goes, on which none waits
 deletes_called : (n : ℕ) (gone : ℕ → Bool) (seen : List Waiting) (events : List What) → words_on n seen ≡ [] → Calls gone seen events → Calls gone seen (what.Delete n ∷ events)
@@ -138,10 +103,7 @@ reset_called n hooks seen h =
 
 -- where a context of a forest stands
 at_below : (k n : ℕ) (c : Context) (below beside : Contexts) → Apart n below beside → has k below ≡ true → words_at k (Node n c below beside) ≡ words_at k below
-at_below k n c below beside apart h =
-    let s = at_some k below h in
-    let differ : (n == k) ≡ false = ne_eqb n k (λ e. both_ways (has k below) (ap (λ (j : ℕ). has j below) (sym e) ∙ apart.not_below) h) in
-    rw (differ, s.1) refl
+at_below k n c below beside apart h = grind (arith, nat_tests, at_some, ne_eqb, both_ways)
 
 at_beside : (k n : ℕ) (c : Context) (below beside : Contexts) → Apart n below beside → has k beside ≡ true → words_at k (Node n c below beside) ≡ words_at k beside
 at_beside k n c below beside apart h =
@@ -268,12 +230,7 @@ apart_allowed other seen h = (refl, refl)
 
 apart_read : {events : List What} → AreSaid is_apart events → (seen : List Waiting) → (allows_all calling seen events ≡ true) × (seen_after calling seen events ≡ seen)
 apart_read said_none seen = (refl, refl)
-apart_read (said_more {event = event} {events = events} h hs) seen =
-    let one = apart_allowed event seen h in
-    let more = apart_read hs seen in (
-      rw (one.0, one.1) more.0,
-      ap (λ (after : List Waiting). seen_after calling after events) one.1 ∙ more.1,
-    )
+apart_read (said_more {event = event} {events = events} h hs) seen = grind (arith, nat_tests, apart_read hs seen, apart_allowed)
 
 calls_sight : Sight is_of_contexts is_apart CallsHooks
 calls_sight = record {
@@ -384,17 +341,7 @@ cleared_read n s =
 
 -- a context is made
 words_put : (p n m : ℕ) (c : Context) (t : Contexts) → AreNumbered t n → c.hooks ≡ [] → words_at m (put p n c Empty t) ≡ words_at m t
-words_put p n m c t k none = elim (cases_Bool (has p t)) [
-  | inl there ↦ elim (cases_eq m n) [
-    | inl e ↦ subst (λ (j : ℕ). words_at j (put p n c Empty t) ≡ words_at j t) (sym e)
-        (ap words_there (at_put p n c Empty t k.once there absent) ∙ (ap words_of none ∙ sym (ap words_there (at_absent n t absent))))
-    | inr differ ↦ ap words_there (at_put_other m p n c Empty t differ refl)
-  ]
-  | inr away ↦ ap (words_at m) (put_absent p n c Empty t away)
-]
-  where
-    absent : has n t ≡ false
-    absent = false_from_ne_true (has n t) (λ u. omega (arith, k.below n u))
+words_put p n m c t k none = grind (arith, nat_tests, at_put, at_absent, at_put_other, put_absent, false_from_ne_true)
 
 made_read : (parent : ℕ) (name : Text) (protected : Bool) (kind : CtxKind) (s : Scene) → CallsHooks s (context_made parent name protected kind s).scene (context_made parent name protected kind s).events
 made_read parent name protected kind s =
@@ -432,13 +379,7 @@ chunk_read s n f h = record {
 }
 
 calls_leaves : ContextLeaves CallsHooks
-calls_leaves = record {
-  gone = λ n. record { so = gone_read n };
-  children = λ n. record { so = children_read n };
-  alone = λ n. record { so = alone_read n };
-  cleared = λ n. record { so = cleared_read n };
-  chunk = chunk_read;
-}
+calls_leaves = grind (arith, nat_tests, gone_read, children_read, alone_read, cleared_read, chunk_read)
 
 -- the session ends
 exit_read : Keeps CallsHooks (say what.Exit)
@@ -498,10 +439,7 @@ moved_read n p s node there out = record { so = λ seen fit. go (is_child n p s.
 
 -- a hook is registered, and a context moves, in a session that stands
 calls_moves : StandingMoves CallsHooks
-calls_moves = record {
-  hooked = λ name n hook s h is first. hook_read n hook s (named_there name s n h is);
-  shifted = λ n p s h may. moved_read n p s may.node may.parent may.out;
-}
+calls_moves = grind (arith, nat_tests, hook_read, named_there, moved_read)
 
 calls_turns : OwesTurns CallsHooks
 calls_turns = owes_by CallsHooks calls_ends (context_makes CallsHooks calls_law) error_read (standing_moves CallsHooks calls_ends.levels.leaves.acts calls_moves)
@@ -545,10 +483,7 @@ told_own n k (x ∷ xs) = omega (arith, told_own n k xs, registered_cons n x xs)
 -- a word that none of the events tells isn't among theirs
 none_at : (n k : ℕ) (x : What) (events : List Event) → (told n events ≡ 0 → is_one_of n (words_in events) ≡ false) → cond (is_registered n x) 1 0 + told n events ≡ 0
     → is_one_of n (words_in (record { session = k; what = x } ∷ events)) ≡ false
-none_at n k (what.Hook word context) events more h = elim (cases_Bool (word == n)) [
-  | inl y ↦ let z : 1 + told n events ≡ 0 = rw y at h in absurd (omega (arith, z))
-  | inr y ↦ let z : 0 + told n events ≡ 0 = rw y at h in rw y (more (omega (arith, z)))
-]
+none_at n k (what.Hook word context) events more h = grind (arith, nat_tests)
 none_at n k other events more h = more (omega (arith, h))
 
 none_told : (n : ℕ) (events : List Event) → told n events ≡ 0 → is_one_of n (words_in events) ≡ false

@@ -1,5 +1,5 @@
 -- Where each item is released once, so are the items of a file together.
-use Rattle.session_laws.proofs.Words.{◌≡◌, ℕ, ◌+◌, ◌-◌, ◌≤◌, Bool, true, false, cond, if◌then◌else◌, List, [], ◌∷◌, ◌++◌, length, Option, Some, None, refl, sym, ap, ◌∙◌, arith, subst, ◌==◌, ◌&&◌, sum_by, nat_le, option_map_or, and_from, and_parts, both_ways, eq-eqb, eqb-true, leb-true, sum_by-cons}
+use Rattle.session_laws.proofs.Words.{◌-◌, ◌≡◌, ℕ, ◌+◌, ◌≤◌, Bool, true, false, cond, if◌then◌else◌, List, [], ◌∷◌, ◌++◌, length, Option, Some, None, refl, sym, ap, arith, subst, ◌==◌, ◌&&◌, sum_by, option_map_or, and_from, and_parts, both_ways, eq-eqb, eqb-true, leb-true, sum_by-cons, nat_tests, nat_le}
 use Rattle.session_laws.proofs.Scenes.{What, Item, is_of, file_kind, SessionState, opening, Error, Command, table_of, KindTable, Around, Moment, Scene, exited, StandsBetweenLines, turn}
 use Rattle.session_laws.proofs.Rules.{allows_all, seen_after, Reader, BalancesFrom, count, covers, left, said_one}
 use Rattle.lifetime_laws.specs.Once.{acquires, one_where, releases, same_item, closes, opens}
@@ -36,26 +36,13 @@ record AreSame (x y : ItemOwner) : Type 0 where
   owner : x.1 ≡ y.1
 
 are_same : (x y : ItemOwner) → same x y ≡ true → AreSame x y
-are_same x y h =
-    let p = and_parts (same_item x.0 y.0) (x.1 == y.1) h in
-    let q = and_parts (x.0.kind.0 == y.0.kind.0) ((x.0.key == y.0.key) && (x.0.serial == y.0.serial)) p.0 in
-    let r = and_parts (x.0.key == y.0.key) (x.0.serial == y.0.serial) q.1 in
-    record { kind = eqb-true x.0.kind.0 y.0.kind.0 q.0; key = eqb-true x.0.key y.0.key r.0; serial = eqb-true x.0.serial y.0.serial r.1; owner = eqb-true x.1 y.1 p.1 }
+are_same x y h = grind (arith, nat_tests, and_parts, eqb-true)
 
 same_right : (p x y : ItemOwner) → same x y ≡ true → same p x ≡ same p y
-same_right p x y h =
-    let a = are_same x y h in
-    ap (λ (k : ℕ). ((p.0.kind.0 == k) && ((p.0.key == x.0.key) && (p.0.serial == x.0.serial))) && (p.1 == x.1)) a.kind
-    ∙ ap (λ (k : ℕ). ((p.0.kind.0 == y.0.kind.0) && ((p.0.key == k) && (p.0.serial == x.0.serial))) && (p.1 == x.1)) a.key
-    ∙ ap (λ (k : ℕ). ((p.0.kind.0 == y.0.kind.0) && ((p.0.key == y.0.key) && (p.0.serial == k))) && (p.1 == x.1)) a.serial
-    ∙ ap (λ (k : ℕ). ((p.0.kind.0 == y.0.kind.0) && ((p.0.key == y.0.key) && (p.0.serial == y.0.serial))) && (p.1 == k)) a.owner
+same_right p x y h = grind (arith, nat_tests, are_same)
 
 same_itself : (x : ItemOwner) → same x x ≡ true
-same_itself x =
-    and_from (same_item x.0 x.0) (x.1 == x.1)
-    (and_from (x.0.kind.0 == x.0.kind.0) ((x.0.key == x.0.key) && (x.0.serial == x.0.serial)) (eq-eqb x.0.kind.0 x.0.kind.0 refl)
-    (and_from (x.0.key == x.0.key) (x.0.serial == x.0.serial) (eq-eqb x.0.key x.0.key refl) (eq-eqb x.0.serial x.0.serial refl)))
-    (eq-eqb x.1 x.1 refl)
+same_itself x = grind (arith, nat_tests, and_from, eq-eqb)
 
 -- how often a pair stands in a list
 abbrev often : ItemOwner → List ItemOwner → ℕ
@@ -71,19 +58,11 @@ but_one x (y ∷ ys) = (if same x y then ys else y ∷ but_one x ys)
 
 often_but : (p x : ItemOwner) (ys : List ItemOwner) → 1 ≤ often x ys → often p (but_one x ys) + one_where (same p x) ≡ often p ys
 often_but p x [] h = absurd (omega (arith, h))
-often_but p x (y ∷ ys) h = go (same x y) refl (often_but p x ys)
-  where
-    go : (b : Bool) → same x y ≡ b → (1 ≤ often x ys → often p (but_one x ys) + one_where (same p x) ≡ often p ys) → often p (if b then ys else y ∷ but_one x ys) + one_where (same p x) ≡ often p (y ∷ ys)
-    go true e ih = omega (arith, often_more p y ys, ap one_where (same_right p x y e))
-    go false e ih = omega (arith, ih (omega (arith, h, often_more x y ys, ap one_where e)), often_more p y ys, often_more p y (but_one x ys))
+often_but p x (y ∷ ys) h = grind (arith, nat_tests, often_but p x ys, often_more, same_right)
 
 length_but : (x : ItemOwner) (ys : List ItemOwner) → 1 ≤ often x ys → length (but_one x ys) + 1 ≡ length ys
 length_but x [] h = absurd (omega (arith, h))
-length_but x (y ∷ ys) h = go (same x y) refl (length_but x ys)
-  where
-    go : (b : Bool) → same x y ≡ b → (1 ≤ often x ys → length (but_one x ys) + 1 ≡ length ys) → length (if b then ys else y ∷ but_one x ys) + 1 ≡ length (y ∷ ys)
-    go true e ih = omega arith
-    go false e ih = omega (arith, ih (omega (arith, h, often_more x y ys, ap one_where e)))
+length_but x (y ∷ ys) h = grind (arith, nat_tests, length_but x ys, often_more)
 
 module _ (f : ℕ) where
   -- pairs whose items are of the file
@@ -114,15 +93,7 @@ module _ (f : ℕ) where
 
   pairs_of : (pick : What → Option ItemOwner) (events : List What) → AreOf (pairs pick events)
   pairs_of pick [] = tt
-  pairs_of pick (event ∷ events) = go (pick event) (pairs_of pick events)
-    where
-      one : (p : ItemOwner) (b : Bool) → is_of file_kind f p.0 ≡ b → AreOf (pairs pick events) → AreOf ((if b then p ∷ [] else []) ++ pairs pick events)
-      one p true e h = (e, h)
-      one p false e h = h
-
-      go : (o : Option ItemOwner) → AreOf (pairs pick events) → AreOf (of_pair o ++ pairs pick events)
-      go None h = h
-      go (Some p) h = one p (is_of file_kind f p.0) refl h
+  pairs_of pick (event ∷ events) = grind (arith, nat_tests, pairs_of pick events)
 
   pairs_length : (pick : What → Option ItemOwner) (events : List What) → length (pairs pick events) ≡ sum_by (λ event. in_file (pick event)) events
   pairs_length pick [] = refl
@@ -138,14 +109,7 @@ module _ (f : ℕ) where
 
   -- another item isn't of the file
   apart : (p q : ItemOwner) → is_of file_kind f p.0 ≡ true → is_of file_kind f q.0 ≡ false → one_where (same p q) ≡ 0
-  apart p q is not = go (same p q) refl
-    where
-      go : (b : Bool) → same p q ≡ b → one_where b ≡ 0
-      go false e = refl
-      go true e =
-          let a = are_same p q e in
-          let moved : is_of file_kind f p.0 ≡ is_of file_kind f q.0 = ap (λ (k : ℕ). (k == 8) && (p.0.key == f)) a.kind ∙ ap (λ (k : ℕ). (q.0.kind.0 == 8) && (k == f)) a.key in
-          absurd (both_ways (is_of file_kind f q.0) not (sym moved ∙ is))
+  apart p q is not = grind (arith, nat_tests, are_same, both_ways)
 
   pairs_often : (pick : What → Option ItemOwner) (p : ItemOwner) → is_of file_kind f p.0 ≡ true → (events : List What) → often p (pairs pick events) ≡ sum_by (λ event. is_it p (pick event)) events
   pairs_often pick p is [] = refl
@@ -272,13 +236,7 @@ module _ (file : ℕ) (items : Reader ℕ) (Fits : ℕ → Scene → Type 0) (co
 -- what a pair of readers allows each of them does
 pair_parts : (one two : Reader ℕ) (events : List What) (seen : Pair ℕ ℕ) → allows_all (paired one two) seen events ≡ true → (allows_all one seen.first events ≡ true) × (allows_all two seen.second events ≡ true)
 pair_parts one two [] seen h = (refl, refl)
-pair_parts one two (event ∷ events) seen h =
-    let p = and_parts ((paired one two).allows event seen) (allows_all (paired one two) ((paired one two).next event seen) events) h in
-    let q = and_parts (one.allows event seen.first) (two.allows event seen.second) p.0 in
-    let more = pair_parts one two events ((paired one two).next event seen) p.1 in (
-      and_from (one.allows event seen.first) (allows_all one (one.next event seen.first) events) q.0 more.0,
-      and_from (two.allows event seen.second) (allows_all two (two.next event seen.second) events) q.1 more.1,
-    )
+pair_parts one two (event ∷ events) seen h = grind (arith, nat_tests, pair_parts one two events, and_parts, paired, and_from)
 
 -- what is owed of the items of a file holds
 items_open : (file : ℕ) (around : Around) → ItemFits file 0 (record { session = opening; around = around })

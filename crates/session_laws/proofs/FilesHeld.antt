@@ -1,6 +1,6 @@
 -- What becomes of owners makes them hold no more, and leaves each number once.
-use Rattle.session_laws.proofs.Words.{◌≡◌, ℕ, ◌≤◌, true, Some, List, [], ◌∷◌, refl, ap, inl, inr, arith, ◌+◌, ◌-◌, Bool, false, cond, nat_eq, if◌then◌else◌, ◌++◌, Option, None, sym, subst, ◌∙◌, zero, suc, find, take, ◌==◌, ◌&&◌, nat_le, nat_lt, list_any, cases_Bool, and_from, eqb-true, le-leb, Empty, Node, Once, at, children, has, moved, put, removed, times as node_times, subtree, size, order_at, at_absent, at_some, once_removed, put_absent, removed_absent, times_put, times_removed, changed_absent, once_changed, option_map_or}
-use Rattle.session_laws.proofs.Scenes.{Item, KindId, is_of, uses, without_newest, Owner, OwnerTree, held, created, forgotten, remembered, What, Phase, KindTable, Step, GivesBack, ReleasesLocks, PassesLocks, ReleasesAllLocks, release_steps, StandingPlan, file_kind, level_above, level_owner, owner_of, opening, Scene, Around, Moment, plan_at, newest, Ended, for_each, where_so, where_there, changes, in_order, say, NoOne, TheDescriptors, TheKind, ThePlans, given_back, left_to, plan_becomes, plan_settled, plan_stays, step_done, item_released, keeper_of, owner_gone, owner_moved, phase_released, table_of, own_released, released, OfLevel, OfPortal, OwnerRole, Element, new_owner_made, owner_made, limit, descriptor_given, files, item_taken, remembers, taken_by, snapshot_pushed, Error, Command, failure, refused_call, unless_refused, does, exited, Stands, StandsBetweenLines, line_elements, turn}
+use Rattle.session_laws.proofs.Words.{◌≡◌, ℕ, ◌≤◌, true, Some, List, [], ◌∷◌, refl, ap, inl, inr, arith, ◌+◌, ◌-◌, Bool, false, cond, nat_eq, if◌then◌else◌, ◌++◌, Option, None, sym, subst, ◌∙◌, zero, suc, find, take, ◌==◌, ◌&&◌, nat_le, nat_lt, list_any, cases_Bool, and_from, eqb-true, le-leb, Empty, Node, Once, at, children, has, moved, put, removed, times as node_times, subtree, size, order_at, at_absent, at_some, once_removed, put_absent, removed_absent, times_put, times_removed, changed_absent, once_changed, option_map_or, nat_tests}
+use Rattle.session_laws.proofs.Scenes.{Item, KindId, is_of, uses, without_newest, Owner, OwnerTree, held, created, forgotten, remembered, What, Phase, KindTable, Step, GivesBack, ReleasesLocks, PassesLocks, ReleasesAllLocks, release_steps, StandingPlan, file_kind, level_above, level_owner, owner_of, opening, Scene, Around, Moment, plan_at, newest, Ended, for_each, where_there, changes, in_order, say, NoOne, TheDescriptors, TheKind, ThePlans, given_back, left_to, plan_becomes, plan_settled, plan_stays, step_done, item_released, keeper_of, owner_gone, owner_moved, phase_released, table_of, own_released, released, OfLevel, OfPortal, OwnerRole, Element, new_owner_made, owner_made, limit, descriptor_given, files, item_taken, remembers, taken_by, snapshot_pushed, Error, Command, failure, refused_call, unless_refused, does, exited, Stands, StandsBetweenLines, line_elements, turn}
 use Rattle.session_laws.proofs.Rules.{Reader, allows_all, seen_after, count, allows_all-append, seen_after-append, Law, Follows, IsRun, Meets, line_runs, fallible_at, fallible_so, said_none, said_more, said_map, said_gone, said_lock_releases, said_lock_passes, said_all_locks, of_recent, of_owners}
 use Rattle.session_laws.proofs.Parents.{alike_swept, once_alike}
 use Rattle.session_laws.proofs.StepsOf.{AreOf, gives_up, no_step, numbers_of, passes, steps_of, unlocks, unlocks_all, warns}
@@ -31,24 +31,14 @@ module _ (kind : KindId) (key : ℕ) where
 
   -- owners that go
   pub held_less_removed : (n : ℕ) (t : OwnerTree) → Once t → held kind key (removed n t) ≤ held kind key t
-  held_less_removed n t once = elim (cases_Bool (has n t)) [
-    | inl y ↦ let a = at_some n t y in omega (arith, total_removed used n a.0 t once a.1, held_is (removed n t), held_is t)
-    | inr z ↦ omega (arith, ap (held kind key) (removed_absent n t z))
-  ]
+  held_less_removed n t once = grind (arith, nat_tests, at_some, total_removed, held_is, removed_absent)
 
   -- an owner that moves
   put_less : (n p : ℕ) (a : Owner) (t : OwnerTree) → Once t → Once (removed n t) → at n t ≡ Some a → held kind key (put p n a (children n t) (removed n t)) ≤ held kind key t
-  put_less n p a t once left is = elim (cases_Bool (has p (removed n t))) [
-    | inl y ↦
-        omega (arith, total_put used p n a (children n t) (removed n t) left y, total_removed used n a t once is, held_is (put p n a (children n t) (removed n t)), held_is t)
-    | inr z ↦ omega (arith, ap (held kind key) (put_absent p n a (children n t) (removed n t) z), held_less_removed n t once)
-  ]
+  put_less n p a t once left is = grind (arith, nat_tests, total_put, total_removed, held_is, put_absent, held_less_removed)
 
   pub held_less_moved : (n p : ℕ) (t : OwnerTree) → Once t → held kind key (moved n p t) ≤ held kind key t
-  held_less_moved n p t once = elim (cases_Bool (has n t)) [
-    | inl y ↦ let a = at_some n t y in rw a.1 (put_less n p a.0 t once (once_removed n t once y) a.1)
-    | inr z ↦ rw (at_absent n t z) (omega arith)
-  ]
+  held_less_moved n p t once = grind (arith, nat_tests, at_some, put_less, once_removed, at_absent)
 
   -- one of these items is held where some owner has it
   some_counted : (items : List Item) → list_any (is_of kind key) items ≡ true → 1 ≤ uses kind key items
@@ -64,24 +54,13 @@ once_by : (x y : OwnerTree) → ((m : ℕ) → node_times m y ≤ node_times m x
 once_by x y less once = record { once = λ m. omega (arith, less m, once.once m) }
 
 pub once_less_removed : (n : ℕ) (t : OwnerTree) → Once t → Once (removed n t)
-once_less_removed n t once = elim (cases_Bool (has n t)) [
-  | inl y ↦ once_removed n t once y
-  | inr z ↦ rw (removed_absent n t z) once
-]
+once_less_removed n t once = grind (arith, nat_tests, once_removed, removed_absent)
 
 once_put_back : (n p : ℕ) (a : Owner) (t : OwnerTree) → Once t → has n t ≡ true → Once (put p n a (children n t) (removed n t))
-once_put_back n p a t once there =
-    let left : Once (removed n t) = once_removed n t once there in
-    elim (cases_Bool (has p (removed n t))) [
-      | inl y ↦ once_by t (put p n a (children n t) (removed n t)) (λ m. omega (arith, times_put m p n a (children n t) (removed n t) left y, times_removed m n t once there)) once
-      | inr z ↦ rw (put_absent p n a (children n t) (removed n t) z) left
-    ]
+once_put_back n p a t once there = grind (arith, nat_tests, once_removed, once_by, times_put, times_removed, put_absent)
 
 pub once_less_moved : (n p : ℕ) (t : OwnerTree) → Once t → Once (moved n p t)
-once_less_moved n p t once = elim (cases_Bool (has n t)) [
-  | inl y ↦ let a = at_some n t y in rw a.1 (once_put_back n p a.0 t once y)
-  | inr z ↦ rw (at_absent n t z) once
-]
+once_less_moved n p t once = grind (arith, nat_tests, at_some, once_put_back, at_absent)
 
 -- A file has a descriptor only while an item of it is held: what a reader has seen of such items covers the file's descriptor.
 
@@ -167,11 +146,7 @@ module _ (f : ℕ) where
       go false = still_none
 
   plan_recent : (plan : StandingPlan) (s : Scene) → (plan_becomes plan s).scene.session.recent ≡ s.session.recent
-  plan_recent plan s = go (plan.discarded && (plan.references == 0))
-    where
-      go : (b : Bool) → (elim b as (λ _. Ended) [ true ↦ plan_settled plan s | false ↦ plan_stays plan s ]).scene.session.recent ≡ s.session.recent
-      go true = refl
-      go false = refl
+  plan_recent plan s = grind (arith, nat_tests)
 
   plan_falls : (key K m : ℕ) (s : Scene) → times f s.session.recent ≤ 1 → times f s.session.recent ≤ m → K ≤ m → Falls K m (left_to ThePlans key s).scene (left_to ThePlans key s).events
   plan_falls key K m s few covered more = go (plan_at key s.session.plans)
@@ -185,24 +160,7 @@ module _ (f : ℕ) where
 
   -- a file that is closed
   closed_falls : (key K m : ℕ) (s : Scene) → times f s.session.recent ≤ 1 → times f s.session.recent ≤ m + mark f key → K ≤ m → Falls K m (left_to TheDescriptors key s).scene (left_to TheDescriptors key s).events
-  closed_falls key K m s few covered more = go (is_among key s.session.recent) refl
-    where
-      go : (b : Bool) → is_among key s.session.recent ≡ b → Falls K m (where_so b (λ scene. record {
-        scene = record scene { session = record scene.session { recent = without key scene.session.recent } };
-        events = what.DescriptorClosed key ∷ [];
-      }) s).scene (where_so b (λ scene. record {
-        scene = record scene { session = record scene.session { recent = without key scene.session.recent } };
-        events = what.DescriptorClosed key ∷ [];
-      }) s).events
-      go true e =
-          let less = times_without f key s.session.recent e in
-          falls_still K m (record s { session = record s.session { recent = without key s.session.recent } }) (still_one (what.DescriptorClosed key) refl refl)
-          (omega (arith, less, few)) (omega (arith, less, few, covered, mark_swapped f key)) more
-      go false e = falls_still K m s still_none few (absent (nat_eq f key) refl) more
-        where
-          absent : (b : Bool) → nat_eq f key ≡ b → times f s.session.recent ≤ m
-          absent true q = omega (arith, times_none f s.session.recent (ap (λ (k : ℕ). is_among k s.session.recent) (eqb-true f key q) ∙ e))
-          absent false q = let none : mark f key ≡ 0 = ap (λ (b : Bool). cond b 1 0) q in omega (arith, covered, none)
+  closed_falls key K m s few covered more = grind (arith, nat_tests, times_without, falls_still, still_one, mark_swapped, nat_eq, times_none, eqb-true, mark)
 
   -- an item that is given back
   pub given_falls : (item : Item) (K m : ℕ) (s : Scene) → times f s.session.recent ≤ 1 → times f s.session.recent ≤ m + of_file item → K ≤ m → Falls K m (given_back item s).scene (given_back item s).events
@@ -345,11 +303,7 @@ module _ (f : ℕ) where
   }
 
   moved_so : (n parent : ℕ) (s : Scene) → ReadsItems s (owner_moved n parent s).scene (owner_moved n parent s).events
-  moved_so n parent s = record {
-    so = λ m h.
-        fallen (falls_still f m m (owner_moved n parent s).scene (still_one f (what.MoveOwner n parent) refl refl) h.few h.covered (omega arith))
-        (omega (arith, h.covers, held_less_moved file_kind f n parent s.session.owners h.once)) (once_less_moved n parent s.session.owners h.once);
-  }
+  moved_so n parent s = grind (arith, nat_tests, fallen, falls_still, still_one, held_less_moved, once_less_moved)
 
   -- a file that is used
   given_still : (o : Option ℕ) (file : ℕ) → AreStill f (given_events o file)
@@ -387,15 +341,7 @@ module _ (f : ℕ) where
           record { few = omega (arith, all, take_times f k xs, marked (nat_eq f file) refl e); more = omega (arith, all, take_times f k xs) }
 
   pub used_so : (file : ℕ) (s : Scene) → (nat_eq f file ≡ true → 1 ≤ held file_kind f s.session.owners) → ReadsItems s (descriptor_given file s).scene (descriptor_given file s).events
-  used_so file s some = record {
-    so = λ m h.
-        let t : Touched file s (touched_file file (files s)).recent = touches file s h.few in
-        fallen (falls_still f m m (descriptor_given file s).scene (touch_still file s) t.few (reached m h t (nat_eq f file) refl) (omega arith)) h.covers h.once;
-  }
-    where
-      reached : (m : ℕ) → ItemFits m s → (t : Touched file s (touched_file file (files s)).recent) → (b : Bool) → nat_eq f file ≡ b → times f (touched_file file (files s)).recent ≤ m
-      reached m h t true e = omega (arith, t.few, some e, h.covers)
-      reached m h t false e = let none : mark f file ≡ 0 = ap (λ (b : Bool). cond b 1 0) e in omega (arith, t.more, none, h.covered)
+  used_so file s some = grind (arith, nat_tests, touches, fallen, falls_still, touch_still, nat_eq, mark)
 
   -- an item that is taken
   record Took (m r : ℕ) (s t : Scene) (events : List What) : Type 0 where
@@ -422,10 +368,7 @@ module _ (f : ℕ) where
       go false false false q = record { still = still_none; few = h.few; covered = omega (arith, h.covered); owners = refl }
 
   remembered_less : (owner : ℕ) (item : Item) (x : OwnerTree) → Once x → held file_kind f (remembered owner item x) ≤ held file_kind f x + of_file f item
-  remembered_less owner item x once = elim (cases_Bool (has owner x)) [
-    | inl there ↦ let a = at_some owner x there in omega (arith, held_remembered file_kind f owner item a.0 x once a.1)
-    | inr absent ↦ omega (arith, ap (held file_kind f) (changed_absent owner (λ (o : Owner). record o { items = item ∷ o.items }) x absent))
-  ]
+  remembered_less owner item x once = grind (arith, nat_tests, at_some, held_remembered, changed_absent)
 
   taken_so : (owner : ℕ) (kind : KindId) (key : ℕ) (s : Scene) → ReadsItems s (item_taken owner kind key s).scene (item_taken owner kind key s).events
   taken_so owner kind key s = record {
@@ -455,11 +398,7 @@ module _ (f : ℕ) where
 
   -- an owner that is made
   made_so : (parent : Option ℕ) (s : Scene) → Once (created parent s.session.next_owner s.session.owners) → ReadsItems s (owner_made parent s).scene (owner_made parent s).events
-  made_so None s once = record {
-    so = λ m h.
-        fallen (falls_still f m m (owner_made None s).scene (still_one f (what.Owner s.session.next_owner) refl refl) h.few h.covered (omega arith))
-        (omega (arith, h.covers, held_created file_kind f None s.session.next_owner s.session.owners)) once;
-  }
+  made_so None s once = grind (arith, nat_tests, fallen, falls_still, still_one, held_created)
   made_so (Some p) s once = record {
     so = λ m h.
         fallen (falls_still f m m (owner_made (Some p) s).scene (still_one f (what.OwnerIn s.session.next_owner p) refl refl) h.few h.covered (omega arith))

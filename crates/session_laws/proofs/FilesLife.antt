@@ -153,10 +153,7 @@ module _ (f : ℕ) (reader : Reader ℕ) (Counted : ℕ → ℕ → Type 0) (tur
 
 -- a counter passes over what it doesn't count
 pub count_over : (k : Subject) (brings takes : What → ℕ) → ((event : What) → hides (subject event) k ≡ true → brings event ≡ 0) → ((event : What) → hides (subject event) k ≡ true → takes event ≡ 0) → PassesOver k (count brings takes)
-count_over k brings takes b t = record {
-  next = λ event h n. omega (arith, b event h, t event h);
-  allows = λ event h n. le-leb (takes event) n (omega (arith, t event h));
-}
+count_over k brings takes b t = grind (arith, nat_tests, le-leb)
 
 opens_hidden : (f : ℕ) (event : What) → hides (subject event) of_files ≡ true → opens f event ≡ 0
 opens_hidden f (what.DescriptorOpened file) h = absurd (cc h)
@@ -171,11 +168,7 @@ abbrev pub AreOpened : ℕ → ℕ → Type 0
 AreOpened n t = n ≡ t
 
 pub opening_turns : (f : ℕ) → Turning f (count (opens f) (closes f)) AreOpened
-opening_turns f = record {
-  over = count_over of_files (opens f) (closes f) (opens_hidden f) (closes_hidden f);
-  shut = λ n t c e. (le-leb (mark f c) n (omega (arith, e)), omega (arith, e));
-  open_it = λ n t c fresh e. (le-leb 0 n (omega arith), omega (arith, e));
-}
+opening_turns f = grind (arith, nat_tests, count_over, of_files, opens_hidden, closes_hidden, le-leb)
 
 -- what may be opened is counted
 abbrev pub MayOpen : ℕ → ℕ → Type 0
@@ -186,13 +179,7 @@ marked true n t fresh e = omega (arith, fresh refl, e)
 marked false n t fresh e = omega arith
 
 pub closing_turns : (f : ℕ) → Turning f (count (closes f) (opens f)) MayOpen
-closing_turns f = record {
-  over = count_over of_files (closes f) (opens f) (closes_hidden f) (opens_hidden f);
-  shut = λ n t c e. (le-leb 0 n (omega arith), omega (arith, e));
-  open_it = λ n t c fresh e.
-      let small : mark f c ≤ n = marked (nat_eq f c) n t fresh e in
-      (le-leb (mark f c) n small, omega (arith, e, small));
-}
+closing_turns f = grind (arith, nat_tests, count_over, of_files, closes_hidden, opens_hidden, le-leb, marked, nat_eq)
 
 -- Descriptors are opened and closed in turns, in the life of each session.
 

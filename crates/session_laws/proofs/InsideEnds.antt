@@ -51,10 +51,7 @@ one_later c (Some n) ns h = or_right (n == c) (is_one_of c ns) h
 
 pub seen_in : (n : ℕ) (begun : List Begun) → 1 ≤ n → (ps : List OpenPortal) → AreSeen ps begun → AreIn n (level_begun n begun) ps
 seen_in n begun low [] h = tt
-seen_in n begun low (p ∷ ps) h = (
-  λ c at is. one_later c (level_begun n begun).context (level_begun n begun).portals (h.0.so c n is low (omega (arith, at))),
-  seen_in n begun low ps h.1,
-)
+seen_in n begun low (p ∷ ps) h = grind (arith, nat_tests, seen_in n begun low ps h.1, one_later)
 
 module _ (entry : Begun) where
   -- a context goes with all below it, or all below it does
@@ -321,12 +318,7 @@ module _ (level : LevelState) (levels : List LevelState) (s : Scene) (h : Stands
   begins = resettled level levels (gone_levels level levels) [] s.session.portals (switched_off s) (off_begins level levels (gone_levels level levels) s h)
 
   start : InPortals later z0
-  start = record {
-    contexts = record { tree = k.contexts.tree; below = k.contexts.below };
-    owners = k.owners;
-    plans = k.sees.plans;
-    quiet = k.quiet;
-  }
+  start = grind (arith, nat_tests)
 
   portals_part : IsRead (confined entry) InPortals later z1 (for_each (portal_aborted n level.owner) s.session.portals z0).events
   portals_part = (all_read level levels made entry own_owner s.session.portals [] z0 begins (seen_in n leaving.begun (omega arith) s.session.portals k.sees.portals)).so later start

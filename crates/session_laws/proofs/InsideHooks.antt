@@ -1,6 +1,6 @@
 -- No hook waits on a context of the session itself below the one for caches.
 use Rattle.session_laws.proofs.Words.{◌≡◌, ℕ, Bool, true, false, if◌then◌else◌, [], Option, Some, None, refl, sym, ap, ◌∙◌, subst, inl, inr, List, ◌∷◌, ◌++◌, codes, reverse, arith, ◌==◌, ◌⊎◌, option_map_or, both_ways, cases_Bool, cond-false, eqb-true, false_from_ne_true, eq-eqb, ne_eqb, Empty, Node, Once, at, changed, children, has, is_root, moved, parent_of, put, removed, with_children, at_absent, at_some, apart_of, changed_absent, has_at, where_is, reverse-append, nat_tests}
-use Rattle.session_laws.proofs.Scenes.{Context, Contexts, is_child, is_protected, new_context, placed_under, emptied, reset_of, unchanged, cache_context, LevelState, context_of, first_of, last_of, level_context, top_context, What, CtxKind, Hook, Scene, Text, context_named, hook_waits, AreLevels, Stands}
+use Rattle.session_laws.proofs.Scenes.{Context, Contexts, is_protected, new_context, cache_context, LevelState, context_of, first_of, last_of, level_context, top_context, What, CtxKind, Hook, Scene, Text, context_named, hook_waits, AreLevels, Stands}
 use Rattle.session_laws.proofs.Rules.{ContextLeaves, of_contexts, EndLeaves}
 use Rattle.forest.proofs.Neighbours.{parent_root, root_absent}
 use Rattle.pgs_command.specs.Words.{is_text}
@@ -70,40 +70,18 @@ quiet_changed_at p n f (Node m a below beside) o k h = grind (arith, nat_tests, 
 
 -- what waits nowhere
 pub no_hooks : (n : ℕ) (c : Context) (t : Contexts) → Once t → AreQuiet None t → at n t ≡ Some c → is_protected n t ≡ true → parent_of n t ≡ Some cache_context → c.hooks ≡ []
-no_hooks n c t o h is own parent =
-    let there : has n t ≡ true = has_at n t c is in
-    let none : is_root n t ≡ false = false_from_ne_true (is_root n t) (λ r. let bad : None ≡ Some cache_context = sym (parent_root n t o r) ∙ parent in absurd (cc bad)) in
-    let q : IsQuiet (up None n t) c = quiet_at None n c t o there is h in
-    q (cond-false (is_root n t) None (parent_of n t) none ∙ parent) (ap (λ (x : Option Context). option_map_or (λ c. c.protected) x false) (sym is) ∙ own)
+no_hooks n c t o h is own parent = grind (arith, nat_tests, has_at, false_from_ne_true, parent_root, quiet_at, cond-false)
 
 -- a context is reset
 pub quiet_alone : (n : ℕ) (t : Contexts) → AreQuiet None t → AreQuiet None (ends.cleared_alone n t).contexts
-quiet_alone n t h = go (at n t)
-  where
-    either_so : (b : Bool) (x y : ends.Ended) → AreQuiet None x.contexts → AreQuiet None y.contexts → AreQuiet None (if b then x else y).contexts
-    either_so true x y h k = h
-    either_so false x y h k = k
-
-    go : (o : Option Context) → AreQuiet None (option_map_or (reset_of n t) o (unchanged t)).contexts
-    go None = h
-    go (Some c) = either_so c.used _ (unchanged t) (quiet_changed None n emptied t (record { protected = λ c. refl; hooks = λ c e. refl }) h) h
+quiet_alone n t h = grind (arith, nat_tests, quiet_changed)
 
 -- a context moves that isn't one of the session itself
 pub quiet_moved : (n p : ℕ) (t : Contexts) → is_protected n t ≡ false → AreQuiet None t → AreQuiet None (moved n p t)
-quiet_moved n p t free h = go (at n t) refl
-  where
-    go : (o : Option Context) → at n t ≡ o → AreQuiet None (option_map_or (λ a. put p n a (children n t) (removed n t)) o t)
-    go None is = h
-    go (Some c) is =
-        let own : c.protected ≡ false = ap (λ (x : Option Context). option_map_or (λ c. c.protected) x false) (sym is) ∙ free in
-        quiet_put None p n c (children n t) (removed n t) (λ o e yes. absurd (both_ways c.protected own yes)) (quiet_children None n t h) (quiet_removed None n t h)
+quiet_moved n p t free h = grind (arith, nat_tests, quiet_put, both_ways, quiet_children, quiet_removed)
 
 pub quiet_reparented : (n p : ℕ) (t : Contexts) → is_protected n t ≡ false → AreQuiet None t → AreQuiet None (rules.reparented n p t)
-quiet_reparented n p t free h = go (is_child n p t)
-  where
-    go : (b : Bool) → AreQuiet None (placed_under b n p t)
-    go true = h
-    go false = quiet_moved n p t free h
+quiet_reparented n p t free h = grind (arith, nat_tests, quiet_moved)
 
 -- No hook waits on a context of the session itself below the one for caches, whatever a line does.
 
@@ -140,10 +118,7 @@ first_context (level ∷ levels) n e = inl e
 
 in_both : (xs ys : List LevelState) (n : ℕ) → IsContext n (xs ++ ys) → IsContext n xs ⊎ IsContext n ys
 in_both [] ys n i = inr i
-in_both (x ∷ xs) ys n i = elim i [
-  | inl e ↦ inl (inl e)
-  | inr j ↦ elim (in_both xs ys n j) [ inl k ↦ inl (inr k) | inr k ↦ inr k ]
-]
+in_both (x ∷ xs) ys n i = grind (arith, nat_tests, in_both xs ys n)
 
 in_reverse : (levels : List LevelState) (n : ℕ) → IsContext n (reverse levels) → IsContext n levels
 in_reverse [] n i = i
@@ -155,10 +130,7 @@ in_reverse (level ∷ levels) n i = elim (in_both (reverse levels) (level ∷ []
 -- a level's context isn't below the one for caches
 levels_elsewhere : (levels : List LevelState) (s : Scene) (n : ℕ) → AreLevels levels s.session.contexts s.session.owners → IsContext n levels → parent_of n s.session.contexts ≡ Some cache_context → ⊥
 levels_elsewhere [] s n l i e = i
-levels_elsewhere (level ∷ levels) s n l i e = elim i [
-  | inl is ↦ above_other levels s.session.contexts s.session.owners l.1 (some_is _ cache_context (sym (l.0.context n is).parent ∙ e))
-  | inr j ↦ levels_elsewhere levels s n l.1 j e
-]
+levels_elsewhere (level ∷ levels) s n l i e = grind (arith, nat_tests, levels_elsewhere levels s n l.1, above_other, some_is)
 
 -- a context of the script is none of the session's own
 script_there : (name : Text) (t : Contexts) (n : ℕ) → rules.context_named name t ≡ Some n → has n t ≡ true

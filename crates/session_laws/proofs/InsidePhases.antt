@@ -1,5 +1,5 @@
 -- The end of one level, read by itself: what each event of it may name, and the events of contexts and owners that go.
-use Rattle.session_laws.proofs.Words.{◌≡◌, ℕ, ◌+◌, Bool, true, false, not, List, [], ◌∷◌, ◌++◌, map, Option, Some, refl, sym, ap, ◌∙◌, subst, inl, inr, arith, append-nil, append_assoc, ◌≢◌, ◌-◌, if◌then◌else◌, None, ◌==◌, ◌&&◌, ◌||◌, filter, option_to_list, ◌⊎◌, nat_lt, option_map_or, list_all, and_from, and_parts, cases_Bool, cases_eq, eq-eqb, eqb-true, or_cases, or_left, or_right, Forest, Empty, Node, Once, children, has, is_above, removed, size, at, subtree, order, order_at, has_children, at_absent, children_absent, left_apart, removed_absent}
+use Rattle.session_laws.proofs.Words.{◌≡◌, ℕ, ◌+◌, Bool, true, false, not, List, [], ◌∷◌, ◌++◌, map, Option, Some, refl, sym, ap, ◌∙◌, subst, inl, inr, arith, append-nil, append_assoc, ◌-◌, if◌then◌else◌, None, ◌==◌, ◌&&◌, ◌||◌, filter, option_to_list, ◌⊎◌, nat_lt, list_all, and_from, and_parts, cases_eq, eq-eqb, eqb-true, or_cases, or_left, or_right, Forest, Empty, Node, Once, children, has, is_above, removed, size, at, subtree, order, order_at, has_children, at_absent, children_absent, left_apart, removed_absent, nat_tests}
 use Rattle.session_laws.proofs.Scenes.{What, Hook, Contexts, Context, callbacks, gone_events, Item, Phase, BeforeLocks, Locks, AfterLocks, Lock, owner_count, table_of, KindTable, Owner, own_released, released, Step, ReleasesLocks, ReleasesAllLocks, release_steps, StandingPlan, Scene, plan_at, plan_changed, plans_but, Ended, for_each, where_there, Keeper, NoOne, TheDescriptors, TheKind, ThePlans, descriptor_left, given_back, left_to, owner_released, phase_released, plan_becomes, plan_left, plan_settled, plan_stays, step_done}
 use Rattle.session_laws.proofs.Rules.{Reader, allows_all, is_one_of, seen_after, allows_all-append, seen_after-append, at_left, once_left}
 use Rattle.session_laws.proofs.StepsOf.{AreOf, no_step, numbers_of, passes, steps_of, unlocks, unlocks_all, warns, gives_up}
@@ -8,7 +8,6 @@ use Rattle.lifetime_laws.proofs.Replays.{is_there-placed_other, is_there-placed_
 use Rattle.lifetime_laws.specs.Inside.{Awaited, Begun, Leaving, Neither, awaited_behind, begun_behind, contexts_inside, ends_behind, ends_with, is_plan_left, is_within_some, owners_inside, plans_behind, staying, with_end}
 use Rattle.session_laws.proofs.Parents.{by_children, FitsTree, fits_gone, same_within, alike_swept}
 use Rattle.pgs_step.specs.declared.ids.TheConstants.KindId.{PLAN_REFERENCE, FILE, FIRST_EXTENSION}
-use Rattle.file_table.specs.Descriptors.{is_among}
 use Rattle.session_rules.proofs.Lone.{lone_left}
 use Rattle.session_laws.proofs.Lives.{IsRead, Reads, read_both, read_none}
 use Rattle.session_laws.proofs.ParentsLife.{fits_alike}
@@ -39,10 +38,7 @@ InEnd entry (level ∷ levels) = (level ≡ entry) × InEnd entry levels
 
 filter_in : (entry : Begun) (test : Begun → Bool) (ends : List Begun) → InEnd entry ends → InEnd entry (filter test ends)
 filter_in entry test [] h = tt
-filter_in entry test (level ∷ levels) h = elim (cases_Bool (test level)) [
-  | inl y ↦ rw y (h.0, filter_in entry test levels h.1)
-  | inr z ↦ rw z (filter_in entry test levels h.1)
-]
+filter_in entry test (level ∷ levels) h = grind (arith, nat_tests, filter_in entry test levels h.1)
 
 no_more_ends : (event : What) (levels ends : List Begun) → is_edge event ≡ false → with_end event levels ends ≡ ends
 no_more_ends (what.AbortLevel level) levels ends h = absurd (cc h)
@@ -90,12 +86,7 @@ pub next_over : (entry : Begun) (event : What) (leaving : Leaving) → is_edge e
 next_over entry (what.Create context name parent) leaving h k o c is away = absurd (cc h)
 next_over entry (what.Move context parent) leaving h k o c is away =
     empty_ends (what.Move context parent) leaving.begun leaving.ends h (o c is (away_placed c context (is_there context leaving.parents.contexts && is_there parent leaving.parents.contexts) (Some parent) leaving.parents.contexts away))
-next_over entry (what.Delete context) leaving h k o c is away = elim (cases_eq c context) [
-  | inl e ↦
-      none_left entry (λ level. not (ends_with (what.Delete context) level)) leaving.ends k
-      (ap (λ (x : Option ℕ). not (option_map_or (λ own. own == context) x false)) is ∙ ap not (eq-eqb c context e))
-  | inr ne ↦ empty_ends (what.Delete context) leaving.begun leaving.ends h (o c is (sym (is_there-without_other c context leaving.parents.contexts ne) ∙ away))
-]
+next_over entry (what.Delete context) leaving h k o c is away = grind (arith, nat_tests, none_left, eq-eqb, empty_ends, is_there-without_other)
 next_over entry other leaving h k o c is away = empty_ends other leaving.begun leaving.ends h (o c is away)
 
 pub all_in : (test : Begun → Bool) (entry : Begun) (ends : List Begun) → InEnd entry ends → test entry ≡ true → list_all test ends ≡ true
@@ -146,10 +137,7 @@ confined_sees entry leaving (event ∷ events) = confined_sees entry (staying.ne
 -- what lies within a root lies within some of the roots
 pub within_some : (roots : List ℕ) (within : ℕ → ℕ → Bool) (root n : ℕ) → is_one_of root roots ≡ true → within root n ≡ true → is_within_some roots within n ≡ true
 within_some [] within root n h k = absurd (cc h)
-within_some (first ∷ rest) within root n h k = elim (or_cases (first == root) (is_one_of root rest) h) [
-  | inl y ↦ or_left (within first n) (is_within_some rest within n) (ap (λ (r : ℕ). within r n) (eqb-true first root y) ∙ k)
-  | inr z ↦ or_right (within first n) (is_within_some rest within n) (within_some rest within root n z k)
-]
+within_some (first ∷ rest) within root n h k = grind (arith, nat_tests, within_some rest within root n, or_cases, or_left, eqb-true, or_right)
 
 -- the contexts that the end of a level may touch, and all below them
 abbrev pub roots_of : Begun → List ℕ
@@ -203,14 +191,7 @@ pub record Confined (entry : Begun) (root : ℕ) (leaving : Leaving) (rest : Lis
 
 confined_both : (entry : Begun) (root : ℕ) (leaving : Leaving) (ms ns : List ℕ) (xs ys : List What) → Confined entry root leaving ms xs
     → (GoInside root (seen_after (confined entry) leaving xs).parents.contexts ms → Confined entry root (seen_after (confined entry) leaving xs) ns ys) → Confined entry root leaving ns (xs ++ ys)
-confined_both entry root leaving ms ns xs ys a more =
-    let b : Confined entry root (seen_after (confined entry) leaving xs) ns ys = more a.left in
-    record {
-      allowed = allows_all-append (confined entry) leaving xs ys a.allowed b.allowed;
-      left = subst (λ (l : Leaving). GoInside root l.parents.contexts ns) (sym (seen_after-append (confined entry) leaving xs ys)) b.left;
-      owners = ap (λ (l : Leaving). l.parents.owners) (seen_after-append (confined entry) leaving xs ys) ∙ b.owners ∙ a.owners;
-      plans = ap (λ (l : Leaving). l.plans) (seen_after-append (confined entry) leaving xs ys) ∙ b.plans ∙ a.plans;
-    }
+confined_both entry root leaving ms ns xs ys a more = grind (arith, nat_tests, allows_all-append, seen_after-append)
 
 module _ (entry : Begun) (root : ℕ) (one : is_one_of root (roots_of entry) ≡ true) where
   callbacks_confined : (n : ℕ) (hooks : List Hook) (leaving : Leaving) (rest : List ℕ) → is_within root n leaving.parents.contexts ≡ true → GoInside root leaving.parents.contexts rest
@@ -228,16 +209,7 @@ module _ (entry : Begun) (root : ℕ) (one : is_one_of root (roots_of entry) ≡
       }
 
   deleted_confined : (n : ℕ) (leaving : Leaving) (rest : List ℕ) → GoInside root leaving.parents.contexts (n ∷ rest) → Confined entry root leaving rest (what.Delete n ∷ [])
-  deleted_confined n leaving rest h =
-      record {
-        allowed = and_from (is_confined entry (what.Delete n) leaving && true) true
-            (and_from (is_confined entry (what.Delete n) leaving) true
-            (or_right (is_plan_left (what.Delete n) leaving) (list_all (is_within_some (roots_of entry) (λ root n. is_within root n leaving.parents.contexts)) (n ∷ []))
-            (context_confined entry leaving root n one h.0)) refl) refl;
-        left = h.1;
-        owners = refl;
-        plans = refl;
-      }
+  deleted_confined n leaving rest h = grind (arith, nat_tests, and_from, or_right, context_confined)
 
   pub gone_confined : (t : Contexts) (leaving : Leaving) (rest : List ℕ) → GoInside root leaving.parents.contexts (order t ++ rest) → Confined entry root leaving rest (gone_events t)
   gone_confined Empty leaving rest h = record { allowed = refl; left = h; owners = refl; plans = refl }
@@ -250,10 +222,7 @@ module _ (entry : Begun) (root : ℕ) (one : is_one_of root (roots_of entry) ≡
 -- owners that go
 pub owners_confined : (entry : Begun) (root : ℕ) (ns : List ℕ) (leaving : Leaving) → entry.owner ≡ Some root → GoInside root leaving.parents.owners ns → allows_all (confined entry) leaving (map (λ n. what.OwnerGone n) ns) ≡ true
 owners_confined entry root [] leaving is h = refl
-owners_confined entry root (n ∷ ns) leaving is h =
-    and_from (is_confined entry (what.OwnerGone n) leaving && true) _
-    (and_from (is_confined entry (what.OwnerGone n) leaving) true (and_from (owners_inside (what.OwnerGone n) leaving entry) true (owner_confined entry leaving root n is h.0) refl) refl)
-    (owners_confined entry root ns (staying.next (what.OwnerGone n) leaving) is h.1)
+owners_confined entry root (n ∷ ns) leaving is h = grind (arith, nat_tests, owners_confined entry root ns, and_from, owner_confined)
 
 -- The release of an owner in the end of a level that aborts names nothing outside the level.
 
@@ -263,32 +232,11 @@ pub record IsBare (n : ℕ) (t : Contexts) : Type 0 where
   pub free : (c : Context) → at n t ≡ Some c → c.hooks ≡ []
 
 bare_removed : (m k : ℕ) (t : Contexts) → Once t → IsBare m t → IsBare m (removed k t)
-bare_removed m k t o h = elim (cases_Bool (has k t)) [
-  | inr away ↦ subst (IsBare m) (sym (removed_absent k t away)) h
-  | inl there ↦ elim (cases_Bool (has m (removed k t))) [
-    | inr gone ↦ record {
-      lone = children_absent m (removed k t) gone;
-      free = λ c is. let none : None ≡ Some c = sym (at_absent m (removed k t) gone) ∙ is in absurd (cc none);
-    }
-    | inl still ↦
-        let a : (m ≢ k) × (has m (children k t) ≡ false) = left_apart m k t o there still in
-        record { lone = lone_left m k t o a.0 a.1 h.lone; free = λ c is. h.free c (sym (at_left m k t o a.0 a.1) ∙ is) }
-  ]
-]
+bare_removed m k t o h = grind (arith, nat_tests, removed_absent, children_absent, at_absent, left_apart, lone_left, at_left)
 
 -- what is said where such a context goes
 bare_gone : (n : ℕ) (t : Contexts) → IsBare n t → (gone_events (subtree n t) ≡ []) ⊎ (gone_events (subtree n t) ≡ what.Delete n ∷ [])
-bare_gone n t h = go (at n t) refl
-  where
-    said : (c : Context) → c.hooks ≡ [] → gone_events (Node n c (children n t) Empty) ≡ what.Delete n ∷ []
-    said c none =
-        ap (λ (low : Contexts). gone_events low ++ (callbacks n c.hooks ++ (what.Delete n ∷ []))) h.lone
-        ∙ ap (λ (hooks : List Hook). callbacks n hooks ++ (what.Delete n ∷ [])) none
-
-    go : (o : Option Context) → at n t ≡ o
-        → (gone_events (option_map_or (λ a. Node n a (children n t) Empty) o Empty) ≡ []) ⊎ (gone_events (option_map_or (λ a. Node n a (children n t) Empty) o Empty) ≡ what.Delete n ∷ [])
-    go None is = inl refl
-    go (Some c) is = inr (said c (h.free c is))
+bare_gone n t h = grind (arith, nat_tests)
 
 -- the contexts of plans are known, and bare
 abbrev pub AreBare : List StandingPlan → Contexts → List ℕ → Type 0
@@ -301,22 +249,11 @@ still_bare k t known o (plan ∷ plans) h = (h.0, bare_removed plan.context k t 
 
 bare_but : (n : ℕ) (t : Contexts) (known : List ℕ) (plans : List StandingPlan) → AreBare plans t known → AreBare (plans_but n plans) t known
 bare_but n t known [] h = tt
-bare_but n t known (plan ∷ plans) h = elim (cases_Bool (plan.number == n)) [
-  | inl y ↦ rw y (bare_but n t known plans h.2)
-  | inr z ↦ rw z (h.0, h.1, bare_but n t known plans h.2)
-]
+bare_but n t known (plan ∷ plans) h = grind (arith, nat_tests, bare_but n t known plans h.2)
 
 bare_changed : (n : ℕ) (q : StandingPlan) (t : Contexts) (known : List ℕ) → is_one_of q.context known ≡ true → IsBare q.context t → (plans : List StandingPlan) → AreBare plans t known → AreBare (plan_changed n (λ old. q) plans) t known
 bare_changed n q t known k b [] h = tt
-bare_changed n q t known k b (plan ∷ plans) h = (one (plan.number == n), two (plan.number == n), bare_changed n q t known k b plans h.2)
-  where
-    one : (b : Bool) → is_one_of (if b then q else plan).context known ≡ true
-    one true = k
-    one false = h.0
-
-    two : (b : Bool) → IsBare (if b then q else plan).context t
-    two true = b
-    two false = h.1
+bare_changed n q t known k b (plan ∷ plans) h = grind (arith, nat_tests, bare_changed n q t known k b plans h.2)
 
 record Found (p : StandingPlan) (t : Contexts) (known : List ℕ) : Type 0 where
   known_is : is_one_of p.context known ≡ true
@@ -324,13 +261,7 @@ record Found (p : StandingPlan) (t : Contexts) (known : List ℕ) : Type 0 where
 
 bare_at : (n : ℕ) (p : StandingPlan) (t : Contexts) (known : List ℕ) (plans : List StandingPlan) → plan_at n plans ≡ Some p → AreBare plans t known → Found p t known
 bare_at n p t known [] is h = absurd (cc is)
-bare_at n p t known (plan ∷ plans) is h = elim (cases_Bool (plan.number == n)) [
-  | inl y ↦
-      let same : Some plan ≡ Some p = rw y at is in
-      let here : plan ≡ p = cc same in
-      subst (λ (q : StandingPlan). Found q t known) here (record { known_is = h.0; bare = h.1 })
-  | inr z ↦ bare_at n p t known plans (rw z at is) h.2
-]
+bare_at n p t known (plan ∷ plans) is h = grind (arith, nat_tests, bare_at n p t known plans)
 
 -- what holds within a release: these owners are seen, each number of a context stands once, and the plans' contexts are bare
 pub record InRelease (root : ℕ) (nodes : List Kept) (leaving : Leaving) (s : Scene) : Type 0 where
@@ -351,11 +282,7 @@ module _ (entry : Begun) (root : ℕ) (own : entry.owner ≡ Some root) (nodes :
 
   pass_one : (event : What) (events : List What) (leaving : Leaving) → (confined entry).allows event leaving ≡ true → (staying.next event leaving).parents.owners ≡ leaving.parents.owners
       → (staying.next event leaving).plans ≡ leaving.plans → Passes (staying.next event leaving) events → Passes leaving (event ∷ events)
-  pass_one event events leaving a p q more = record {
-    allowed = and_from ((confined entry).allows event leaving) _ a more.allowed;
-    parents = more.parents ∙ p;
-    plans = more.plans ∙ q;
-  }
+  pass_one event events leaving a p q more = grind (arith, nat_tests, and_from)
 
   pass_none : (leaving : Leaving) → Passes leaving []
   pass_none leaving = record { allowed = refl; parents = refl; plans = refl }
@@ -384,21 +311,7 @@ module _ (entry : Begun) (root : ℕ) (own : entry.owner ≡ Some root) (nodes :
 
   -- where contexts and plans stay as they are
   passing : (s t : Scene) (events : List What) → t.session.owners ≡ s.session.owners → t.session.contexts ≡ s.session.contexts → t.session.plans ≡ s.session.plans → ((leaving : Leaving) → leaving.parents.owners ≡ nodes → Passes leaving events) → Released s t events
-  passing s t events o c p h = record {
-    so = λ leaving k.
-        let a : Passes leaving events = h leaving k.owners in
-        let now : Leaving = seen_after (confined entry) leaving events in
-        record {
-          allowed = a.allowed;
-          fits = record {
-            owners = a.parents ∙ k.owners;
-            tree = subst (FitsTree nodes) (sym o) k.tree;
-            once = subst Once (sym c) k.once;
-            plans = subst (λ (plans : List StandingPlan). AreBare plans t.session.contexts now.plans) (sym p)
-                (subst (λ (x : Contexts). AreBare s.session.plans x now.plans) (sym c) (subst (AreBare s.session.plans s.session.contexts) (sym a.plans) k.plans));
-          };
-        };
-  }
+  passing s t events o c p h = grind (arith, nat_tests)
 
   -- a plan that goes directly behind the release of a reference to it
   record Behind (leaving : Leaving) (s : Scene) : Type 0 where
@@ -463,11 +376,7 @@ module _ (entry : Begun) (root : ℕ) (own : entry.owner ≡ Some root) (nodes :
 
   -- what else follows a release
   closed_so : (file : ℕ) (s : Scene) → Released s (descriptor_left file s).scene (descriptor_left file s).events
-  closed_so file s = go (is_among file s.session.recent) refl
-    where
-      go : (b : Bool) → is_among file s.session.recent ≡ b → Released s (descriptor_left file s).scene (descriptor_left file s).events
-      go true is = rw is (passing s _ (what.DescriptorClosed file ∷ []) refl refl refl (λ leaving k. pass_one (what.DescriptorClosed file) [] leaving refl refl refl (pass_none _)))
-      go false is = rw is (read_none (confined entry) (InRelease root nodes) s)
+  closed_so file s = grind (arith, nat_tests, passing, pass_one, pass_none, read_none)
 
   other_left : (a b : Bool) (place key : ℕ) (s : Scene)
       → Released s (left_to (if a then TheDescriptors else (if b then NoOne else TheKind place)) key s).scene (left_to (if a then TheDescriptors else (if b then NoOne else TheKind place)) key s).events

@@ -1,5 +1,5 @@
 -- What is seen of a level that is being made.
-use Rattle.session_laws.proofs.Words.{◌≡◌, ◌≢◌, ℕ, ◌+◌, ◌<◌, Bool, true, false, not, List, [], ◌∷◌, map, length, Option, Some, None, refl, sym, ap, ◌∙◌, subst, inl, inr, arith, ◌==◌, ◌||◌, codes, filter, drop, and_from, cases_Bool, cases_eq, eq-eqb, eqb-true, ne_eqb, or_left}
+use Rattle.session_laws.proofs.Words.{◌≡◌, ◌≢◌, ℕ, ◌+◌, ◌<◌, Bool, true, false, not, List, [], ◌∷◌, map, length, Option, Some, None, refl, sym, ap, ◌∙◌, subst, inr, arith, ◌==◌, ◌||◌, codes, filter, drop, and_from, eq-eqb, eqb-true, ne_eqb, or_left, nat_tests}
 use Rattle.session_laws.proofs.Scenes.{What, LevelState, OpenPortal, StandingPlan, deepest_changed, level_above, owner_of, depth, level_context, top_context, Scene, Moment, LevelContext, OfLevel, Text, Element, NewContext, OwnerRole, level_context_name, level_made, level_parent, new_context_made, new_owner_made, made_event, Error, failure, Ended, changes, for_each, in_order, nothing, say, switched, where_there, level_stands, portal_closed, portal_passed, aborted, cleaned_up, committed, empty_context_gone, level_context_gone, level_owner_gone, level_released, stack_lowered, stack_popped, subcommitted, switched_up, Done, fallible, refused_call, unfailing, unless_refused, does, Stands}
 use Rattle.session_laws.proofs.Rules.{allows_all, is_one_of, seen_after, settled, Follows, IsSpoken, Keeps, last, next, Meets, by_each, by_order, element_follows, empty_context_goes, level_context_goes, level_releases, portal_closes, portal_passes, said_none}
 use Rattle.lifetime_laws.specs.Inside.{Awaited, Begun, ItsContext, ItsOwner, Leaving, Neither, awaited_behind, bare_level, ends_behind, is_named, last_changed, level_begun, plans_behind, staying, with_context, with_owner, with_portal}
@@ -37,17 +37,11 @@ without_level n begun = filter (λ other. not (other.level == n)) begun
 
 still_level : (k n : ℕ) (begun : List Begun) → k ≢ n → level_begun k (without_level n begun) ≡ level_begun k begun
 still_level k n [] ne = refl
-still_level k n (first ∷ rest) ne = elim (cases_Bool (first.level == n)) [
-  | inl y ↦ rw (y, ne_eqb first.level k (λ e. ne (sym e ∙ eqb-true first.level n y))) (still_level k n rest ne)
-  | inr z ↦ elim (cases_Bool (first.level == k)) [ inl y ↦ rw (z, y) refl | inr w ↦ rw (z, w) (still_level k n rest ne) ]
-]
+still_level k n (first ∷ rest) ne = grind (arith, nat_tests, still_level k n rest ne, ne_eqb, eqb-true)
 
 still_there : (k n : ℕ) (begun : List Begun) → k ≢ n → has_begun k begun ≡ true → has_begun k (without_level n begun) ≡ true
 still_there k n [] ne h = h
-still_there k n (first ∷ rest) ne h = elim (cases_Bool (first.level == n)) [
-  | inl y ↦ rw y (still_there k n rest ne (rw (ne_eqb first.level k (λ e. ne (sym e ∙ eqb-true first.level n y))) at h))
-  | inr z ↦ elim (cases_Bool (first.level == k)) [ inl y ↦ rw (z, y) refl | inr w ↦ rw (z, w) (still_there k n rest ne (rw w at h)) ]
-]
+still_there k n (first ∷ rest) ne h = grind (arith, nat_tests, still_there k n rest ne, ne_eqb, eqb-true)
 
 abbrev with_new : ℕ → List Begun → List Begun
 with_new n begun = bare_level n ∷ without_level n begun
@@ -60,25 +54,11 @@ other_there k n begun ne h = ap (λ (b : Bool). b || has_begun k (without_level 
 
 outer_begun : (n : ℕ) (begun : List Begun) (levels : List LevelState) → length levels < n → AreBegun levels begun → AreBegun levels (with_new n begun)
 outer_begun n begun [] below h = tt
-outer_begun n begun (level ∷ levels) below h =
-    let ne : length levels + 1 ≢ n = λ e. omega (arith, e, below) in (
-      record {
-        there = other_there (length levels + 1) n begun ne h.0.there;
-        context = ap (λ (b : Begun). b.context) (other_level (length levels + 1) n begun ne) ∙ h.0.context;
-        owner = ap (λ (b : Begun). b.owner) (other_level (length levels + 1) n begun ne) ∙ h.0.owner;
-      },
-      outer_begun n begun levels (omega (arith, below)) h.1,
-    )
+outer_begun n begun (level ∷ levels) below h = grind (arith, nat_tests, outer_begun n begun levels, other_there, other_level)
 
 outer_seen : (n : ℕ) (begun : List Begun) (ps : List OpenPortal) (most : ℕ) → most < n → AreLow most ps → AreSeen ps begun → AreSeen ps (with_new n begun)
 outer_seen n begun [] most below low h = tt
-outer_seen n begun (p ∷ ps) most below low h = (
-  record {
-    so = λ c level is least high.
-        ap (λ (b : Begun). is_one_of c b.portals) (other_level level n begun (λ e. omega (arith, e, high, low.0, below))) ∙ h.0.so c level is least high;
-  },
-  outer_seen n begun ps most below low.1 h.1,
-)
+outer_seen n begun (p ∷ ps) most below low h = grind (arith, nat_tests, outer_seen n begun ps most below low.1 h.1, other_level)
 
 -- what is seen behind one event
 abbrev pub OneRead : (Leaving → Scene → Type 0) → Leaving → Scene → List What → Type 0
@@ -104,41 +84,7 @@ one_allowed event leaving e = and_from (staying.allows event leaving) true (noth
 
 pub level_begins : (name : Option Text) (implicit : Bool) (s : Scene) (leaving : Leaving) → AreLow (length s.session.levels) s.session.portals → AwaitsNothing leaving s
     → OneRead AwaitsContext leaving (level_made name implicit s).scene (level_made name implicit s).events
-level_begins name implicit s leaving low k =
-    let n : ℕ = length s.session.levels + 1 in
-    let new : LevelState = record { name = name; context = None; owner = None; implicit = implicit; aborted = false; starting = true } in
-    let first : level_begun n (with_new n leaving.begun) ≡ bare_level n = level_here n (bare_level n) (without_level n leaving.begun) (eq-eqb n n refl) in
-    record {
-      allowed = one_allowed (what.BeginLevel n) leaving k.active.ends;
-      fits = record {
-        active = record {
-          sees = record {
-            begun = (
-              record {
-                there = or_left (n == n) (has_begun n (without_level n leaving.begun)) (eq-eqb n n refl);
-                context = ap (λ (b : Begun). b.context) first;
-                owner = ap (λ (b : Begun). b.owner) first;
-              },
-              outer_begun n leaving.begun s.session.levels (omega arith) k.active.sees.begun,
-            );
-            portals = outer_seen n leaving.begun s.session.portals (length s.session.levels) (omega arith) low k.active.sees.portals;
-            plans = k.active.sees.plans;
-          };
-          ends = ap (ends_behind (what.BeginLevel n) leaving.begun) k.active.ends;
-        };
-        awaited = refl;
-        is_last = record {
-          level = new;
-          levels = s.session.levels;
-          are = refl;
-          unaborted = refl;
-          first = bare_level n;
-          rest = without_level n leaving.begun;
-          begun = refl;
-          number = refl;
-        };
-      };
-    }
+level_begins name implicit s leaving low k = grind (arith, nat_tests, level_here, eq-eqb, one_allowed, or_left, has_begun, outer_begun, outer_seen)
 
 -- the level that began last changes
 record Alters (change : Begun → Begun) : Type 0 where
@@ -157,25 +103,11 @@ altered_there change a k first rest h = ap (λ (m : ℕ). (m == k) || has_begun 
 
 altered_portals : (change : Begun → Begun) → Alters change → (c k n : ℕ) (first : Begun) (rest : List Begun) → first.level ≡ n
     → is_one_of c (level_begun k (first ∷ rest)).portals ≡ true → is_one_of c (level_begun k (change first ∷ rest)).portals ≡ true
-altered_portals change a c k n first rest e h = elim (cases_eq k n) [
-  | inl same ↦
-      ap (λ (b : Begun). is_one_of c b.portals) (altered_here change a k first rest (e ∙ sym same)) ∙ ap (is_one_of c) (a.portals first)
-      ∙ sym (ap (λ (b : Begun). is_one_of c b.portals) (level_here k first rest (eq-eqb first.level k (e ∙ sym same)))) ∙ h
-  | inr ne ↦ ap (λ (b : Begun). is_one_of c b.portals) (altered_other change a k n first rest e ne) ∙ h
-]
+altered_portals change a c k n first rest e h = grind (arith, nat_tests, altered_here, level_here, eq-eqb, altered_other)
 
 altered_outer : (change : Begun → Begun) → Alters change → (n : ℕ) (first : Begun) (rest : List Begun) → first.level ≡ n → (levels : List LevelState) → length levels < n → AreBegun levels (first ∷ rest) → AreBegun levels (change first ∷ rest)
 altered_outer change a n first rest e [] below h = tt
-altered_outer change a n first rest e (level ∷ levels) below h =
-    let k : ℕ = length levels + 1 in
-    let ne : k ≢ n = λ z. omega (arith, z, below) in (
-      record {
-        there = altered_there change a k first rest h.0.there;
-        context = ap (λ (b : Begun). b.context) (altered_other change a k n first rest e ne) ∙ h.0.context;
-        owner = ap (λ (b : Begun). b.owner) (altered_other change a k n first rest e ne) ∙ h.0.owner;
-      },
-      altered_outer change a n first rest e levels (omega (arith, below)) h.1,
-    )
+altered_outer change a n first rest e (level ∷ levels) below h = grind (arith, nat_tests, altered_outer change a n first rest e levels, altered_there, altered_other)
 
 altered_seen : (change : Begun → Begun) → Alters change → (n : ℕ) (first : Begun) (rest : List Begun) → first.level ≡ n → (ps : List OpenPortal) → AreSeen ps (first ∷ rest) → AreSeen ps (change first ∷ rest)
 altered_seen change a n first rest e [] h = tt

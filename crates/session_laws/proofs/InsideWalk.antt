@@ -1,5 +1,5 @@
 -- What the reader of levels has seen fits the levels, the portals and the plans of a session, and what says nothing of levels keeps that.
-use Rattle.session_laws.proofs.Words.{◌≡◌, ℕ, codes, ◌+◌, ◌≤◌, Bool, true, false, if◌then◌else◌, List, [], ◌∷◌, ◌++◌, map, length, Option, Some, refl, sym, ap, ◌∙◌, subst, inl, inr, ◌-◌, None, arith, ◌==◌, ◌&&◌, ◌||◌, filter, ◌⊎◌, All, list_all, list_any, and_from, cases_Bool, eq-eqb, eqb-true, or_left, or_right, cases_eq, All-head, All-tail}
+use Rattle.session_laws.proofs.Words.{◌≡◌, ℕ, codes, ◌+◌, ◌≤◌, Bool, true, false, if◌then◌else◌, List, [], ◌∷◌, ◌++◌, map, length, Option, Some, refl, sym, ap, ◌∙◌, subst, inl, inr, ◌-◌, None, arith, ◌==◌, ◌&&◌, ◌||◌, filter, ◌⊎◌, All, list_all, list_any, and_from, cases_Bool, eq-eqb, eqb-true, or_left, or_right, All-head, All-tail, nat_tests}
 use Rattle.session_laws.proofs.Scenes.{What, LevelState, OpenPortal, StandingPlan, portals_context, Scene, Moment, KindId, Phase, Text, Element, PortalContext, plan_at, plan_changed, plans_but, portal_changed, Ended, changes, portal_becomes, say, switched, where_there, Keeper, NoOne, TheDescriptors, TheKind, ThePlans, item_released, keeper_of, owner_gone, owner_moved, phase_released, plan_becomes, plan_left, plan_settled, plan_stays, plan_made, portal_made, new_context_made, chunk_resized, memory_taken, taken_by, contexts_become, tells, does, IsDead, IsLive, IsPortal, Stands}
 use Rattle.session_laws.proofs.Rules.{allows_all, is_one_of, seen_after, Acts, Keeps, Lowers, is_word, last, next, Follows, OwnerLeaves, item_releases, phase_keeps, AreSaid, said_more, said_none, said_report, ContextLeaves, FileLeaves, KeyLeaves, Part, Sight, StackLeaves, children_go, goes, hook_waits_so, item_comes, item_goes, locks_one, makes_context, moves_context, of_levels, of_plans, of_portals, owner_goes, owner_makes, owner_moves, pushes, says, unlocks, unseen_contexts, unseen_files, unseen_keys, unseen_locks, unseen_owners, unseen_stack, by_either, by_order, said_both, said_one}
 use Rattle.lifetime_laws.specs.Inside.{Awaited, Begun, Leaving, Neither, awaited_behind, begun_behind, contexts_inside, ends_behind, is_named, level_begun, owners_inside, plans_behind, staying, with_portal, with_context}
@@ -7,7 +7,6 @@ use Rattle.session_laws.proofs.Lives.{Reads, read_both, read_none}
 use Rattle.context_rules.specs.Reports.{report}
 use Rattle.context_rules.specs.Chunks.{freed, written}
 use Rattle.session_laws.proofs.OwnWork.{WorkLeaves, IsOwnWork, own_follows}
-use Rattle.pgs_command.specs.Words.{is_text}
 use Rattle.session_rules.proofs.Stacked.{depth_small}
 use Rattle.pgs_step.specs.declared.events.What.TheVariants as what
 
@@ -89,12 +88,7 @@ has_with context n [] = refl
 has_with context n (first ∷ rest) = ap (λ (b : Bool). (first.level == n) || b) (has_with context n rest)
 
 grows_with : (context : ℕ) (begun : List Begun) → Grows begun (map (with_one context) begun)
-grows_with context begun = record {
-  there = λ n h. has_with context n begun ∙ h;
-  context = λ n. rw (level_with context n begun) (elim (has_begun n begun) as (λ b. (if b then with_one context (level_begun n begun) else level_begun n begun).context ≡ (level_begun n begun).context) [ true ↦ refl | false ↦ refl ]);
-  owner = λ n. rw (level_with context n begun) (elim (has_begun n begun) as (λ b. (if b then with_one context (level_begun n begun) else level_begun n begun).owner ≡ (level_begun n begun).owner) [ true ↦ refl | false ↦ refl ]);
-  portals = λ m n h. rw (level_with context n begun) (elim (has_begun n begun) as (λ b. is_one_of m (if b then with_one context (level_begun n begun) else level_begun n begun).portals ≡ true) [ true ↦ or_right (context == m) (is_one_of m (level_begun n begun).portals) h | false ↦ h ]);
-}
+grows_with context begun = grind (arith, nat_tests, has_with, level_with, or_right)
 
 pub grows_either : (b : Bool) (context : ℕ) (begun : List Begun)
     → Grows begun (elim b as (λ _. List Begun) [ true ↦ map (λ (level : Begun). record level { portals = context ∷ level.portals }) begun | false ↦ begun ])
@@ -122,11 +116,7 @@ begun_grows (what.OwnerIn owner parent) begun h = grows_same begun
 begun_grows other begun h = grows_same begun
 
 pub plans_grow : (event : What) (plans : List ℕ) (n : ℕ) → is_one_of n plans ≡ true → is_one_of n (plans_behind event plans) ≡ true
-plans_grow (what.Create context name parent) plans n h = either (is_named name (codes "CachedPlan"))
-  where
-    either : (b : Bool) → is_one_of n (if b then context ∷ plans else plans) ≡ true
-    either true = or_right (context == n) (is_one_of n plans) h
-    either false = h
+plans_grow (what.Create context name parent) plans n h = grind (arith, nat_tests, or_right)
 plans_grow other plans n h = h
 
 pub none_awaited : (event : What) → is_calm event ≡ true → awaited_behind event Neither ≡ Neither
@@ -154,14 +144,7 @@ calm_all (said_more {event = event} {events = events} h hs) leaving en =
 -- what fits still fits where more contexts of portals and of plans are known
 pub begun_still : (a b : List Begun) → Grows a b → (levels : List LevelState) → AreBegun levels a → AreBegun levels b
 begun_still a b g [] h = tt
-begun_still a b g (level ∷ levels) h = (
-  record {
-    there = g.there (length levels + 1) h.0.there;
-    context = g.context (length levels + 1) ∙ h.0.context;
-    owner = g.owner (length levels + 1) ∙ h.0.owner;
-  },
-  begun_still a b g levels h.1,
-)
+begun_still a b g (level ∷ levels) h = grind (arith, nat_tests, begun_still a b g levels h.1)
 
 pub seen_still : (a b : List Begun) → Grows a b → (ps : List OpenPortal) → AreSeen ps a → AreSeen ps b
 seen_still a b g [] h = tt
@@ -291,11 +274,7 @@ by_switch n = record { so = λ s. unmoved s _ [] refl refl refl said_none }
 -- portals
 seen_changed : (name : Text) (change : OpenPortal → OpenPortal) → Lowers change → (ps : List OpenPortal) → FewerPortals ps (portal_changed name change ps)
 seen_changed name change l [] begun h = tt
-seen_changed name change l (p ∷ ps) begun h = (one _, seen_changed name change l ps begun h.1)
-  where
-    one : (b : Bool) → IsSeen (if b then change p else p) begun
-    one true = record { so = λ n level is low high. h.0.so n level (sym (l.context p) ∙ is) low (omega (arith, high, l.created p)) }
-    one false = h.0
+seen_changed name change l (p ∷ ps) begun h = grind (arith, nat_tests, seen_changed name change l ps begun h.1)
 
 pub by_portal : (name : Text) (change : OpenPortal → OpenPortal) → Lowers change → Keeps Lessens (portal_becomes name change)
 by_portal name change l = record { so = λ s. lessening s _ [] refl (seen_changed name change l s.session.portals) (λ known k. k) said_none }
@@ -323,18 +302,11 @@ known_but n (plan ∷ plans) known h = elim (cases_Bool (plan.number == n)) [ in
 known_changed : (n : ℕ) (change : StandingPlan → StandingPlan) (known : List ℕ) (plans : List StandingPlan) → ((p : StandingPlan) → is_one_of p.context known ≡ true → is_one_of (change p).context known ≡ true)
     → AreKnown plans known → AreKnown (plan_changed n change plans) known
 known_changed n change known [] k h = tt
-known_changed n change known (plan ∷ plans) k h = (one (plan.number == n), known_changed n change known plans k h.1)
-  where
-    one : (b : Bool) → is_one_of (if b then change plan else plan).context known ≡ true
-    one true = k plan h.0
-    one false = h.0
+known_changed n change known (plan ∷ plans) k h = grind (arith, nat_tests, known_changed n change known plans k h.1)
 
 known_at : (n : ℕ) (p : StandingPlan) (known : List ℕ) (plans : List StandingPlan) → plan_at n plans ≡ Some p → AreKnown plans known → is_one_of p.context known ≡ true
 known_at n p known [] is h = absurd (cc is)
-known_at n p known (plan ∷ plans) is h = elim (cases_Bool (plan.number == n)) [
-  | inl y ↦ let same : Some plan ≡ Some p = rw y at is in let here : plan ≡ p = cc same in ap (λ (q : StandingPlan). is_one_of q.context known) (sym here) ∙ h.0
-  | inr z ↦ known_at n p known plans (rw z at is) h.1
-]
+known_at n p known (plan ∷ plans) is h = grind (arith, nat_tests, known_at n p known plans)
 
 plans_become : (change : List StandingPlan → List StandingPlan) → ((plans : List StandingPlan) → FewerPlans plans (change plans)) → Keeps Lessens (changes (λ session. record session { plans = change session.plans }))
 plans_become change h = record { so = λ s. lessening s _ [] refl (λ begun k. k) (h s.session.plans) said_none }
@@ -488,23 +460,12 @@ low_of (p ∷ ps) s h =
 
 levels_began : (levels : List LevelState) (begun : List Begun) → AreBegun levels begun → (n : ℕ) → 1 ≤ n → n ≤ length levels → has_begun n begun ≡ true
 levels_began [] begun h n low high = absurd (omega (arith, low, high))
-levels_began (level ∷ levels) begun h n low high = elim (cases_eq n (length levels + 1)) [
-  | inl e ↦ ap (λ (m : ℕ). has_begun m begun) e ∙ h.0.there
-  | inr ne ↦ levels_began levels begun h.1 n low (omega (arith, high, ne))
-]
+levels_began (level ∷ levels) begun h n low high = grind (arith, nat_tests, levels_began levels begun h.1 n low)
 
 named_seen : (name : Text) (n most : ℕ) (begun : List Begun) → ((level : ℕ) → 1 ≤ level → level ≤ most → is_one_of n (level_begun level begun).portals ≡ true) → (ps : List OpenPortal) → AreLow most ps → AreSeen ps begun
     → AreSeen (portal_changed name (λ p. record p { context = Some n }) ps) begun
 named_seen name n most begun new [] low h = tt
-named_seen name n most begun new (p ∷ ps) low h = (one (is_text p.name name), named_seen name n most begun new ps low.1 h.1)
-  where
-    one : (b : Bool) → IsSeen (if b then record p { context = Some n } else p) begun
-    one true = record {
-      so = λ m level is least within.
-          let same : n ≡ m = cc is in
-          subst (λ (k : ℕ). is_one_of k (level_begun level begun).portals ≡ true) same (new level least (omega (arith, within, low.0)));
-    }
-    one false = h.0
+named_seen name n most begun new (p ∷ ps) low h = grind (arith, nat_tests, named_seen name n most begun new ps low.1 h.1)
 
 portal_context_works : (name : Text) (s : Scene) → Stands s → Works s (new_context_made (PortalContext name) s).scene (new_context_made (PortalContext name) s).events
 portal_context_works name s h =

@@ -1,5 +1,5 @@
 -- Items are numbered as they are acquired.
-use Rattle.session_laws.proofs.Words.{◌≡◌, ℕ, ◌+◌, true, List, refl, sym, ap, ◌∙◌, arith, ◌==◌, Bool, false, and_from, eq-eqb, has}
+use Rattle.session_laws.proofs.Words.{◌≡◌, ℕ, true, List, refl, sym, ap, ◌∙◌, arith, ◌==◌, Bool, false, and_from, eq-eqb, has, nat_tests}
 use Rattle.session_laws.proofs.Scenes.{What, KindId, Scene, Around, say, remembers, item_taken, taken_by, Item, SessionState, opening, Keeper, NoOne, TheDescriptors, TheKind, ThePlans, keeper_of, HasExited, KindTable}
 use Rattle.session_laws.proofs.Rules.{allows_all, seen_after, EndLeaves, Keeps, Law, MakeLeaves, LevelLeaves, AreSaid, said_more, said_none, said_one, Part, Sight, of_next_serial, owner_makes, unseen_keys, unseen_owners, of_next_owner, of_owners, takes, moves_owed, BalancesFrom, covers, left, KeyLeaves}
 use Rattle.session_laws.proofs.Usual.{Usual, is_usual, level_words, usual_files, usual_makes, usual_moves, plain_ends, usual_levels}
@@ -22,12 +22,7 @@ event_passes other h n = (refl, refl)
 
 past_passes : {events : List What} → AreSaid is_past events → (n : ℕ) → (allows_all numbering n events ≡ true) × (seen_after numbering n events ≡ n)
 past_passes said_none n = (refl, refl)
-past_passes (said_more {event = event} {events = events} h hs) n =
-    let one = event_passes event h n in
-    let rest = past_passes hs n in (
-      and_from (numbering.allows event n) (allows_all numbering (numbering.next event n) events) one.0 (ap (λ (k : ℕ). allows_all numbering k events) one.1 ∙ rest.0),
-      ap (λ (k : ℕ). seen_after numbering k events) one.1 ∙ rest.1,
-    )
+past_passes (said_more {event = event} {events = events} h hs) n = grind (arith, nat_tests, past_passes hs n, event_passes, and_from)
 
 -- The reader has seen the number of the next item.
 abbrev pub IsNext : ℕ → Scene → Type 0
@@ -48,12 +43,7 @@ number_sight = record { both = λ a b. read_both numbering IsNext a b; aside = �
 
 -- an item is acquired with the next number
 remembered_numbers : (n : ℕ) (kind : KindId) (key : ℕ) (s : Scene) → Numbers s (remembers n kind key s).scene (remembers n kind key s).events
-remembered_numbers n kind key s = record {
-  so = λ k is. record {
-    allowed = and_from (s.session.next_serial == k) true (eq-eqb s.session.next_serial k (sym is)) refl;
-    fits = ap (λ (j : ℕ). j + 1) is;
-  };
-}
+remembered_numbers n kind key s = grind (arith, nat_tests, and_from, eq-eqb)
 
 usual_past : (event : What) → is_usual event ≡ true → is_past event ≡ true
 usual_past (what.Acquire item owner) h = absurd (cc h)
@@ -133,10 +123,7 @@ module _ (item : Item) (owner : ℕ) where
   -- a session begins without owners
   pub counts_open : (around : Around) → Counts item owner 0 (record { session = opening; around = around })
   unfolding opening
-  counts_open around = record {
-    numbered = record { once = record { once = λ n. omega arith }; below = λ n u. absurd (cc u) };
-    is = refl;
-  }
+  counts_open around = grind (arith, nat_tests)
 
   pub counts_elsewhere : (n : ℕ) (session : SessionState) (a b : Around) → Counts item owner n (record { session = session; around = a }) → Counts item owner n (record { session = session; around = b })
   counts_elsewhere n session a b h = record { numbered = h.numbered; is = h.is }

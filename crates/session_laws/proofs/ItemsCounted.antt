@@ -1,5 +1,5 @@
 -- How often the owner of a number has an item, behind each change of the owners, and how often a phase of a release says that it releases it.
-use Rattle.session_laws.proofs.Words.{◌≡◌, ℕ, ◌+◌, count_by, find, Bool, true, false, cond, Option, Some, None, List, [], ◌∷◌, ◌++◌, refl, ap, ◌∙◌, inl, inr, arith, ◌-◌, ◌<◌, ◌≤◌, sym, subst, ◌==◌, ◌&&◌, if◌then◌else◌, nat_le, cases_Bool, and_from, cases_eq, false_from_ne_true, le-leb, ne_eqb, sum_by-cons, Empty, Node, Once, has, at, changed, children, moved, parent_of, put, removed, AllNodes, times, all_changed, swept, order_at, Moves, apart_of, at_absent, at_some, changed_absent, has_at, once_removed, parent_stays, put_absent, removed_absent, where_is, has_changed, has_of_removed, has_some, once_changed, once_front, once_put, times_moved, times_some, option_map_or, nat_tests}
+use Rattle.session_laws.proofs.Words.{◌≡◌, ℕ, ◌+◌, count_by, find, Bool, true, false, cond, Option, Some, None, List, [], ◌∷◌, ◌++◌, refl, ap, ◌∙◌, arith, ◌-◌, ◌<◌, ◌≤◌, sym, subst, ◌==◌, ◌&&◌, if◌then◌else◌, and_from, false_from_ne_true, le-leb, ne_eqb, sum_by-cons, Empty, Node, Once, has, at, changed, children, moved, put, removed, AllNodes, all_changed, swept, order_at, Moves, apart_of, at_absent, at_some, changed_absent, has_at, once_removed, parent_stays, put_absent, removed_absent, where_is, has_changed, has_of_removed, has_some, once_changed, once_front, once_put, times_moved, times_some, nat_tests}
 use Rattle.session_laws.proofs.Scenes.{Item, KindId, Phase, BeforeLocks, Locks, AfterLocks, KindTable, is_of, without_newest, is_of_phase, priority, release_order, Owner, OwnerTree, AllAt, HoldsNothing, created, forgotten, remembered, left_of, own_released, released, Said, Step, lock_step, own_steps, release_steps, releases_of, steps_below, top_locks, GivesBack, ReleasesLocks, PassesLocks, ReleasesAllLocks, made_event, What, table_of, Scene, newest, for_each, owner_made, given_back, owner_gone, owner_moved, phase_released, step_done, remembers}
 use Rattle.session_laws.proofs.Rules.{Reader, allows_all, seen_after, count, allows_all-append, seen_after-append, has_put_other, once_left, has_swept, AreReleaseSteps, IsReleaseStep, is_release, no_step, phase_release, then_step, warned_step, AreSaid, said_all_locks, said_lock_passes, said_lock_releases, said_map, said_more, said_none, said_one, said_weaker}
 use Rattle.session_laws.proofs.Parents.{alike_swept, once_alike}
@@ -60,14 +60,7 @@ module _ (item : Item) (owner : ℕ) where
 
   -- owners go that hold nothing
   pub it_removed : (n : ℕ) (t : OwnerTree) → Once t → AllAt HoldsNothing n t → has_it (removed n t) ≡ has_it t
-  it_removed n t o all =
-      elim (cases_Bool (has n t)) [
-        | inl h ↦
-            let w = at_some n t h in
-            let nothing : AllNodes HoldsNothing (Node n w.0 (children n t) Empty) = rw w.1 at all in
-            omega (arith, it_parts n w.0 t o w.1, ap (own n) nothing.0, it_nothing (children n t) nothing.1)
-        | inr h ↦ ap has_it (removed_absent n t h)
-      ]
+  it_removed n t o all = grind (arith, nat_tests, at_some, it_parts, it_nothing, removed_absent)
 
   -- an owner moves
   pub it_moved : (n q : ℕ) (t : OwnerTree) → Once t → Moves n q t → has_it (moved n q t) ≡ has_it t
@@ -154,25 +147,7 @@ module _ (item : Item) (owner : ℕ) where
   -- A phase says of what it takes off the owners that it is released.
   pub says_phase : (kinds : KindTable) (phase : Phase) (commit top : Bool) (n : ℕ) (t : OwnerTree) → Once t
       → says (release_steps kinds phase commit top n t) + has_it (released kinds phase n t) ≡ has_it t
-  says_phase kinds phase commit top n t o =
-      elim (cases_Bool (has n t)) [
-        | inl u ↦
-            let w = at_some n t u in
-            let below : List Step = steps_below kinds phase commit top n (children n t) in
-            let steps : List Step = own_steps kinds phase commit n w.0 (top_locks top commit n (parent_of n t)) in
-            let all : release_steps kinds phase commit top n t ≡ below ++ steps = rw w.1 refl in
-            omega (
-              arith,
-              ap says all,
-              says_both below steps,
-              says_below kinds phase commit top n (children n t),
-              says_own kinds phase commit n w.0 (top_locks top commit n (parent_of n t)) (top_says top commit n (parent_of n t)),
-              it_swept (own_released kinds phase) n w.0 t o w.1,
-            )
-        | inr u ↦
-            let all : release_steps kinds phase commit top n t ≡ [] = rw (at_absent n t u) refl in
-            omega (arith, ap says all, ap has_it (unswept (own_released kinds phase) n t u))
-      ]
+  says_phase kinds phase commit top n t o = grind (arith, nat_tests, at_some, says_both, says_below, says_own, top_says, it_swept, at_absent, unswept)
 
 -- How often an owner holds an item is counted by what is said: where an item is taken and given back, where owners come, are released, move and go.
 
@@ -195,34 +170,14 @@ numbered_removed : (n : ℕ) (t : OwnerTree) (next : ℕ) → AreNumbered t next
 numbered_removed n t next k = record { once = once_left n t k.once; below = λ m u. k.below m (has_of_removed m n t u) }
 
 numbered_moved : (n q : ℕ) (t : OwnerTree) (next : ℕ) → AreNumbered t next → Moves n q t → AreNumbered (moved n q t) next
-numbered_moved n q t next k w =
-    let same : (m : ℕ) → times m (moved n q t) ≡ times m t = λ m. let a = at_some n t w.node in rw a.1 (times_moved m n q a.0 t k.once w) in
-    record {
-      once = record { once = λ m. omega (arith, same m, k.once.once m) };
-      below = λ m u. k.below m (has_some m t (omega (arith, same m, times_some m (moved n q t) u)));
-    }
+numbered_moved n q t next k w = grind (arith, nat_tests, at_some, times_moved, has_some, times_some)
 
 fresh : (t : OwnerTree) (next : ℕ) → AreNumbered t next → has next t ≡ false
 fresh t next k = false_from_ne_true (has next t) (λ e. omega (arith, k.below next e))
 
 numbered_created : (parent : Option ℕ) (t : OwnerTree) (next : ℕ) → AreNumbered t next → AreNumbered (created parent next t) (next + 1)
-numbered_created None t next k = record {
-  once = once_front next (record { begun = false; items = [] }) t k.once (fresh t next k);
-  below = λ m u. elim (cases_eq next m) [
-    | inl e ↦ omega (arith, e)
-    | inr ne ↦ let r : has m t ≡ true = rw (ne_eqb next m ne) at u in omega (arith, k.below m r)
-  ];
-}
-numbered_created (Some p) t next k = elim (cases_Bool (has p t)) [
-  | inl y ↦ record {
-    once = once_put p next (record { begun = false; items = [] }) t k.once y (fresh t next k);
-    below = λ m u. elim (cases_eq m next) [
-      | inl e ↦ omega (arith, e)
-      | inr ne ↦ omega (arith, k.below m (sym (has_put_other m p next (record { begun = false; items = [] }) Empty t ne refl) ∙ u))
-    ];
-  }
-  | inr y ↦ rw (put_absent p next (record { begun = false; items = [] }) Empty t y) (record { once = k.once; below = λ m u. omega (arith, k.below m u) })
-]
+numbered_created None t next k = grind (arith, nat_tests, once_front, fresh, ne_eqb)
+numbered_created (Some p) t next k = grind (arith, nat_tests, once_put, fresh, has_put_other, put_absent)
 
 -- The count is how often the owner of that number holds the item.
 pub record Counts (item : Item) (owner n : ℕ) (s : Scene) : Type 0 where
@@ -244,17 +199,11 @@ module _ (item : Item) (owner : ℕ) where
     is : seen_after reader n events ≡ behind
 
   leads_both : (n m k : ℕ) (xs ys : List What) → Leads n m xs → Leads m k ys → Leads n k (xs ++ ys)
-  leads_both n m k xs ys a b = record {
-    allowed = allows_all-append reader n xs ys a.allowed (ap (λ (j : ℕ). allows_all reader j ys) a.is ∙ b.allowed);
-    is = seen_after-append reader n xs ys ∙ ap (λ (j : ℕ). seen_after reader j ys) a.is ∙ b.is;
-  }
+  leads_both n m k xs ys a b = grind (arith, nat_tests, allows_all-append, seen_after-append)
 
   -- one event
   one_leads : (event : What) (n a r : ℕ) → acquires item owner event ≡ a → releases item owner event ≡ r → r ≤ n → Leads n ((n + a) - r) (event ∷ [])
-  one_leads event n a r brings takes few = record {
-    allowed = and_from (nat_le (releases item owner event) n) true (ap (λ (k : ℕ). nat_le k n) takes ∙ le-leb r n few) refl;
-    is = ap (λ (k : ℕ). (n + k) - releases item owner event) brings ∙ ap (λ (k : ℕ). (n + a) - k) takes;
-  }
+  one_leads event n a r brings takes few = grind (arith, nat_tests, and_from, le-leb)
 
   brings_none : (event : What) → is_still event ≡ true → acquires item owner event ≡ 0
   brings_none (what.Acquire other by) h = absurd (cc h)
@@ -307,14 +256,7 @@ module _ (item : Item) (owner : ℕ) where
 
   reads_by : (s t : Scene) (events : List What) → (AreNumbered s.session.owners s.session.next_owner → AreNumbered t.session.owners t.session.next_owner)
       → (AreNumbered s.session.owners s.session.next_owner → Leads (has_it item owner s.session.owners) (has_it item owner t.session.owners) events) → Counted s t events
-  reads_by s t events numbered leads = record {
-    so = λ n fits.
-        let l : Leads (has_it item owner s.session.owners) (has_it item owner t.session.owners) events = leads fits.numbered in
-        record {
-          allowed = ap (λ (k : ℕ). allows_all reader k events) fits.is ∙ l.allowed;
-          fits = record { numbered = numbered fits.numbered; is = ap (λ (k : ℕ). seen_after reader k events) fits.is ∙ l.is };
-        };
-  }
+  reads_by s t events numbered leads = grind (arith, nat_tests)
 
   -- where owners stay, or hold the item as often as before
   still_reads : (s t : Scene) {events : List What} → (AreNumbered s.session.owners s.session.next_owner → AreNumbered t.session.owners t.session.next_owner)
@@ -350,14 +292,7 @@ module _ (item : Item) (owner : ℕ) where
       record { allowed = l.allowed; is = l.is ∙ omega (arith, sum) })
 
   pub forgotten_reads : (n : ℕ) (kind : KindId) (key : ℕ) (old : Item) (s : Scene) → newest n kind key s.session ≡ Some old → Counted s (forgets n kind key s) (what.Release old n ∷ [])
-  forgotten_reads n kind key old s found = elim (cases_Bool (has n s.session.owners)) [
-    | inl y ↦
-        let a = at_some n s.session.owners y in
-        forgotten_at n kind key old a.0 s a.1 (ap (λ (z : Option Owner). find (is_of kind key) (option_map_or (λ o. o.items) z [])) (sym a.1) ∙ found)
-    | inr y ↦
-        let none : None ≡ Some old = ap (λ (z : Option Owner). find (is_of kind key) (option_map_or (λ o. o.items) z [])) (sym (at_absent n s.session.owners y)) ∙ found in
-        absurd (cc none)
-  ]
+  forgotten_reads n kind key old s found = grind (arith, nat_tests, at_some, forgotten_at, at_absent)
 
   -- an owner that is there takes an item
   pub remembered_reads : (n : ℕ) (kind : KindId) (key : ℕ) (s : Scene) → has n s.session.owners ≡ true → Counted s (remembers n kind key s).scene (remembers n kind key s).events

@@ -1,5 +1,5 @@
 -- A line and an exit leave what never changes around a session: the names of the extension kinds, when their items are released, and how many descriptors there are.
-use Rattle.session_laws.proofs.Words.{◌≡◌, ℕ, ◌∙◌, true, false, Bool, Option, Some, None, List, ap, refl, ◌≢◌, zero, suc, ◌+◌, ◌≤◌, ◌⊎◌, inl, inr, cond, [], ◌∷◌, ◌++◌, length, sym, subst, arith, ◌-◌, ◌<◌, Result, Ok, Err, ◌==◌, replicate, slice_get, slice_set, slice_index_or, flat_map, sum_by, get_or-le-sum_by, sum_by-cons, sum_by-set, cases_eq, cases_lt, cond-false, ne_eqb, append-nil, length-set, length-replicate}
+use Rattle.session_laws.proofs.Words.{◌≡◌, ℕ, ◌∙◌, true, false, Bool, Option, Some, None, List, ap, refl, ◌≢◌, zero, suc, ◌+◌, ◌≤◌, ◌⊎◌, inl, inr, cond, [], ◌∷◌, ◌++◌, length, sym, subst, arith, ◌-◌, ◌<◌, Result, Ok, Err, ◌==◌, replicate, slice_get, slice_set, slice_index_or, flat_map, sum_by, get_or-le-sum_by, sum_by-cons, sum_by-set, cases_eq, cases_lt, cond-false, ne_eqb, append-nil, length-set, length-replicate, nat_tests}
 use Rattle.session_laws.proofs.Scenes.{What, Error, Command, table_of, Moment, Scene, Around, Options, World, around, moment, opened, session_at, with_scene, Done, does_all, exited, recovered, level_rolled_back, line_elements, turn, turn_of, Course, Reading, Turn, after_command, after_exit, after_line, after_read, at_start, course_by, ended, exits, goes_on, missing, of_session, transcript_by, AreDistinct, Hook, waiting, SessionState, opening, top_context, AreHooks, StandsBetweenLines, IsSound, KindTable, Ended, context_gone, for_each, switched}
 use Rattle.session_laws.proofs.Rules.{EndLeaves, KeyLeaves, Part, Sight, item_comes, of_descriptors, of_kinds, owner_makes, unseen_owners, exit_follows, line_spoken, Reader, allows_all, events_of, seen_after, allows_all-append, events_of-append, events_of-other, events_of-own, seen_after-append, turn_stands, AreSaid, said_more, said_none}
 use Rattle.session_laws.proofs.Usual.{Usual, any, usual_any, any_turn_follows, usual_makes, usual_moves, plain_ends}
@@ -167,10 +167,7 @@ none_wait zero = refl
 none_wait (suc n) = none_wait n
 
 pub hooks_at_first : (n : ℕ) (x : ShelfState) → AreDistinct (held x) → HooksFit (replicate n opening) x
-hooks_at_first n x differ = record {
-  out = omega (arith, ap length (none_wait n));
-  words = subst (λ (hooks : List Hook). AreDistinct (hooks ++ held x)) (sym (none_wait n)) differ;
-}
+hooks_at_first n x differ = grind (arith, nat_tests, none_wait)
 
 -- places of lists
 pub replicated : {A : Type 0} (n place : ℕ) (x y : A) → slice_get (replicate n x) place ≡ Some y → y ≡ x
@@ -184,10 +181,7 @@ place_set [] i y j x h = absurd (cc h)
 place_set (z ∷ zs) zero y zero x h = inl (refl, cc)
 place_set (z ∷ zs) zero y (suc j) x h = inr (λ e. omega (arith, e), h)
 place_set (z ∷ zs) (suc i) y zero x h = inr (λ e. omega (arith, e), h)
-place_set (z ∷ zs) (suc i) y (suc j) x h = elim (place_set zs i y j x h) [
-  | inl same ↦ inl (omega (arith, same.0), same.1)
-  | inr other ↦ inr (λ e. other.0 (omega (arith, e)), other.1)
-]
+place_set (z ∷ zs) (suc i) y (suc j) x h = grind (arith, nat_tests, place_set zs i y j x h)
 
 -- the other places of it
 pub place_other : {A : Type 0} (xs : List A) (i j : ℕ) (y : A) → j ≢ i → slice_get (slice_set xs i y) j ≡ slice_get xs j
@@ -221,10 +215,7 @@ there_of (suc n) session x h = record { some = omega arith; there = sym (at_suc 
 
 outside_of : (n : ℕ) (x : World) → session_at n x ≡ None → IsOutside (length x.sessions) n
 outside_of zero x h = inl refl
-outside_of (suc n) x h = elim (slice_get_cases x.sessions (suc n - 1)).1 [
-  | inl some ↦ let z : None ≡ Some some.0 = sym h ∙ (at_suc n x ∙ some.2) in absurd (cc z)
-  | inr none ↦ inr (omega (arith, none.0))
-]
+outside_of (suc n) x h = grind (arith, nat_tests, slice_get_cases, at_suc)
 
 -- As a run stands: the sessions from this number on are between two lines.
 pub record AreStanding (kinds : KindTable) (sessions from : ℕ) (x : World) : Type 0 where
@@ -535,10 +526,7 @@ passes other h = (refl, refl)
 
 all_pass : {events : List What} → AreSaid is_ordinary events → (allows_all ending false events ≡ true) × (seen_after ending false events ≡ false)
 all_pass said_none = (refl, refl)
-all_pass (said_more {event = event} {events = events} h hs) =
-    let one = passes event h in
-    let more = all_pass hs in
-    (rw (one.0, one.1) more.0, ap (λ (ended : Bool). seen_after ending ended events) one.1 ∙ more.1)
+all_pass (said_more {event = event} {events = events} h hs) = grind (arith, nat_tests, all_pass hs, passes)
 
 -- the session hasn't said that it ends
 abbrev pub IsOn : Bool → Scene → Type 0

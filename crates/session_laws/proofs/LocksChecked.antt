@@ -1,6 +1,6 @@
 -- What is checked before a lock is given back, a file is used and a lock is taken holds where these come.
-use Rattle.session_laws.proofs.Words.{◌≡◌, ℕ, zero, suc, ◌+◌, ◌-◌, Bool, true, false, not, if◌then◌else◌, List, [], ◌∷◌, ◌++◌, map, length, replicate, flat_map, Option, Some, None, refl, inl, inr, ◌∙◌, ◌<◌, arith, nat_lt, ◌&&◌, ◌==◌, ◌⊎◌, option_map_or, ltb-true}
-use Rattle.session_laws.proofs.Scenes.{Command, LevelState, OpenPortal, SessionState, deepest_changed, is_aborted, level_context, level_owner, Check, Element, LevelContext, OfLevel, OfPortal, OwnerRole, PortalContext, Text, portal_named, line_elements, turn, Error, Mode, Moment, Scene, Ended, nothing, switched, where_there, failure, lock_count, unless, level_made, new_context_made, new_owner_made, portal_made, fallible, refused_call, unless_refused, does, count_of, at_owner, lock_given_back, snapshot_pushed, exited}
+use Rattle.session_laws.proofs.Words.{◌≡◌, ℕ, zero, suc, ◌+◌, ◌-◌, Bool, true, false, not, if◌then◌else◌, List, [], ◌∷◌, ◌++◌, map, length, replicate, flat_map, Option, Some, None, refl, inl, inr, ◌∙◌, arith, ◌&&◌, ◌⊎◌, option_map_or, ltb-true, nat_tests}
+use Rattle.session_laws.proofs.Scenes.{Command, LevelState, OpenPortal, SessionState, deepest_changed, is_aborted, level_context, Check, Element, LevelContext, OfLevel, OfPortal, OwnerRole, PortalContext, Text, portal_named, line_elements, turn, Error, Mode, Moment, Scene, Ended, nothing, switched, where_there, failure, unless, level_made, new_context_made, new_owner_made, portal_made, fallible, refused_call, unless_refused, does, at_owner, lock_given_back, snapshot_pushed, exited}
 use Rattle.session_laws.proofs.Rules.{IsRun, fallible_so}
 use Rattle.pgs_command.specs.declared.commands.TransactionCommand.{TransactionCommand}
 use Rattle.pgs_command.specs.declared.commands.Work.{Work}
@@ -14,7 +14,7 @@ use Rattle.pgs_command.specs.declared.commands.PortalCommand.{PortalCommand}
 use Rattle.pgs_command.specs.declared.commands.TellCommand.{TellCommand}
 use Rattle.exec_core.specs.declared.scan.Scan.{Scan}
 use Rattle.exec_core.specs.declared.steps.ScanStep.{ScanStep}
-use Rattle.session_rules.specs.Works.{Row, after_turn, elements, chunk_row, context_row, fallible_part, fetch_steps, item_row, lock_row, plan_row, portal_row, snapshot_row, tell_row, turn_steps, work_of}
+use Rattle.session_rules.specs.Works.{Row, after_turn, elements, chunk_row, context_row, fallible_part, fetch_steps, item_row, lock_row, plan_row, portal_row, snapshot_row, tell_row, work_of}
 use Rattle.session_rules.specs.Commands.{at_savepoint, begin, commit, committed_to, elements_of, in_transaction, is_end, refused, rollback, rolled_back_to, save, savepoint, start, then_ok, transaction_of, unaborted}
 use Rattle.session_laws.proofs.LocksSight.{of_locks, files_hidden, pushed_hidden, OwesUnlocks, ending_turn, least_acts, lock_owed, owner_owed, session_exits, touch_owed, by_owner_made}
 use Rattle.session_laws.proofs.LocksRead.{ReadsLocks, given_back_so, locks_base, locks_law, locks_seen, taken_so}
@@ -32,7 +32,6 @@ use Rattle.pgs_command.specs.declared.commands.PlanCommand.TheVariants as plan
 use Rattle.pgs_command.specs.declared.commands.PortalCommand.TheVariants as portal
 use Rattle.pgs_command.specs.declared.commands.TellCommand.TheVariants as tell
 use Rattle.exec_core.specs.declared.steps.ScanStep.TheVariants as step
-use Rattle.exec_core.specs.Turn as exec
 use Rattle.session_rules.specs.Elements as e
 
 -- what was checked for an element, in the scene that it meets: that the lock is held, that the file is open, and that the level isn't aborted
@@ -133,11 +132,7 @@ calm_keeps w other m c h = absurd c
 -- where a check passed it holds, of the same scene
 passed_check : (w : Option ℕ) (check : Check) (m : Moment) → (does w (e.Checks check) m).refusal ≡ None → failure check (does w (e.Checks check) m).moment.scene ≡ None
 unfolding does
-passed_check w check m none = go (failure check m.scene) refl none
-  where
-    go : (r : Option Error) → failure check m.scene ≡ r → (unless_refused r m nothing).refusal ≡ None → failure check (unless_refused r m nothing).moment.scene ≡ None
-    go None is n = is
-    go (Some error) is n = absurd (cc n)
+passed_check w check m none = grind (arith, nat_tests)
 
 safe_run : (w : Option ℕ) (xs : List Element) (m : Moment) → Safe xs → is_aborted m.scene.session.levels ≡ false → IsRun IsChecked w xs m
 safe_run w xs m (free h) active = free_run w xs m h
@@ -188,10 +183,7 @@ commits_are_free (suc n) = (tt, commits_are_free n)
 
 rolled_back_free : (n : ℕ) (levels : List LevelState) → AreFree (rolled_back_to n levels)
 rolled_back_free n [] = tt
-rolled_back_free n (level ∷ levels) =
-    either_are_free (nat_lt (length levels + 1) n) [] _ tt
-    (both_are_free (if level.aborted then e.Cleanup ∷ [] else e.Abort ∷ e.Cleanup ∷ []) (rolled_back_to n levels)
-    (either_are_free level.aborted (e.Cleanup ∷ []) (e.Abort ∷ e.Cleanup ∷ []) (tt, tt) (tt, (tt, tt))) (rolled_back_free n levels))
+rolled_back_free n (level ∷ levels) = grind (arith, nat_tests, rolled_back_free n levels, either_are_free, both_are_free)
 
 then_ok_free : (es : List Element) → AreFree es → AreFree (then_ok es)
 then_ok_free es h = both_are_free es (e.Says what.Ok ∷ []) h (tt, tt)
@@ -199,10 +191,7 @@ then_ok_free es h = both_are_free es (e.Says what.Ok ∷ []) h (tt, tt)
 -- of the commands on transactions
 commit_free : (levels : List LevelState) → AreFree (commit levels)
 commit_free [] = (tt, tt)
-commit_free (level ∷ levels) =
-    either_are_free level.aborted (rolled_back_to 1 (level ∷ levels)) (committed_to 2 (level ∷ levels) ++ (e.CommitTop ∷ []))
-    (rolled_back_free 1 (level ∷ levels))
-    (both_are_free (committed_to 2 (level ∷ levels)) (e.CommitTop ∷ []) (commits_are_free (length (level ∷ levels) + 1 - 2)) (tt, tt))
+commit_free (level ∷ levels) = grind (arith, nat_tests, either_are_free, rolled_back_free, both_are_free, commits_are_free)
 
 rollback_free : (levels : List LevelState) → AreFree (rollback levels)
 rollback_free [] = (tt, tt)
@@ -247,10 +236,7 @@ last_or_more false xs ys h k = k
 
 fetch_free : (name : Text) (count : ℕ) (scan : Scan) (rows : ℕ) → AreFree (fetch_steps name count scan rows)
 fetch_free name zero scan rows = (tt, tt)
-fetch_free name (suc count) scan rows =
-    both_are_free (turn_steps name scan) _ (scans_free name (exec.turn scan))
-    (last_or_more (scan.at == scan.rows) (e.Says (what.Fetched name rows) ∷ []) (fetch_steps name count (after_turn scan) (rows + 1))
-    (tt, tt) (fetch_free name count (after_turn scan) (rows + 1)))
+fetch_free name (suc count) scan rows = grind (arith, nat_tests, fetch_free name count (after_turn scan), both_are_free, scans_free, last_or_more)
 
 fetches_free : (name : Text) (count : ℕ) (o : Option OpenPortal) → AreFree (option_map_or (λ portal. fetch_steps name count portal.scan 0) o [])
 fetches_free name count None = tt
@@ -335,21 +321,12 @@ unaborted_safe (command.Work w) s active = inr (only_left (is_aborted s.levels) 
 
 elements_safe : (c : Command) (session : SessionState) → AreFree (elements_of c session) ⊎ ((is_aborted session.levels ≡ false) × Safe (elements_of c session))
 unfolding elements_of
-elements_safe c s = go (is_aborted s.levels && not (is_end c)) refl
-  where
-    go : (b : Bool) → (is_aborted s.levels && not (is_end c)) ≡ b
-        → AreFree (elim b as (λ _. List Element) [ true ↦ refused error.TransactionAborted | false ↦ unaborted c s ])
-        ⊎ ((is_aborted s.levels ≡ false) × Safe (elim b as (λ _. List Element) [ true ↦ refused error.TransactionAborted | false ↦ unaborted c s ]))
-    go true is = inl (tt, tt)
-    go false is = unaborted_safe c s is
+elements_safe c s = grind (arith, nat_tests, unaborted_safe)
 
 -- Each element of a line meets a scene in which what was checked for it holds.
 pub line_checked : (w : Option ℕ) (line : Option Command) (m : Moment) → IsRun IsChecked w (line_elements line m.scene.session) m
 line_checked w None m = free_run w (line_elements None m.scene.session) m (tt, tt)
-line_checked w (Some c) m = elim (elements_safe c m.scene.session) [
-  | inl h ↦ free_run w (elements_of c m.scene.session) m h
-  | inr h ↦ safe_run w (elements_of c m.scene.session) m h.1 h.0
-]
+line_checked w (Some c) m = grind (arith, nat_tests, elements_safe, free_run, safe_run)
 
 -- A line keeps the law of a lock, and so does the end of a session.
 
@@ -360,11 +337,7 @@ passed_unless false error e = absurd (cc e)
 module _ (object mode : ℕ) where
   -- a lock that the level's owner holds is given back
   unlock_so : (o : ℕ) (m : Mode) (s : Scene) → failure (e.HoldsLock o m) s ≡ None → ReadsLocks object mode s (at_owner OfLevel (lock_given_back o m) s).scene (at_owner OfLevel (lock_given_back o m) s).events
-  unlock_so o m s checked = go (level_owner s.session) (ltb-true 0 (lock_count o m s.session) (passed_unless (nat_lt 0 (lock_count o m s.session)) _ checked))
-    where
-      go : (owner : Option ℕ) → 0 < option_map_or (λ n. count_of s.session.locks o m n) owner 0 → ReadsLocks object mode s (where_there owner (lock_given_back o m) s).scene (where_there owner (lock_given_back o m) s).events
-      go None held = absurd (omega (arith, held))
-      go (Some n) held = given_back_so object mode o m n s held
+  unlock_so o m s checked = grind (arith, nat_tests, ltb-true, passed_unless, given_back_so)
 
   locks_owed : (w : Option ℕ) (x : Element) (m : Moment) → IsChecked x m.scene → OwesUnlocks (ReadsLocks object mode) w x m
   unfolding does

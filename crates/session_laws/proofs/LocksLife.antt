@@ -1,5 +1,5 @@
 -- Where no lock is held, none is behind what doesn't take one; and behind the end of level 1 none is held.
-use Rattle.session_laws.proofs.Words.{◌≡◌, ℕ, Bool, true, List, [], ◌∷◌, ◌++◌, Option, refl, ap, ◌∙◌, false, not, Some, None, sym, arith, ◌+◌, ◌≤◌, subst, inl, inr, option_map_or, option_and_then, children, has, at_some, ◌&&◌, is_some, ◌⊎◌, length, All, both_ways, All-head, All-tail, All-nil}
+use Rattle.session_laws.proofs.Words.{◌≡◌, ℕ, Bool, true, List, [], ◌∷◌, ◌++◌, Option, refl, ap, ◌∙◌, false, not, Some, None, sym, arith, ◌+◌, ◌≤◌, subst, option_map_or, option_and_then, children, has, at_some, ◌&&◌, is_some, ◌⊎◌, length, All, both_ways, All-head, All-tail, All-nil, nat_tests}
 use Rattle.session_laws.proofs.Scenes.{What, Mode, BeforeLocks, Locks, AfterLocks, table_of, KindTable, Owner, OwnerTree, own_released, ReleasesAllLocks, Step, own_steps, release_steps, steps_below, Scene, Moment, Around, for_each, where_so, where_there, Ended, switched, in_order, owner_released, phase_released, step_done, lock_given_back, at_owner, LevelState, OpenPortal, deepest_changed, first_of, is_aborted, level_context, owner_of, opening, portal_aborted, portal_closed, aborted, cleaned_up, committed, level_released, level_rolled_back, exited, given_up, recovered, IsLive, Stands, active_depth, AreOuter, FitLevels, IsDead, IsPortal, IsOpen, StandsBetweenLines, Contexts, Error, Element, LevelContext, NewContext, OfLevel, OfPortal, OwnerRole, PortalContext, RowContext, ScriptContext, Text, context_named, owner_in, portal_named, level_made, new_context_made, new_owner_made, lock_taken, snapshot_pushed, Done, fallible, refused_call, unless_refused, does, failing_turn, does_all, then_done, Command, AreLocks, has_owner, line_elements, turn, turn_of}
 use Rattle.session_laws.proofs.Rules.{Keeps, Follows, IsSpoken, AreSpoken, IsRun, has_swept, all_aborted, begins, off_begins, owner_when_active, resettled, settled, switched_off, aborted_stands, at_settled, is_left, rolled_stands, by_each, element_follows, fallible_so, behind_commit, cleans_up, portal_aborts, portal_closes, Meets, line_runs, allows_all, seen_after, line_spoken, said_one}
 use Rattle.session_laws.proofs.OrderEnds.{own_mild}
@@ -205,11 +205,7 @@ begun_holds level (next ∷ levels) h = absurd (cc h)
 changed_holds : (change : LevelState → LevelState) (levels : List LevelState) → ((l : LevelState) → (change l).aborted ≡ l.aborted) → ((l : LevelState) → is_some (change l).owner ≡ false → is_some l.owner ≡ false)
     → may_hold (deepest_changed change levels) ≡ false → may_hold levels ≡ false
 changed_holds change [] same less h = refl
-changed_holds change (level ∷ []) same less h = go level.aborted (is_some level.owner) (sym (ap (λ (b : Bool). not b && is_some (change level).owner) (same level)) ∙ h) (less level)
-  where
-    go : (a o : Bool) → (not a && is_some (change level).owner) ≡ false → (is_some (change level).owner ≡ false → o ≡ false) → (not a && o) ≡ false
-    go true o k f = refl
-    go false o k f = f k
+changed_holds change (level ∷ []) same less h = grind (arith, nat_tests, is_some)
 changed_holds change (level ∷ (next ∷ levels)) same less h = absurd (cc h)
 
 there_holds : {A : Type 0} (o : Option A) (act : A → Scene → Ended) (s : Scene) → ((a : A) → (act a s).scene.session.levels ≡ s.session.levels) → (where_there o act s).scene.session.levels ≡ s.session.levels
@@ -237,14 +233,8 @@ level_holds (level ∷ []) n active is = ap (λ (b : Bool). not b && is_some lev
 level_holds (level ∷ (next ∷ levels)) n active is = refl
 
 portal_holds : (levels : List LevelState) (t : Contexts) (x : OwnerTree) (current : ℕ) → FitLevels levels t x current → is_aborted levels ≡ false → (p : OpenPortal) → IsLive p levels ⊎ IsDead p levels → may_hold levels ≡ true
-portal_holds [] t x current fit active p stage = elim stage [
-  | inl l ↦ absurd (omega (arith, l.some, l.within, l.active))
-  | inr d ↦ let no : false ≡ true = d.aborted in absurd (cc no)
-]
-portal_holds (level ∷ []) t x current fit active p stage = elim stage [
-  | inl l ↦ let lo = owner_when_active level [] fit.0.made (omega (arith, l.some, l.within, l.active)) in level_holds (level ∷ []) lo.0 active lo.1
-  | inr d ↦ absurd (both_ways level.aborted active d.aborted)
-]
+portal_holds [] t x current fit active p stage = grind (arith, nat_tests)
+portal_holds (level ∷ []) t x current fit active p stage = grind (arith, nat_tests, owner_when_active, level_holds, both_ways)
 portal_holds (level ∷ (next ∷ levels)) t x current fit active p stage = refl
 
 one_of : (P : OpenPortal → Type 0) (p : OpenPortal) (front back : List OpenPortal) → All P (front ++ (p ∷ back)) → P p
@@ -287,11 +277,7 @@ outer_of : (m : Moment) → Stands m.scene → (level : LevelState) (levels : Li
 outer_of m stands level levels is = settled_as (λ z. AreOuter levels) m.scene (level ∷ levels) stands is (λ k. k.fit.1)
 
 merge_bare : (w : Option ℕ) (m : Moment) → Meets e.Subcommit m.scene → Bare (does w e.Subcommit m).moment.scene
-merge_bare w m meets =
-    let level : LevelState = meets.asks.0.0 in
-    let levels : List LevelState = meets.asks.0.1 in
-    let left : Leaves levels (does w e.Subcommit m).moment.scene = merge_stands w m meets.stands level levels meets.asks.1 meets.asks.2 meets.asks.3 in
-    bare_held _ (ap may_hold left.are ∙ outer_holds levels (outer_of m meets.stands level levels meets.asks.1) meets.asks.2)
+merge_bare w m meets = grind (arith, nat_tests, merge_stands, bare_held, outer_holds, outer_of)
 
 abort_bare : (w : Option ℕ) (m : Moment) → Stands m.scene → (level : LevelState) (levels : List LevelState) → m.scene.session.levels ≡ level ∷ levels
     → Leaves (record level { aborted = true } ∷ levels) (does w e.Abort m).moment.scene → Bare m.scene → Bare (does w e.Abort m).moment.scene

@@ -1,5 +1,5 @@
 -- Locks are released as often as they are acquired: what a reader has seen of a lock fits how often owners hold it.
-use Rattle.session_laws.proofs.Words.{◌≡◌, ℕ, ◌+◌, ◌<◌, Bool, true, false, cond, List, [], ◌∷◌, map, filter, refl, sym, ap, ◌∙◌, arith, ◌-◌, if◌then◌else◌, ◌++◌, subst, ◌==◌, ◌&&◌, sum_by, All, nat_le, and_parts, eqb-true, and_from, le-leb, All-head, All-tail, All-weaker, All-nil, sum_by-cons}
+use Rattle.session_laws.proofs.Words.{◌≡◌, ℕ, ◌+◌, ◌<◌, Bool, true, false, cond, List, [], ◌∷◌, map, filter, refl, sym, ap, ◌∙◌, arith, if◌then◌else◌, ◌++◌, subst, ◌==◌, ◌&&◌, sum_by, All, nat_le, and_parts, eqb-true, and_from, le-leb, All-head, All-tail, All-weaker, All-nil, sum_by-cons, nat_tests}
 use Rattle.session_laws.proofs.Scenes.{Mode, IsInOrder, Lock, comes_before, count_of, has_owner, is_lock, lock_total, owner_count, AreLocks, What, Scene, step_done, lock_given_back, lock_taken, ReleasesLocks, PassesLocks, ReleasesAllLocks}
 use Rattle.session_laws.proofs.Rules.{Reader, allows_all, seen_after, count, Law, said_none, said_lock_passes}
 use Rattle.std.proofs.lemmas.List.Folds.{map_fixed}
@@ -37,11 +37,7 @@ module _ (object mode : ℕ) where
   once o m = cond (is_this o m) 1 0
 
   no_weight : (l : Lock) → has_owner l ≡ false → weight l ≡ 0
-  no_weight l e = go (is_this l.object l.mode) (no_total l e)
-    where
-      go : (b : Bool) → lock_total l ≡ 0 → cond b (lock_total l) 0 ≡ 0
-      go true z = z
-      go false z = refl
+  no_weight l e = grind (arith, nat_tests, no_total)
 
   same_name : (o : ℕ) (m : Mode) (l : Lock) → is_lock o m l ≡ true → is_this l.object l.mode ≡ is_this o m
   same_name o m l e =
@@ -170,13 +166,7 @@ module _ (object mode : ℕ) where
 
   one_goes : (o : ℕ) (m : Mode) (times owner n rest : ℕ) (events : List What) → n ≡ cond (is_this object mode o m) times 0 + rest
       → ((k : ℕ) → k ≡ rest → (left : ℕ) → Goes k left events → Goes n left (what.ReleaseLock o m times owner ∷ events))
-  one_goes o m times owner n rest events is k same left goes =
-      let next : n + 0 - cond (is_this object mode o m) times 0 ≡ k = omega (arith, is, same) in
-      record {
-        allowed = and_from (nat_le (cond (is_this object mode o m) times 0) n) _ (le-leb (cond (is_this object mode o m) times 0) n (omega (arith, is)))
-            (ap (λ (j : ℕ). allows_all lock_reader j events) next ∙ goes.allowed);
-        left = ap (λ (j : ℕ). seen_after lock_reader j events) next ∙ goes.left;
-      }
+  one_goes o m times owner n rest events is k same left goes = grind (arith, nat_tests, and_from, le-leb)
 
   -- what an owner holds is given up
   none_more : (b : Bool) (k : ℕ) → k ≡ 0 → cond b k 0 ≡ 0
@@ -261,15 +251,7 @@ module _ (object mode : ℕ) where
   }
 
   pub locks_base : Base of_locks ReadsLocks
-  locks_base = record {
-    sees = locks_seen;
-    locks = record { let_go = λ owner. record { so = let_go_so owner }; passed = λ from to. record { so = passed_so from to }; all_gone = λ top. record { so = all_gone_so top } };
-    files = files_hidden of_locks ReadsLocks locks_seen refl;
-  }
+  locks_base = grind (arith, nat_tests, locks_seen, let_go_so, passed_so, all_gone_so, files_hidden, of_locks)
 
   pub locks_law : Turns of_locks ReadsLocks
-  locks_law = record {
-    least = least_of of_locks ReadsLocks locks_base refl;
-    levels = λ levels s. locks_aside s _ refl said_none;
-    stack = stack_hidden of_locks ReadsLocks locks_seen refl;
-  }
+  locks_law = grind (arith, nat_tests, least_of, of_locks, locks_base, locks_aside, said_none, stack_hidden, locks_seen)

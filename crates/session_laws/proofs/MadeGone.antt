@@ -1,13 +1,13 @@
 -- Only elements that make something say that something is made.
-use Rattle.session_laws.proofs.Words.{◌≡◌, ℕ, Bool, true, false, List, Option, refl, ◌+◌, ◌<◌, ◌≤◌, All, [], ◌∷◌, ◌++◌, Some, None, ap, ◌∙◌, subst, inl, inr, arith, ◌≢◌, zero, suc, ◌-◌, nat_le, IsTrue, sym, drop, ◌==◌, ◌&&◌, option_and_then, option_map_or, and_from, cases_Bool, and_parts, both_ways, cases_eq, eq-eqb, eqb-true, ne_eqb, or_cases, All-head, All-tail, has}
-use Rattle.session_laws.proofs.Scenes.{Error, What, Moment, Scene, Element, OfLevel, LevelContext, NewContext, OfPortal, OwnerRole, PortalContext, RowContext, ScriptContext, Text, at_owner, lock_given_back, descriptor_given, lock_taken, snapshot_pushed, does, does_all, failing_turn, then_done, exited, recovered, Command, KindTable, LevelState, OpenPortal, cache_context, first_of, level_above, level_owner, owner_of, portals_context, top_context, context_named, portal_named, Ended, where_there, context_made, level_parent, new_context_made, new_owner_made, owner_made, plan_made, Done, fallible, refused_call, unless_refused, AreLevels, IsPortal, Stands, StandsBetweenLines, line_elements, turn, turn_of, table_of}
+use Rattle.session_laws.proofs.Words.{◌≡◌, ℕ, Bool, true, false, List, Option, refl, ◌+◌, ◌<◌, ◌≤◌, All, [], ◌∷◌, ◌++◌, Some, None, ap, ◌∙◌, subst, inl, inr, arith, ◌≢◌, zero, suc, ◌-◌, IsTrue, sym, drop, ◌==◌, option_and_then, option_map_or, and_from, cases_Bool, and_parts, both_ways, cases_eq, eq-eqb, eqb-true, ne_eqb, or_cases, All-head, All-tail, has, nat_tests}
+use Rattle.session_laws.proofs.Scenes.{Error, What, Moment, Scene, Element, OfLevel, LevelContext, NewContext, OfPortal, OwnerRole, PortalContext, RowContext, ScriptContext, Text, at_owner, lock_given_back, descriptor_given, lock_taken, snapshot_pushed, does, does_all, failing_turn, then_done, exited, recovered, Command, KindTable, LevelState, OpenPortal, cache_context, first_of, level_above, owner_of, portals_context, top_context, context_named, portal_named, Ended, where_there, context_made, level_parent, new_context_made, new_owner_made, owner_made, plan_made, Done, fallible, refused_call, unless_refused, AreLevels, IsPortal, Stands, StandsBetweenLines, line_elements, turn, turn_of, table_of}
 use Rattle.session_laws.proofs.Rules.{Acts, EndLeaves, Follows, IsSpoken, OwesMakes, AreSpoken, IsRun, by_owner, element_follows, fallible_so, levels_owed, moves_owed, unfailing_so, ends_owed, exit_follows, recovers, AreSaid, said_both, said_one, said_more, said_none, Sight, item_comes, no_part, unseen_keys, unseen_owners, line_spoken, Meets, line_runs, Reader, allows_all, seen_after, allows_all-append, BalancesFrom, count, covers, left}
 use Rattle.session_laws.proofs.Usual.{Usual, is_usual, usual_files, usual_locked, usual_moves, usual_pushed, usual_unlocked, plain_ends}
 use Rattle.session_rules.proofs.ContextsKept.{protected_has, top_protected}
 use Rattle.session_rules.proofs.NamesStand.{named_there}
 use Rattle.session_rules.proofs.PortalsStand.{Named, named_in}
 use Rattle.lifetime_laws.specs.Once.{Parents, first_parents, parents_behind, shedding, deletes, discards, happens, has_context, is_first_context, makes_context, makes_owner, nothing, one_where}
-use Rattle.lifetime_laws.specs.Parents.{is_there, Node as Kept, contexts_behind, owners_behind, placed, placed_where, without}
+use Rattle.lifetime_laws.specs.Parents.{is_there, Node as Kept, placed, placed_where, without}
 use Rattle.session_laws.proofs.Lives.{IsLife, IsRead, Reads, read_both, read_none}
 use Rattle.session_laws.proofs.ParentsLife.{KeepsContexts, contexts_owed, KeepsOwners, owners_owed, opening_contexts, opening_owners}
 use Rattle.session_laws.proofs.MadeOnce.{FitsParents, NoneLeft, shed_reads, shedding_life, HasFollowed, IsFollowed, IsPaired, Pair, followed, pair_reads, paired, first_small, leaf_there, none_allowed, one_allowed, there_moved, there_placed}
@@ -188,16 +188,8 @@ module _ (s : Scene) (h : Stands s) where
       (λ n e. below_context s.session.next_context n name s (named_there parent s n h e))
 
   new_owner_placed : (role : OwnerRole) → ArePlaced s (new_owner_made role s).events
-  new_owner_placed OfLevel = by (owner_of (level_above s.session)) (second_owner s.session.levels h.levels)
-    where
-      by : (o : Option ℕ) → ((q : ℕ) → o ≡ Some q → has q s.session.owners ≡ true) → ArePlaced s ((owner_made o s).events ++ ([] ++ []))
-      by None there = owner_placed None s there
-      by (Some q) there = owner_placed (Some q) s there
-  new_owner_placed (OfPortal name) = by (level_owner s.session) (first_owner s.session.levels h.levels)
-    where
-      by : (o : Option ℕ) → ((q : ℕ) → o ≡ Some q → has q s.session.owners ≡ true) → ArePlaced s ((owner_made o s).events ++ ([] ++ []))
-      by None there = owner_placed None s there
-      by (Some q) there = owner_placed (Some q) s there
+  new_owner_placed OfLevel = grind (arith, nat_tests, second_owner, owner_placed)
+  new_owner_placed (OfPortal name) = grind (arith, nat_tests, first_owner, owner_placed)
 
   plan_placed : (plan : ℕ) → ArePlaced s (plan_made plan s).events
   plan_placed plan = below_context s.session.next_context cache_context _ s (own_there cache_context (omega arith) (omega arith))
@@ -302,60 +294,13 @@ pub record IsGoing (m least : ℕ) (nodes : List Kept) (next n : ℕ) : Type 0 w
 
 -- how that changes
 going_same : (m least : ℕ) (nodes now : List Kept) (next n : ℕ) → (is_there m now ≡ true → is_there m nodes ≡ true) → (is_there m nodes ≡ true → is_there m now ≡ true) → IsGoing m least nodes next n → IsGoing m least now next ((n + 0) - 0)
-going_same m least nodes now next n back on h = record {
-  least_is = h.least_is;
-  may = λ t. omega (arith, h.may (back t));
-  fresh = λ l. omega (arith, h.fresh l);
-  below = λ t. h.below (back t);
-  most = omega (arith, h.most);
-  kept = λ l i u. on (h.kept (omega (arith, l)) i u);
-}
+going_same m least nodes now next n back on h = grind (arith, nat_tests)
 
 going_made : (m least x : ℕ) (nodes now : List Kept) (next n : ℕ) → x ≡ next → is_there x now ≡ true → ((k : ℕ) → k ≢ x → is_there k now ≡ is_there k nodes) → IsGoing m least nodes next n → IsGoing m least now (next + 1) ((n + 0) - 0)
-going_made m least x nodes now next n is there others h = record {
-  least_is = omega (arith, h.least_is);
-  may = λ t. elim (cases_eq m x) [
-    | inl e ↦ omega (arith, h.fresh (omega (arith, e, is)))
-    | inr ne ↦ omega (arith, h.may (sym (others m ne) ∙ t))
-  ];
-  fresh = λ l. omega (arith, h.fresh (omega (arith, l)));
-  below = λ t. elim (cases_eq m x) [
-    | inl e ↦ omega (arith, e, is)
-    | inr ne ↦ omega (arith, h.below (sym (others m ne) ∙ t))
-  ];
-  most = omega (arith, h.most);
-  kept = λ l i u. elim (cases_eq m x) [
-    | inl e ↦ ap (λ (k : ℕ). is_there k now) e ∙ there
-    | inr ne ↦ others m ne ∙ h.kept (omega (arith, l)) i (omega (arith, u, ne, is))
-  ];
-}
+going_made m least x nodes now next n is there others h = grind (arith, nat_tests)
 
 going_gone : (m least x : ℕ) (nodes : List Kept) (next n : ℕ) → is_there x nodes ≡ true → IsGoing m least nodes next n → IsGoing m least (without x nodes) next ((n + 0) - one_where (m == x))
-going_gone m least x nodes next n there h = elim (cases_eq m x) [
-  | inl e ↦
-      let here : is_there m nodes ≡ true = ap (λ (k : ℕ). is_there k nodes) e ∙ there in
-      let away : is_there m (without x nodes) ≡ false = ap (λ (k : ℕ). is_there k (without x nodes)) e ∙ is_there-without_same x nodes in
-      let one : one_where (m == x) ≡ 1 = rw (eq-eqb m x e) refl in
-      record {
-        least_is = h.least_is;
-        may = λ t. absurd (both_ways (is_there m (without x nodes)) away t);
-        fresh = λ l. absurd (omega (arith, l, h.below here));
-        below = λ t. absurd (both_ways (is_there m (without x nodes)) away t);
-        most = omega (arith, h.most);
-        kept = λ l i u. absurd (omega (arith, l, one, h.most));
-      }
-  | inr ne ↦
-      let none : one_where (m == x) ≡ 0 = rw (ne_eqb m x ne) refl in
-      let same : is_there m (without x nodes) ≡ is_there m nodes = is_there-without_other m x nodes ne in
-      record {
-        least_is = h.least_is;
-        may = λ t. omega (arith, none, h.may (sym same ∙ t));
-        fresh = λ l. omega (arith, none, h.fresh l);
-        below = λ t. h.below (sym same ∙ t);
-        most = omega (arith, none, h.most);
-        kept = λ l i u. same ∙ h.kept (omega (arith, l, none)) i u;
-      }
-]
+going_gone m least x nodes next n there h = grind (arith, nat_tests, is_there-without_same, eq-eqb, both_ways, ne_eqb, is_there-without_other)
 
 -- what is seen of contexts, of the parents, and of how often a context may go
 pub record GoesContext (c : ℕ) (seen : Pair Growth Parents) (n : ℕ) : Type 0 where
@@ -364,31 +309,13 @@ pub record GoesContext (c : ℕ) (seen : Pair Growth Parents) (n : ℕ) : Type 0
 
 context_step : (c : ℕ) (event : What) (seen : Pair Growth Parents) (n : ℕ) → seen.first.nodes ≡ seen.second.contexts → IsGoing c 6 seen.first.nodes seen.first.next n → growing_contexts.allows event seen.first ≡ true → placing.allows event seen.second ≡ true
     → IsGoing c 6 (growing_contexts.next event seen.first).nodes (growing_contexts.next event seen.first).next ((n + nothing event) - deletes c event)
-context_step c (what.Create x name parent) seen n same h a b =
-    let g : Growth = seen.first in
-    let there : is_there parent g.nodes ≡ true = ap (is_there parent) same ∙ b in
-    going_made c 6 x g.nodes (placed_where (is_there parent g.nodes) x (Some parent) g.nodes) g.next n (eqb-true x g.next a) (there_now (is_there parent g.nodes) x (Some parent) g.nodes there)
-    (λ k ne. there_placed (is_there parent g.nodes) k x (Some parent) g.nodes ne) h
-context_step c (what.Move x parent) seen n same h a b =
-    let g : Growth = seen.first in
-    let moves : Bool = is_there x g.nodes && is_there parent g.nodes in
-    going_same c 6 g.nodes (placed_where moves x (Some parent) g.nodes) g.next n (there_moved c x parent g.nodes) (there_stays moves c x (Some parent) g.nodes) h
+context_step c (what.Create x name parent) seen n same h a b = grind (arith, nat_tests, going_made, eqb-true, there_now, there_placed)
+context_step c (what.Move x parent) seen n same h a b = grind (arith, nat_tests, going_same, there_moved, there_stays)
 context_step c (what.Delete x) seen n same h a b = going_gone c 6 x seen.first.nodes seen.first.next n (leaf_there x seen.first.nodes a) h
 context_step c other seen n same h a b = going_same c 6 seen.first.nodes seen.first.nodes seen.first.next n (λ t. t) (λ t. t) h
 
 contexts_going : (c : ℕ) → IsFollowed (paired growing_contexts placing) (count nothing (deletes c)) (GoesContext c)
-contexts_going c = record {
-  allowed = allowed;
-  next = λ event seen n r h.
-      let p : (growing_contexts.allows event seen.first ≡ true) × (placing.allows event seen.second ≡ true) = and_parts (growing_contexts.allows event seen.first) (placing.allows event seen.second) h in
-      record { same = ap (contexts_behind event) r.same; going = context_step c event seen n r.same r.going p.0 p.1 };
-}
-  where
-    allowed : (event : What) (seen : Pair Growth Parents) (n : ℕ) → GoesContext c seen n → (growing_contexts.allows event seen.first && placing.allows event seen.second) ≡ true → nat_le (deletes c event) n ≡ true
-    allowed (what.Delete x) seen n r h =
-        let p : (growing_contexts.allows (what.Delete x) seen.first ≡ true) × (placing.allows (what.Delete x) seen.second ≡ true) = and_parts (growing_contexts.allows (what.Delete x) seen.first) (placing.allows (what.Delete x) seen.second) h in
-        one_allowed c x n (λ e. r.going.may (ap (λ (m : ℕ). is_there m seen.first.nodes) e ∙ leaf_there x seen.first.nodes p.0))
-    allowed other seen n r h = none_allowed n
+contexts_going c = grind (arith, nat_tests, and_parts, context_step, one_allowed, leaf_there, none_allowed)
 
 -- the same of owners
 pub record GoesOwner (o : ℕ) (seen : Pair Growth Parents) (n : ℕ) : Type 0 where
@@ -400,31 +327,13 @@ owner_step : (o : ℕ) (event : What) (seen : Pair Growth Parents) (n : ℕ) →
 owner_step o (what.Owner x) seen n same h a b =
     let g : Growth = seen.first in
     going_made o 1 x g.nodes (placed x None g.nodes) g.next n (eqb-true x g.next a) (is_there-placed_same x None g.nodes) (λ k ne. is_there-placed_other k x None g.nodes ne) h
-owner_step o (what.OwnerIn x parent) seen n same h a b =
-    let g : Growth = seen.first in
-    let there : is_there parent g.nodes ≡ true = ap (is_there parent) same ∙ b in
-    going_made o 1 x g.nodes (placed_where (is_there parent g.nodes) x (Some parent) g.nodes) g.next n (eqb-true x g.next a) (there_now (is_there parent g.nodes) x (Some parent) g.nodes there)
-    (λ k ne. there_placed (is_there parent g.nodes) k x (Some parent) g.nodes ne) h
-owner_step o (what.MoveOwner x parent) seen n same h a b =
-    let g : Growth = seen.first in
-    let moves : Bool = is_there x g.nodes && is_there parent g.nodes in
-    going_same o 1 g.nodes (placed_where moves x (Some parent) g.nodes) g.next n (there_moved o x parent g.nodes) (there_stays moves o x (Some parent) g.nodes) h
+owner_step o (what.OwnerIn x parent) seen n same h a b = grind (arith, nat_tests, going_made, eqb-true, there_now, there_placed)
+owner_step o (what.MoveOwner x parent) seen n same h a b = grind (arith, nat_tests, going_same, there_moved, there_stays)
 owner_step o (what.OwnerGone x) seen n same h a b = going_gone o 1 x seen.first.nodes seen.first.next n (leaf_there x seen.first.nodes a) h
 owner_step o other seen n same h a b = going_same o 1 seen.first.nodes seen.first.nodes seen.first.next n (λ t. t) (λ t. t) h
 
 owners_going : (o : ℕ) → IsFollowed (paired growing_owners placing) (count nothing (discards o)) (GoesOwner o)
-owners_going o = record {
-  allowed = allowed;
-  next = λ event seen n r h.
-      let p : (growing_owners.allows event seen.first ≡ true) × (placing.allows event seen.second ≡ true) = and_parts (growing_owners.allows event seen.first) (placing.allows event seen.second) h in
-      record { same = ap (owners_behind event) r.same; going = owner_step o event seen n r.same r.going p.0 p.1 };
-}
-  where
-    allowed : (event : What) (seen : Pair Growth Parents) (n : ℕ) → GoesOwner o seen n → (growing_owners.allows event seen.first && placing.allows event seen.second) ≡ true → nat_le (discards o event) n ≡ true
-    allowed (what.OwnerGone x) seen n r h =
-        let p : (growing_owners.allows (what.OwnerGone x) seen.first ≡ true) × (placing.allows (what.OwnerGone x) seen.second ≡ true) = and_parts (growing_owners.allows (what.OwnerGone x) seen.first) (placing.allows (what.OwnerGone x) seen.second) h in
-        one_allowed o x n (λ e. r.going.may (ap (λ (m : ℕ). is_there m seen.first.nodes) e ∙ leaf_there x seen.first.nodes p.0))
-    allowed other seen n r h = none_allowed n
+owners_going o = grind (arith, nat_tests, and_parts, owner_step, one_allowed, leaf_there, none_allowed)
 
 -- a number that is made is below the next one then
 pub record IsGiven (m least next : ℕ) : Type 0 where
@@ -432,71 +341,23 @@ pub record IsGiven (m least next : ℕ) : Type 0 where
   pub below : m < next
 
 one_happens : (m x : ℕ) → (one_where (m == x) == 1) ≡ true → m ≡ x
-one_happens m x h = elim (cases_Bool (m == x)) [
-  | inl y ↦ eqb-true m x y
-  | inr z ↦ let none : one_where (m == x) ≡ 0 = rw z refl in let k : one_where (m == x) ≡ 1 = eqb-true (one_where (m == x)) 1 h in absurd (omega (arith, none, k))
-]
+one_happens m x h = grind (arith, nat_tests, eqb-true)
 
 contexts_rise : (events : List What) (g : Growth) → allows_all growing_contexts g events ≡ true → g.next ≤ (seen_after growing_contexts g events).next
 contexts_rise [] g h = omega arith
-contexts_rise (event ∷ events) g h =
-    let p : (growing_contexts.allows event g ≡ true) × (allows_all growing_contexts (growing_contexts.next event g) events ≡ true) = and_parts (growing_contexts.allows event g) (allows_all growing_contexts (growing_contexts.next event g) events) h in
-    omega (arith, one event, contexts_rise events (growing_contexts.next event g) p.1)
-  where
-    one : (event : What) → g.next ≤ (growing_contexts.next event g).next
-    one (what.Create context name parent) = omega arith
-    one other = omega arith
+contexts_rise (event ∷ events) g h = grind (arith, nat_tests, contexts_rise events (growing_contexts.next event g), growing_contexts, and_parts)
 
 context_given : (c : ℕ) (events : List What) (g : Growth) → allows_all growing_contexts g events ≡ true → 6 ≤ g.next → happens (makes_context c) events ≡ true → IsGiven c 6 (seen_after growing_contexts g events).next
 context_given c [] g h l made = absurd (cc made)
-context_given c (event ∷ events) g h l made =
-    let p : (growing_contexts.allows event g ≡ true) × (allows_all growing_contexts (growing_contexts.next event g) events ≡ true) = and_parts (growing_contexts.allows event g) (allows_all growing_contexts (growing_contexts.next event g) events) h in
-    let rise : (growing_contexts.next event g).next ≤ (seen_after growing_contexts (growing_contexts.next event g) events).next = contexts_rise events (growing_contexts.next event g) p.1 in
-    elim (or_cases (makes_context c event == 1) (happens (makes_context c) events) made) [
-      | inl y ↦ now event p.0 y rise
-      | inr z ↦ context_given c events (growing_contexts.next event g) p.1 (more event) z
-    ]
-  where
-    more : (event : What) → 6 ≤ (growing_contexts.next event g).next
-    more (what.Create context name parent) = omega (arith, l)
-    more other = l
-
-    now : (event : What) → growing_contexts.allows event g ≡ true → (makes_context c event == 1) ≡ true → (growing_contexts.next event g).next ≤ (seen_after growing_contexts (growing_contexts.next event g) events).next
-        → IsGiven c 6 (seen_after growing_contexts (growing_contexts.next event g) events).next
-    now (what.Create x name parent) a y rise = record { least_is = omega (arith, l, one_happens c x y, eqb-true x g.next a); below = omega (arith, rise, one_happens c x y, eqb-true x g.next a) }
-    now other a y rise = absurd (cc y)
+context_given c (event ∷ events) g h l made = grind (arith, nat_tests, context_given c events (growing_contexts.next event g), growing_contexts, and_parts, contexts_rise, or_cases, one_happens, eqb-true)
 
 owners_rise : (events : List What) (g : Growth) → allows_all growing_owners g events ≡ true → g.next ≤ (seen_after growing_owners g events).next
 owners_rise [] g h = omega arith
-owners_rise (event ∷ events) g h =
-    let p : (growing_owners.allows event g ≡ true) × (allows_all growing_owners (growing_owners.next event g) events ≡ true) = and_parts (growing_owners.allows event g) (allows_all growing_owners (growing_owners.next event g) events) h in
-    omega (arith, one event, owners_rise events (growing_owners.next event g) p.1)
-  where
-    one : (event : What) → g.next ≤ (growing_owners.next event g).next
-    one (what.Owner owner) = omega arith
-    one (what.OwnerIn owner parent) = omega arith
-    one other = omega arith
+owners_rise (event ∷ events) g h = grind (arith, nat_tests, owners_rise events (growing_owners.next event g), growing_owners, and_parts)
 
 owner_given : (o : ℕ) (events : List What) (g : Growth) → allows_all growing_owners g events ≡ true → 1 ≤ g.next → happens (makes_owner o) events ≡ true → IsGiven o 1 (seen_after growing_owners g events).next
 owner_given o [] g h l made = absurd (cc made)
-owner_given o (event ∷ events) g h l made =
-    let p : (growing_owners.allows event g ≡ true) × (allows_all growing_owners (growing_owners.next event g) events ≡ true) = and_parts (growing_owners.allows event g) (allows_all growing_owners (growing_owners.next event g) events) h in
-    let rise : (growing_owners.next event g).next ≤ (seen_after growing_owners (growing_owners.next event g) events).next = owners_rise events (growing_owners.next event g) p.1 in
-    elim (or_cases (makes_owner o event == 1) (happens (makes_owner o) events) made) [
-      | inl y ↦ now event p.0 y rise
-      | inr z ↦ owner_given o events (growing_owners.next event g) p.1 (more event) z
-    ]
-  where
-    more : (event : What) → 1 ≤ (growing_owners.next event g).next
-    more (what.Owner owner) = omega (arith, l)
-    more (what.OwnerIn owner parent) = omega (arith, l)
-    more other = l
-
-    now : (event : What) → growing_owners.allows event g ≡ true → (makes_owner o event == 1) ≡ true → (growing_owners.next event g).next ≤ (seen_after growing_owners (growing_owners.next event g) events).next
-        → IsGiven o 1 (seen_after growing_owners (growing_owners.next event g) events).next
-    now (what.Owner x) a y rise = record { least_is = omega (arith, l, one_happens o x y, eqb-true x g.next a); below = omega (arith, rise, one_happens o x y, eqb-true x g.next a) }
-    now (what.OwnerIn x parent) a y rise = record { least_is = omega (arith, l, one_happens o x y, eqb-true x g.next a); below = omega (arith, rise, one_happens o x y, eqb-true x g.next a) }
-    now other a y rise = absurd (cc y)
+owner_given o (event ∷ events) g h l made = grind (arith, nat_tests, owner_given o events (growing_owners.next event g), growing_owners, and_parts, owners_rise, or_cases, one_happens, eqb-true)
 
 -- the contexts that a session begins with may go once
 first_kept : (c : ℕ) → 1 ≤ c → c < 6 → is_there c opening_contexts.nodes ≡ true
@@ -513,34 +374,14 @@ first_some zero h = absurd (cc h)
 first_some (suc n) h = omega arith
 
 first_going : (c : ℕ) → IsGoing c 6 opening_contexts.nodes 6 1
-first_going c = record {
-  least_is = omega arith;
-  may = λ t. omega arith;
-  fresh = λ l. omega arith;
-  below = λ t. first_small c t;
-  most = omega arith;
-  kept = λ l i u. first_kept c i u;
-}
+first_going c = grind (arith, nat_tests, first_small, first_kept)
 
 no_owner_going : (o : ℕ) → IsGoing o 1 opening_owners.nodes 1 1
-no_owner_going o = record {
-  least_is = omega arith;
-  may = λ t. omega arith;
-  fresh = λ l. omega arith;
-  below = λ t. absurd (cc t);
-  most = omega arith;
-  kept = λ l i u. absurd (omega (arith, i, u));
-}
+no_owner_going o = grind (arith, nat_tests)
 
 -- where nothing is there in the end, what was given has gone
 all_gone : (m least : ℕ) (nodes : List Kept) (next n : ℕ) → nodes ≡ [] → 1 ≤ m → m < next → IsGoing m least nodes next n → n ≡ 0
-all_gone m least nodes next n none i u h = elim (cases_eq n 0) [
-  | inl e ↦ e
-  | inr ne ↦
-      let there : is_there m nodes ≡ true = h.kept (omega (arith, ne)) i u in
-      let away : is_there m nodes ≡ false = ap (is_there m) none in
-      absurd (both_ways (is_there m nodes) away there)
-]
+all_gone m least nodes next n none i u h = grind (arith, nat_tests, both_ways)
 
 -- Where contexts grow and are placed as they are in a session, each that it has goes exactly once.
 pub contexts_gone_of : (events : List What) → allows_all growing_contexts opening_contexts events ≡ true → allows_all placing first_parents events ≡ true → NoneLeft (seen_after placing first_parents events)

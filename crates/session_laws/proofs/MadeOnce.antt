@@ -1,15 +1,14 @@
 -- A reader that allows what another one allows, by what both have seen.
-use Rattle.session_laws.proofs.Words.{◌≡◌, true, List, [], ◌∷◌, refl, ℕ, not, sym, ap, ◌∙◌, subst, ◌≢◌, ◌+◌, ◌-◌, ◌<◌, ◌≤◌, Bool, false, Option, Some, None, nat_le, inl, inr, arith, ◌&&◌, ◌==◌, and_from, and_parts, both_ways, cases_Bool, cases_eq, eqb-false, eqb-true, false_from_ne_true, le-leb, nat_tests}
+use Rattle.session_laws.proofs.Words.{◌≡◌, true, List, [], ◌∷◌, refl, ℕ, not, sym, ap, ◌∙◌, subst, ◌≢◌, ◌+◌, ◌-◌, ◌<◌, ◌≤◌, Bool, false, Option, Some, nat_le, inl, inr, arith, ◌&&◌, ◌==◌, and_from, and_parts, both_ways, cases_eq, eqb-false, eqb-true, false_from_ne_true, le-leb, nat_tests}
 use Rattle.session_laws.proofs.Scenes.{What, Scene, KindTable, exited}
 use Rattle.session_laws.proofs.Rules.{Reader, allows_all, seen_after, count}
-use Rattle.lifetime_laws.specs.Parents.{Node as Kept, contexts_behind, has_child, is_there, owners_behind, placed_where, without}
+use Rattle.lifetime_laws.specs.Parents.{Node as Kept, has_child, is_there, placed_where}
 use Rattle.lifetime_laws.specs.Once.{Parents, first_parents, shedding, deletes, discards, is_first_context, makes_context, makes_owner, nothing, one_where}
 use Rattle.session_laws.proofs.Lives.{IsLife, IsRead, Reads}
 use Rattle.session_laws.proofs.Parents.{FitsContexts, FitsOwners, Growth, growing_contexts, growing_owners, is_leaf}
 use Rattle.session_laws.proofs.ParentsLife.{HasContexts, KeepsContexts, HasOwners, KeepsOwners, contexts_life, opening_contexts, opening_owners, owners_life}
 use Rattle.lifetime_laws.specs.Made.{IsMadeOnce}
 use Rattle.lifetime_laws.proofs.Replays.{is_there-placed_other, is_there-without_other, is_there-without_same}
-use Rattle.pgs_step.specs.declared.events.What.TheVariants as what
 
 module _ {A B : Type 0} (one : Reader A) (two : Reader B) where
   -- where what both have seen is related, the second allows each event that the first allows, and so it is behind
@@ -53,15 +52,7 @@ module _ {A B : Type 0} (one : Reader A) (two : Reader B) where
 
   pub pair_reads : (events : List What) (seen : Pair A B) → allows_all one seen.first events ≡ true → allows_all two seen.second events ≡ true → IsPaired seen events
   pair_reads [] seen h k = record { allowed = refl; first = refl; second = refl }
-  pair_reads (event ∷ events) seen h k =
-      let p : (one.allows event seen.first ≡ true) × (allows_all one (one.next event seen.first) events ≡ true) = and_parts (one.allows event seen.first) (allows_all one (one.next event seen.first) events) h in
-      let q : (two.allows event seen.second ≡ true) × (allows_all two (two.next event seen.second) events ≡ true) = and_parts (two.allows event seen.second) (allows_all two (two.next event seen.second) events) k in
-      let w : IsPaired (paired.next event seen) events = pair_reads events (paired.next event seen) p.1 q.1 in
-      record {
-        allowed = and_from (paired.allows event seen) (allows_all paired (paired.next event seen) events) (and_from (one.allows event seen.first) (two.allows event seen.second) p.0 q.0) w.allowed;
-        first = w.first;
-        second = w.second;
-      }
+  pair_reads (event ∷ events) seen h k = grind (arith, nat_tests, pair_reads events (paired.next event seen), and_parts, and_from)
 
   pub record FitsPair (F : A → Scene → Type 0) (G : B → Scene → Type 0) (seen : Pair A B) (s : Scene) : Type 0 where
     pub first : F seen.first s
@@ -84,19 +75,7 @@ no_child n nodes h =
     let p : (is_there n nodes ≡ true) × (not (has_child n nodes) ≡ true) = and_parts (is_there n nodes) (not (has_child n nodes)) h in p.1
 
 pub sheds : IsFollowed (paired growing_contexts growing_owners) shedding AreSame
-sheds = record {
-  allowed = allowed;
-  next = λ event seen parents r h. record { contexts = ap (contexts_behind event) r.contexts; owners = ap (owners_behind event) r.owners };
-}
-  where
-    allowed : (event : What) (seen : Pair Growth Growth) (parents : Parents) → AreSame seen parents → (growing_contexts.allows event seen.first && growing_owners.allows event seen.second) ≡ true → shedding.allows event parents ≡ true
-    allowed (what.Delete context) seen parents r h =
-        let p : (is_leaf context seen.first.nodes ≡ true) × (growing_owners.allows (what.Delete context) seen.second ≡ true) = and_parts (is_leaf context seen.first.nodes) (growing_owners.allows (what.Delete context) seen.second) h in
-        ap (λ (nodes : List Kept). not (has_child context nodes)) (sym r.contexts) ∙ no_child context seen.first.nodes p.0
-    allowed (what.OwnerGone owner) seen parents r h =
-        let p : (growing_contexts.allows (what.OwnerGone owner) seen.first ≡ true) × (is_leaf owner seen.second.nodes ≡ true) = and_parts (growing_contexts.allows (what.OwnerGone owner) seen.first) (is_leaf owner seen.second.nodes) h in
-        ap (λ (nodes : List Kept). not (has_child owner nodes)) (sym r.owners) ∙ no_child owner seen.second.nodes p.1
-    allowed other seen parents r h = refl
+sheds = grind (arith, nat_tests, is_leaf, and_parts, no_child)
 
 -- what is read of events that keep both trees
 record AreShed (parents : Parents) (g k : Growth) (events : List What) : Type 0 where
@@ -182,25 +161,16 @@ leaf_there n nodes h = let p : (is_there n nodes ≡ true) × (not (has_child n 
 
 -- counts of one number
 pub one_allowed : (m x n : ℕ) → (m ≡ x → 1 ≤ n) → nat_le (one_where (m == x)) n ≡ true
-one_allowed m x n h = elim (cases_Bool (m == x)) [
-  | inl y ↦ rw y (le-leb 1 n (h (eqb-true m x y)))
-  | inr z ↦ rw z (le-leb 0 n (omega arith))
-]
+one_allowed m x n h = grind (arith, nat_tests, le-leb, eqb-true)
 
 pub none_allowed : (n : ℕ) → nat_le 0 n ≡ true
 none_allowed n = le-leb 0 n (omega arith)
 
 pub one_less : (m x n : ℕ) → m ≢ x → 1 ≤ n → 1 ≤ (n + 0) - one_where (m == x)
-one_less m x n ne h = elim (cases_Bool (m == x)) [
-  | inl y ↦ absurd (ne (eqb-true m x y))
-  | inr z ↦ rw z (omega (arith, h))
-]
+one_less m x n ne h = grind (arith, nat_tests, eqb-true)
 
 pub one_more : (m x n : ℕ) → (m ≢ x → 1 ≤ n) → 1 ≤ (n + one_where (m == x)) - 0
-one_more m x n h = elim (cases_Bool (m == x)) [
-  | inl y ↦ rw y (omega arith)
-  | inr z ↦ rw z (omega (arith, h (eqb-false m x z)))
-]
+one_more m x n h = grind (arith, nat_tests, eqb-false)
 
 pub still_one : (n : ℕ) → 1 ≤ n → 1 ≤ (n + 0) - 0
 still_one n h = omega (arith, h)
@@ -211,82 +181,20 @@ pub record IsToMake (m least : ℕ) (growth : Growth) (n : ℕ) : Type 0 where
   pub may : growth.next ≤ m → 1 ≤ n
 
 contexts_made : (c : ℕ) → IsFollowed growing_contexts (count nothing (makes_context c)) (IsToMake c 6)
-contexts_made c = record { allowed = allowed; next = next }
-  where
-    allowed : (event : What) (g : Growth) (n : ℕ) → IsToMake c 6 g n → growing_contexts.allows event g ≡ true → nat_le (makes_context c event) n ≡ true
-    allowed (what.Create x name parent) g n r h = one_allowed c x n (λ e. r.may (omega (arith, e, eqb-true x g.next h)))
-    allowed other g n r h = none_allowed n
-
-    next : (event : What) (g : Growth) (n : ℕ) → IsToMake c 6 g n → growing_contexts.allows event g ≡ true → IsToMake c 6 (growing_contexts.next event g) ((n + 0) - makes_context c event)
-    next (what.Create x name parent) g n r h = record {
-      least_is = omega (arith, r.least_is);
-      may = λ l. one_less c x n (λ e. omega (arith, e, l, eqb-true x g.next h)) (r.may (omega (arith, l)));
-    }
-    next other g n r h = record { least_is = r.least_is; may = λ l. still_one n (r.may l) }
+contexts_made c = grind (arith, nat_tests, one_allowed, eqb-true, none_allowed, one_less, still_one)
 
 owners_made : (o : ℕ) → IsFollowed growing_owners (count nothing (makes_owner o)) (IsToMake o 1)
-owners_made o = record { allowed = allowed; next = next }
-  where
-    allowed : (event : What) (g : Growth) (n : ℕ) → IsToMake o 1 g n → growing_owners.allows event g ≡ true → nat_le (makes_owner o event) n ≡ true
-    allowed (what.Owner x) g n r h = one_allowed o x n (λ e. r.may (omega (arith, e, eqb-true x g.next h)))
-    allowed (what.OwnerIn x parent) g n r h = one_allowed o x n (λ e. r.may (omega (arith, e, eqb-true x g.next h)))
-    allowed other g n r h = none_allowed n
-
-    next : (event : What) (g : Growth) (n : ℕ) → IsToMake o 1 g n → growing_owners.allows event g ≡ true → IsToMake o 1 (growing_owners.next event g) ((n + 0) - makes_owner o event)
-    next (what.Owner x) g n r h = record {
-      least_is = omega (arith, r.least_is);
-      may = λ l. one_less o x n (λ e. omega (arith, e, l, eqb-true x g.next h)) (r.may (omega (arith, l)));
-    }
-    next (what.OwnerIn x parent) g n r h = record {
-      least_is = omega (arith, r.least_is);
-      may = λ l. one_less o x n (λ e. omega (arith, e, l, eqb-true x g.next h)) (r.may (omega (arith, l)));
-    }
-    next other g n r h = record { least_is = r.least_is; may = λ l. still_one n (r.may l) }
+owners_made o = grind (arith, nat_tests, one_allowed, eqb-true, none_allowed, one_less, still_one)
 
 -- what is there may go
 pub record IsToGo (m : ℕ) (growth : Growth) (n : ℕ) : Type 0 where
   pub may : is_there m growth.nodes ≡ true → 1 ≤ n
 
 contexts_go : (c : ℕ) → IsFollowed growing_contexts (count (makes_context c) (deletes c)) (IsToGo c)
-contexts_go c = record { allowed = allowed; next = next }
-  where
-    allowed : (event : What) (g : Growth) (n : ℕ) → IsToGo c g n → growing_contexts.allows event g ≡ true → nat_le (deletes c event) n ≡ true
-    allowed (what.Delete x) g n r h = one_allowed c x n (λ e. r.may (ap (λ (m : ℕ). is_there m g.nodes) e ∙ leaf_there x g.nodes h))
-    allowed other g n r h = none_allowed n
-
-    next : (event : What) (g : Growth) (n : ℕ) → IsToGo c g n → growing_contexts.allows event g ≡ true → IsToGo c (growing_contexts.next event g) ((n + makes_context c event) - deletes c event)
-    next (what.Create x name parent) g n r h = record {
-      may = λ t. one_more c x n (λ ne. r.may (sym (there_placed (is_there parent g.nodes) c x (Some parent) g.nodes ne) ∙ t));
-    }
-    next (what.Move x parent) g n r h = record { may = λ t. still_one n (r.may (there_moved c x parent g.nodes t)) }
-    next (what.Delete x) g n r h = record {
-      may = λ t. elim (cases_eq c x) [
-        | inl e ↦ absurd (both_ways (is_there c (without x g.nodes)) (ap (λ (m : ℕ). is_there m (without x g.nodes)) e ∙ is_there-without_same x g.nodes) t)
-        | inr ne ↦ one_less c x n ne (r.may (sym (is_there-without_other c x g.nodes ne) ∙ t))
-      ];
-    }
-    next other g n r h = record { may = λ t. still_one n (r.may t) }
+contexts_go c = grind (arith, nat_tests, one_allowed, leaf_there, none_allowed, one_more, there_placed, still_one, there_moved, both_ways, is_there-without_same, one_less, is_there-without_other)
 
 owners_go : (o : ℕ) → IsFollowed growing_owners (count (makes_owner o) (discards o)) (IsToGo o)
-owners_go o = record { allowed = allowed; next = next }
-  where
-    allowed : (event : What) (g : Growth) (n : ℕ) → IsToGo o g n → growing_owners.allows event g ≡ true → nat_le (discards o event) n ≡ true
-    allowed (what.OwnerGone x) g n r h = one_allowed o x n (λ e. r.may (ap (λ (m : ℕ). is_there m g.nodes) e ∙ leaf_there x g.nodes h))
-    allowed other g n r h = none_allowed n
-
-    next : (event : What) (g : Growth) (n : ℕ) → IsToGo o g n → growing_owners.allows event g ≡ true → IsToGo o (growing_owners.next event g) ((n + makes_owner o event) - discards o event)
-    next (what.Owner x) g n r h = record { may = λ t. one_more o x n (λ ne. r.may (sym (is_there-placed_other o x None g.nodes ne) ∙ t)) }
-    next (what.OwnerIn x parent) g n r h = record {
-      may = λ t. one_more o x n (λ ne. r.may (sym (there_placed (is_there parent g.nodes) o x (Some parent) g.nodes ne) ∙ t));
-    }
-    next (what.MoveOwner x parent) g n r h = record { may = λ t. still_one n (r.may (there_moved o x parent g.nodes t)) }
-    next (what.OwnerGone x) g n r h = record {
-      may = λ t. elim (cases_eq o x) [
-        | inl e ↦ absurd (both_ways (is_there o (without x g.nodes)) (ap (λ (m : ℕ). is_there m (without x g.nodes)) e ∙ is_there-without_same x g.nodes) t)
-        | inr ne ↦ one_less o x n ne (r.may (sym (is_there-without_other o x g.nodes ne) ∙ t))
-      ];
-    }
-    next other g n r h = record { may = λ t. still_one n (r.may t) }
+owners_go o = grind (arith, nat_tests, one_allowed, leaf_there, none_allowed, one_more, is_there-placed_other, there_placed, still_one, there_moved, both_ways, is_there-without_same, one_less, is_there-without_other)
 
 -- the contexts that a session begins with
 first_to_go : (c : ℕ) → is_there c opening_contexts.nodes ≡ true → 1 ≤ one_where (is_first_context c)

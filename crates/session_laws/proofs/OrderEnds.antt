@@ -1,9 +1,9 @@
 -- A reader of releases, where none is open, as one opens, and as it closes.
-use Rattle.session_laws.proofs.Words.{◌≡◌, ℕ, Bool, true, false, not, List, [], ◌∷◌, ◌++◌, map, Option, Some, None, refl, sym, subst, codes, ◌∙◌, ◌+◌, ◌<◌, All, ap, arith, ◌≤◌, length, option_and_then, ◌==◌, option_map_or, list_all, and_from, All-cons, All-filter, All-nil, All-weaker, Empty, Node, AllNodes, children, order, nat_tests}
+use Rattle.session_laws.proofs.Words.{◌≡◌, ℕ, Bool, true, false, not, List, [], ◌∷◌, ◌++◌, map, Option, Some, None, refl, sym, subst, codes, ◌∙◌, ◌+◌, ◌<◌, All, ap, arith, ◌≤◌, length, option_and_then, ◌==◌, option_map_or, list_all, and_from, All-filter, All-nil, All-weaker, Empty, Node, AllNodes, children, order, nat_tests}
 use Rattle.session_laws.proofs.Scenes.{What, KindTable, portals_context, opening, LevelState, OpenPortal, deepest_changed, depth, first_of, level_owner, owner_of, top_context, Moment, Scene, Around, Element, Text, new_context_made, owner_made, owner_gone, descriptor_left, owner_moved, owner_released, does, Item, Phase, BeforeLocks, Locks, AfterLocks, table_of, is_of, without_newest, is_of_phase, Owner, OwnerTree, remembered, own_released, IsInOrder, Lock, has_owner, Ended, changes, context_gone, for_each, in_order, portal_gone, switched, where_so, where_there, portal_aborted, portal_closed, portal_passed, aborted, cleaned_up, committed, empty_context_gone, level_context_gone, level_owner_gone, level_popped, level_released, stack_lowered, stack_popped, subcommitted, switched_up, Stands, active_depth}
 use Rattle.session_laws.proofs.Rules.{allows_all, seen_after, allows_all-append, seen_after-append, AreSaid, said_more, said_none, said_both, said_one, said_pops, Acts, Follows, Keeps, last, next, EndLeaves, Law, MakeLeaves, Leaves, OwnerLeaves, KeyLeaves, Part, Sight, acts_of, children_go, goes, item_comes, item_goes, leaves_of, of_levels, owner_goes, owner_makes, places, releases, unseen_keys, unseen_owners, of_kinds, of_locks, of_next_serial, of_owners, owner_moves, by_order, moves_owed, by_each, by_so, by_there, all_swept, begins, off_begins, owner_when_active, resettled, settled, switched_off, aborted_leads, empty_context_goes, level_context_goes, portal_aborts, portal_cleans, portal_closes, portal_passes}
 use Rattle.session_laws.proofs.Usual.{Usual, any, usual_any, is_usual, usual_contexts, usual_files, usual_locked, usual_locks, usual_made, usual_moves, usual_placed, usual_planned, usual_pushed, usual_stack, usual_unlocked, usual_words, usual_ends, usual_released, usual_taken, usual_phase}
-use Rattle.lifetime_laws.specs.Order.{Batch, Member, Owned, Releasing, batch_behind, may_precede, member_in, member_now, members_so_far, ordering}
+use Rattle.lifetime_laws.specs.Order.{Batch, Member, Owned, Releasing, batch_behind, may_precede, member_in, members_so_far, ordering}
 use Rattle.lifetime_laws.specs.Parents.{owners_behind}
 use Rattle.session_laws.proofs.Parents.{Growth, growing_owners, FitsOwners}
 use Rattle.session_laws.proofs.Warnings.{is_aside, is_line}
@@ -63,12 +63,7 @@ module _ (kinds : KindTable) where
   goes_none seen P h = record { allowed = refl; behind = h }
 
   pub goes_both : {seen : Releasing} {xs ys : List What} {P Q : Releasing → Type 0} → Goes seen xs P → ((mid : Releasing) → P mid → Goes mid ys Q) → Goes seen (xs ++ ys) Q
-  goes_both {seen = seen} {xs = xs} {ys = ys} {Q = Q} a more =
-      let b : Goes (seen_after (ordering kinds) seen xs) ys Q = more (seen_after (ordering kinds) seen xs) a.behind in
-      record {
-        allowed = allows_all-append (ordering kinds) seen xs ys a.allowed b.allowed;
-        behind = subst Q (sym (seen_after-append (ordering kinds) seen xs ys)) b.behind;
-      }
+  goes_both {seen = seen} {xs = xs} {ys = ys} {Q = Q} a more = grind (arith, nat_tests, allows_all-append, seen_after-append)
 
   pub goes_weaker : {seen : Releasing} {events : List What} {P Q : Releasing → Type 0} → ((b : Releasing) → P b → Q b) → Goes seen events P → Goes seen events Q
   goes_weaker f g = record { allowed = g.allowed; behind = f _ g.behind }
@@ -88,10 +83,7 @@ module _ (kinds : KindTable) where
 
   pub closed_goes : {events : List What} → AreSaid is_unlined events → (seen : Releasing) → IsClosed seen → Goes seen events IsClosed
   closed_goes said_none seen is = goes_none seen IsClosed is
-  closed_goes (said_more {event = event} {events = events} h hs) seen is =
-      let then : IsClosed ((ordering kinds).next event seen) = subst (λ (b : Option Batch). batch_behind event (member_now kinds event seen) b ≡ None) (sym is) (closed_next event (member_now kinds event seen) h) in
-      let rest : Goes ((ordering kinds).next event seen) events IsClosed = closed_goes hs ((ordering kinds).next event seen) then in
-      record { allowed = and_from ((ordering kinds).allows event seen) _ (closed_allows event seen is) rest.allowed; behind = rest.behind }
+  closed_goes (said_more {event = event} {events = events} h hs) seen is = grind (arith, nat_tests, closed_goes hs, closed_next, and_from, closed_allows)
 
   -- an event that is no member of a release
   pub lone_allows : (event : What) (seen : Releasing) → ((b : Option Batch) → option_and_then (λ batch. member_in kinds seen.warning event batch) b ≡ None) → (ordering kinds).allows event seen ≡ true
@@ -100,18 +92,10 @@ module _ (kinds : KindTable) where
 
   -- a level's line opens one, whatever was open before
   pub commit_opens : (level : ℕ) (seen : Releasing) → Goes seen (what.CommitLevel level ∷ []) (λ behind. behind ≡ in_batch seen.owners false [])
-  commit_opens level seen = record { allowed = and_from _ true (lone_allows (what.CommitLevel level) seen none) refl; behind = refl }
-    where
-      none : (b : Option Batch) → option_and_then (λ batch. member_in kinds seen.warning (what.CommitLevel level) batch) b ≡ None
-      none None = refl
-      none (Some batch) = refl
+  commit_opens level seen = grind (arith, nat_tests, and_from, lone_allows)
 
   pub abort_opens : (level : ℕ) (seen : Releasing) → Goes seen (what.AbortLevel level ∷ []) (λ behind. behind ≡ in_batch seen.owners true [])
-  abort_opens level seen = record { allowed = and_from _ true (lone_allows (what.AbortLevel level) seen none) refl; behind = refl }
-    where
-      none : (b : Option Batch) → option_and_then (λ batch. member_in kinds seen.warning (what.AbortLevel level) batch) b ≡ None
-      none None = refl
-      none (Some batch) = refl
+  abort_opens level seen = grind (arith, nat_tests, and_from, lone_allows)
 
   -- an event that closes one
   pub data Closes : What → Type 0 where
@@ -137,10 +121,7 @@ module _ (kinds : KindTable) where
   closed_behind by_ok member b = refl
 
   pub closes : {event : What} → Closes event → (seen : Releasing) → Goes seen (event ∷ []) IsClosed
-  closes {event = event} h seen = record {
-    allowed = and_from _ true (lone_allows event seen (closing h seen.warning)) refl;
-    behind = closed_behind h (member_now kinds event seen) seen.batch;
-  }
+  closes {event = event} h seen = grind (arith, nat_tests, and_from, lone_allows, closing)
 
   -- what passes over a release that has released nothing so far
   passing_one : (aborts : Bool) (nodes : List replayed.Node) (event : What) → is_passing aborts event ≡ true → Goes (in_batch nodes aborts []) (event ∷ []) (λ behind. behind ≡ in_batch (owners_behind event nodes) aborts [])
@@ -155,10 +136,7 @@ module _ (kinds : KindTable) where
 
   pub passing_goes : (aborts : Bool) (nodes : List replayed.Node) {events : List What} → AreSaid (is_passing aborts) events → Goes (in_batch nodes aborts []) events (λ behind. behind ≡ in_batch (nodes_after nodes events) aborts [])
   passing_goes aborts nodes said_none = goes_none (in_batch nodes aborts []) (λ behind. behind ≡ in_batch nodes aborts []) refl
-  passing_goes aborts nodes (said_more {event = event} {events = events} h hs) =
-      let last : List replayed.Node = nodes_after (owners_behind event nodes) events in
-      goes_both (passing_one aborts nodes event h)
-      (λ mid is. subst (λ (z : Releasing). Goes z events (λ behind. behind ≡ in_batch last aborts [])) (sym is) (passing_goes aborts (owners_behind event nodes) hs))
+  passing_goes aborts nodes (said_more {event = event} {events = events} h hs) = grind (arith, nat_tests, passing_goes aborts (owners_behind event nodes) hs, last, goes_both, passing_one, in_batch)
 
   -- what a release says in order, and what is said beside it
   pub adds_goes : (nodes : List replayed.Node) (aborts : Bool) (old new : List Member) {events : List What} → Adds kinds nodes aborts old new events → Goes (in_batch nodes aborts old) events (λ behind. behind ≡ in_batch nodes aborts new)
@@ -274,13 +252,7 @@ module _ (kinds : KindTable) where
 
   -- what leaves all of it as it is
   same : (s t : Scene) (events : List What) → t.session.locks ≡ s.session.locks → t.session.owners ≡ s.session.owners → t.session.next_serial ≡ s.session.next_serial → table_of t.around.kinds ≡ table_of s.around.kinds → R s t events
-  same s t events l o n k = record {
-    so = λ h. record {
-      places = k ∙ h.places;
-      locks = subst IsInOrder (sym l) h.locks;
-      items = subst (λ (next : ℕ). AllNodes (Recalls next) t.session.owners) (sym n) (subst (AllNodes (Recalls s.session.next_serial)) (sym o) h.items);
-    };
-  }
+  same s t events l o n k = grind (arith, nat_tests, places, next)
 
   abbrev base_sight : Sight sees_base any (KeepsBase kinds)
   base_sight = record {
@@ -293,13 +265,7 @@ module _ (kinds : KindTable) where
 
   owner_so : (parent : Option ℕ) (s : Scene) → R s (owner_made parent s).scene (owner_made parent s).events
   owner_so None s = record { so = λ h. record { places = h.places; locks = h.locks; items = (new_recalls s.session.next_serial, tt, h.items) } }
-  owner_so (Some parent) s = record {
-    so = λ h. record {
-      places = h.places;
-      locks = h.locks;
-      items = all_put (Recalls s.session.next_serial) parent s.session.next_owner (record { begun = false; items = [] }) Empty s.session.owners (new_recalls s.session.next_serial) tt h.items;
-    };
-  }
+  owner_so (Some parent) s = grind (arith, nat_tests, places, all_put, new_recalls)
 
   forget : (bound : ℕ) (test : Item → Bool) (owner : Owner) → Recalls bound owner → Recalls bound (record owner { items = without_newest test owner.items })
   forget bound test owner h = record { falls = falling-without test owner.items h.falls; older = All-without (λ (item : Item). item.serial < bound) test owner.items h.older }
@@ -309,10 +275,7 @@ module _ (kinds : KindTable) where
   later bound owner h = record { falls = h.falls; older = All-weaker (λ (item : Item). item.serial < bound) (λ (item : Item). item.serial < bound + 1) (λ item l. omega (arith, l)) owner.items h.older }
 
   recall : (item : Item) (owner : Owner) → Recalls item.serial owner → Recalls (item.serial + 1) (record owner { items = item ∷ owner.items })
-  recall item owner h = record {
-    falls = (h.older, h.falls);
-    older = All-cons (λ (other : Item). other.serial < item.serial + 1) item owner.items (omega arith) (later item.serial owner h).older;
-  }
+  recall item owner h = grind (arith, nat_tests, later)
 
   recalled : (n : ℕ) (item : Item) (t : OwnerTree) → AllNodes (Recalls item.serial) t → AllNodes (Recalls (item.serial + 1)) (remembered n item t)
   recalled n item Empty h = tt

@@ -1,5 +1,5 @@
 -- The three phases of a release, of an owner and all below it.
-use Rattle.session_laws.proofs.Words.{◌≡◌, ℕ, ◌<◌, Bool, true, false, not, if◌then◌else◌, List, [], ◌++◌, All, Option, Some, None, refl, sym, subst, ap, ◌∙◌, inl, inr, arith, ◌==◌, ◌||◌, option_map_or, cond-false, cond-true, both_ways, eq-eqb, false_from_ne_true, ne_eqb, or_left, or_right, append-nil, All-append, All-nil, All-weaker, Forest, Empty, Node, Once, AllNodes, at, children, has, parent_of, Apart, apart_of, first_child_other, has_at, has_children, nat_tests}
+use Rattle.session_laws.proofs.Words.{◌≡◌, ℕ, ◌<◌, Bool, true, false, not, List, [], ◌++◌, All, Option, Some, None, refl, sym, subst, ap, ◌∙◌, inl, inr, arith, option_map_or, cond-false, cond-true, both_ways, eq-eqb, false_from_ne_true, ne_eqb, or_left, or_right, append-nil, All-append, All-nil, All-weaker, Forest, Empty, Node, Once, AllNodes, at, children, has, parent_of, Apart, apart_of, first_child_other, has_at, has_children, nat_tests}
 use Rattle.session_laws.proofs.Scenes.{What, Phase, BeforeLocks, Locks, AfterLocks, is_of_phase, KindTable, table_of, Owner, OwnerTree, own_released, Step, own_steps, release_steps, steps_below, top_locks, IsInOrder, Scene, Ended, for_each, owner_released, phase_released, step_done}
 use Rattle.session_laws.proofs.Rules.{all_swept}
 use Rattle.session_laws.proofs.ParentsLife.{fits_alike}
@@ -27,46 +27,14 @@ module _ {A : Type 0} (nodes : List replayed.Node) (whole : Forest A) (fit : Fit
 
   -- a number of the children, or of the siblings, of a node has its children there
   inside_below : (k : ℕ) (a : A) (below beside : Forest A) → Apart k below beside → (x : ℕ) → has x below ≡ true → IsInside x (Node k a below beside) whole → IsInside x below whole
-  inside_below k a below beside p x h inside = record {
-    there = inside.there;
-    same = inside.same
-        ∙ cond-false (k == x) below (if has x below then children x below else children x beside) (ne_eqb k x (λ e. both_ways (has x below) (subst (λ (n : ℕ). has n below ≡ false) e p.not_below) h))
-        ∙ cond-true (has x below) (children x below) (children x beside) h;
-  }
+  inside_below k a below beside p x h inside = grind (arith, nat_tests, cond-false, ne_eqb, both_ways, cond-true)
 
   inside_beside : (k : ℕ) (a : A) (below beside : Forest A) → Apart k below beside → (x : ℕ) → has x beside ≡ true → IsInside x (Node k a below beside) whole → IsInside x beside whole
-  inside_beside k a below beside p x h inside = record {
-    there = inside.there;
-    same = inside.same
-        ∙ cond-false (k == x) below (if has x below then children x below else children x beside) (ne_eqb k x (λ e. both_ways (has x beside) (subst (λ (n : ℕ). has n beside ≡ false) e p.not_beside) h))
-        ∙ cond-false (has x below) (children x below) (children x beside) (p.apart_back x h);
-  }
+  inside_beside k a below beside p x h inside = grind (arith, nat_tests, cond-false, ne_eqb, both_ways)
 
 module _ (nodes : List replayed.Node) (whole : OwnerTree) (fit : FitsTree nodes whole) where
   splits_of : (k : ℕ) (a : Owner) (below beside : OwnerTree) → Once (Node k a below beside) → ((x : ℕ) → has x (Node k a below beside) ≡ true → IsInside x (Node k a below beside) whole) → Splits nodes k below beside
-  splits_of k a below beside once inside =
-      let node : OwnerTree = Node k a below beside in
-      let p : Apart k below beside = apart_of k a below beside once in
-      let here : has k node ≡ true = or_left (k == k) (has k below || has k beside) (eq-eqb k k refl) in
-      let in_below : (x : ℕ) → has x below ≡ true → has x node ≡ true = λ x h. or_right (k == x) (has x below || has x beside) (or_left (has x below) (has x beside) h) in
-      let in_beside : (x : ℕ) → has x beside ≡ true → has x node ≡ true = λ x h. or_right (k == x) (has x below || has x beside) (or_right (has x below) (has x beside) h) in
-      let own : children k node ≡ below = cond-true (k == k) below (if has k below then children k below else children k beside) (eq-eqb k k refl) in
-      let part : (x : ℕ) → has x below ≡ true → IsInside x below whole = λ x h. inside_below nodes whole fit k a below beside p x h (inside x (in_below x h)) in
-      record {
-        self = above_is nodes whole fit k k node (inside k here) (inside k here).there ∙ ap (has k) own ∙ p.not_below;
-        up = λ x h. record {
-          below = not_above nodes whole fit x k below p.once_below (part x h) (inside k here).there (λ e. both_ways (has k below) p.not_below e);
-          other = ne_eqb x k (λ e. both_ways (has k below) p.not_below (subst (λ (n : ℕ). has n below ≡ true) e h));
-        };
-        own = λ w h. record {
-          below = above_is nodes whole fit k w node (inside k here) (inside w (in_beside w h)).there ∙ ap (has w) own ∙ p.apart_back w h;
-          other = ne_eqb k w (λ e. both_ways (has w beside) (subst (λ (n : ℕ). has n beside ≡ false) e p.not_beside) h);
-        };
-        across = λ x w h g. record {
-          below = not_above nodes whole fit x w below p.once_below (part x h) (inside w (in_beside w g)).there (λ e. both_ways (has w below) (p.apart_back w g) e);
-          other = ne_eqb x w (λ e. both_ways (has w below) (p.apart_back w g) (subst (λ (n : ℕ). has n below ≡ true) e h));
-        };
-      }
+  splits_of k a below beside once inside = grind (arith, nat_tests, apart_of, or_left, eq-eqb, or_right, cond-true, inside_below, above_is, not_above, both_ways, ne_eqb)
 
   walked_of : (part : OwnerTree) → Once part → ((x : ℕ) → has x part ≡ true → IsInside x part whole) → AreWalked nodes part
   walked_of Empty once inside = tt

@@ -1,12 +1,11 @@
 -- The items that a phase releases, in order: by rising priority, and of one priority the newest first.
-use Rattle.session_laws.proofs.Words.{◌≡◌, ℕ, ◌<◌, ◌≤◌, Bool, true, false, cond, nat_le, nat_lt, List, [], ◌∷◌, filter, All, refl, inl, inr, arith, not, ◌++◌, Option, Some, None, sym, subst, ap, ◌∙◌, if◌then◌else◌, ◌⊎◌, ◌==◌, ◌&&◌, ◌||◌, unwrap_or, cases_Bool, and_from, eq-eqb, lt-ltb, not_from_false, or_left, or_right, nat_tests, All-nil, All-cons, All-head, All-tail, All-filter, All-append, All-weaker, option_map, option_map_or, list_all, list_all-from_AllPass, append_assoc, append-nil, Empty, Node, AllNodes, has}
+use Rattle.session_laws.proofs.Words.{◌≡◌, ℕ, ◌<◌, ◌≤◌, Bool, true, false, cond, nat_le, nat_lt, List, [], ◌∷◌, filter, All, refl, inl, inr, arith, not, ◌++◌, Option, Some, None, sym, subst, ap, ◌∙◌, if◌then◌else◌, ◌⊎◌, ◌==◌, ◌&&◌, ◌||◌, and_from, eq-eqb, lt-ltb, not_from_false, or_left, or_right, nat_tests, All-nil, All-cons, All-head, All-tail, All-filter, All-append, All-weaker, option_map, list_all-from_AllPass, append_assoc, append-nil, Empty, Node, AllNodes, has}
 use Rattle.session_laws.proofs.Scenes.{Item, AreFalling, with_item, by_rank, is_of_phase, is_phase, priority, release_order, What, Phase, BeforeLocks, Locks, AfterLocks, Mode, KindTable, row_of, Owner, OwnerTree, Step, ReleasesLocks, PassesLocks, ReleasesAllLocks, own_steps, releases_of, lock_step, steps_below, top_locks, Lock, IsInOrder, comes_before, lock_total, owner_count, Scene, Ended, behind, for_each, nothing, given_back, step_done}
 use Rattle.session_laws.proofs.Rules.{allows_all, seen_after, allows_all-append, seen_after-append, AreSaid, said_more, said_none}
 use Rattle.session_laws.proofs.OwnerEnds.{Stays, given_quiet, step_stays, stays, stays_both}
 use Rattle.pgs_step.specs.Mode.{mode_number}
-use Rattle.owner_kinds.specs.declared.kind_row.KindRow.{KindRow}
 use Rattle.lifetime_laws.specs.Once.{same_item}
-use Rattle.lifetime_laws.specs.Order.{AnItem, ALock, Member, Owned, Releasing, goes_before, is_warned, may_precede, member_of, ordering, owner_of, place_of, with_member, place_of_phase}
+use Rattle.lifetime_laws.specs.Order.{AnItem, ALock, Member, Owned, Releasing, goes_before, is_warned, may_precede, member_of, ordering, owner_of, place_of, place_of_phase}
 use Rattle.lifetime_laws.specs.Parents.{is_above}
 use Rattle.session_laws.proofs.Warnings.{is_aside, same_itself}
 use Rattle.pgs_step.specs.declared.events.What.TheVariants as what
@@ -37,25 +36,7 @@ All-by_rank P rank (x ∷ xs) all = All-with_item P rank x (by_rank rank xs) (Al
 
 -- an item goes before all that are older, from the first on whose rank is no lower
 front_goes : (rank : Item → ℕ) (x z : Item) (zs : List Item) → rank x ≤ rank z → All (GoesBefore rank z) zs → All (λ y. y.serial < x.serial) (z ∷ zs) → All (GoesBefore rank x) (z ∷ zs)
-front_goes rank x z zs low ranked older =
-    All-cons (GoesBefore rank x) z zs (by_cases z low (All-head (λ (y : Item). y.serial < x.serial) z zs older)) (rest zs ranked (All-tail (λ (y : Item). y.serial < x.serial) z zs older))
-  where
-    by_cases : (y : Item) → rank x ≤ rank y → y.serial < x.serial → GoesBefore rank x y
-    by_cases y l o = elim (cases_Bool (nat_lt (rank x) (rank y))) [
-      | inl e ↦ inl (grind (arith, nat_tests))
-      | inr e ↦ inr (grind (arith, nat_tests), o)
-    ]
-
-    rest : (ys : List Item) → All (GoesBefore rank z) ys → All (λ (y : Item). y.serial < x.serial) ys → All (GoesBefore rank x) ys
-    rest [] h k = All-nil (GoesBefore rank x)
-    rest (y ∷ ys) h k =
-        let first : GoesBefore rank z y = All-head (GoesBefore rank z) y ys h in
-        let behind : rank z ≤ rank y = elim first [
-          | inl l ↦ omega (arith, l)
-          | inr p ↦ omega (arith, p.0)
-        ] in
-        All-cons (GoesBefore rank x) y ys (by_cases y (omega (arith, low, behind)) (All-head (λ (y : Item). y.serial < x.serial) y ys k))
-        (rest ys (All-tail (GoesBefore rank z) y ys h) (All-tail (λ (y : Item). y.serial < x.serial) y ys k))
+front_goes rank x z zs low ranked older = grind (arith, nat_tests, nat_tests)
 
 ranked_with : (rank : Item → ℕ) (x : Item) (zs : List Item) → AreRanked rank zs → All (λ y. y.serial < x.serial) zs → AreRanked rank (with_item rank x zs)
 ranked_with rank x [] h older = (All-nil (GoesBefore rank x), tt)
@@ -84,11 +65,7 @@ order_ranked test rank xs h = ranked_by rank (filter test xs) (falling_filter te
 -- each of them passes the test
 passes_filter : (test : Item → Bool) (xs : List Item) → All (λ x. test x ≡ true) (filter test xs)
 passes_filter test [] = All-nil (λ (x : Item). test x ≡ true)
-passes_filter test (x ∷ xs) = go (passes_filter test xs) (test x) refl
-  where
-    go : All (λ (y : Item). test y ≡ true) (filter test xs) → (b : Bool) → test x ≡ b → All (λ (y : Item). test y ≡ true) (cond b (x ∷ filter test xs) (filter test xs))
-    go rest true e = All-cons (λ (y : Item). test y ≡ true) x (filter test xs) e rest
-    go rest false e = rest
+passes_filter test (x ∷ xs) = grind (arith, nat_tests, passes_filter test xs)
 
 pub order_passes : (test : Item → Bool) (rank : Item → ℕ) (xs : List Item) → All (λ x. test x ≡ true) (by_rank rank (filter test xs))
 order_passes test rank xs = All-by_rank (λ (x : Item). test x ≡ true) rank (filter test xs) (passes_filter test xs)
@@ -117,14 +94,7 @@ earlier_phase nodes a b h = or_left (nat_lt (place_of a) (place_of b)) _ (lt-ltb
 
 pub same_phase : (nodes : List replayed.Node) (a b : Member) → place_of a ≡ place_of b → is_above (owner_of a) (owner_of b) nodes ≡ false → ((owner_of a == owner_of b) ≡ false) ⊎ (goes_before a b ≡ true)
     → may_precede nodes a b ≡ true
-same_phase nodes a b same out goes =
-    or_right (nat_lt (place_of a) (place_of b)) _
-    (and_from (place_of a == place_of b) _ (eq-eqb (place_of a) (place_of b) same)
-    (and_from (not (is_above (owner_of a) (owner_of b) nodes)) _ (not_from_false (is_above (owner_of a) (owner_of b) nodes) out)
-    (elim goes [
-      | inl other ↦ or_left (not (owner_of a == owner_of b)) (goes_before a b) (not_from_false (owner_of a == owner_of b) other)
-      | inr before ↦ or_right (not (owner_of a == owner_of b)) (goes_before a b) before
-    ])))
+same_phase nodes a b same out goes = grind (arith, nat_tests, or_right, and_from, eq-eqb, not_from_false, or_left)
 
 module _ (kinds : KindTable) (nodes : List replayed.Node) (aborts : Bool) where
   -- The events are in order behind what was released so far, and leave that and what they release.
@@ -136,11 +106,7 @@ module _ (kinds : KindTable) (nodes : List replayed.Node) (aborts : Bool) where
   adds_none members = record { allowed = refl; behind = refl }
 
   pub adds_both : {old mid new : List Member} {xs ys : List What} → Adds old mid xs → Adds mid new ys → Adds old new (xs ++ ys)
-  adds_both {old = old} {mid = mid} {new = new} {xs = xs} {ys = ys} a b = record {
-    allowed = allows_all-append (ordering kinds) (in_batch nodes aborts old) xs ys a.allowed
-        (subst (λ (seen : Releasing). allows_all (ordering kinds) seen ys ≡ true) (sym a.behind) b.allowed);
-    behind = seen_after-append (ordering kinds) (in_batch nodes aborts old) xs ys ∙ ap (λ (seen : Releasing). seen_after (ordering kinds) seen ys) a.behind ∙ b.behind;
-  }
+  adds_both {old = old} {mid = mid} {new = new} {xs = xs} {ys = ys} a b = grind (arith, nat_tests, allows_all-append, seen_after-append)
 
   -- what is said besides is passed over
   aside_adds : (members : List Member) (event : What) → is_aside event ≡ true → Adds members members (event ∷ [])
@@ -157,31 +123,18 @@ module _ (kinds : KindTable) (nodes : List replayed.Node) (aborts : Bool) where
   -- a lock that is released or passed
   pub adds_release_lock : (members : List Member) (object : ℕ) (mode : Mode) (count owner : ℕ) → MayFollow nodes members (ALock object (mode_number mode) owner)
       → Adds members (ALock object (mode_number mode) owner ∷ members) (what.ReleaseLock object mode count owner ∷ [])
-  adds_release_lock members object mode count owner may = record {
-    allowed = and_from (list_all (λ earlier. may_precede nodes earlier (ALock object (mode_number mode) owner)) members) true
-        (list_all-from_AllPass (λ earlier. may_precede nodes earlier (ALock object (mode_number mode) owner)) members may) refl;
-    behind = refl;
-  }
+  adds_release_lock members object mode count owner may = grind (arith, nat_tests, and_from, list_all-from_AllPass)
 
   pub adds_pass_lock : (members : List Member) (object : ℕ) (mode : Mode) (count from to : ℕ) → MayFollow nodes members (ALock object (mode_number mode) from)
       → Adds members (ALock object (mode_number mode) from ∷ members) (what.PassLock object mode count from to ∷ [])
-  adds_pass_lock members object mode count from to may = record {
-    allowed = and_from (list_all (λ earlier. may_precede nodes earlier (ALock object (mode_number mode) from)) members) true
-        (list_all-from_AllPass (λ earlier. may_precede nodes earlier (ALock object (mode_number mode) from)) members may) refl;
-    behind = refl;
-  }
+  adds_pass_lock members object mode count from to may = grind (arith, nat_tests, and_from, list_all-from_AllPass)
 
   -- an item that is released, where it counts
   release_counts : (warning : Option Owned) (members : List Member) (item : Item) (n : ℕ) (member : Member)
       → member_of kinds (aborts || is_warned warning (what.Release item n)) (what.Release item n) ≡ Some member → MayFollow nodes members member
       → (allows_all (ordering kinds) (warned warning nodes aborts members) (what.Release item n ∷ []) ≡ true)
       × (seen_after (ordering kinds) (warned warning nodes aborts members) (what.Release item n ∷ []) ≡ in_batch nodes aborts (member ∷ members))
-  release_counts warning members item n member is may = (
-    and_from _ true
-        (subst (λ (o : Option Member). option_map_or (λ member. list_all (λ earlier. may_precede nodes earlier member) members) o true ≡ true) (sym is)
-        (list_all-from_AllPass (λ earlier. may_precede nodes earlier member) members may)) refl,
-    subst (λ (o : Option Member). in_batch nodes aborts (with_member o members) ≡ in_batch nodes aborts (member ∷ members)) (sym is) refl,
-  )
+  release_counts warning members item n member is may = grind (arith, nat_tests, and_from, list_all-from_AllPass)
 
 -- the member that an item is, where its phase releases it
 abbrev pub item_member : KindTable → Phase → ℕ → Item → Member
@@ -200,12 +153,7 @@ one_phase AfterLocks Locks h = absurd (cc h)
 
 pub member_is : (kinds : KindTable) (phase : Phase) (n : ℕ) (item : Item) → is_of_phase kinds phase item ≡ true
     → option_map (λ row. AnItem row.phase row.priority item.serial n) (row_of kinds item.kind) ≡ Some (item_member kinds phase n item)
-member_is kinds phase n item h = go (row_of kinds item.kind) h
-  where
-    go : (o : Option KindRow) → unwrap_or (option_map (is_phase phase) (option_map (λ (r : KindRow). r.phase) o)) false ≡ true
-        → option_map (λ (row : KindRow). AnItem row.phase row.priority item.serial n) o ≡ Some (AnItem phase (unwrap_or (option_map (λ (r : KindRow). r.priority) o) 0) item.serial n)
-    go None e = absurd (cc e)
-    go (Some row) e = ap (λ (place : Phase). Some (AnItem place row.priority item.serial n)) (one_phase phase row.phase e)
+member_is kinds phase n item h = grind (arith, nat_tests, one_phase)
 
 module _ (kinds : KindTable) (nodes : List replayed.Node) (phase : Phase) (n : ℕ) where
   -- at abort a release counts as it stands
@@ -279,21 +227,11 @@ all_of P f (x ∷ xs) = All-cons P x xs (f x) (all_of P f xs)
 one_more : {A : Type 0} (nodes : List replayed.Node) (member : A → Member) (old : List Member) (m : Member) (xs : List A) → All (λ x. may_precede nodes m (member x) ≡ true) xs → All (λ x. MayFollow nodes old (member x)) xs
     → All (λ x. MayFollow nodes (m ∷ old) (member x)) xs
 one_more nodes member old m [] h k = All-nil (λ x. MayFollow nodes (m ∷ old) (member x))
-one_more nodes member old m (x ∷ xs) h k =
-    All-cons (λ x. MayFollow nodes (m ∷ old) (member x)) x xs
-    (All-cons (λ earlier. may_precede nodes earlier (member x) ≡ true) m old (All-head (λ x. may_precede nodes m (member x) ≡ true) x xs h) (All-head (λ x. MayFollow nodes old (member x)) x xs k))
-    (one_more nodes member old m xs (All-tail (λ x. may_precede nodes m (member x) ≡ true) x xs h) (All-tail (λ x. MayFollow nodes old (member x)) x xs k))
+one_more nodes member old m (x ∷ xs) h k = grind (arith, nat_tests, one_more nodes member old m xs)
 
 module _ (kinds : KindTable) (nodes : List replayed.Node) (phase : Phase) (n : ℕ) (out : is_above n n nodes ≡ false) where
   item_goes : (x y : Item) → GoesBefore (priority kinds) x y → may_precede nodes (item_member kinds phase n x) (item_member kinds phase n y) ≡ true
-  item_goes x y h = same_phase nodes (item_member kinds phase n x) (item_member kinds phase n y) refl out (inr before)
-    where
-      before : goes_before (item_member kinds phase n x) (item_member kinds phase n y) ≡ true
-      before = elim h [
-        | inl l ↦ or_left (nat_lt (priority kinds x) (priority kinds y)) _ (lt-ltb (priority kinds x) (priority kinds y) l)
-        | inr p ↦ or_right (nat_lt (priority kinds x) (priority kinds y)) _
-            (and_from (priority kinds x == priority kinds y) (nat_lt y.serial x.serial) (eq-eqb (priority kinds x) (priority kinds y) p.0) (lt-ltb y.serial x.serial p.1))
-      ]
+  item_goes x y h = grind (arith, nat_tests, same_phase, or_left, lt-ltb, or_right, and_from, eq-eqb)
 
   -- an item of a phase
   one_item : (commit : Bool) (item : Item) (s : Scene) (old : List Member) → is_of_phase kinds phase item ≡ true → MayFollow nodes old (item_member kinds phase n item)
@@ -449,18 +387,10 @@ abbrev pub AreClear : List replayed.Node → ℕ → (ℕ → Type 0) → List M
 AreClear nodes place In members = All (IsClear nodes place In) members
 
 pub clear_weaker : (nodes : List replayed.Node) (place : ℕ) (In Out : ℕ → Type 0) (members : List Member) → ((w : ℕ) → Out w → In w) → AreClear nodes place In members → AreClear nodes place Out members
-clear_weaker nodes place In Out members f h = All-weaker (IsClear nodes place In) (IsClear nodes place Out) one members h
-  where
-    one : (m : Member) → IsClear nodes place In m → IsClear nodes place Out m
-    one m (inl l) = inl l
-    one m (inr p) = inr (p.0, λ w o. p.1 w (f w o))
+clear_weaker nodes place In Out members f h = grind (arith, nat_tests)
 
 pub may_release : (nodes : List replayed.Node) (place n : ℕ) (members : List Member) → AreClear nodes place (λ w. w ≡ n) members → MayRelease nodes place n members
-may_release nodes place n members h = λ m own. All-weaker (IsClear nodes place (λ w. w ≡ n)) (λ e. may_precede nodes e m ≡ true) (λ e k. one m own e k) members h
-  where
-    one : (m : Member) → IsOwn place n m → (e : Member) → IsClear nodes place (λ w. w ≡ n) e → may_precede nodes e m ≡ true
-    one m own e (inl l) = earlier_phase nodes e m (subst (λ (p : ℕ). place_of e < p) (sym own.0) l)
-    one m own e (inr p) = let a : AreApart nodes (owner_of e) (owner_of m) = p.1 (owner_of m) own.1 in same_phase nodes e m (p.0 ∙ sym own.0) a.below (inl a.other)
+may_release nodes place n members h = grind (arith, nat_tests, earlier_phase, same_phase)
 
 -- Of a node, what is below it and what stands behind it: no owner is above one that is released later.
 pub record Splits (nodes : List replayed.Node) (n : ℕ) (below beside : OwnerTree) : Type 0 where

@@ -1,7 +1,7 @@
 -- Where a line stands between its elements. While the deepest level is aborted a line says nothing until it cleans that level up: an
 -- element is a check then, or a word at the line's end, or the cleanup.
-use Rattle.session_laws.proofs.Words.{◌≡◌, ℕ, zero, suc, ◌+◌, ◌-◌, ◌≤◌, Bool, true, false, not, if◌then◌else◌, List, [], ◌∷◌, ◌++◌, map, length, replicate, flat_map, Option, Some, None, refl, sym, subst, inl, inr, arith, append_assoc, codes, le-ltb, nat_lt, ◌&&◌, ◌==◌, ◌⊎◌, option_map_or, option_and_then}
-use Rattle.session_laws.proofs.Scenes.{Error, What, Command, LevelState, OpenPortal, SessionState, is_aborted, level_owner, Check, Element, LevelContext, NewContext, OfLevel, OwnerRole, Text, is_named, portal_named, context_named, Scene, Moment, AreOuter, FitLevels, Stands, line_elements, KindId, Phase, Mode, CtxKind, owner_gone, phase_released, portal_ended, at_kind, at_owner, at_portal, lock_given_back, snapshot_popped, context_made, new_context_made, new_owner_made, owner_made, plan_made, descriptor_given, item_taken, lock_taken, snapshot_pushed, does}
+use Rattle.session_laws.proofs.Words.{◌≡◌, ℕ, zero, suc, ◌+◌, ◌-◌, ◌≤◌, Bool, true, false, if◌then◌else◌, List, [], ◌∷◌, ◌++◌, map, length, replicate, flat_map, Option, Some, None, refl, sym, subst, inl, inr, arith, append_assoc, codes, le-ltb, ◌⊎◌, option_map_or, option_and_then, nat_tests}
+use Rattle.session_laws.proofs.Scenes.{Error, What, Command, LevelState, OpenPortal, SessionState, is_aborted, level_owner, Check, Element, LevelContext, NewContext, OfLevel, OwnerRole, Text, portal_named, context_named, Scene, Moment, AreOuter, Stands, line_elements, KindId, Phase, Mode, CtxKind, owner_gone, phase_released, portal_ended, at_kind, at_owner, at_portal, lock_given_back, snapshot_popped, context_made, new_context_made, new_owner_made, owner_made, plan_made, descriptor_given, item_taken, lock_taken, snapshot_pushed, does}
 use Rattle.session_laws.proofs.Rules.{Acts, Follows, IsSpoken, Keeps, Law, Leaves, MoveLeaves, Owes, is_word, last, next, by_kind, by_order, by_owner, by_portal, by_portal_named, by_there, element_follows, fallible_at, fallible_so, moves_owed, unfailing_so, portal_ends}
 use Rattle.pgs_command.specs.declared.commands.TransactionCommand.{TransactionCommand}
 use Rattle.pgs_command.specs.declared.commands.Work.{Work}
@@ -15,7 +15,7 @@ use Rattle.pgs_command.specs.declared.commands.PortalCommand.{PortalCommand}
 use Rattle.pgs_command.specs.declared.commands.TellCommand.{TellCommand}
 use Rattle.exec_core.specs.declared.scan.Scan.{Scan}
 use Rattle.exec_core.specs.declared.steps.ScanStep.{ScanStep}
-use Rattle.session_rules.specs.Works.{after_turn, chunk_row, context_row, fallible_part, fetch_steps, item_row, lock_row, plan_row, portal_row, row_of, snapshot_row, tell_row, turn_steps, work_of}
+use Rattle.session_rules.specs.Works.{after_turn, chunk_row, context_row, fallible_part, fetch_steps, item_row, lock_row, plan_row, portal_row, row_of, snapshot_row, tell_row, work_of}
 use Rattle.session_rules.specs.Commands.{at_savepoint, begin, commit, committed_to, elements_of, ends_aborted, in_transaction, is_end, refused, rollback, rolled_back_to, save, savepoint, start, then_ok, transaction_of, unaborted}
 use Rattle.pgs_step.specs.declared.errors.Error.TheVariants as error
 use Rattle.pgs_step.specs.declared.events.What.TheVariants as what
@@ -31,7 +31,6 @@ use Rattle.pgs_command.specs.declared.commands.PlanCommand.TheVariants as plan
 use Rattle.pgs_command.specs.declared.commands.PortalCommand.TheVariants as portal
 use Rattle.pgs_command.specs.declared.commands.TellCommand.TheVariants as tell
 use Rattle.exec_core.specs.declared.steps.ScanStep.TheVariants as step
-use Rattle.exec_core.specs.Turn as exec
 use Rattle.session_rules.specs.Elements as e
 use Rattle.any_ctx.specs.declared.any.CtxKind.TheVariants as kind
 
@@ -177,10 +176,7 @@ last_or_more false xs ys h k = k
 
 fetch_work : (name : Text) (count : ℕ) (scan : Scan) (rows : ℕ) → AreWork (fetch_steps name count scan rows)
 fetch_work name zero scan rows = (tt, tt)
-fetch_work name (suc count) scan rows =
-    both_work (turn_steps name scan) _ (scans_work name (exec.turn scan))
-    (last_or_more (scan.at == scan.rows) (e.Says (what.Fetched name rows) ∷ []) (fetch_steps name count (after_turn scan) (rows + 1))
-    (tt, tt) (fetch_work name count (after_turn scan) (rows + 1)))
+fetch_work name (suc count) scan rows = grind (arith, nat_tests, fetch_work name count (after_turn scan), both_work, scans_work, last_or_more)
 
 fetches_work : (name : Text) (count : ℕ) (o : Option OpenPortal) → AreWork (option_map_or (λ portal. fetch_steps name count portal.scan 0) o [])
 fetches_work name count None = tt
@@ -271,44 +267,24 @@ refused_alone false x = (tt, tt)
 -- levels that are rolled back, of which none is aborted
 rolled_outer : (n : ℕ) (levels : List LevelState) (ys : List Element) → AreOuter levels → AreDue Working ys → AreDue Working (rolled_back_to n levels ++ ys)
 rolled_outer n [] ys h k = k
-rolled_outer n (level ∷ levels) ys h k =
-    subst (λ (b : Bool). AreDue Working ((if nat_lt (length levels + 1) n then [] else (if b then e.Cleanup ∷ [] else e.Abort ∷ e.Cleanup ∷ []) ++ rolled_back_to n levels) ++ ys))
-    (sym h.0.unaborted) (go (nat_lt (length levels + 1) n) (rolled_outer n levels ys h.2 k))
-  where
-    go : (b : Bool) → AreDue Working (rolled_back_to n levels ++ ys) → AreDue Working ((if b then [] else (e.Abort ∷ e.Cleanup ∷ []) ++ rolled_back_to n levels) ++ ys)
-    go true more = k
-    go false more = (tt, (tt, more))
+rolled_outer n (level ∷ levels) ys h k = grind (arith, nat_tests, rolled_outer n levels ys h.2 k)
 
 -- the deepest level and some above it
 rolled_due : (n : ℕ) (level : LevelState) (levels : List LevelState) (ys : List Element) → n ≤ length levels + 1 → AreOuter levels → AreDue Working ys
     → AreDue (stage_of (level ∷ levels)) (rolled_back_to n (level ∷ levels) ++ ys)
-rolled_due n level levels ys l h k =
-    subst (λ (b : Bool). AreDue (stage_of (level ∷ levels)) ((if b then [] else (if level.aborted then e.Cleanup ∷ [] else e.Abort ∷ e.Cleanup ∷ []) ++ rolled_back_to n levels) ++ ys))
-    (sym (le-ltb (length levels + 1) n l)) (go level.aborted)
-  where
-    go : (b : Bool) → AreDue (if b then Hushed else Working) (((if b then e.Cleanup ∷ [] else e.Abort ∷ e.Cleanup ∷ []) ++ rolled_back_to n levels) ++ ys)
-    go true = (tt, rolled_outer n levels ys h k)
-    go false = (tt, (tt, rolled_outer n levels ys h k))
+rolled_due n level levels ys l h k = grind (arith, nat_tests, le-ltb, rolled_outer)
 
 -- the level of a savepoint is one of these
 savepoint_within : (name : Text) (levels : List LevelState) (n : ℕ) → savepoint name levels ≡ Some n → n ≤ length levels
 savepoint_within name [] n is = absurd (cc is)
-savepoint_within name (level ∷ levels) n is = go (nat_lt 0 (length levels) && is_named name level) (savepoint_within name levels n) is
-  where
-    go : (b : Bool) → (savepoint name levels ≡ Some n → n ≤ length levels) → (if b then Some (length levels + 1) else savepoint name levels) ≡ Some n → n ≤ length (level ∷ levels)
-    go true more h = let k : length levels + 1 ≡ n = cc h in omega (arith, k)
-    go false more h = let k : n ≤ length levels = more h in omega (arith, k)
+savepoint_within name (level ∷ levels) n is = grind (arith, nat_tests, savepoint_within name levels n)
 
 -- what is done at a savepoint
 at_due : (name : Text) (levels : List LevelState) (go_on : ℕ → List Element)
     → ((n : ℕ) → savepoint name levels ≡ Some n → AreDue (stage_of levels) (go_on n ++ (e.Says what.Ok ∷ [])))
     → AreDue (stage_of levels) (at_savepoint name levels go_on ++ (e.Says what.Ok ∷ []))
 at_due name [] go_on h = (tt, (tt, tt))
-at_due name (level ∷ levels) go_on h = go (savepoint name (level ∷ levels)) refl
-  where
-    go : (o : Option ℕ) → savepoint name (level ∷ levels) ≡ o → AreDue (stage_of (level ∷ levels)) (option_map_or go_on o (refused error.NoSuchSavepoint) ++ (e.Says what.Ok ∷ []))
-    go None is = refused_due level.aborted error.NoSuchSavepoint
-    go (Some n) is = h n is
+at_due name (level ∷ levels) go_on h = grind (arith, nat_tests, refused_due)
 
 -- the ends of transactions, and back to a savepoint, in an aborted one too
 rollback_due : (levels : List LevelState) → AreAbove levels → AreDue (stage_of levels) (rollback levels ++ (e.Says what.Ok ∷ []))
@@ -327,11 +303,7 @@ commit_due (level ∷ levels) h = go level.aborted refl
 back_due : (name : Text) (levels : List LevelState) → AreAbove levels
     → AreDue (stage_of levels) (at_savepoint name levels (λ n. rolled_back_to n levels ++ start (Some name) false) ++ (e.Says what.Ok ∷ []))
 back_due name [] h = (tt, (tt, tt))
-back_due name (level ∷ levels) h =
-    at_due name (level ∷ levels) (λ n. rolled_back_to n (level ∷ levels) ++ start (Some name) false)
-    (λ n is.
-    let near : n ≤ length (level ∷ levels) = savepoint_within name (level ∷ levels) n is in
-    rw append_assoc (rolled_due n level levels _ (omega (arith, near)) h (tt, (tt, (tt, (tt, (tt, tt)))))))
+back_due name (level ∷ levels) h = grind (arith, nat_tests, at_due, savepoint_within, append_assoc, rolled_due)
 
 -- the other commands on transactions, in an active session or in none
 begin_due : (levels : List LevelState) → AreDue Working (begin levels ++ (e.Says what.Ok ∷ []))
@@ -379,13 +351,7 @@ unaborted_due (command.Work w) s h (inr an) = absurd (cc an)
 
 elements_due : (c : Command) (session : SessionState) → AreAbove session.levels → AreDue (stage_of session.levels) (elements_of c session)
 unfolding elements_of
-elements_due c s h = go (is_aborted s.levels) refl (is_end c) refl
-  where
-    go : (a : Bool) → is_aborted s.levels ≡ a → (b : Bool) → is_end c ≡ b
-        → AreDue (stage_of s.levels) (elim (a && not b) as (λ _. List Element) [ true ↦ refused error.TransactionAborted | false ↦ unaborted c s ])
-    go false is b also = unaborted_due c s h (inl is)
-    go true is false also = refused_alone (is_aborted s.levels) error.TransactionAborted
-    go true is true also = unaborted_due c s h (inr also)
+elements_due c s h = grind (arith, nat_tests, unaborted_due, refused_alone)
 
 -- Each element of a line may come where the line stands by then.
 pub line_due : (line : Option Command) (session : SessionState) → AreAbove session.levels → AreDue (stage_of session.levels) (line_elements line session)
@@ -394,10 +360,7 @@ line_due (Some c) s h = elements_due c s h
 
 pub above_of : (levels : List LevelState) (s : Scene) → Stands s → s.session.levels ≡ levels → AreAbove levels
 above_of [] s h is = tt
-above_of (level ∷ levels) s h is =
-    let fit : FitLevels (level ∷ levels) s.session.contexts s.session.owners s.session.current =
-    subst (λ (ls : List LevelState). FitLevels ls s.session.contexts s.session.owners s.session.current) is h.fit in
-    fit.1
+above_of (level ∷ levels) s h is = grind (arith, nat_tests)
 
 -- What an element owes that neither makes nor ends a level, where a law is kept by what it is made of.
 

@@ -1,5 +1,5 @@
 -- What follows the release of an item, and the steps of a phase, leave of a session; and that they acquire and release no item besides.
-use Rattle.session_laws.proofs.Words.{◌≡◌, Bool, true, false, List, [], ◌∷◌, refl, ap, ◌∙◌, ℕ, ◌≤◌, length, Option, Some, None, sym, subst, inl, inr, not, arith, ◌==◌, has, AllNodes, Moves, option_and_then, map}
+use Rattle.session_laws.proofs.Words.{◌≡◌, Bool, true, false, List, [], ◌∷◌, refl, ap, ◌∙◌, ℕ, ◌≤◌, length, Option, Some, None, sym, subst, inl, inr, not, arith, ◌==◌, has, AllNodes, Moves, map, nat_tests}
 use Rattle.session_laws.proofs.Scenes.{What, Item, table_of, OwnerTree, AllAt, HoldsNothing, Step, Said, GivesBack, ReleasesLocks, PassesLocks, ReleasesAllLocks, release_steps, Scene, Moment, for_each, Ended, where_so, where_there, changes, context_gone, in_order, portal_gone, switched, given_back, step_done, owner_moved, owner_gone, owner_released, phase_released, LevelState, OpenPortal, first_of, owner_of, abort_context, deepest_changed, depth, level_owner, top_context, has_failed, portal_aborted, portal_failed, portal_passed, portal_withdrawn, executor_ended, is_ready, portal_closed, portal_ended, portal_owner_ended, IsAttached, IsOwner, IsPortal, HasItems, IsLive, IsWorking, Stands, active_depth, Error, KindId, Phase, BeforeLocks, Locks, AfterLocks, KindTable, IsSound as IsSoundTable, released, Element, OfLevel, OfPortal, OwnerRole, Text, kind_named, owner_in, portal_named, aborted, cleaned_up, committed, empty_context_gone, level_context_gone, level_owner_gone, level_popped, level_released, level_rolled_back, stack_lowered, stack_popped, subcommitted, switched_up, at_kind, at_owner, item_taken, does, IsInOrder, has_owner, descriptor_left}
 use Rattle.session_laws.proofs.Rules.{Acts, Keeps, Law, AllKeep, Leaves, LevelLeaves, MakeLeaves, OwesEnds as OwesEndings, OwesMoves, last, next, AreSaid, said_both, said_none, Part, Sight, acts_of, children_go, gives_back, goes, of_kinds, of_levels, of_next_owner, of_next_serial, of_owners, by_either, by_each, by_order, fallible_at, levels_owed, makes_owed, portal_fails, portal_lowers, portal_returns, context_goes, empty_context_goes, executor_ends, level_context_goes, level_marks, level_pops, level_releases, owner_releases, portal_cleans, portal_closes, switches_up, begins, is_settled, off_begins, owner_when_active, resettled, settled, switched_off, aborted_leads, all_aborted, has_swept, Meets, said_one, of_locks, by_so}
 use Rattle.session_laws.proofs.Warnings.{is_aside}
@@ -38,14 +38,7 @@ pub stays : (s : Scene) → Stays s s
 stays s = record { owners = refl; next_owner = refl; next_serial = refl; levels = refl; kinds = refl; locks = λ h. h }
 
 pub stays_both : {s t u : Scene} → Stays s t → Stays t u → Stays s u
-stays_both a b = record {
-  owners = b.owners ∙ a.owners;
-  next_owner = b.next_owner ∙ a.next_owner;
-  next_serial = b.next_serial ∙ a.next_serial;
-  levels = b.levels ∙ a.levels;
-  kinds = b.kinds ∙ a.kinds;
-  locks = λ h. b.locks (a.locks h);
-}
+stays_both a b = grind (arith, nat_tests)
 
 -- besides, nothing is said but what stands beside a release
 pub record Quiet (s t : Scene) (events : List What) : Type 0 where
@@ -271,11 +264,7 @@ pub record OwnerEnds (R : Law) : Type 0 where
 -- an owner that takes an item is there
 role_there : (role : OwnerRole) (s : Scene) → Stands s → IsWorking s.session.levels → (n : ℕ) → owner_in role s.session ≡ Some n → has n s.session.owners ≡ true
 role_there OfLevel s h working n e = owner_there s.session.levels s.session.contexts s.session.owners n h.levels e
-role_there (OfPortal name) s h working n e = go (portal_named name s.session.portals) refl
-  where
-    go : (o : Option OpenPortal) → portal_named name s.session.portals ≡ o → has n s.session.owners ≡ true
-    go None is = absurd (no_value (owner_in (OfPortal name) s.session) n (ap (option_and_then (λ (p : OpenPortal). p.owner)) is) e)
-    go (Some p) is = portal_owner_there name p s h working is n (sym (ap (option_and_then (λ (p : OpenPortal). p.owner)) is) ∙ e)
+role_there (OfPortal name) s h working n e = grind (arith, nat_tests, no_value, portal_owner_there)
 
 module _ (R : Law) (h : OwnerEnds R) where
   abbrev v : LevelLeaves R
@@ -310,11 +299,11 @@ module _ (R : Law) (h : OwnerEnds R) where
           (a.both (owner_ends p.owner z (known_stands z b.works.stands) (λ n is. portal_owner_there name p z b.works.stands (subst IsWorking (sym b.works.levels) working) (ap (portal_named name) b.portals ∙ named) n is)) (a.none _))
 
   end_portal : (s : Scene) → Stands s → IsWorking s.session.levels → (name : Text) → R s (where_there (portal_named name s.session.portals) portal_ended s).scene (where_there (portal_named name s.session.portals) portal_ended s).events
-  end_portal s k working name = if_there (portal_named name s.session.portals) portal_ended s (λ p is. portal_ends name p s k working is)
+  end_portal s k working name = grind (arith, nat_tests, portal_ends)
 
   -- an item is taken
   role_takes : (role : OwnerRole) (kind : KindId) (key : ℕ) (s : Scene) → Stands s → IsWorking s.session.levels → R s (at_owner role (λ o. item_taken o kind key) s).scene (at_owner role (λ o. item_taken o kind key) s).events
-  role_takes role kind key s k working = if_there (owner_in role s.session) (λ n. item_taken n kind key) s (λ n is. h.taken n kind key s (role_there role s k working n is))
+  role_takes role kind key s k working = grind (arith, nat_tests, role_there)
 
   kind_takes : (o : Option KindId) (key : ℕ) (s : Scene) → Stands s → IsWorking s.session.levels
       → R s (where_there o (λ kind. at_owner OfLevel (λ n. item_taken n kind key)) s).scene (where_there o (λ kind. at_owner OfLevel (λ n. item_taken n kind key)) s).events
@@ -322,7 +311,7 @@ module _ (R : Law) (h : OwnerEnds R) where
 
   -- the deepest level's owner goes
   owner_goes : (s : Scene) → MayEndLevel s → R s (level_owner_gone s).scene (level_owner_gone s).events
-  owner_goes s may = if_there (level_owner s.session) owner_gone s (λ n is. h.gone n s (may n is))
+  owner_goes s may = grind (arith, nat_tests)
 
   -- the release of the deepest level and what comes behind it
   released_reads : (commit top : Bool) (stack : Scene → Ended) (acts : List (Scene → Ended)) → Keeps R stack → ((s : Scene) → (stack s).scene.session.owners ≡ s.session.owners) → ((s : Scene) → (stack s).scene.session.levels ≡ s.session.levels)
@@ -446,9 +435,4 @@ module _ (R : Law) (h : OwnerEnds R) where
 
   -- So it has all that it owes for lines and exits.
   pub owes_where : ((error : Error) (s : Scene) → R s s (what.Error error ∷ [])) → ((w : Option ℕ) (x : Element) (m : Moment) → Meets x m.scene → OwesMoves R w x m) → OwesTurns R
-  owes_where error moves = record {
-    leaves = l;
-    error = error;
-    owed = λ w x m meets. levels_owed R v w x m (ends_owed_where w x m meets (moves w x m meets));
-    ends = all_ends;
-  }
+  owes_where error moves = grind (arith, nat_tests, levels_owed, ends_owed_where, all_ends)

@@ -1,6 +1,6 @@
 -- Replayed parents that fit the trees of a session.
-use Rattle.session_laws.proofs.Words.{◌≡◌, ◌≢◌, ℕ, zero, suc, ◌+◌, ◌<◌, ◌≤◌, Bool, true, false, not, List, [], ◌∷◌, length, Option, Some, None, refl, sym, ap, ◌∙◌, subst, unwrap_or, inl, inr, arith, ◌++◌, append-nil, if◌then◌else◌, ◌==◌, ◌||◌, ◌&&◌, option_map_or, both_ways, cases_Bool, cases_eq, cond-true, eq-eqb, eqb-true, false_from_ne_true, ne_eqb, or_from, or_parts, and_from, Forest, Empty, Node, Once, children, has, is_above, moved, parent_of, put, removed, size, times, with_children, at, changed, mapped, Moves, at_some, has_at, has_none, has_some, once_front, once_moved, once_put, parent_stays, removed_has, size_moved, size_put, size_removed, times_moved, times_none, times_some, apart_of, first_child_other, has_children, once_removed, removed_absent, lead, order, order_at, all_changed, swept, nat_tests}
-use Rattle.session_laws.proofs.Scenes.{Scene, Context, Contexts, callbacks, emptied, What}
+use Rattle.session_laws.proofs.Words.{◌≡◌, ◌≢◌, ℕ, zero, suc, ◌+◌, ◌<◌, ◌≤◌, Bool, true, false, not, List, [], ◌∷◌, length, Option, Some, None, refl, sym, ap, ◌∙◌, subst, unwrap_or, inl, inr, arith, ◌++◌, append-nil, ◌==◌, ◌||◌, ◌&&◌, option_map_or, both_ways, cases_Bool, cases_eq, cond-true, eq-eqb, eqb-true, false_from_ne_true, ne_eqb, or_from, or_parts, and_from, Forest, Empty, Node, Once, children, has, is_above, moved, parent_of, put, removed, size, times, with_children, changed, mapped, Moves, at_some, has_at, has_none, has_some, once_front, once_moved, once_put, parent_stays, removed_has, size_moved, size_put, size_removed, times_moved, times_none, times_some, apart_of, first_child_other, has_children, once_removed, removed_absent, lead, order, order_at, all_changed, swept, nat_tests}
+use Rattle.session_laws.proofs.Scenes.{Scene, Contexts, What}
 use Rattle.session_laws.proofs.Rules.{at_put, children_put, has_left, has_put_other, once_left, parent_left, parent_put, parent_put_other, emptied_absent, has_emptied, is_one_of, Reader, allows_all, seen_after, AreSaid, said_more, said_none}
 use Rattle.forest.proofs.Mapped.{mapped-times}
 use Rattle.forest.specs.Preorder.{level}
@@ -42,10 +42,7 @@ FitsOwners nodes s = FitsBelow nodes s.session.owners s.session.next_owner
 
 -- nodes without one
 pub still_away : (m n : ℕ) (nodes : List Kept) → is_there m nodes ≡ false → is_there m (without n nodes) ≡ false
-still_away m n nodes h = elim (cases_eq m n) [
-  | inl e ↦ ap (λ (x : ℕ). is_there x (without n nodes)) e ∙ is_there-without_same n nodes
-  | inr ne ↦ is_there-without_other m n nodes ne ∙ h
-]
+still_away m n nodes h = grind (arith, nat_tests, is_there-without_same, is_there-without_other)
 
 pub single_without : (n : ℕ) (nodes : List Kept) → AreSingle nodes → AreSingle (without n nodes)
 single_without n [] h = tt
@@ -59,10 +56,7 @@ without_none n (first ∷ rest) h =
 
 pub length_without : (n : ℕ) (nodes : List Kept) → AreSingle nodes → is_there n nodes ≡ true → 1 + length (without n nodes) ≡ length nodes
 length_without n [] single h = absurd (cc h)
-length_without n (first ∷ rest) single h = elim (cases_Bool (first.number == n)) [
-  | inl y ↦ rw (y, without_none n rest (ap (λ (x : ℕ). is_there x rest) (sym (eqb-true first.number n y)) ∙ single.0)) (omega arith)
-  | inr z ↦ rw z (omega (arith, length_without n rest single.1 (rw z at h)))
-]
+length_without n (first ∷ rest) single h = grind (arith, nat_tests, length_without n rest single.1, without_none, eqb-true)
 
 pub single_placed : (n : ℕ) (parent : Option ℕ) (nodes : List Kept) → AreSingle nodes → AreSingle (placed n parent nodes)
 single_placed n parent nodes h = (is_there-without_same n nodes, single_without n nodes h)
@@ -70,22 +64,7 @@ single_placed n parent nodes h = (is_there-without_same n nodes, single_without 
 module _ {A : Type 0} where
   -- a node without children goes
   pub fits_gone : (n : ℕ) (nodes : List Kept) (t : Forest A) → FitsTree nodes t → has n t ≡ true → children n t ≡ Empty → FitsTree (without n nodes) (removed n t)
-  fits_gone n nodes t f h leaf =
-      let away : has n (removed n t) ≡ false = removed_has n t f.once h in
-      let out : (m : ℕ) → has m (children n t) ≡ false = λ m. ap (has m) leaf in
-      record {
-        once = once_left n t f.once;
-        there = λ m. elim (cases_eq m n) [
-          | inl e ↦ subst (λ (x : ℕ). is_there x (without n nodes) ≡ has x (removed n t)) (sym e) (is_there-without_same n nodes ∙ sym away)
-          | inr ne ↦ is_there-without_other m n nodes ne ∙ f.there m ∙ sym (has_left m n t f.once ne (out m))
-        ];
-        parent = λ m. elim (cases_eq m n) [
-          | inl e ↦ subst (λ (x : ℕ). replayed.parent_of x (without n nodes) ≡ parent_of x (removed n t)) (sym e) (parent_of-without_same n nodes ∙ sym (parent_absent n (removed n t) away))
-          | inr ne ↦ parent_of-without_other m n nodes ne ∙ f.parent m ∙ sym (parent_left m n t f.once ne (out m))
-        ];
-        single = single_without n nodes f.single;
-        length = omega (arith, length_without n nodes f.single (f.there n ∙ h), f.length, size_removed n t f.once h, ap size leaf);
-      }
+  fits_gone n nodes t f h leaf = grind (arith, nat_tests, removed_has, once_left, is_there-without_same, is_there-without_other, has_left, parent_of-without_same, parent_absent, parent_of-without_other, parent_left, single_without, length_without, size_removed)
 
   -- nodes fit where one is placed as the tree has it, and all others are as they were
   fits_placed : (n : ℕ) (parent : Option ℕ) (nodes : List Kept) (t u : Forest A) → FitsTree nodes t → Once u → has n u ≡ true → parent_of n u ≡ parent
@@ -316,15 +295,7 @@ module _ {A : Type 0} where
 
 -- a context is reset
 pub alike_alone : (n : ℕ) (t : Contexts) → AreAlike t (ends.cleared_alone n t).contexts
-alike_alone n t = go (at n t)
-  where
-    by_use : (c : Context) (b : Bool) → AreAlike t (if b then record { contexts = changed n emptied t; events = callbacks n c.hooks ++ (what.Reset n ∷ []); hooks = c.hooks } else ends.unchanged t).contexts
-    by_use c true = alike_changed n emptied t
-    by_use c false = alike_same t
-
-    go : (o : Option Context) → AreAlike t (option_map_or (ends.reset_of n t) o (ends.unchanged t)).contexts
-    go None = alike_same t
-    go (Some c) = by_use c c.used
+alike_alone n t = grind (arith, nat_tests, alike_changed, alike_same)
 
 -- Readers of the events by which replayed nodes come and go.
 
@@ -430,17 +401,7 @@ module _ (reader : Reader Growth) where
   pruned {A} {u = u} (takes_past {event = event} {events = events} h hs) p growth f =
       let k : IsPruned (reader.next event growth) u events = subst (λ (g : Growth). IsPruned g u events) (sym (h.same growth)) (pruned hs p growth f) in
       record { allowed = and_from (reader.allows event growth) (allows_all reader (reader.next event growth) events) (h.allowed growth) k.allowed; tree = k.tree; next = k.next ∙ ap (λ (g : Growth). g.next) (h.same growth) }
-  pruned {A} {t = t} {u = u} (takes_one {n = n} {event = event} {events = events} h hs) (one_less there leaf p) growth f =
-      let less : Growth = record { nodes = without n growth.nodes; next = growth.next } in
-      let k : IsPruned (reader.next event growth) u events =
-      subst (λ (g : Growth). IsPruned g u events) (sym (h.next growth)) (pruned hs p less (fits_gone n growth.nodes t f there leaf)) in
-      record {
-        allowed = and_from (reader.allows event growth) (allows_all reader (reader.next event growth) events)
-            (h.allowed growth ∙ and_from (is_there n growth.nodes) (not (has_child n growth.nodes)) (f.there n ∙ there) (ap not (same_childless n growth.nodes t f leaf)))
-            k.allowed;
-        tree = k.tree;
-        next = k.next ∙ ap (λ (g : Growth). g.next) (h.next growth);
-      }
+  pruned {A} {t = t} {u = u} (takes_one {n = n} {event = event} {events = events} h hs) (one_less there leaf p) growth f = grind (arith, nat_tests, pruned hs p, fits_gone, and_from, same_childless)
 
   pub takes_quiet : {P : What → Bool} → ((event : What) → P event ≡ true → IsPassed reader event) → {events : List What} → AreSaid P events → Takes [] events
   takes_quiet passes said_none = takes_none

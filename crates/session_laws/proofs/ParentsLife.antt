@@ -1,5 +1,5 @@
 -- The replayed contexts are those of the session, whatever a line does.
-use Rattle.session_laws.proofs.Words.{◌≡◌, ℕ, ◌+◌, ◌<◌, Bool, true, false, List, [], ◌∷◌, Some, None, refl, sym, ap, ◌∙◌, subst, inl, inr, arith, length, map, Option, ◌==◌, ◌&&◌, ◌||◌, and_from, cases_Bool, cases_eq, eq-eqb, false_from_ne_true, ne_eqb, Forest, Empty, Node, Once, at, children, has, moved, parent_of, put, size, times, with_children, removed, order, order_at, Moves, at_absent, at_some, has_of_removed, has_some, put_absent, removed_absent, times_moved, times_some, nat_tests}
+use Rattle.session_laws.proofs.Words.{◌≡◌, ℕ, ◌+◌, ◌<◌, Bool, true, false, List, [], ◌∷◌, Some, None, refl, sym, ap, ◌∙◌, subst, inl, inr, arith, length, map, Option, ◌==◌, ◌&&◌, ◌||◌, and_from, cases_Bool, eq-eqb, false_from_ne_true, ne_eqb, Forest, Empty, Node, Once, at, children, has, moved, parent_of, put, size, with_children, removed, order, order_at, Moves, at_absent, at_some, has_of_removed, has_some, put_absent, removed_absent, times_moved, times_some, nat_tests}
 use Rattle.session_laws.proofs.Scenes.{What, CtxKind, Hook, Contexts, is_child, move_events, new_context, placed_under, gone_events, Scene, Around, Text, children_gone, context_cleared, context_cleared_alone, context_gone, context_moved, context_made, owner_made, hook_waits, item_taken, KindTable, opening, KindId, Phase, Owner, OwnerTree, own_released, owner_gone, owner_moved, phase_released}
 use Rattle.session_laws.proofs.Rules.{has_put_other, times_emptied, EndLeaves, Keeps, Law, LevelLeaves, MakeLeaves, MoveLeaves, AreSaid, said_alone, said_map, said_weaker, said_more, said_none, said_one, of_contexts, of_next_context, KeyLeaves, Part, Sight, of_next_owner, of_owners, unseen_keys, seen_after, OwnerLeaves, moves_owed, Reader, allows_all}
 use Rattle.session_laws.proofs.Usual.{Usual, is_usual, level_words, usual_levels, usual_locks, usual_makes, usual_moves, usual_phase, usual_taken}
@@ -39,20 +39,11 @@ module _ {A : Type 0} where
   alike_has n t u h = sym (mapped-has bare n u) ∙ ap (has n) h.shape ∙ mapped-has bare n t
 
   pub fits_alike : (nodes : List Kept) (t u : Forest A) → AreAlike t u → FitsTree nodes t → FitsTree nodes u
-  fits_alike nodes t u h f = record {
-    once = once_alike t u h f.once;
-    there = λ n. f.there n ∙ sym (alike_has n t u h);
-    parent = λ n. f.parent n ∙ sym (sym (mapped-parent bare n u) ∙ ap (parent_of n) h.shape ∙ mapped-parent bare n t);
-    single = f.single;
-    length = f.length ∙ sym (sym (mapped-size bare u) ∙ ap size h.shape ∙ mapped-size bare t);
-  }
+  fits_alike nodes t u h f = grind (arith, nat_tests, once_alike, alike_has, mapped-parent, bare, mapped-size)
 
   -- a node that is made, and one that moves
   pub put_has : (m p n : ℕ) (a : A) (t : Forest A) → ((k : ℕ) → has k t ≡ true → k < n) → has m (put p n a Empty t) ≡ true → m < n + 1
-  put_has m p n a t below u = elim (cases_eq m n) [
-    | inl e ↦ omega (arith, e)
-    | inr ne ↦ omega (arith, below m (sym (has_put_other m p n a Empty t ne refl) ∙ u))
-  ]
+  put_has m p n a t below u = grind (arith, nat_tests, has_put_other)
 
   pub made_fits : (p n : ℕ) (a : A) (nodes : List Kept) (t : Forest A) → FitsTree nodes t → ((k : ℕ) → has k t ≡ true → k < n) → FitsTree (placed_where (is_there p nodes) n (Some p) nodes) (put p n a Empty t)
   made_fits p n a nodes t f below = elim (cases_Bool (has p t)) [
@@ -61,10 +52,7 @@ module _ {A : Type 0} where
   ]
 
   pub moved_has : (m n p : ℕ) (t : Forest A) → Once t → Moves n p t → has m (moved n p t) ≡ true → has m t ≡ true
-  moved_has m n p t o w u =
-      let a = at_some n t w.node in
-      let same : times m (moved n p t) ≡ times m t = rw a.1 (times_moved m n p a.0 t o w) in
-      has_some m t (omega (arith, same, times_some m (moved n p t) u))
+  moved_has m n p t o w u = grind (arith, nat_tests, at_some, times_moved, has_some, times_some)
 
 -- what is read of events, and is seen of the tree behind them
 record GrowsTo {A : Type 0} (reader : Reader Growth) (growth : Growth) (u : Forest A) (count : ℕ) (events : List What) : Type 0 where
@@ -265,10 +253,7 @@ owners_past s t {events = events} alike next past = record {
 
 -- an owner that is made
 front_below : (m n : ℕ) (t : OwnerTree) → ((k : ℕ) → has k t ≡ true → k < n) → ((n == m) || has m t) ≡ true → m < n + 1
-front_below m n t below u = elim (cases_eq n m) [
-  | inl e ↦ omega (arith, e)
-  | inr ne ↦ omega (arith, below m (sym (ap (λ (b : Bool). b || has m t) (ne_eqb n m ne)) ∙ u))
-]
+front_below m n t below u = grind (arith, nat_tests, ne_eqb)
 
 fresh_owner : (n : ℕ) (t : OwnerTree) → ((k : ℕ) → has k t ≡ true → k < n) → has n t ≡ false
 fresh_owner n t below = false_from_ne_true (has n t) (λ u. omega (arith, below n u))
@@ -388,13 +373,7 @@ opening_owners = record { nodes = []; next = 1 }
 
 first_owners_fit : (around : Around) → HasOwners opening_owners (record { session = opening; around = around })
 unfolding opening
-first_owners_fit around = record {
-  fits = record {
-    tree = record { once = record { once = λ n. omega arith }; there = λ n. refl; parent = λ n. refl; single = tt; length = refl };
-    below = λ n u. absurd (cc u);
-  };
-  next = refl;
-}
+first_owners_fit around = grind (arith, nat_tests)
 
 -- In the life of a session the replayed owners are those that it has between any two elements: each that is made gets the next number,
 -- each that goes is there and has no child, and in the end none is left.

@@ -18,12 +18,12 @@ pub use Rattle.owner_core.specs.Released.{left_of, own_released, released}
 pub use Rattle.lock_local.specs.Locks.{AreLocks, IsInOrder, Lock, comes_before, count_of, has_owner, is_lock, lock_total, owner_count}
 pub use Rattle.any_ctx.specs.declared.any.CtxKind.{CtxKind}
 pub use Rattle.context_rules.specs.Contexts.{Context, Contexts, is_child, is_protected, move_events, new_context, placed_under}
-pub use Rattle.context_rules.specs.Ends.{callbacks, emptied, gone, gone_events, reset_of, unchanged, waiting}
+pub use Rattle.context_rules.specs.Ends.{callbacks, emptied, gone, gone_events, waiting}
 pub use Rattle.session_rules.specs.State.{LevelState, OpenPortal, SessionState, StandingPlan, abort_context, cache_context, context_of, deepest_changed, depth, file_kind, first_of, is_aborted, last_of, level_above, level_context, level_owner, owner_of, portals_context, top_context}
 unfoldable pub use Rattle.session_rules.specs.State.{opening}
 pub use Rattle.session_rules.specs.World.{Around, Moment, Options, Scene, World, around, moment, opened, session_at, with_scene}
 pub use Rattle.session_rules.specs.Elements.{Check, Element, LevelContext, NewContext, OfLevel, OfPortal, OwnerRole, PortalContext, RowContext, ScriptContext, Text}
-pub use Rattle.session_rules.specs.Lookup.{context_named, is_named, kind_named, newest, owner_in, plan_at, plan_changed, plans_but, portal_changed, portal_named}
+pub use Rattle.session_rules.specs.Lookup.{context_named, kind_named, newest, owner_in, plan_at, plan_changed, plans_but, portal_changed, portal_named}
 pub use Rattle.session_rules.specs.Acts.{Ended, behind, changes, children_gone, context_cleared, context_cleared_alone, context_gone, for_each, in_order, nothing, portal_becomes, portal_gone, say, switched, where_so, where_there}
 pub use Rattle.session_rules.specs.Releases.{Keeper, NoOne, TheDescriptors, TheKind, ThePlans, descriptor_left, given_back, item_released, keeper_of, left_to, owner_gone, owner_moved, owner_released, phase_released, plan_becomes, plan_left, plan_settled, plan_stays, step_done}
 pub use Rattle.session_rules.specs.Parts.{at_kind, at_owner, at_portal, context_moved, contexts_become, level_stands, lock_given_back, snapshot_popped, tells}
@@ -32,7 +32,7 @@ pub use Rattle.session_rules.specs.Taking.{chunk_resized, descriptor_given, file
 pub use Rattle.session_rules.specs.Portals.{executor_ended, is_ready, portal_aborted, portal_closed, portal_ended, portal_failed, portal_owner_ended, portal_passed, portal_withdrawn}
 pub use Rattle.session_rules.specs.Ends.{aborted, cleaned_up, committed, empty_context_gone, given_up, level_context_gone, level_owner_gone, level_popped, level_released, level_rolled_back, stack_lowered, stack_popped, subcommitted, switched_up}
 unfoldable pub use Rattle.session_rules.specs.Ends.{exited, recovered}
-pub use Rattle.session_rules.specs.Checks.{failure, has_failed, lock_count, unless}
+pub use Rattle.session_rules.specs.Checks.{failure, has_failed, unless}
 pub use Rattle.session_rules.specs.Calls.{Done, fallible, refused_call, unfailing, unless_refused}
 pub use Rattle.session_rules.specs.Does.{failing_turn, then_done}
 unfoldable pub use Rattle.session_rules.specs.Does.{does, does_all}

@@ -1,6 +1,6 @@
 -- The stack of active snapshots: each pop is of the newest one.
-use Rattle.session_laws.proofs.Words.{◌≡◌, ℕ, zero, suc, ◌+◌, ◌-◌, ◌≤◌, Bool, true, false, List, [], ◌∷◌, ◌++◌, length, map, reverse, take, Some, refl, sym, ap, ◌∙◌, inl, inr, arith, drop, Option, None, subst, ◌==◌, ◌⊎◌, filter, nat_lt, if◌then◌else◌, cases_Bool, eqb-true, eqb-false, lt-leb, le-leb, ltb-true, ltb-false, le-ltb, and_from, eq-eqb, append-nil, append_assoc, map-append, reverse-append, reverse-reverse, length-append, take_at, filter-append}
-use Rattle.session_laws.proofs.Scenes.{first_of, last_of, opening, AreStacked, HasExited, Stands, StandsBetweenLines, active_depth, What, Command, KindTable, Around, Moment, Scene, Element, changes, in_order, say, where_there, snapshot_popped, snapshot_pushed, does, exited, stack_lowered, stack_popped, turn}
+use Rattle.session_laws.proofs.Words.{◌≡◌, ℕ, zero, suc, ◌+◌, ◌-◌, ◌≤◌, Bool, true, false, List, [], ◌∷◌, ◌++◌, length, map, reverse, take, Some, refl, sym, ap, ◌∙◌, inl, inr, arith, drop, Option, None, subst, ◌==◌, ◌⊎◌, filter, nat_lt, if◌then◌else◌, cases_Bool, eqb-true, eqb-false, lt-leb, le-leb, ltb-true, ltb-false, le-ltb, and_from, eq-eqb, append-nil, append_assoc, map-append, reverse-append, reverse-reverse, length-append, take_at, filter-append, nat_tests}
+use Rattle.session_laws.proofs.Scenes.{first_of, last_of, opening, AreStacked, Stands, StandsBetweenLines, What, Command, KindTable, Around, Moment, Scene, Element, changes, in_order, say, where_there, snapshot_popped, snapshot_pushed, does, exited, stack_lowered, stack_popped, turn}
 use Rattle.session_laws.proofs.Rules.{allows_all, seen_after, Law, exited_stands, Meets, line_runs, fallible_at, said_none, said_one, of_snapshots}
 use Rattle.snap_table.specs.declared.active.Active.{Active}
 use Rattle.snap_table.specs.Snapshots.{is_deep, kept_below, lowered, pops}
@@ -42,31 +42,17 @@ rising_taken (suc n) least (entry ∷ entries) h = (h.0, rising_taken n entry.le
 -- those of a level and of deeper ones are popped
 pub rising_kept : (level least : ℕ) (entries : List Active) → IsRising least entries → IsRising least (kept_below level entries)
 rising_kept level least [] h = tt
-rising_kept level least (entry ∷ entries) h = go (nat_lt entry.level level) (rising_kept level entry.level entries h.1)
-  where
-    go : (b : Bool) → IsRising entry.level (kept_below level entries) → IsRising least (if b then entry ∷ kept_below level entries else kept_below level entries)
-    go true rest = (h.0, rest)
-    go false rest = rising_from least entry.level (kept_below level entries) h.0 rest
+rising_kept level least (entry ∷ entries) h = grind (arith, nat_tests, rising_kept level entry.level entries h.1, rising_from)
 
 -- those of a level belong to the one above
 abbrev lower : ℕ → ℕ → ℕ
 lower level n = (if n == level then level - 1 else n)
 
 lowered_level : (level : ℕ) (entry : Active) → (lowered level entry).level ≡ lower level entry.level
-lowered_level level entry = go (entry.level == level)
-  where
-    go : (b : Bool) → (if b then record entry { level = level - 1 } else entry).level ≡ (if b then level - 1 else entry.level)
-    go true = refl
-    go false = refl
+lowered_level level entry = grind (arith, nat_tests)
 
 lower_rises : (level a b : ℕ) → a ≤ b → lower level a ≤ lower level b
-lower_rises level a b h = go (a == level) (b == level) refl refl
-  where
-    go : (p q : Bool) → (a == level) ≡ p → (b == level) ≡ q → (if p then level - 1 else a) ≤ (if q then level - 1 else b)
-    go true true e f = omega arith
-    go true false e f = let same = eqb-true a level e in omega (arith, h, same)
-    go false true e f = let same = eqb-true b level f in let ne = eqb-false a level e in omega (arith, h, same, ne)
-    go false false e f = h
+lower_rises level a b h = grind (arith, nat_tests, eqb-true, eqb-false)
 
 rising_lowered_from : (level low least : ℕ) (entries : List Active) → low ≤ lower level least → IsRising least entries → IsRising low (map (lowered level) entries)
 rising_lowered_from level low least [] l h = tt
@@ -80,11 +66,7 @@ rising_lowered level entries h = rising_lowered_from level 0 0 entries (omega ar
 
 pub numbers_lowered : (level : ℕ) (entries : List Active) → numbers (map (lowered level) entries) ≡ numbers entries
 numbers_lowered level [] = refl
-numbers_lowered level (entry ∷ entries) = go (entry.level == level) (numbers_lowered level entries)
-  where
-    go : (b : Bool) → numbers (map (lowered level) entries) ≡ numbers entries → (if b then record entry { level = level - 1 } else entry).snapshot ∷ numbers (map (lowered level) entries) ≡ entry.snapshot ∷ numbers entries
-    go true rest = ap (λ (ns : List ℕ). entry.snapshot ∷ ns) rest
-    go false rest = ap (λ (ns : List ℕ). entry.snapshot ∷ ns) rest
+numbers_lowered level (entry ∷ entries) = grind (arith, nat_tests, numbers_lowered level entries)
 
 -- the newest of a list stands in front of it where it is turned round
 pub newest_again : (x : Active) (xs : List Active) → reverse (x ∷ xs) ≡ reverse xs ++ (x ∷ [])
@@ -223,36 +205,17 @@ gone_so level s = record {
 }
 
 lowered_so : (level : ℕ) (s : Scene) → ReadsStack s (stack_lowered level s).scene (stack_lowered level s).events
-lowered_so level s = record {
-  so = λ stack h. record {
-    allowed = refl;
-    fits = record { is = h.is ∙ sym (newest_lowered level s.session.snapshots); rises = rising_lowered level s.session.snapshots h.rises };
-  };
-}
+lowered_so level s = grind (arith, nat_tests, newest_lowered, rising_lowered)
 
 stack_base : Base of_stack ReadsStack
 stack_base = record { sees = stack_seen; locks = locks_hidden of_stack ReadsStack stack_seen refl; files = files_hidden of_stack ReadsStack stack_seen refl }
 
 stack_law : Turns of_stack ReadsStack
-stack_law = record {
-  least = least_of of_stack ReadsStack stack_base refl;
-  levels = λ levels s. stack_aside s _ refl said_none;
-  stack = record { popped = record { so = popped_so }; stack_gone = λ level. record { so = gone_so level }; stack_passed = λ level. record { so = lowered_so level } };
-}
+stack_law = grind (arith, nat_tests, least_of, of_stack, stack_base, stack_aside, said_none, popped_so, gone_so, lowered_so)
 
 -- one is pushed where the scene stands
 pushed_so : (snapshot : ℕ) (s : Scene) → Stands s → ReadsStack s (snapshot_pushed snapshot s).scene (snapshot_pushed snapshot s).events
-pushed_so snapshot s stands = record {
-  so = λ stack h.
-      let new : Active = record { snapshot = snapshot; level = length s.session.levels } in
-      record {
-        allowed = refl;
-        fits = record {
-          is = ap (λ (ns : List ℕ). snapshot ∷ ns) h.is ∙ sym (newest_pushed s.session.snapshots new);
-          rises = rising_pushed 0 1 (active_depth s.session.levels) new s.session.snapshots stands.snapshots (omega arith) (omega arith) (depth_small s.session.levels);
-        };
-      };
-}
+pushed_so snapshot s stands = grind (arith, nat_tests, newest_pushed, rising_pushed, depth_small)
 
 stack_owed : (w : Option ℕ) (x : Element) (m : Moment) → Meets x m.scene → OwesUnlocks ReadsStack w x m
 unfolding does
@@ -273,10 +236,7 @@ unfolding opening
 stack_opens around = record { is = refl; rises = tt }
 
 stack_exit : (s : Scene) → StandsBetweenLines s → (stack : List ℕ) → StackFits stack s → (allows_all stacking stack (exited s).events ≡ true) × (none_left (seen_after stacking stack (exited s).events) ≡ true)
-stack_exit s h stack fits =
-    let read : IsRead stacking StackFits stack (exited s).scene (exited s).events = (session_exits of_stack ReadsStack stack_law s).so stack fits in
-    let left : HasExited (exited s).scene = exited_stands s h.stands in
-    (read.allowed, ap none_left (read.fits.is ∙ ap newest_first left.snapshots))
+stack_exit s h stack fits = grind (arith, nat_tests, session_exits, of_stack, stack_law, exited_stands)
 
 -- The stack of snapshots in the life of a session.
 pub stack_life : (kinds : KindTable) → IsLife kinds stacking StackFits [] (λ stack. none_left stack ≡ true)
