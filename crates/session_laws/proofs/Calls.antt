@@ -1,5 +1,5 @@
 -- Callbacks that wait by what was said, context by context, and what is said of them where contexts go.
-use Rattle.session_laws.proofs.Words.{◌≡◌, ◌≢◌, ℕ, Bool, true, false, cond, Option, Some, None, List, [], ◌∷◌, ◌++◌, map, refl, sym, ap, ◌∙◌, subst, inl, inr, arith, ◌+◌, ◌≤◌, not, ◌==◌, ◌||◌, option_map_or, cases_Bool, cases_eq, eq-eqb, ne_eqb, eqb-true, both_ways, cond-true, cond-false, false_from_ne_true, or_parts, and_from, Empty, Node, Once, at, children, either, has, removed, subtree, times, with_children, changed, is_above, put, Apart, apart_of, at_absent, at_some, has_none, removed_absent, times_none, times_removed, times_some, Moves, changed_absent, put_absent, nat_tests, sum_by-append}
+use Rattle.session_laws.proofs.Words.{◌≡◌, ◌≢◌, ℕ, Bool, true, false, cond, Option, Some, None, List, [], ◌∷◌, ◌++◌, map, refl, sym, ap, ◌∙◌, subst, inl, inr, arith, ◌+◌, ◌≤◌, ◌==◌, ◌||◌, option_map_or, cases_Bool, cases_eq, eq-eqb, ne_eqb, eqb-true, both_ways, cond-true, cond-false, false_from_ne_true, or_parts, and_from, Empty, Node, Once, at, children, either, has, removed, subtree, times, with_children, changed, is_above, put, Apart, apart_of, at_absent, at_some, has_none, removed_absent, times_none, times_removed, times_some, Moves, changed_absent, put_absent, nat_tests, sum_by-append}
 use Rattle.session_laws.proofs.Scenes.{What, Hook, AreDistinct, Context, Contexts, is_child, move_events, new_context, placed_under, callbacks, gone_events, emptied, gone, waiting, Error, KindTable, IsSound, CtxKind, opening, Around, Scene, Moment, Options, World, moment, with_scene, Ended, children_gone, context_cleared, context_cleared_alone, context_gone, say, Text, context_made, context_moved, hook_waits, table_of, exited, Reading, course_by, ended, of_session, transcript_by, turn}
 use Rattle.session_laws.proofs.Rules.{allows_all, seen_after, events_of, is_one_of, allows_all-append, seen_after-append, at_children, at_emptied, at_left, times_emptied, at_put, at_put_other, EndLeaves, Keeps, Law, AreSaid, said_more, said_none, ContextLeaves, Sight, of_contexts, of_next_context}
 use Rattle.lifetime_laws.specs.Called.{Waiting, calling, is_awaited, is_next, without_next, CallsBack, all_differ, words_in}
@@ -106,9 +106,7 @@ at_below : (k n : ℕ) (c : Context) (below beside : Contexts) → Apart n below
 at_below k n c below beside apart h = grind (arith, nat_tests, at_some, ne_eqb, both_ways)
 
 at_beside : (k n : ℕ) (c : Context) (below beside : Contexts) → Apart n below beside → has k beside ≡ true → words_at k (Node n c below beside) ≡ words_at k beside
-at_beside k n c below beside apart h =
-    let differ : (n == k) ≡ false = ne_eqb n k (λ e. both_ways (has k beside) (ap (λ (j : ℕ). has j beside) (sym e) ∙ apart.not_beside) h) in
-    rw (differ, at_absent k below (apart.apart_back k h)) refl
+at_beside k n c below beside apart h = grind (arith, nat_tests, ne_eqb, both_ways, at_absent)
 
 -- all contexts of a forest go
 pub gone_called : (t : Contexts) (seen : List Waiting) → Once t → ((k : ℕ) → has k t ≡ true → words_on k seen ≡ words_at k t) → Calls (λ k. has k t) seen (gone_events t)
@@ -219,18 +217,10 @@ abbrev CallsHooks : Law
 CallsHooks s t events = Reads calling FitsHooks s t events
 
 -- an event that says nothing of contexts
-apart_allowed : (event : What) (seen : List Waiting) → is_apart event ≡ true → (calling.allows event seen ≡ true) × (calling.next event seen ≡ seen)
-apart_allowed (what.Create context name parent) seen h = absurd (cc h)
-apart_allowed (what.Move context parent) seen h = absurd (cc h)
-apart_allowed (what.Delete context) seen h = absurd (cc h)
-apart_allowed (what.Reset context) seen h = absurd (cc h)
-apart_allowed (what.Callback word context) seen h = absurd (cc h)
-apart_allowed (what.Hook word context) seen h = absurd (cc h)
-apart_allowed other seen h = (refl, refl)
 
 apart_read : {events : List What} → AreSaid is_apart events → (seen : List Waiting) → (allows_all calling seen events ≡ true) × (seen_after calling seen events ≡ seen)
 apart_read said_none seen = (refl, refl)
-apart_read (said_more {event = event} {events = events} h hs) seen = grind (arith, nat_tests, apart_read hs seen, apart_allowed)
+apart_read (said_more {event = event} {events = events} h hs) seen = grind (arith, nat_tests, apart_read hs seen)
 
 calls_sight : Sight is_of_contexts is_apart CallsHooks
 calls_sight = record {
@@ -493,9 +483,7 @@ none_told n (event ∷ events) h = none_at n event.session event.what events (no
 -- where each word is told once at most, they all differ
 differ_at : (k : ℕ) (x : What) (events : List Event) → all_differ (words_in events) ≡ true → ((n : ℕ) → cond (is_registered n x) 1 0 + told n events ≤ 1)
     → all_differ (words_in (record { session = k; what = x } ∷ events)) ≡ true
-differ_at k (what.Hook word context) events more h =
-    let z : 1 + told word events ≤ 1 = rw (eq-eqb word word refl) at (h word) in
-    and_from (not (is_one_of word (words_in events))) (all_differ (words_in events)) (ap not (none_told word events (omega (arith, z)))) more
+differ_at k (what.Hook word context) events more h = grind (arith, nat_tests, eq-eqb, and_from, none_told)
 differ_at k other events more h = more
 
 all_told : (events : List Event) → ((n : ℕ) → told n events ≤ 1) → all_differ (words_in events) ≡ true

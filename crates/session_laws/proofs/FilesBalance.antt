@@ -1,5 +1,5 @@
 -- Where each item is released once, so are the items of a file together.
-use Rattle.session_laws.proofs.Words.{◌-◌, ◌≡◌, ℕ, ◌+◌, ◌≤◌, Bool, true, false, cond, if◌then◌else◌, List, [], ◌∷◌, ◌++◌, length, Option, Some, None, refl, sym, ap, arith, subst, ◌==◌, ◌&&◌, sum_by, option_map_or, and_from, and_parts, both_ways, eq-eqb, eqb-true, leb-true, sum_by-cons, nat_tests, nat_le}
+use Rattle.session_laws.proofs.Words.{◌≡◌, ℕ, ◌+◌, ◌≤◌, Bool, true, false, cond, if◌then◌else◌, List, [], ◌∷◌, ◌++◌, length, Option, Some, None, refl, sym, arith, subst, ◌==◌, ◌&&◌, sum_by, option_map_or, and_from, and_parts, both_ways, eq-eqb, eqb-true, leb-true, sum_by-cons, nat_tests, ◌-◌, nat_le}
 use Rattle.session_laws.proofs.Scenes.{What, Item, is_of, file_kind, SessionState, opening, Error, Command, table_of, KindTable, Around, Moment, Scene, exited, StandsBetweenLines, turn}
 use Rattle.session_laws.proofs.Rules.{allows_all, seen_after, Reader, BalancesFrom, count, covers, left, said_one}
 use Rattle.lifetime_laws.specs.Once.{acquires, one_where, releases, same_item, closes, opens}
@@ -35,12 +35,6 @@ record AreSame (x y : ItemOwner) : Type 0 where
   serial : x.0.serial ≡ y.0.serial
   owner : x.1 ≡ y.1
 
-are_same : (x y : ItemOwner) → same x y ≡ true → AreSame x y
-are_same x y h = grind (arith, nat_tests, and_parts, eqb-true)
-
-same_right : (p x y : ItemOwner) → same x y ≡ true → same p x ≡ same p y
-same_right p x y h = grind (arith, nat_tests, are_same)
-
 same_itself : (x : ItemOwner) → same x x ≡ true
 same_itself x = grind (arith, nat_tests, and_from, eq-eqb)
 
@@ -58,7 +52,7 @@ but_one x (y ∷ ys) = (if same x y then ys else y ∷ but_one x ys)
 
 often_but : (p x : ItemOwner) (ys : List ItemOwner) → 1 ≤ often x ys → often p (but_one x ys) + one_where (same p x) ≡ often p ys
 often_but p x [] h = absurd (omega (arith, h))
-often_but p x (y ∷ ys) h = grind (arith, nat_tests, often_but p x ys, often_more, same_right)
+often_but p x (y ∷ ys) h = grind (arith, nat_tests, often_but p x ys, often_more)
 
 length_but : (x : ItemOwner) (ys : List ItemOwner) → 1 ≤ often x ys → length (but_one x ys) + 1 ≡ length ys
 length_but x [] h = absurd (omega (arith, h))
@@ -72,9 +66,7 @@ module _ (f : ℕ) where
 
   no_longer : (xs ys : List ItemOwner) → AreOf xs → ((p : ItemOwner) → is_of file_kind f p.0 ≡ true → often p xs ≤ often p ys) → length xs ≤ length ys
   no_longer [] ys of less = omega arith
-  no_longer (x ∷ xs) ys of less =
-      let some : 1 ≤ often x ys = omega (arith, less x of.0, often_more x x xs, ap one_where (same_itself x)) in
-      omega (arith, length_but x ys some, no_longer xs (but_one x ys) of.1 (λ p is. omega (arith, less p is, often_more p x xs, often_but p x ys some)))
+  no_longer (x ∷ xs) ys of less = grind (arith, nat_tests, no_longer xs (but_one x ys) of.1, often_more, same_itself, length_but, often_but)
 
   -- the pairs of some events whose items are of the file
   abbrev of_pair : Option ItemOwner → List ItemOwner
@@ -109,7 +101,7 @@ module _ (f : ℕ) where
 
   -- another item isn't of the file
   apart : (p q : ItemOwner) → is_of file_kind f p.0 ≡ true → is_of file_kind f q.0 ≡ false → one_where (same p q) ≡ 0
-  apart p q is not = grind (arith, nat_tests, are_same, both_ways)
+  apart p q is not = grind (arith, nat_tests, both_ways)
 
   pairs_often : (pick : What → Option ItemOwner) (p : ItemOwner) → is_of file_kind f p.0 ≡ true → (events : List What) → often p (pairs pick events) ≡ sum_by (λ event. is_it p (pick event)) events
   pairs_often pick p is [] = refl

@@ -1,5 +1,5 @@
 -- What becomes of owners makes them hold no more, and leaves each number once.
-use Rattle.session_laws.proofs.Words.{◌≡◌, ℕ, ◌≤◌, true, Some, List, [], ◌∷◌, refl, ap, inl, inr, arith, ◌+◌, ◌-◌, Bool, false, cond, nat_eq, if◌then◌else◌, ◌++◌, Option, None, sym, subst, ◌∙◌, zero, suc, find, take, ◌==◌, ◌&&◌, nat_le, nat_lt, list_any, cases_Bool, and_from, eqb-true, le-leb, Empty, Node, Once, at, children, has, moved, put, removed, times as node_times, subtree, size, order_at, at_absent, at_some, once_removed, put_absent, removed_absent, times_put, times_removed, changed_absent, once_changed, option_map_or, nat_tests}
+use Rattle.session_laws.proofs.Words.{◌≡◌, ℕ, ◌≤◌, true, Some, List, [], ◌∷◌, refl, ap, inl, inr, arith, ◌+◌, ◌-◌, Bool, false, cond, nat_eq, if◌then◌else◌, ◌++◌, Option, None, sym, subst, ◌∙◌, zero, suc, find, take, ◌==◌, ◌&&◌, nat_le, nat_lt, list_any, cases_Bool, and_from, eqb-true, le-leb, Empty, Node, Once, at, children, has, moved, put, removed, subtree, size, order_at, at_absent, at_some, once_removed, put_absent, removed_absent, times_put, times_removed, changed_absent, once_changed, option_map_or, nat_tests}
 use Rattle.session_laws.proofs.Scenes.{Item, KindId, is_of, uses, without_newest, Owner, OwnerTree, held, created, forgotten, remembered, What, Phase, KindTable, Step, GivesBack, ReleasesLocks, PassesLocks, ReleasesAllLocks, release_steps, StandingPlan, file_kind, level_above, level_owner, owner_of, opening, Scene, Around, Moment, plan_at, newest, Ended, for_each, where_there, changes, in_order, say, NoOne, TheDescriptors, TheKind, ThePlans, given_back, left_to, plan_becomes, plan_settled, plan_stays, step_done, item_released, keeper_of, owner_gone, owner_moved, phase_released, table_of, own_released, released, OfLevel, OfPortal, OwnerRole, Element, new_owner_made, owner_made, limit, descriptor_given, files, item_taken, remembers, taken_by, snapshot_pushed, Error, Command, failure, refused_call, unless_refused, does, exited, Stands, StandsBetweenLines, line_elements, turn}
 use Rattle.session_laws.proofs.Rules.{Reader, allows_all, seen_after, count, allows_all-append, seen_after-append, Law, Follows, IsRun, Meets, line_runs, fallible_at, fallible_so, said_none, said_more, said_map, said_gone, said_lock_releases, said_lock_passes, said_all_locks, of_recent, of_owners}
 use Rattle.session_laws.proofs.Parents.{alike_swept, once_alike}
@@ -50,14 +50,12 @@ module _ (kind : KindId) (key : ℕ) where
   held_some (Node n a below beside) h = grind (arith, common_steps, some_counted a.items, held_some below, held_some beside)
 
 -- each number stands once
-once_by : (x y : OwnerTree) → ((m : ℕ) → node_times m y ≤ node_times m x) → Once x → Once y
-once_by x y less once = record { once = λ m. omega (arith, less m, once.once m) }
 
 pub once_less_removed : (n : ℕ) (t : OwnerTree) → Once t → Once (removed n t)
 once_less_removed n t once = grind (arith, nat_tests, once_removed, removed_absent)
 
 once_put_back : (n p : ℕ) (a : Owner) (t : OwnerTree) → Once t → has n t ≡ true → Once (put p n a (children n t) (removed n t))
-once_put_back n p a t once there = grind (arith, nat_tests, once_removed, once_by, times_put, times_removed, put_absent)
+once_put_back n p a t once there = grind (arith, nat_tests, once_removed, times_put, times_removed, put_absent)
 
 pub once_less_moved : (n p : ℕ) (t : OwnerTree) → Once t → Once (moved n p t)
 once_less_moved n p t once = grind (arith, nat_tests, at_some, once_put_back, at_absent)
@@ -108,9 +106,7 @@ module _ (f : ℕ) where
 
   pub still_allowed : (m : ℕ) {events : List What} → AreStill events → allows_all item_reader m events ≡ true
   still_allowed m still_none = refl
-  still_allowed m (still_more {event = event} {events = events} h hs) =
-      and_from (nat_le (leaves_file f event) m) _ (le-leb (leaves_file f event) m (omega (arith, h.leaves)))
-      (ap (λ (k : ℕ). allows_all item_reader k events) (omega (arith, h.takes, h.leaves)) ∙ still_allowed m hs)
+  still_allowed m (still_more {event = event} {events = events} h hs) = grind (arith, nat_tests, still_allowed m hs, and_from, le-leb)
 
   pub still_left : (m : ℕ) {events : List What} → AreStill events → seen_after item_reader m events ≡ m
   still_left m still_none = refl
@@ -128,14 +124,10 @@ module _ (f : ℕ) where
     pub left : K ≤ seen_after item_reader m events
 
   pub falls_still : (K m : ℕ) (t : Scene) {events : List What} → AreStill events → times f t.session.recent ≤ 1 → times f t.session.recent ≤ m → K ≤ m → Falls K m t events
-  falls_still K m t {events = events} still few covered more =
-      let same : seen_after item_reader m events ≡ m = still_left m still in
-      record { allowed = still_allowed m still; few = few; covered = omega (arith, same, covered); left = omega (arith, same, more) }
+  falls_still K m t {events = events} still few covered more = grind (arith, nat_tests, still_left, still_allowed)
 
   pub falls_both : {J K m : ℕ} {t u : Scene} {xs ys : List What} → Falls J m t xs → Falls K (seen_after item_reader m xs) u ys → Falls K m u (xs ++ ys)
-  falls_both {m = m} {xs = xs} {ys = ys} a b =
-      let same : seen_after item_reader m (xs ++ ys) ≡ seen_after item_reader (seen_after item_reader m xs) ys = seen_after-append item_reader m xs ys in
-      record { allowed = allows_all-append item_reader m xs ys a.allowed b.allowed; few = b.few; covered = omega (arith, same, b.covered); left = omega (arith, same, b.left) }
+  falls_both {m = m} {xs = xs} {ys = ys} a b = grind (arith, nat_tests, seen_after-append, allows_all-append)
 
   -- a plan that is given back changes no file
   plan_events : (plan : StandingPlan) (s : Scene) → AreStill (plan_becomes plan s).events

@@ -28,9 +28,7 @@ mark_swapped a b = ap (λ t. cond t 1 0) (swapped a b)
 -- the file that was used least recently loses its descriptor
 pub without_last : (f k : ℕ) (xs : List ℕ) (c : ℕ) → length xs ≤ k + 1 → slice_get xs k ≡ Some c → times f xs ≡ times f (take k xs) + mark f c
 without_last f k [] c l e = absurd (cc e)
-without_last f zero (x ∷ []) c l e =
-    let same : x ≡ c = cc e in
-    omega (arith, times_more f x [], ap (mark f) same)
+without_last f zero (x ∷ []) c l e = grind (arith, nat_tests, times_more)
 without_last f zero (x ∷ (y ∷ ys)) c l e = absurd (omega (arith, l))
 without_last f (suc k) (x ∷ xs) c l e = omega (arith, without_last f k xs c (omega (arith, l)) e, times_more f x xs, times_more f x (take k xs))
 
@@ -69,9 +67,7 @@ module _ (f : ℕ) (reader : Reader ℕ) (Counted : ℕ → ℕ → Type 0) (tur
 
   -- one closes
   shuts : (n : ℕ) (s : Scene) (ys : List ℕ) (c : ℕ) → times f s.session.recent ≡ times f ys + mark f c → length ys ≤ length s.session.recent → Fits n s → IsRead reader Fits n (with_recent ys s) (what.DescriptorClosed c ∷ [])
-  shuts n s ys c less short h =
-      let one = turning.shut n (times f ys) c (subst (Counted n) less h.counted) in
-      record { allowed = and_from _ true one.0 refl; fits = record { counted = one.1; within = omega (arith, short, h.within) } }
+  shuts n s ys c less short h = grind (arith, nat_tests, and_from)
 
   -- one opens
   opens_one : (n : ℕ) (s : Scene) (c : ℕ) → is_among c s.session.recent ≡ false → length s.session.recent ≤ s.around.descriptors - 1 → Fits n s
@@ -155,20 +151,12 @@ module _ (f : ℕ) (reader : Reader ℕ) (Counted : ℕ → ℕ → Type 0) (tur
 pub count_over : (k : Subject) (brings takes : What → ℕ) → ((event : What) → hides (subject event) k ≡ true → brings event ≡ 0) → ((event : What) → hides (subject event) k ≡ true → takes event ≡ 0) → PassesOver k (count brings takes)
 count_over k brings takes b t = grind (arith, nat_tests, le-leb)
 
-opens_hidden : (f : ℕ) (event : What) → hides (subject event) of_files ≡ true → opens f event ≡ 0
-opens_hidden f (what.DescriptorOpened file) h = absurd (cc h)
-opens_hidden f other h = refl
-
-closes_hidden : (f : ℕ) (event : What) → hides (subject event) of_files ≡ true → closes f event ≡ 0
-closes_hidden f (what.DescriptorClosed file) h = absurd (cc h)
-closes_hidden f other h = refl
-
 -- what is open is counted
 abbrev pub AreOpened : ℕ → ℕ → Type 0
 AreOpened n t = n ≡ t
 
 pub opening_turns : (f : ℕ) → Turning f (count (opens f) (closes f)) AreOpened
-opening_turns f = grind (arith, nat_tests, count_over, of_files, opens_hidden, closes_hidden, le-leb)
+opening_turns f = grind (arith, nat_tests, count_over, of_files, le-leb)
 
 -- what may be opened is counted
 abbrev pub MayOpen : ℕ → ℕ → Type 0
@@ -179,7 +167,7 @@ marked true n t fresh e = omega (arith, fresh refl, e)
 marked false n t fresh e = omega arith
 
 pub closing_turns : (f : ℕ) → Turning f (count (closes f) (opens f)) MayOpen
-closing_turns f = grind (arith, nat_tests, count_over, of_files, closes_hidden, opens_hidden, le-leb, marked, nat_eq)
+closing_turns f = grind (arith, nat_tests, count_over, of_files, le-leb, marked, nat_eq)
 
 -- Descriptors are opened and closed in turns, in the life of each session.
 

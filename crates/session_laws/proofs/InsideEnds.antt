@@ -1,11 +1,11 @@
 -- A level that aborts names nothing outside it.
-use Rattle.session_laws.proofs.Words.{◌≡◌, ℕ, ◌-◌, ◌≤◌, Bool, true, false, if◌then◌else◌, List, [], ◌∷◌, ◌++◌, map, length, reverse, Option, Some, None, refl, sym, ap, ◌∙◌, subst, inl, arith, append-nil, ◌+◌, not, inr, ◌==◌, ◌&&◌, All, filter, option_to_list, ◌⊎◌, drop, is_none, unwrap_or, option_map_or, and_from, eqb-true, or_right, both_ways, eq-eqb, or_left, All-head, All-tail, Empty, Node, Once, at, children, has, moved, subtree, Forest, removed, order, order_at, Moves, nat_tests}
+use Rattle.session_laws.proofs.Words.{◌≡◌, ℕ, ◌-◌, ◌≤◌, Bool, true, false, if◌then◌else◌, List, [], ◌∷◌, ◌++◌, map, length, reverse, Option, Some, None, refl, sym, ap, ◌∙◌, subst, inl, arith, append-nil, ◌+◌, inr, ◌==◌, ◌&&◌, All, filter, option_to_list, ◌⊎◌, drop, is_none, unwrap_or, option_map_or, and_from, eqb-true, both_ways, eq-eqb, or_left, All-head, All-tail, Empty, Node, Once, at, children, has, moved, subtree, Forest, removed, order, order_at, Moves, nat_tests}
 use Rattle.session_laws.proofs.Scenes.{What, Context, Contexts, gone_events, LevelState, OpenPortal, StandingPlan, top_context, level_above, abort_context, context_of, deepest_changed, first_of, level_context, level_owner, owner_of, Scene, has_failed, Ended, children_gone, context_gone, for_each, in_order, portal_becomes, where_so, where_there, changes, portal_gone, switched, owner_moved, owner_released, owner_gone, portal_aborted, portal_failed, portal_withdrawn, stack_popped, aborted, cleaned_up, level_context_gone, level_owner_gone, level_popped, level_released, switched_up, IsAttached, IsPlan, IsPortal, active_depth, Stands}
 use Rattle.session_laws.proofs.Rules.{is_one_of, seen_after, allows_all, aborted_leads, all_aborted, off_begins, owner_when_active, resettled, settled, switched_off, Keeps, last, next, by_each, by_order, by_there, level_context_goes, level_releases, portal_aborts, portal_cleans}
 use Rattle.snap_table.specs.declared.active.Active.{Active}
 use Rattle.snap_table.specs.Snapshots.{is_deep}
 use Rattle.lifetime_laws.specs.Parents.{Node as Replayed, contexts_behind, is_there, placed_where}
-use Rattle.lifetime_laws.specs.Inside.{Begun, Leaving, level_begun, staying, Awaited, ItsOwner, Neither, awaited_behind, contexts_inside, ends_behind, ends_with, owners_inside}
+use Rattle.lifetime_laws.specs.Inside.{Begun, Leaving, level_begun, staying, Awaited, ItsOwner, Neither, awaited_behind, contexts_inside, ends_behind, owners_inside}
 use Rattle.session_rules.specs.Ending.{Ending, gone_levels}
 use Rattle.session_rules.proofs.Ending.{Leads, with_parts}
 use Rattle.session_laws.proofs.Lives.{IsRead, Reads, read_both, read_none, then_read}
@@ -45,13 +45,9 @@ abbrev pub AreIn : ℕ → Begun → List OpenPortal → Type 0
 AreIn n entry [] = Unit {0}
 AreIn n entry (p ∷ ps) = ((c : ℕ) → p.created ≡ n → p.context ≡ Some c → is_one_of c (roots_of entry) ≡ true) × AreIn n entry ps
 
-one_later : (c : ℕ) (o : Option ℕ) (ns : List ℕ) → is_one_of c ns ≡ true → is_one_of c (option_to_list o ++ ns) ≡ true
-one_later c None ns h = h
-one_later c (Some n) ns h = or_right (n == c) (is_one_of c ns) h
-
 pub seen_in : (n : ℕ) (begun : List Begun) → 1 ≤ n → (ps : List OpenPortal) → AreSeen ps begun → AreIn n (level_begun n begun) ps
 seen_in n begun low [] h = tt
-seen_in n begun low (p ∷ ps) h = grind (arith, nat_tests, seen_in n begun low ps h.1, one_later)
+seen_in n begun low (p ∷ ps) h = grind (arith, nat_tests, seen_in n begun low ps h.1)
 
 module _ (entry : Begun) where
   -- a context goes with all below it, or all below it does
@@ -349,9 +345,7 @@ module _ (level : LevelState) (levels : List LevelState) (s : Scene) (h : Stands
   first_ends e = subst (λ (ends : List Begun). InEnd entry (ends_behind (what.AbortLevel n) leaving.begun ends)) (sym e) (refl, tt)
 
   not_over : IsOver entry later
-  not_over c is away =
-      let there : has c s.session.contexts ≡ true = protected_has c s.session.contexts (h.levels.0.context c (sym own_context ∙ is)).protected in
-      absurd (both_ways (is_there c leaving.parents.contexts) away (k.contexts.tree.there c ∙ there))
+  not_over c is away = grind (arith, nat_tests, protected_has, own_context, both_ways)
 
   pub aborts_read : leaving.ends ≡ [] → IsSoon leaving.awaited → AbortRead leaving s0
   aborts_read e soon =
@@ -511,9 +505,7 @@ module _ (level : LevelState) (levels : List LevelState) (s : Scene) (leaving : 
 
   -- in the end the level isn't in its end any more
   none_named : level.context ≡ None → InEnd ending leaving.ends → behind.ends ≡ []
-  none_named none i =
-      none_left ending (λ level. not (ends_with (what.CleanupLevel m) level)) leaving.ends i
-      (ap not (and_from (ending.level == m) (is_none ending.context) (eq-eqb ending.level m (number_of m leaving.begun)) (ap is_none (ending_context ∙ none))))
+  none_named none i = grind (arith, nat_tests, none_left, and_from, is_none, eq-eqb, number_of, ending_context)
 
   still_in : InEnd ending leaving.ends → InEnd ending behind.ends
   still_in i = next_in ending (what.CleanupLevel m) leaving refl i

@@ -1,5 +1,5 @@
 -- No hook waits on a context of the session itself below the one for caches.
-use Rattle.session_laws.proofs.Words.{◌≡◌, ℕ, Bool, true, false, if◌then◌else◌, [], Option, Some, None, refl, sym, ap, ◌∙◌, subst, inl, inr, List, ◌∷◌, ◌++◌, codes, reverse, arith, ◌==◌, ◌⊎◌, option_map_or, both_ways, cases_Bool, cond-false, eqb-true, false_from_ne_true, eq-eqb, ne_eqb, Empty, Node, Once, at, changed, children, has, is_root, moved, parent_of, put, removed, with_children, at_absent, at_some, apart_of, changed_absent, has_at, where_is, reverse-append, nat_tests}
+use Rattle.session_laws.proofs.Words.{◌≡◌, ℕ, Bool, true, false, if◌then◌else◌, [], Option, Some, None, refl, sym, ap, ◌∙◌, subst, inl, inr, List, ◌∷◌, ◌++◌, codes, reverse, arith, ◌==◌, ◌⊎◌, option_map_or, both_ways, cases_Bool, cond-false, eqb-true, false_from_ne_true, eq-eqb, ne_eqb, Empty, Node, Once, at, changed, children, has, is_root, moved, parent_of, put, removed, with_children, at_absent, at_some, apart_of, has_at, where_is, reverse-append, nat_tests}
 use Rattle.session_laws.proofs.Scenes.{Context, Contexts, is_protected, new_context, cache_context, LevelState, context_of, first_of, last_of, level_context, top_context, What, CtxKind, Hook, Scene, Text, context_named, hook_waits, AreLevels, Stands}
 use Rattle.session_laws.proofs.Rules.{ContextLeaves, of_contexts, EndLeaves}
 use Rattle.forest.proofs.Neighbours.{parent_root, root_absent}
@@ -60,13 +60,10 @@ pub quiet_at : (p : Option ℕ) (n : ℕ) (c : Context) (t : Contexts) → Once 
 quiet_at p n c Empty o u is h = absurd (cc is)
 quiet_at p n c (Node k a below beside) o u is h = grind (arith, nat_tests, quiet_at (Some k) n c below, quiet_at p n c beside, apart_of, where_is, at_some, root_absent, at_absent)
 
-still_absent : (q : Option ℕ) (n : ℕ) (f : Context → Context) (t : Contexts) → has n t ≡ false → AreQuiet q t → AreQuiet q (changed n f t)
-still_absent q n f t away h = subst (AreQuiet q) (sym (changed_absent n f t away)) h
-
 -- a context changes, where it may
 pub quiet_changed_at : (p : Option ℕ) (n : ℕ) (f : Context → Context) (t : Contexts) → Once t → ((c : Context) → at n t ≡ Some c → IsQuiet (up p n t) (f c)) → AreQuiet p t → AreQuiet p (changed n f t)
 quiet_changed_at p n f Empty o k h = tt
-quiet_changed_at p n f (Node m a below beside) o k h = grind (arith, nat_tests, quiet_changed_at (Some m) n f below, quiet_changed_at p n f beside, apart_of, still_absent, eqb-true, root_absent, at_absent)
+quiet_changed_at p n f (Node m a below beside) o k h = grind (arith, nat_tests, quiet_changed_at (Some m) n f below, quiet_changed_at p n f beside, apart_of, eqb-true, root_absent, at_absent)
 
 -- what waits nowhere
 pub no_hooks : (n : ℕ) (c : Context) (t : Contexts) → Once t → AreQuiet None t → at n t ≡ Some c → is_protected n t ≡ true → parent_of n t ≡ Some cache_context → c.hooks ≡ []

@@ -1,14 +1,13 @@
 -- A line is read: its elements one by one, and what a recovery does.
-use Rattle.session_laws.proofs.Words.{◌≡◌, ℕ, ◌+◌, Bool, true, false, not, if◌then◌else◌, List, [], ◌∷◌, ◌++◌, length, Option, Some, None, refl, sym, ap, ◌∙◌, subst, inl, inr, and_from, both_ways}
+use Rattle.session_laws.proofs.Words.{◌≡◌, ℕ, Bool, true, false, not, if◌then◌else◌, List, [], ◌∷◌, ◌++◌, Option, Some, None, refl, sym, ap, ◌∙◌, subst, inl, inr, and_from, both_ways, nat_tests, arith}
 use Rattle.session_laws.proofs.Scenes.{Error, What, Command, LevelState, first_of, is_aborted, SessionState, opening, top_context, Moment, Scene, Around, Element, Ended, in_order, where_so, where_there, context_gone, for_each, say, switched, aborted, cleaned_up, given_up, level_rolled_back, recovered, exited, Done, does, does_all, then_done, Stands, StandsBetweenLines, line_elements, turn, turn_of, KindTable, table_of}
 use Rattle.session_laws.proofs.Rules.{allows_all, seen_after, allows_all-append, seen_after-append, rolled_stands, settled, AreSpoken, IsRun, Keeps, last, next, line_spoken, Meets, Runs, aborts, by_order}
-use Rattle.lifetime_laws.specs.Inside.{Leaving, awaited_behind, ends_behind, level_begun, staying, nothing_leaving}
+use Rattle.lifetime_laws.specs.Inside.{Leaving, awaited_behind, staying, nothing_leaving}
 use Rattle.session_rules.proofs.EndsStand.{Leaves as LeavesLevels}
 use Rattle.session_laws.proofs.Lives.{Reads, turn_keeps, IsLife, then_read, line_leads}
 use Rattle.session_laws.proofs.Parents.{FitsContexts}
-use Rattle.session_laws.proofs.ParentsLife.{KeepsContexts, contexts_end_leaves, KeepsOwners, contexts_owed, owners_owed, HasContexts, HasOwners, contexts_life, opening_contexts, opening_owners, owners_life}
+use Rattle.session_laws.proofs.ParentsLife.{KeepsContexts, contexts_end_leaves, KeepsOwners, contexts_owed, owners_owed, contexts_life, opening_contexts, opening_owners, owners_life}
 use Rattle.session_laws.proofs.OwnWork.{AreDue, ContextNext, Hushed, IsRest, OwnerNext, Stage, Working, above_of, line_due, stage_next, stage_of}
-use Rattle.session_laws.proofs.InsidePhases.{InEnd}
 use Rattle.session_laws.proofs.InsideWalk.{nothing_ends, AreBegun, Lessens, by_said, by_switch, inside_acts}
 use Rattle.session_laws.proofs.InsideHooks.{KeepsQuiet, quiet_ends, quiet_owed, AreQuiet}
 use Rattle.session_laws.proofs.InsideEnds.{contexts_fit, AbortRead, CleanRead, Halted, IsSoon}
@@ -36,33 +35,14 @@ pub record Walked (leaving : Leaving) (done : Done) : Type 0 where
 then_walked : (leaving : Leaving) (done : Done) (r : Option Error) (rest : Moment → Done) → done.refusal ≡ r → allows_all staying leaving done.events ≡ true → Trees (seen_after staying leaving done.events) done.moment.scene
     → (r ≡ None → Walked (seen_after staying leaving done.events) (rest done.moment)) → ((error : Error) → r ≡ Some error → AtSome (seen_after staying leaving done.events) done.moment.scene)
     → Walked leaving (then_done done r rest)
-then_walked leaving done None rest is allowed trees more stopped =
-    let after : Leaving = seen_after staying leaving done.events in
-    let k : Walked after (rest done.moment) = more refl in
-    let same : seen_after staying leaving (done.events ++ (rest done.moment).events) ≡ seen_after staying after (rest done.moment).events = seen_after-append staying leaving done.events (rest done.moment).events in
-    record {
-      allowed = allows_all-append staying leaving done.events (rest done.moment).events allowed k.allowed;
-      trees = subst (λ (l : Leaving). Trees l (rest done.moment).moment.scene) (sym same) k.trees;
-      passed = λ e. subst (λ (l : Leaving). AtRest l (rest done.moment).moment.scene) (sym same) (k.passed e);
-      stopped = λ error e. subst (λ (l : Leaving). AtSome l (rest done.moment).moment.scene) (sym same) (k.stopped error e);
-    }
-then_walked leaving done (Some error) rest is allowed trees more stopped = record {
-  allowed = allowed;
-  trees = trees;
-  passed = λ e. let bad : Some error ≡ None = sym is ∙ e in absurd (cc bad);
-  stopped = λ other e. stopped error refl;
-}
+then_walked leaving done None rest is allowed trees more stopped = grind (arith, nat_tests, seen_after-append, allows_all-append)
+then_walked leaving done (Some error) rest is allowed trees more stopped = grind (arith, nat_tests)
 
 -- elements in order are read
 pub walk : (w : Option ℕ) (xs : List Element) (stage : Stage) (m : Moment) (leaving : Leaving) → AreDue stage xs → AreSpoken false xs → IsRun Meets w xs m → Trees leaving m.scene → At stage leaving m.scene
     → Walked leaving (does_all w xs m)
 unfolding does_all
-walk w [] stage m leaving due spoken run trees k = record {
-  allowed = refl;
-  trees = trees;
-  passed = λ e. record { stage = stage; rest = due; at = k };
-  stopped = λ error e. absurd (cc e);
-}
+walk w [] stage m leaving due spoken run trees k = grind (arith, nat_tests)
 walk w (x ∷ xs) stage m leaving due spoken run trees k =
     let done : Done = does w x m in
     let step : Stepped (At stage) (At (stage_next stage x)) leaving done = step_read stage w x m leaving run.0 due.0 trees k in
@@ -77,36 +57,17 @@ pub record FitsInside (leaving : Leaving) (s : Scene) : Type 0 where
   pub at : At (stage_of s.session.levels) leaving s
 
 halted_of : (leaving : Leaving) (s : Scene) (level : LevelState) (levels : List LevelState) → s.session.levels ≡ level ∷ levels → level.aborted ≡ true → AwaitsNothing leaving s → Halted leaving s
-halted_of leaving s level levels are gone k = record {
-  level = level;
-  levels = levels;
-  are = are;
-  aborted = gone;
-  sees = k.active.sees;
-  awaited = k.awaited;
-  ends = subst (InEnd (level_begun (length levels + 1) leaving.begun)) (sym k.active.ends) tt;
-  over = λ c is away. k.active.ends;
-}
+halted_of leaving s level levels are gone k = grind (arith, nat_tests)
 
 working_at : (leaving : Leaving) (s : Scene) (levels : List LevelState) → s.session.levels ≡ levels → AwaitsNothing leaving s → At (stage_of levels) leaving s
 working_at leaving s [] are k = k
-working_at leaving s (level ∷ levels) are k = go level.aborted refl
-  where
-    go : (b : Bool) → level.aborted ≡ b → At (if b then Hushed else Working) leaving s
-    go true is = halted_of leaving s level levels are is k
-    go false is = k
+working_at leaving s (level ∷ levels) are k = grind (arith, nat_tests, halted_of)
 
 halted_at : (leaving : Leaving) (s : Scene) (k : Halted leaving s) → At (stage_of s.session.levels) leaving s
 halted_at leaving s k = subst (λ (ls : List LevelState). At (stage_of ls) leaving s) (sym k.are) (subst (λ (b : Bool). At (if b then Hushed else Working) leaving s) (sym k.aborted) k)
 
 pub rest_at : (leaving : Leaving) (s : Scene) → AtRest leaving s → At (stage_of s.session.levels) leaving s
-rest_at leaving s r = go r.stage r.rest r.at
-  where
-    go : (stage : Stage) → IsRest stage → At stage leaving s → At (stage_of s.session.levels) leaving s
-    go Working rest k = working_at leaving s s.session.levels refl k
-    go ContextNext rest k = elim rest [ ]
-    go OwnerNext rest k = elim rest [ ]
-    go Hushed rest k = halted_at leaving s k
+rest_at leaving s r = grind (arith, nat_tests, stage_of, working_at, halted_at)
 
 one_nothing : {F : Leaving → Scene → Type 0} (leaving : Leaving) (s : Scene) → F leaving s → OneRead F leaving s []
 one_nothing leaving s k = record { allowed = refl; fits = k }
@@ -169,10 +130,7 @@ data After (leaving : Leaving) (s : Scene) : Type 0 where
   at_start_of : (level : LevelState) (levels : List LevelState) → s.session.levels ≡ level ∷ levels → level.aborted ≡ false → Active leaving s → IsSoon leaving.awaited → After leaving s
 
 active_on : (error : Error) (leaving : Leaving) (s : Scene) → Active leaving s → Active (staying.next (what.Error error) leaving) s
-active_on error leaving s k = record {
-  sees = record { begun = k.sees.begun; portals = k.sees.portals; plans = k.sees.plans };
-  ends = ap (ends_behind (what.Error error) leaving.begun) k.ends;
-}
+active_on error leaving s k = grind (arith, nat_tests)
 
 error_read : (error : Error) (leaving : Leaving) (s : Scene) → AtSome leaving s → OneRead After leaving s (what.Error error ∷ [])
 error_read error leaving s k = go k.stage k.at
@@ -307,37 +265,16 @@ turn_read w line m h = record {
 
 -- what was seen fits the same session in other surroundings
 last_elsewhere : (leaving : Leaving) (session : SessionState) (a b : Around) → IsLast leaving (record { session = session; around = a }) → IsLast leaving (record { session = session; around = b })
-last_elsewhere leaving session a b k = record {
-  level = k.level;
-  levels = k.levels;
-  are = k.are;
-  unaborted = k.unaborted;
-  first = k.first;
-  rest = k.rest;
-  begun = k.begun;
-  number = k.number;
-}
+last_elsewhere leaving session a b k = grind (arith, nat_tests)
 
 at_elsewhere : (stage : Stage) (leaving : Leaving) (session : SessionState) (a b : Around) → At stage leaving (record { session = session; around = a }) → At stage leaving (record { session = session; around = b })
 at_elsewhere Working leaving session a b k = assumption
 at_elsewhere ContextNext leaving session a b k = record { active = assumption; awaited = k.awaited; is_last = last_elsewhere leaving session a b k.is_last }
 at_elsewhere OwnerNext leaving session a b k = record { active = assumption; awaited = k.awaited; is_last = last_elsewhere leaving session a b k.is_last }
-at_elsewhere Hushed leaving session a b k = record {
-  level = k.level;
-  levels = k.levels;
-  are = k.are;
-  aborted = k.aborted;
-  sees = record { begun = k.sees.begun; portals = k.sees.portals; plans = k.sees.plans };
-  awaited = k.awaited;
-  ends = k.ends;
-  over = k.over;
-}
+at_elsewhere Hushed leaving session a b k = grind (arith, nat_tests)
 
 elsewhere_fits : (leaving : Leaving) (session : SessionState) (a b : Around) → FitsInside leaving (record { session = session; around = a }) → FitsInside leaving (record { session = session; around = b })
-elsewhere_fits leaving session a b k = record {
-  trees = record { contexts = k.trees.contexts; owners = k.trees.owners; quiet = k.trees.quiet };
-  at = at_elsewhere (stage_of session.levels) leaving session a b k.at;
-}
+elsewhere_fits leaving session a b k = grind (arith, nat_tests, at_elsewhere, stage_of)
 
 -- a session as it opens
 quiet_opening : AreQuiet None contexts.opening
@@ -345,13 +282,7 @@ quiet_opening = (λ e own. refl, (λ e own. refl, tt, (λ e own. refl, tt, (λ e
 
 opens_fit : (kinds : KindTable) (around : Around) → table_of around.kinds ≡ kinds → FitsInside nothing_leaving (record { session = opening; around = around })
 unfolding opening
-opens_fit kinds around same =
-    let c : HasContexts opening_contexts (record { session = opening; around = around }) = (contexts_life kinds).opens around same in
-    let o : HasOwners opening_owners (record { session = opening; around = around }) = (owners_life kinds).opens around same in
-    record {
-      trees = record { contexts = c.fits; owners = o.fits; quiet = quiet_opening };
-      at = record { active = record { sees = record { begun = tt; portals = tt; plans = tt }; ends = refl }; awaited = refl };
-    }
+opens_fit kinds around same = grind (arith, nat_tests, opening_contexts, contexts_life, opening_owners, owners_life, quiet_opening)
 
 -- an error that is said
 trees_said : (error : Error) (s : Scene) → KeepsTrees s s (what.Error error ∷ [])
@@ -463,10 +394,4 @@ exit_read s h leaving k =
 -- and those below it, and no context but those in that of the level, in those of portals that were made since it began, and the plans' whose last
 -- reference was released directly before.
 pub inside_life : (kinds : KindTable) → IsLife kinds staying FitsInside nothing_leaving (λ leaving. Unit {0})
-inside_life kinds = record {
-  opens = λ around same. opens_fit kinds around same;
-  elsewhere = λ leaving session a b same descriptors k. elsewhere_fits leaving session a b k;
-  error = error_stays;
-  turns = λ w line m h. turn_read w line m h;
-  exits = λ s h leaving k. (exit_read s h leaving k, tt);
-}
+inside_life kinds = search (opens_fit, elsewhere_fits, error_stays, turn_read, exit_read)

@@ -5,7 +5,7 @@ use Rattle.session_laws.proofs.Rules.{Reader, allows_all, is_one_of, seen_after,
 use Rattle.session_laws.proofs.StepsOf.{AreOf, no_step, numbers_of, passes, steps_of, unlocks, unlocks_all, warns, gives_up}
 use Rattle.lifetime_laws.specs.Parents.{Node as Kept, is_there, is_within, placed, placed_where, without}
 use Rattle.lifetime_laws.proofs.Replays.{is_there-placed_other, is_there-placed_same, is_there-without_other}
-use Rattle.lifetime_laws.specs.Inside.{Awaited, Begun, Leaving, Neither, awaited_behind, begun_behind, contexts_inside, ends_behind, ends_with, is_plan_left, is_within_some, owners_inside, plans_behind, staying, with_end}
+use Rattle.lifetime_laws.specs.Inside.{Awaited, Begun, Leaving, Neither, awaited_behind, begun_behind, contexts_inside, ends_behind, ends_with, is_within_some, owners_inside, plans_behind, staying, with_end}
 use Rattle.session_laws.proofs.Parents.{by_children, FitsTree, fits_gone, same_within, alike_swept}
 use Rattle.pgs_step.specs.declared.ids.TheConstants.KindId.{PLAN_REFERENCE, FILE, FIRST_EXTENSION}
 use Rattle.session_rules.proofs.Lone.{lone_left}
@@ -152,9 +152,7 @@ context_confined entry leaving root n h k =
 -- one owner, which lies within that of the level
 pub owner_confined : (entry : Begun) (leaving : Leaving) (root n : ℕ) → entry.owner ≡ Some root → is_within root n leaving.parents.owners ≡ true
     → list_all (is_within_some (option_to_list entry.owner) (λ root n. is_within root n leaving.parents.owners)) (n ∷ []) ≡ true
-owner_confined entry leaving root n h k =
-    subst (λ (o : Option ℕ). list_all (is_within_some (option_to_list o) (λ root n. is_within root n leaving.parents.owners)) (n ∷ []) ≡ true) (sym h)
-    (and_from (is_within root n leaving.parents.owners || false) true (or_left (is_within root n leaving.parents.owners) false k) refl)
+owner_confined entry leaving root n h k = grind (arith, nat_tests, option_to_list, and_from, or_left)
 
 -- each of these numbers is within the root when it goes
 abbrev pub GoInside : ℕ → List Kept → List ℕ → Type 0
@@ -319,9 +317,7 @@ module _ (entry : Begun) (root : ℕ) (own : entry.owner ≡ Some root) (nodes :
     left : leaving.plan_left ≡ true
 
   plan_deleted : (n : ℕ) (leaving : Leaving) → leaving.plan_left ≡ true → is_one_of n leaving.plans ≡ true → (confined entry).allows (what.Delete n) leaving ≡ true
-  plan_deleted n leaving left known =
-      and_from (is_confined entry (what.Delete n) leaving) true
-      (and_from true _ refl (or_left (is_plan_left (what.Delete n) leaving) _ (and_from leaving.plan_left (is_one_of n leaving.plans) left known))) refl
+  plan_deleted n leaving left known = grind (arith, nat_tests, and_from, or_left)
 
   gone_behind : (leaving : Leaving) (s : Scene) (p q : StandingPlan) (n : ℕ) → Behind leaving s → plan_at n s.session.plans ≡ Some p → q.context ≡ p.context
       → IsRead (confined entry) (InRelease root nodes) leaving (plan_settled q s).scene (plan_settled q s).events

@@ -94,20 +94,16 @@ record Alters (change : Begun → Begun) : Type 0 where
 altered_here : (change : Begun → Begun) → Alters change → (n : ℕ) (first : Begun) (rest : List Begun) → first.level ≡ n → level_begun n (change first ∷ rest) ≡ change first
 altered_here change a n first rest e = level_here n (change first) rest (eq-eqb (change first).level n (a.level first ∙ e))
 
-altered_other : (change : Begun → Begun) → Alters change → (k n : ℕ) (first : Begun) (rest : List Begun) → first.level ≡ n → k ≢ n → level_begun k (change first ∷ rest) ≡ level_begun k (first ∷ rest)
-altered_other change a k n first rest e ne =
-    level_later k (change first) rest (ne_eqb (change first).level k (λ z. ne (sym z ∙ a.level first ∙ e))) ∙ sym (level_later k first rest (ne_eqb first.level k (λ z. ne (sym z ∙ e))))
-
 altered_there : (change : Begun → Begun) → Alters change → (k : ℕ) (first : Begun) (rest : List Begun) → has_begun k (first ∷ rest) ≡ true → has_begun k (change first ∷ rest) ≡ true
 altered_there change a k first rest h = ap (λ (m : ℕ). (m == k) || has_begun k rest) (a.level first) ∙ h
 
 altered_portals : (change : Begun → Begun) → Alters change → (c k n : ℕ) (first : Begun) (rest : List Begun) → first.level ≡ n
     → is_one_of c (level_begun k (first ∷ rest)).portals ≡ true → is_one_of c (level_begun k (change first ∷ rest)).portals ≡ true
-altered_portals change a c k n first rest e h = grind (arith, nat_tests, altered_here, level_here, eq-eqb, altered_other)
+altered_portals change a c k n first rest e h = grind (arith, nat_tests, altered_here, level_here, eq-eqb)
 
 altered_outer : (change : Begun → Begun) → Alters change → (n : ℕ) (first : Begun) (rest : List Begun) → first.level ≡ n → (levels : List LevelState) → length levels < n → AreBegun levels (first ∷ rest) → AreBegun levels (change first ∷ rest)
 altered_outer change a n first rest e [] below h = tt
-altered_outer change a n first rest e (level ∷ levels) below h = grind (arith, nat_tests, altered_outer change a n first rest e levels, altered_there, altered_other)
+altered_outer change a n first rest e (level ∷ levels) below h = grind (arith, nat_tests, altered_outer change a n first rest e levels, altered_there)
 
 altered_seen : (change : Begun → Begun) → Alters change → (n : ℕ) (first : Begun) (rest : List Begun) → first.level ≡ n → (ps : List OpenPortal) → AreSeen ps (first ∷ rest) → AreSeen ps (change first ∷ rest)
 altered_seen change a n first rest e [] h = tt

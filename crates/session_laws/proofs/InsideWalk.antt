@@ -137,9 +137,7 @@ pub record Calming (leaving : Leaving) (events : List What) : Type 0 where
 
 pub calm_all : {events : List What} → AreCalm events → (leaving : Leaving) → leaving.ends ≡ [] → Calming leaving events
 calm_all said_none leaving en = record { allowed = refl; ends = en }
-calm_all (said_more {event = event} {events = events} h hs) leaving en =
-    let more : Calming (staying.next event leaving) events = calm_all hs (staying.next event leaving) (ap (ends_behind event leaving.begun) en ∙ none_ends event leaving.begun h) in
-    record { allowed = and_from (staying.allows event leaving) (allows_all staying (staying.next event leaving) events) (nothing_ends event leaving en) more.allowed; ends = more.ends }
+calm_all (said_more {event = event} {events = events} h hs) leaving en = grind (arith, nat_tests, calm_all hs (staying.next event leaving), none_ends, and_from, nothing_ends)
 
 -- what fits still fits where more contexts of portals and of plans are known
 pub begun_still : (a b : List Begun) → Grows a b → (levels : List LevelState) → AreBegun levels a → AreBegun levels b
@@ -285,14 +283,7 @@ seen_filter test (p ∷ ps) begun h = elim (cases_Bool (test p)) [ inl y ↦ rw 
 
 -- what the ends of portals are made of
 pub inside_acts : Acts Lessens
-inside_acts = record {
-  none = lessens_none;
-  both = λ a b. lessens_both a b;
-  portal = by_portal;
-  portal_goes = λ name. record { so = λ s. lessening s _ [] refl (seen_filter _ s.session.portals) (λ known k. k) said_none };
-  gone = goes sees_inside is_calm Lessens sight refl refl refl (λ word n. refl) (λ n. refl);
-  children = children_go sees_inside is_calm Lessens sight refl refl refl (λ word n. refl) (λ n. refl);
-}
+inside_acts = search (lessens_none, lessens_both, by_portal, lessening, seen_filter, said_none, goes, sight, children_go)
 
 -- plans
 known_but : (n : ℕ) (plans : List StandingPlan) → FewerPlans plans (plans_but n plans)
@@ -485,11 +476,7 @@ known_more known [] plan h k = (h, tt)
 known_more known (first ∷ plans) plan h k = (k.0, known_more known plans plan h k.1)
 
 plan_is_made : (plan : ℕ) → Keeps Works (plan_made plan)
-plan_is_made plan = record {
-  so = λ s.
-      works_by s _ (what.Create s.session.next_context (codes "CachedPlan") 3 ∷ []) refl (said_one _ refl) (λ leaving k still. still)
-      (λ leaving k still. known_more _ s.session.plans _ (or_left (s.session.next_context == s.session.next_context) _ (eq-eqb s.session.next_context s.session.next_context refl)) still);
-}
+plan_is_made plan = search (works_by, said_one, known_more, or_left, eq-eqb)
 
 pub element_works : (w : Option ℕ) (x : Element) (m : Moment) → Stands m.scene → IsOwnWork x → Follows Works m.scene (does w x m)
 element_works w x m h own = own_follows Works (work_leaves plan_is_made) w x m own (λ name. portal_context_works name m.scene h)

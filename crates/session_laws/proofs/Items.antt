@@ -1,5 +1,5 @@
 -- Items are numbered as they are acquired.
-use Rattle.session_laws.proofs.Words.{◌≡◌, ℕ, true, List, refl, sym, ap, ◌∙◌, arith, ◌==◌, Bool, false, and_from, eq-eqb, has, nat_tests}
+use Rattle.session_laws.proofs.Words.{◌≡◌, ℕ, true, List, refl, sym, ap, ◌∙◌, arith, Bool, false, and_from, eq-eqb, has, nat_tests}
 use Rattle.session_laws.proofs.Scenes.{What, KindId, Scene, Around, say, remembers, item_taken, taken_by, Item, SessionState, opening, Keeper, NoOne, TheDescriptors, TheKind, ThePlans, keeper_of, HasExited, KindTable}
 use Rattle.session_laws.proofs.Rules.{allows_all, seen_after, EndLeaves, Keeps, Law, MakeLeaves, LevelLeaves, AreSaid, said_more, said_none, said_one, Part, Sight, of_next_serial, owner_makes, unseen_keys, unseen_owners, of_next_owner, of_owners, takes, moves_owed, BalancesFrom, covers, left, KeyLeaves}
 use Rattle.session_laws.proofs.Usual.{Usual, is_usual, level_words, usual_files, usual_makes, usual_moves, plain_ends, usual_levels}
@@ -16,13 +16,10 @@ is_past (what.Acquire item owner) = false
 is_past other = true
 
 -- Such events are allowed, and change no number.
-event_passes : (event : What) → is_past event ≡ true → (n : ℕ) → (numbering.allows event n ≡ true) × (numbering.next event n ≡ n)
-event_passes (what.Acquire item owner) h n = absurd (cc h)
-event_passes other h n = (refl, refl)
 
 past_passes : {events : List What} → AreSaid is_past events → (n : ℕ) → (allows_all numbering n events ≡ true) × (seen_after numbering n events ≡ n)
 past_passes said_none n = (refl, refl)
-past_passes (said_more {event = event} {events = events} h hs) n = grind (arith, nat_tests, past_passes hs n, event_passes, and_from)
+past_passes (said_more {event = event} {events = events} h hs) n = grind (arith, nat_tests, past_passes hs n, and_from)
 
 -- The reader has seen the number of the next item.
 abbrev pub IsNext : ℕ → Scene → Type 0
@@ -162,6 +159,4 @@ numbers_life kinds =
 -- what the law says then of a list of events
 pub items_balance : (item : Item) (owner : ℕ) (events : List What) → allows_all (reader item owner) 0 events ≡ true → IsNone (seen_after (reader item owner) 0 events)
     → BalancesFrom 0 (acquires item owner) (releases item owner) events
-items_balance item owner events allowed none =
-    and_from (covers (acquires item owner) (releases item owner) 0 events) (left (acquires item owner) (releases item owner) 0 events == 0)
-    allowed (eq-eqb (left (acquires item owner) (releases item owner) 0 events) 0 none)
+items_balance item owner events allowed none = grind (arith, nat_tests, and_from, covers, left, eq-eqb)

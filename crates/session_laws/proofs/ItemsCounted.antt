@@ -64,9 +64,7 @@ module _ (item : Item) (owner : ℕ) where
 
   -- an owner moves
   pub it_moved : (n q : ℕ) (t : OwnerTree) → Once t → Moves n q t → has_it (moved n q t) ≡ has_it t
-  it_moved n q t o w =
-      let a = at_some n t w.node in
-      rw a.1 (omega (arith, it_put q n a.0 (children n t) (removed n t) (once_removed n t o w.node) (parent_stays n q t o w), it_parts n a.0 t o a.1))
+  it_moved n q t o w = grind (arith, nat_tests, at_some, it_put, once_removed, parent_stays, it_parts)
 
   -- the items of one owner change
   it_changed : (n : ℕ) (f : Owner → Owner) (a : Owner) (t : OwnerTree) → Once t → at n t ≡ Some a → has_it (changed n f t) + own n a.items ≡ has_it t + own n (f a).items
@@ -214,9 +212,7 @@ module _ (item : Item) (owner : ℕ) where
   takes_none other h = refl
 
   still_one_leads : (event : What) (n : ℕ) → is_still event ≡ true → Leads n n (event ∷ [])
-  still_one_leads event n h =
-      let one : Leads n ((n + 0) - 0) (event ∷ []) = one_leads event n 0 0 (brings_none event h) (takes_none event h) (omega arith) in
-      record { allowed = one.allowed; is = one.is ∙ omega arith }
+  still_one_leads event n h = grind (arith, nat_tests, one_leads, brings_none, takes_none)
 
   still_leads : {events : List What} → AreSaid is_still events → (n : ℕ) → Leads n n events
   still_leads said_none n = record { allowed = refl; is = refl }
@@ -228,9 +224,7 @@ module _ (item : Item) (owner : ℕ) where
   release_brings other h = refl
 
   step_leads : (step : Step) → IsReleaseStep step → (s : Scene) (n k : ℕ) → n ≡ says item owner (step ∷ []) + k → Leads n k (step_done step s).events
-  step_leads (Said event) h s n k e =
-      let one : Leads n ((n + 0) - releases item owner event) (event ∷ []) = one_leads event n 0 (releases item owner event) (release_brings event h) refl (omega (arith, e)) in
-      record { allowed = one.allowed; is = one.is ∙ omega (arith, e) }
+  step_leads (Said event) h s n k e = grind (arith, nat_tests, one_leads, release_brings)
   step_leads (GivesBack other) h s n k e =
       let q : Quiet s (given_back other s).scene (given_back other s).events = (given_quiet other).so s in
       let z : Leads n n (given_back other s).events = still_leads (said_weaker aside_still q.said) n in
@@ -266,9 +260,7 @@ module _ (item : Item) (owner : ℕ) where
       (λ k. let z = still_leads h (has_it item owner s.session.owners) in record { allowed = z.allowed; is = z.is ∙ sym (same k) })
 
   pub aside_reads : (s t : Scene) {events : List What} → t.session.owners ≡ s.session.owners → t.session.next_owner ≡ s.session.next_owner → AreSaid is_still events → Counted s t events
-  aside_reads s t owners next h =
-      still_reads s t (λ k. subst (λ (x : OwnerTree). AreNumbered x t.session.next_owner) (sym owners) (subst (AreNumbered s.session.owners) (sym next) k))
-      (λ k. ap (has_it item owner) owners) h
+  aside_reads s t owners next h = grind (arith, nat_tests, still_reads)
 
   -- an owner is made
   pub made_reads : (parent : Option ℕ) (s : Scene) → Counted s (owner_made parent s).scene (owner_made parent s).events

@@ -38,10 +38,7 @@ sight = record {
 }
 
 keys : KeyLeaves KeepsKinds
-keys = record {
-  opened = λ place key. record { so = λ s. record { same = table-opened s.around.kinds place key; descriptors = refl } };
-  closed = λ place key. record { so = λ s. record { same = table-closed s.around.kinds place key; descriptors = refl } };
-}
+keys = search (table-opened, table-closed)
 
 usual : Usual sees_kinds any
 usual = assumption usual_any
@@ -385,9 +382,7 @@ module _ {Seen : Type 0} (kinds : KindTable) (reader : Reader Seen) (Fits : Seen
 
   -- a number that no session has isn't that of one
   apart : (n m : ℕ) (session : SessionState) (x : World) → length x.sessions ≡ sessions → IsThere n session x → IsOutside sessions m → n ≢ m
-  apart n m session x many there out e =
-      let within : n - 1 < length x.sessions = slice_get_within x.sessions (n - 1) session there.there in
-      elim out [ inl none ↦ omega (arith, e, none, there.some) | inr past ↦ omega (arith, e, past, within, many, there.some) ]
+  apart n m session x many there out e = grind (arith, nat_tests, slice_get_within)
 
   turned : (n : ℕ) (session : SessionState) (x : World) (events : List Event) (w : Option ℕ) (line : Option Command) → IsThere n session x → AreStanding kinds sessions 1 x → AreReading 1 x events
       → AreReading 1 (behind_turn n (turn w line (moment n session x)) x) (events ++ of_session n (turn w line (moment n session x)).events)

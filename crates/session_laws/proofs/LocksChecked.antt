@@ -1,21 +1,7 @@
 -- What is checked before a lock is given back, a file is used and a lock is taken holds where these come.
-use Rattle.session_laws.proofs.Words.{◌≡◌, ℕ, zero, suc, ◌+◌, ◌-◌, Bool, true, false, not, if◌then◌else◌, List, [], ◌∷◌, ◌++◌, map, length, replicate, flat_map, Option, Some, None, refl, inl, inr, ◌∙◌, arith, ◌&&◌, ◌⊎◌, option_map_or, ltb-true, nat_tests}
-use Rattle.session_laws.proofs.Scenes.{Command, LevelState, OpenPortal, SessionState, deepest_changed, is_aborted, level_context, Check, Element, LevelContext, OfLevel, OfPortal, OwnerRole, PortalContext, Text, portal_named, line_elements, turn, Error, Mode, Moment, Scene, Ended, nothing, switched, where_there, failure, unless, level_made, new_context_made, new_owner_made, portal_made, fallible, refused_call, unless_refused, does, at_owner, lock_given_back, snapshot_pushed, exited}
+use Rattle.session_laws.proofs.Words.{◌≡◌, ℕ, zero, suc, ◌+◌, ◌-◌, Bool, true, false, not, List, [], ◌∷◌, ◌++◌, map, length, replicate, Option, Some, None, refl, inl, inr, ◌∙◌, arith, ◌&&◌, ◌⊎◌, option_map_or, ltb-true, nat_tests}
+use Rattle.session_laws.proofs.Scenes.{Command, LevelState, OpenPortal, SessionState, deepest_changed, is_aborted, level_context, Check, Element, LevelContext, OfLevel, OfPortal, OwnerRole, PortalContext, Text, portal_named, line_elements, turn, Error, Mode, Moment, Scene, Ended, nothing, switched, where_there, failure, unless, level_made, new_context_made, new_owner_made, portal_made, fallible, refused_call, unless_refused, does, at_owner, lock_given_back, snapshot_pushed, exited, TransactionCommand, Work, ContextCommand, ChunkCommand, ItemCommand, LockCommand, SnapshotCommand, PlanCommand, PortalCommand, TellCommand, Scan, Row, after_turn, elements, chunk_row, context_row, fetch_steps, item_row, lock_row, plan_row, portal_row, snapshot_row, tell_row, work_of, at_savepoint, begin, commit, committed_to, elements_of, in_transaction, is_end, refused, rollback, rolled_back_to, save, savepoint, then_ok, transaction_of, unaborted}
 use Rattle.session_laws.proofs.Rules.{IsRun, fallible_so}
-use Rattle.pgs_command.specs.declared.commands.TransactionCommand.{TransactionCommand}
-use Rattle.pgs_command.specs.declared.commands.Work.{Work}
-use Rattle.pgs_command.specs.declared.commands.ContextCommand.{ContextCommand}
-use Rattle.pgs_command.specs.declared.commands.ChunkCommand.{ChunkCommand}
-use Rattle.pgs_command.specs.declared.commands.ItemCommand.{ItemCommand}
-use Rattle.pgs_command.specs.declared.commands.LockCommand.{LockCommand}
-use Rattle.pgs_command.specs.declared.commands.SnapshotCommand.{SnapshotCommand}
-use Rattle.pgs_command.specs.declared.commands.PlanCommand.{PlanCommand}
-use Rattle.pgs_command.specs.declared.commands.PortalCommand.{PortalCommand}
-use Rattle.pgs_command.specs.declared.commands.TellCommand.{TellCommand}
-use Rattle.exec_core.specs.declared.scan.Scan.{Scan}
-use Rattle.exec_core.specs.declared.steps.ScanStep.{ScanStep}
-use Rattle.session_rules.specs.Works.{Row, after_turn, elements, chunk_row, context_row, fallible_part, fetch_steps, item_row, lock_row, plan_row, portal_row, snapshot_row, tell_row, work_of}
-use Rattle.session_rules.specs.Commands.{at_savepoint, begin, commit, committed_to, elements_of, in_transaction, is_end, refused, rollback, rolled_back_to, save, savepoint, start, then_ok, transaction_of, unaborted}
 use Rattle.session_laws.proofs.LocksSight.{of_locks, files_hidden, pushed_hidden, OwesUnlocks, ending_turn, least_acts, lock_owed, owner_owed, session_exits, touch_owed, by_owner_made}
 use Rattle.session_laws.proofs.LocksRead.{ReadsLocks, given_back_so, locks_base, locks_law, locks_seen, taken_so}
 use Rattle.pgs_step.specs.declared.errors.Error.TheVariants as error
@@ -31,7 +17,6 @@ use Rattle.pgs_command.specs.declared.commands.SnapshotCommand.TheVariants as sn
 use Rattle.pgs_command.specs.declared.commands.PlanCommand.TheVariants as plan
 use Rattle.pgs_command.specs.declared.commands.PortalCommand.TheVariants as portal
 use Rattle.pgs_command.specs.declared.commands.TellCommand.TheVariants as tell
-use Rattle.exec_core.specs.declared.steps.ScanStep.TheVariants as step
 use Rattle.session_rules.specs.Elements as e
 
 -- what was checked for an element, in the scene that it meets: that the lock is held, that the file is open, and that the level isn't aborted
@@ -169,10 +154,6 @@ then_free ys (takes {xs = xs} h) k = takes (both_are_free xs ys h k)
 then_free ys (unlock {xs = xs} h) k = unlock (both_are_free xs ys h k)
 then_free ys (touch {xs = xs} h) k = touch (both_are_free xs ys h k)
 
-either_are_free : (b : Bool) (xs ys : List Element) → AreFree xs → AreFree ys → AreFree (if b then xs else ys)
-either_are_free true xs ys h k = h
-either_are_free false xs ys h k = k
-
 checks_are_free : (checks : List Check) → AreFree (map e.Checks checks)
 checks_are_free [] = tt
 checks_are_free (check ∷ checks) = (tt, checks_are_free checks)
@@ -183,7 +164,7 @@ commits_are_free (suc n) = (tt, commits_are_free n)
 
 rolled_back_free : (n : ℕ) (levels : List LevelState) → AreFree (rolled_back_to n levels)
 rolled_back_free n [] = tt
-rolled_back_free n (level ∷ levels) = grind (arith, nat_tests, rolled_back_free n levels, either_are_free, both_are_free)
+rolled_back_free n (level ∷ levels) = grind (arith, nat_tests, rolled_back_free n levels, both_are_free)
 
 then_ok_free : (es : List Element) → AreFree es → AreFree (then_ok es)
 then_ok_free es h = both_are_free es (e.Says what.Ok ∷ []) h (tt, tt)
@@ -191,7 +172,7 @@ then_ok_free es h = both_are_free es (e.Says what.Ok ∷ []) h (tt, tt)
 -- of the commands on transactions
 commit_free : (levels : List LevelState) → AreFree (commit levels)
 commit_free [] = (tt, tt)
-commit_free (level ∷ levels) = grind (arith, nat_tests, either_are_free, rolled_back_free, both_are_free, commits_are_free)
+commit_free (level ∷ levels) = grind (arith, nat_tests, rolled_back_free, both_are_free, commits_are_free)
 
 rollback_free : (levels : List LevelState) → AreFree (rollback levels)
 rollback_free [] = (tt, tt)
@@ -214,21 +195,6 @@ savepoint_free name [] go_on h = (tt, tt)
 savepoint_free name (level ∷ levels) go_on h = at_free (savepoint name (level ∷ levels)) go_on h
 
 -- of a scan
-mapped_free : (name : Text) (es : List Element) → AreFree es → AreFree (map (e.InTurn name) es)
-mapped_free name [] h = tt
-mapped_free name (x ∷ es) h = (h.0, mapped_free name es h.1)
-
-part_free : (name : Text) (s : ScanStep) → AreFree (fallible_part name s)
-part_free name (step.Pin page) = (tt, (tt, tt))
-part_free name (step.Bad row) = (tt, tt)
-part_free name step.Alloc = (tt, tt)
-part_free name other = tt
-
-scans_free : (name : Text) (steps : List ScanStep) → AreFree (flat_map (λ s. map (e.InTurn name) (e.Scans name s ∷ fallible_part name s)) steps)
-scans_free name [] = tt
-scans_free name (s ∷ steps) =
-    both_are_free (map (e.InTurn name) (e.Scans name s ∷ fallible_part name s)) _
-    (mapped_free name (e.Scans name s ∷ fallible_part name s) (tt, part_free name s)) (scans_free name steps)
 
 last_or_more : (b : Bool) (xs ys : List Element) → AreFree xs → AreFree ys → AreFree (elim b as (λ _. List Element) [ true ↦ xs | false ↦ ys ])
 last_or_more true xs ys h k = h
@@ -236,7 +202,7 @@ last_or_more false xs ys h k = k
 
 fetch_free : (name : Text) (count : ℕ) (scan : Scan) (rows : ℕ) → AreFree (fetch_steps name count scan rows)
 fetch_free name zero scan rows = (tt, tt)
-fetch_free name (suc count) scan rows = grind (arith, nat_tests, fetch_free name count (after_turn scan), both_are_free, scans_free, last_or_more)
+fetch_free name (suc count) scan rows = grind (arith, nat_tests, fetch_free name count (after_turn scan), both_are_free, last_or_more)
 
 fetches_free : (name : Text) (count : ℕ) (o : Option OpenPortal) → AreFree (option_map_or (λ portal. fetch_steps name count portal.scan 0) o [])
 fetches_free name count None = tt
@@ -309,9 +275,7 @@ transaction_free transaction.Commit levels = commit_free levels
 transaction_free transaction.Rollback levels = rollback_free levels
 transaction_free (transaction.Savepoint name) levels = save_free name levels
 transaction_free (transaction.Release name) levels = savepoint_free name levels (λ n. committed_to n levels) (λ n. commits_are_free (length levels + 1 - n))
-transaction_free (transaction.RollbackTo name) levels =
-    savepoint_free name levels (λ n. rolled_back_to n levels ++ start (Some name) false)
-    (λ n. both_are_free (rolled_back_to n levels) (start (Some name) false) (rolled_back_free n levels) (tt, (tt, (tt, (tt, tt)))))
+transaction_free (transaction.RollbackTo name) levels = grind (arith, nat_tests, savepoint_free, both_are_free, rolled_back_free)
 
 -- A line is free of these, or its session isn't aborted and they are safe.
 unaborted_safe : (c : Command) (session : SessionState) → (is_aborted session.levels && not (is_end c)) ≡ false → AreFree (unaborted c session) ⊎ ((is_aborted session.levels ≡ false) × Safe (unaborted c session))

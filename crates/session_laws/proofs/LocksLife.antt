@@ -342,22 +342,16 @@ run_bare w (x ∷ xs) m spoken meets checked b =
 -- a level that aborts, and one that is rolled back
 aborts_bare : (level : LevelState) (levels : List LevelState) (s : Scene) → level.aborted ≡ false → IsOpen level → Stands (settled (level ∷ levels) s) → Bare (settled (level ∷ levels) s) → Bare (aborted (settled (level ∷ levels) s)).scene
 aborts_bare level [] s active open_level stands b = bare_none _ (aborted_none level s stands b)
-aborts_bare level (next ∷ levels) s active open_level stands b =
-    let left : Leaves (record level { aborted = true } ∷ (next ∷ levels)) (aborted (settled (level ∷ (next ∷ levels)) s)).scene = aborted_stands level (next ∷ levels) s active open_level stands in
-    bare_held _ (ap may_hold left.are)
+aborts_bare level (next ∷ levels) s active open_level stands b = grind (arith, nat_tests, settled, aborted_stands, bare_held)
 
 rolled_bare : (level : LevelState) (levels : List LevelState) (s : Scene) → Stands (settled (level ∷ levels) s) → Bare (settled (level ∷ levels) s) → Bare (level_rolled_back level (settled (level ∷ levels) s)).scene
 rolled_bare level [] s stands b = bare_none _ (rolled_none level s stands b)
-rolled_bare level (next ∷ levels) s stands b =
-    let left : Leaves (next ∷ levels) (level_rolled_back level (settled (level ∷ (next ∷ levels)) s)).scene = rolled_stands level (next ∷ levels) s stands in
-    bare_held _ (ap may_hold left.are ∙ outer_holds (next ∷ levels) stands.fit.1 (omega arith))
+rolled_bare level (next ∷ levels) s stands b = grind (arith, nat_tests, settled, rolled_stands, bare_held, outer_holds)
 
 -- a recovery
 above_bare : (levels : List LevelState) (s : Scene) → Leaves levels s → AreOuter levels → Bare s → Bare (where_there (first_of levels) (λ above. aborted) s).scene
 above_bare [] s left outer b = b
-above_bare (level ∷ levels) s left outer b =
-    let is : s ≡ settled (level ∷ levels) s = is_left (level ∷ levels) s left in
-    subst (λ (z : Scene). Bare (aborted z).scene) (sym is) (aborts_bare level levels s outer.0.unaborted outer.1 (subst Stands is left.between.stands) (subst Bare is b))
+above_bare (level ∷ levels) s left outer b = grind (arith, nat_tests, settled, is_left, aborts_bare)
 
 given_up_bare : (level : LevelState) (levels : List LevelState) (s : Scene) (b i : Bool) → level.starting ≡ b → level.implicit ≡ i → level.aborted ≡ false → Stands (settled (level ∷ levels) s) → Bare (settled (level ∷ levels) s)
     → Bare (elim b as (λ _. Ended) [

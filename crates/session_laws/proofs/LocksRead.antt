@@ -40,9 +40,7 @@ module _ (object mode : ℕ) where
   no_weight l e = grind (arith, nat_tests, no_total)
 
   same_name : (o : ℕ) (m : Mode) (l : Lock) → is_lock o m l ≡ true → is_this l.object l.mode ≡ is_this o m
-  same_name o m l e =
-      let p = and_parts (l.object == o) (mode_number l.mode == mode_number m) e in
-      ap (λ (k : ℕ). (object == k) && (mode == mode_number l.mode)) (eqb-true l.object o p.0) ∙ ap (λ (k : ℕ). (object == o) && (mode == k)) (eqb-true (mode_number l.mode) (mode_number m) p.1)
+  same_name o m l e = grind (arith, nat_tests, and_parts, eqb-true)
 
   -- a lock is held once more
   total_new : (owner o : ℕ) (m : Mode) → lock_total (new_lock o m owner) ≡ 1
@@ -52,9 +50,7 @@ module _ (object mode : ℕ) where
   new_weight owner o m = ap (λ (n : ℕ). cond (is_this o m) n 0) (total_new owner o m)
 
   up_weight : (owner o : ℕ) (m : Mode) (l : Lock) → is_lock o m l ≡ true → weight (counted_up owner l) ≡ weight l + once o m
-  up_weight owner o m l e =
-      let up : lock_total l + 1 ≡ lock_total (counted_up owner l) = sym (counts-added owner 1 l.owners) in
-      sym (counted_where (is_this l.object l.mode) (lock_total l) 1 (lock_total (counted_up owner l)) up) ∙ ap (λ (b : Bool). weight l + cond b 1 0) (same_name o m l e)
+  up_weight owner o m l e = grind (arith, nat_tests, counts-added, counted_where, same_name)
 
   pub there_acquired : (owner o : ℕ) (m : Mode) (xs : List Lock) → there (acquired owner o m xs) ≡ there xs + once o m
   there_acquired owner o m [] = omega (arith, sum_by-cons weight (new_lock o m owner) [], new_weight owner o m)

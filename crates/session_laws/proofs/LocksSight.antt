@@ -1,5 +1,5 @@
 -- Laws that see locks alone, files alone, the stack of snapshots alone or items alone, and what passes them by.
-use Rattle.session_laws.proofs.Words.{◌≡◌, ℕ, Bool, true, false, List, [], refl, sym, subst, Option, and_from}
+use Rattle.session_laws.proofs.Words.{◌≡◌, ℕ, Bool, true, false, List, [], refl, sym, subst, Option, and_from, nat_tests, arith}
 use Rattle.session_laws.proofs.Scenes.{What, KindId, Phase, Scene, Moment, item_released, owner_gone, owner_moved, phase_released, item_taken, files, lock_taken, snapshot_pushed, descriptor_given, Mode, LevelState, lock_given_back, at_owner, exited, Error, Command, Element, OfLevel, OwnerRole, new_context_made, new_owner_made, owner_made, plan_made, does, line_elements, turn}
 use Rattle.session_laws.proofs.Rules.{Reader, allows_all, Keeps, Law, is_word, Acts, EndLeaves, Follows, IsRun, Leaves, MoveLeaves, Owes, OwesMakes, is_level_word, runs_anyhow, LockLeaves, OwnerLeaves, FileLeaves, ContextLeaves, Part, Sight, hook_waits_so, leaves_of, makes_context, moves_context, places, plans_one, says, unseen_contexts, KeyLeaves, phase_so, releases, taken_so, unseen_keys, AreSaid, said_more, said_none, by_owner, context_is_made, fallible_so, levels_owed, moves_owed, owner_is_made, unfailing_so, ends_owed, exit_follows, StackLeaves, unseen_locks, unseen_stack, unseen_files, unlocks, locks_one, pushes, unseen_owners, item_comes, owner_makes, item_goes, owner_goes, owner_moves}
 use Rattle.session_laws.proofs.Usual.{turn_follows}
@@ -183,20 +183,7 @@ module _ (k : Subject) (R : Law) (law : Turns k R) where
 
   -- all leaves of a law that is kept in any scene by all ends and by the snapshots that are popped
   pub turn_ends : EndLeaves R
-  turn_ends = record {
-    levels = record {
-      leaves = least_leaves k R l;
-      levels = law.levels;
-      level_word = λ event h. says (sees_of k) (passing k) R l.sees event (level_plain k event h);
-      popped = law.stack.popped;
-      stack_gone = law.stack.stack_gone;
-      stack_passed = law.stack.stack_passed;
-    };
-    taken = l.items.taken;
-    phase = l.items.phase;
-    discarded = l.items.gone;
-    moved = l.items.moved;
-  }
+  turn_ends = grind (arith, nat_tests, least_leaves, says, level_plain)
 
   abbrev a : Acts R
   a = turn_ends.levels.leaves.acts

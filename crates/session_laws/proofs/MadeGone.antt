@@ -1,6 +1,6 @@
 -- Only elements that make something say that something is made.
 use Rattle.session_laws.proofs.Words.{◌≡◌, ℕ, Bool, true, false, List, Option, refl, ◌+◌, ◌<◌, ◌≤◌, All, [], ◌∷◌, ◌++◌, Some, None, ap, ◌∙◌, subst, inl, inr, arith, ◌≢◌, zero, suc, ◌-◌, IsTrue, sym, drop, ◌==◌, option_and_then, option_map_or, and_from, cases_Bool, and_parts, both_ways, cases_eq, eq-eqb, eqb-true, ne_eqb, or_cases, All-head, All-tail, has, nat_tests}
-use Rattle.session_laws.proofs.Scenes.{Error, What, Moment, Scene, Element, OfLevel, LevelContext, NewContext, OfPortal, OwnerRole, PortalContext, RowContext, ScriptContext, Text, at_owner, lock_given_back, descriptor_given, lock_taken, snapshot_pushed, does, does_all, failing_turn, then_done, exited, recovered, Command, KindTable, LevelState, OpenPortal, cache_context, first_of, level_above, owner_of, portals_context, top_context, context_named, portal_named, Ended, where_there, context_made, level_parent, new_context_made, new_owner_made, owner_made, plan_made, Done, fallible, refused_call, unless_refused, AreLevels, IsPortal, Stands, StandsBetweenLines, line_elements, turn, turn_of, table_of}
+use Rattle.session_laws.proofs.Scenes.{Error, What, Moment, Scene, Element, OfLevel, LevelContext, NewContext, OfPortal, OwnerRole, PortalContext, RowContext, ScriptContext, Text, at_owner, lock_given_back, descriptor_given, lock_taken, snapshot_pushed, does, does_all, failing_turn, then_done, exited, recovered, Command, KindTable, LevelState, OpenPortal, cache_context, first_of, level_above, owner_of, portals_context, top_context, portal_named, Ended, where_there, level_parent, new_context_made, new_owner_made, owner_made, plan_made, Done, fallible, refused_call, unless_refused, AreLevels, IsPortal, Stands, StandsBetweenLines, line_elements, turn, turn_of, table_of}
 use Rattle.session_laws.proofs.Rules.{Acts, EndLeaves, Follows, IsSpoken, OwesMakes, AreSpoken, IsRun, by_owner, element_follows, fallible_so, levels_owed, moves_owed, unfailing_so, ends_owed, exit_follows, recovers, AreSaid, said_both, said_one, said_more, said_none, Sight, item_comes, no_part, unseen_keys, unseen_owners, line_spoken, Meets, line_runs, Reader, allows_all, seen_after, allows_all-append, BalancesFrom, count, covers, left}
 use Rattle.session_laws.proofs.Usual.{Usual, is_usual, usual_files, usual_locked, usual_moves, usual_pushed, usual_unlocked, plain_ends}
 use Rattle.session_rules.proofs.ContextsKept.{protected_has, top_protected}
@@ -148,14 +148,7 @@ module _ (s : Scene) (h : Stands s) where
   second_context : (levels : List LevelState) → AreLevels levels s.session.contexts s.session.owners → (level : LevelState) → first_of (drop 1 levels) ≡ Some level → (n : ℕ) → level.context ≡ Some n → has n s.session.contexts ≡ true
   second_context [] all level is n e = absurd (cc is)
   second_context (first ∷ []) all level is n e = absurd (cc is)
-  second_context (first ∷ (above ∷ rest)) all level is n e =
-      let same : above ≡ level = cc is in
-      protected_has n s.session.contexts (all.1.0.context n (ap (λ (l : LevelState). l.context) same ∙ e)).protected
-
-  second_owner : (levels : List LevelState) → AreLevels levels s.session.contexts s.session.owners → (q : ℕ) → owner_of (first_of (drop 1 levels)) ≡ Some q → has q s.session.owners ≡ true
-  second_owner [] all q e = absurd (cc e)
-  second_owner (first ∷ []) all q e = absurd (cc e)
-  second_owner (first ∷ (above ∷ rest)) all q e = (all.1.0.owner q e).there
+  second_context (first ∷ (above ∷ rest)) all level is n e = grind (arith, nat_tests, protected_has)
 
   first_owner : (levels : List LevelState) → AreLevels levels s.session.contexts s.session.owners → (q : ℕ) → owner_of (first_of levels) ≡ Some q → has q s.session.owners ≡ true
   first_owner [] all q e = absurd (cc e)
@@ -183,12 +176,10 @@ module _ (s : Scene) (h : Stands s) where
   context_placed (RowContext name) =
       placed_there (option_and_then (λ (p : OpenPortal). p.context) (portal_named name s.session.portals)) _
       (λ n e. below_context s.session.next_context n _ s (place_there name (portal_named name s.session.portals) refl n e))
-  context_placed (ScriptContext name parent kind) =
-      placed_there (context_named parent s.session) (λ n. context_made n name false kind)
-      (λ n e. below_context s.session.next_context n name s (named_there parent s n h e))
+  context_placed (ScriptContext name parent kind) = grind (arith, nat_tests, placed_there, below_context, named_there)
 
   new_owner_placed : (role : OwnerRole) → ArePlaced s (new_owner_made role s).events
-  new_owner_placed OfLevel = grind (arith, nat_tests, second_owner, owner_placed)
+  new_owner_placed OfLevel = grind (arith, nat_tests)
   new_owner_placed (OfPortal name) = grind (arith, nat_tests, first_owner, owner_placed)
 
   plan_placed : (plan : ℕ) → ArePlaced s (plan_made plan s).events
@@ -279,10 +270,6 @@ there_stays true m n parent nodes h = elim (cases_eq m n) [
   | inr ne ↦ is_there-placed_other m n parent nodes ne ∙ h
 ]
 
-there_now : (b : Bool) (n : ℕ) (parent : Option ℕ) (nodes : List Kept) → b ≡ true → is_there n (placed_where b n parent nodes) ≡ true
-there_now true n parent nodes h = is_there-placed_same n parent nodes
-there_now false n parent nodes h = absurd (cc h)
-
 -- A number may still go once: it isn't given yet, or it is there; and so it is where it may go.
 pub record IsGoing (m least : ℕ) (nodes : List Kept) (next n : ℕ) : Type 0 where
   pub least_is : least ≤ next
@@ -309,7 +296,7 @@ pub record GoesContext (c : ℕ) (seen : Pair Growth Parents) (n : ℕ) : Type 0
 
 context_step : (c : ℕ) (event : What) (seen : Pair Growth Parents) (n : ℕ) → seen.first.nodes ≡ seen.second.contexts → IsGoing c 6 seen.first.nodes seen.first.next n → growing_contexts.allows event seen.first ≡ true → placing.allows event seen.second ≡ true
     → IsGoing c 6 (growing_contexts.next event seen.first).nodes (growing_contexts.next event seen.first).next ((n + nothing event) - deletes c event)
-context_step c (what.Create x name parent) seen n same h a b = grind (arith, nat_tests, going_made, eqb-true, there_now, there_placed)
+context_step c (what.Create x name parent) seen n same h a b = grind (arith, nat_tests, going_made, eqb-true, there_placed)
 context_step c (what.Move x parent) seen n same h a b = grind (arith, nat_tests, going_same, there_moved, there_stays)
 context_step c (what.Delete x) seen n same h a b = going_gone c 6 x seen.first.nodes seen.first.next n (leaf_there x seen.first.nodes a) h
 context_step c other seen n same h a b = going_same c 6 seen.first.nodes seen.first.nodes seen.first.next n (λ t. t) (λ t. t) h
@@ -327,7 +314,7 @@ owner_step : (o : ℕ) (event : What) (seen : Pair Growth Parents) (n : ℕ) →
 owner_step o (what.Owner x) seen n same h a b =
     let g : Growth = seen.first in
     going_made o 1 x g.nodes (placed x None g.nodes) g.next n (eqb-true x g.next a) (is_there-placed_same x None g.nodes) (λ k ne. is_there-placed_other k x None g.nodes ne) h
-owner_step o (what.OwnerIn x parent) seen n same h a b = grind (arith, nat_tests, going_made, eqb-true, there_now, there_placed)
+owner_step o (what.OwnerIn x parent) seen n same h a b = grind (arith, nat_tests, going_made, eqb-true, there_placed)
 owner_step o (what.MoveOwner x parent) seen n same h a b = grind (arith, nat_tests, going_same, there_moved, there_stays)
 owner_step o (what.OwnerGone x) seen n same h a b = going_gone o 1 x seen.first.nodes seen.first.next n (leaf_there x seen.first.nodes a) h
 owner_step o other seen n same h a b = going_same o 1 seen.first.nodes seen.first.nodes seen.first.next n (λ t. t) (λ t. t) h
@@ -360,21 +347,13 @@ owner_given o [] g h l made = absurd (cc made)
 owner_given o (event ∷ events) g h l made = grind (arith, nat_tests, owner_given o events (growing_owners.next event g), growing_owners, and_parts, owners_rise, or_cases, one_happens, eqb-true)
 
 -- the contexts that a session begins with may go once
-first_kept : (c : ℕ) → 1 ≤ c → c < 6 → is_there c opening_contexts.nodes ≡ true
-first_kept zero l u = absurd (omega (arith, l))
-first_kept (suc zero) l u = refl
-first_kept (suc (suc zero)) l u = refl
-first_kept (suc (suc (suc zero))) l u = refl
-first_kept (suc (suc (suc (suc zero)))) l u = refl
-first_kept (suc (suc (suc (suc (suc zero))))) l u = refl
-first_kept (suc (suc (suc (suc (suc (suc n)))))) l u = absurd (omega (arith, u))
 
 first_some : (c : ℕ) → is_first_context c ≡ true → 1 ≤ c
 first_some zero h = absurd (cc h)
 first_some (suc n) h = omega arith
 
 first_going : (c : ℕ) → IsGoing c 6 opening_contexts.nodes 6 1
-first_going c = grind (arith, nat_tests, first_small, first_kept)
+first_going c = grind (arith, nat_tests, first_small)
 
 no_owner_going : (o : ℕ) → IsGoing o 1 opening_owners.nodes 1 1
 no_owner_going o = grind (arith, nat_tests)

@@ -70,12 +70,8 @@ pub record AreSame (seen : Pair Growth Growth) (parents : Parents) : Type 0 wher
   pub contexts : seen.first.nodes ≡ parents.contexts
   pub owners : seen.second.nodes ≡ parents.owners
 
-no_child : (n : ℕ) (nodes : List Kept) → is_leaf n nodes ≡ true → not (has_child n nodes) ≡ true
-no_child n nodes h =
-    let p : (is_there n nodes ≡ true) × (not (has_child n nodes) ≡ true) = and_parts (is_there n nodes) (not (has_child n nodes)) h in p.1
-
 pub sheds : IsFollowed (paired growing_contexts growing_owners) shedding AreSame
-sheds = grind (arith, nat_tests, is_leaf, and_parts, no_child)
+sheds = grind (arith, nat_tests, is_leaf, and_parts)
 
 -- what is read of events that keep both trees
 record AreShed (parents : Parents) (g k : Growth) (events : List What) : Type 0 where

@@ -3,7 +3,7 @@ use Rattle.session_laws.proofs.Words.{◌≡◌, ℕ, Bool, true, false, not, Li
 use Rattle.session_laws.proofs.Scenes.{What, KindTable, portals_context, opening, LevelState, OpenPortal, deepest_changed, depth, first_of, level_owner, owner_of, top_context, Moment, Scene, Around, Element, Text, new_context_made, owner_made, owner_gone, descriptor_left, owner_moved, owner_released, does, Item, Phase, BeforeLocks, Locks, AfterLocks, table_of, is_of, without_newest, is_of_phase, Owner, OwnerTree, remembered, own_released, IsInOrder, Lock, has_owner, Ended, changes, context_gone, for_each, in_order, portal_gone, switched, where_so, where_there, portal_aborted, portal_closed, portal_passed, aborted, cleaned_up, committed, empty_context_gone, level_context_gone, level_owner_gone, level_popped, level_released, stack_lowered, stack_popped, subcommitted, switched_up, Stands, active_depth}
 use Rattle.session_laws.proofs.Rules.{allows_all, seen_after, allows_all-append, seen_after-append, AreSaid, said_more, said_none, said_both, said_one, said_pops, Acts, Follows, Keeps, last, next, EndLeaves, Law, MakeLeaves, Leaves, OwnerLeaves, KeyLeaves, Part, Sight, acts_of, children_go, goes, item_comes, item_goes, leaves_of, of_levels, owner_goes, owner_makes, places, releases, unseen_keys, unseen_owners, of_kinds, of_locks, of_next_serial, of_owners, owner_moves, by_order, moves_owed, by_each, by_so, by_there, all_swept, begins, off_begins, owner_when_active, resettled, settled, switched_off, aborted_leads, empty_context_goes, level_context_goes, portal_aborts, portal_cleans, portal_closes, portal_passes}
 use Rattle.session_laws.proofs.Usual.{Usual, any, usual_any, is_usual, usual_contexts, usual_files, usual_locked, usual_locks, usual_made, usual_moves, usual_placed, usual_planned, usual_pushed, usual_stack, usual_unlocked, usual_words, usual_ends, usual_released, usual_taken, usual_phase}
-use Rattle.lifetime_laws.specs.Order.{Batch, Member, Owned, Releasing, batch_behind, may_precede, member_in, members_so_far, ordering}
+use Rattle.lifetime_laws.specs.Order.{Batch, Member, Releasing, may_precede, member_in, members_so_far, ordering}
 use Rattle.lifetime_laws.specs.Parents.{owners_behind}
 use Rattle.session_laws.proofs.Parents.{Growth, growing_owners, FitsOwners}
 use Rattle.session_laws.proofs.Warnings.{is_aside, is_line}
@@ -72,18 +72,9 @@ module _ (kinds : KindTable) where
   abbrev pub IsClosed : Releasing → Type 0
   IsClosed seen = seen.batch ≡ None
 
-  closed_next : (event : What) (member : Option Member) → is_unlined event ≡ true → batch_behind event member None ≡ None
-  closed_next (what.CommitLevel level) member h = absurd (cc h)
-  closed_next other member h = cc
-
-  closed_allows : (event : What) (seen : Releasing) → IsClosed seen → (ordering kinds).allows event seen ≡ true
-  closed_allows event seen is =
-      subst (λ (b : Option Batch). option_map_or (λ member. list_all (λ earlier. may_precede seen.owners earlier member) (members_so_far seen.batch)) (option_and_then (λ batch. member_in kinds seen.warning event batch) b) true ≡ true)
-      (sym is) refl
-
   pub closed_goes : {events : List What} → AreSaid is_unlined events → (seen : Releasing) → IsClosed seen → Goes seen events IsClosed
   closed_goes said_none seen is = goes_none seen IsClosed is
-  closed_goes (said_more {event = event} {events = events} h hs) seen is = grind (arith, nat_tests, closed_goes hs, closed_next, and_from, closed_allows)
+  closed_goes (said_more {event = event} {events = events} h hs) seen is = grind (arith, nat_tests, closed_goes hs, and_from)
 
   -- an event that is no member of a release
   pub lone_allows : (event : What) (seen : Releasing) → ((b : Option Batch) → option_and_then (λ batch. member_in kinds seen.warning event batch) b ≡ None) → (ordering kinds).allows event seen ≡ true
@@ -104,39 +95,14 @@ module _ (kinds : KindTable) where
     by_error : {error : _} → Closes (what.Error error)
     by_ok : Closes what.Ok
 
-  closing : {event : What} → Closes event → (warning : Option Owned) (b : Option Batch) → option_and_then (λ batch. member_in kinds warning event batch) b ≡ None
-  closing (by_cleanup level) warning None = refl
-  closing (by_cleanup level) warning (Some batch) = refl
-  closing (by_gone owner) warning None = refl
-  closing (by_gone owner) warning (Some batch) = refl
-  closing by_error warning None = refl
-  closing by_error warning (Some batch) = refl
-  closing by_ok warning None = refl
-  closing by_ok warning (Some batch) = refl
-
-  closed_behind : {event : What} → Closes event → (member : Option Member) (b : Option Batch) → batch_behind event member b ≡ None
-  closed_behind (by_cleanup level) member b = refl
-  closed_behind (by_gone owner) member b = refl
-  closed_behind by_error member b = refl
-  closed_behind by_ok member b = refl
-
   pub closes : {event : What} → Closes event → (seen : Releasing) → Goes seen (event ∷ []) IsClosed
-  closes {event = event} h seen = grind (arith, nat_tests, and_from, lone_allows, closing)
+  closes {event = event} h seen = grind (arith, nat_tests, and_from, lone_allows)
 
   -- what passes over a release that has released nothing so far
-  passing_one : (aborts : Bool) (nodes : List replayed.Node) (event : What) → is_passing aborts event ≡ true → Goes (in_batch nodes aborts []) (event ∷ []) (λ behind. behind ≡ in_batch (owners_behind event nodes) aborts [])
-  passing_one aborts nodes (what.Callback word context) h = record { allowed = refl; behind = refl }
-  passing_one aborts nodes (what.Delete context) h = record { allowed = refl; behind = refl }
-  passing_one aborts nodes (what.DescriptorClosed file) h = record { allowed = refl; behind = refl }
-  passing_one aborts nodes (what.Pop snapshot) h = record { allowed = refl; behind = refl }
-  passing_one aborts nodes (what.MoveOwner owner parent) h = record { allowed = refl; behind = refl }
-  passing_one false nodes (what.Release item owner) h = record { allowed = refl; behind = refl }
-  passing_one true nodes (what.Release item owner) h = absurd (cc h)
-  passing_one aborts nodes other h = absurd (cc h)
 
   pub passing_goes : (aborts : Bool) (nodes : List replayed.Node) {events : List What} → AreSaid (is_passing aborts) events → Goes (in_batch nodes aborts []) events (λ behind. behind ≡ in_batch (nodes_after nodes events) aborts [])
   passing_goes aborts nodes said_none = goes_none (in_batch nodes aborts []) (λ behind. behind ≡ in_batch nodes aborts []) refl
-  passing_goes aborts nodes (said_more {event = event} {events = events} h hs) = grind (arith, nat_tests, passing_goes aborts (owners_behind event nodes) hs, last, goes_both, passing_one, in_batch)
+  passing_goes aborts nodes (said_more {event = event} {events = events} h hs) = grind (arith, nat_tests, passing_goes aborts (owners_behind event nodes) hs, last, goes_both, in_batch)
 
   -- what a release says in order, and what is said beside it
   pub adds_goes : (nodes : List replayed.Node) (aborts : Bool) (old new : List Member) {events : List What} → Adds kinds nodes aborts old new events → Goes (in_batch nodes aborts old) events (λ behind. behind ≡ in_batch nodes aborts new)
@@ -273,9 +239,6 @@ module _ (kinds : KindTable) where
   -- an owner remembers the next item
   later : (bound : ℕ) (owner : Owner) → Recalls bound owner → Recalls (bound + 1) owner
   later bound owner h = record { falls = h.falls; older = All-weaker (λ (item : Item). item.serial < bound) (λ (item : Item). item.serial < bound + 1) (λ item l. omega (arith, l)) owner.items h.older }
-
-  recall : (item : Item) (owner : Owner) → Recalls item.serial owner → Recalls (item.serial + 1) (record owner { items = item ∷ owner.items })
-  recall item owner h = grind (arith, nat_tests, later)
 
   recalled : (n : ℕ) (item : Item) (t : OwnerTree) → AllNodes (Recalls item.serial) t → AllNodes (Recalls (item.serial + 1)) (remembered n item t)
   recalled n item Empty h = tt

@@ -1,8 +1,8 @@
 -- In each session's life the end of a level releases descendants first, by phase and priority.
-use Rattle.session_laws.proofs.Words.{◌≡◌, ℕ, ◌+◌, Bool, true, false, List, [], ◌∷◌, ◌++◌, Option, Some, None, refl, sym, ap, ◌∙◌, subst, inl, inr, not, ◌⊎◌, is_some, option_and_then, if◌then◌else◌, and_from, both_ways, subtree}
-use Rattle.session_laws.proofs.Scenes.{Error, What, KindTable, LevelState, deepest_changed, is_aborted, level_above, level_context, owner_of, first_of, opening, top_context, Moment, Scene, Around, Element, failure, Ended, nothing, switched, where_there, for_each, in_order, where_so, context_gone, say, aborted, cleaned_up, committed, subcommitted, given_up, level_rolled_back, recovered, exited, level_made, new_context_made, new_owner_made, owner_made, Done, fallible, refused_call, unless_refused, does, does_all, then_done, AreOuter, IsOpen, Stands, AreOpen, FitLevels, StandsBetweenLines, Command, table_of, line_elements, turn, turn_of}
+use Rattle.session_laws.proofs.Words.{◌≡◌, ℕ, ◌+◌, Bool, true, false, List, [], ◌∷◌, ◌++◌, Option, Some, None, refl, sym, ap, ◌∙◌, subst, inl, inr, not, ◌⊎◌, is_some, and_from, both_ways, subtree, nat_tests, arith}
+use Rattle.session_laws.proofs.Scenes.{Error, What, KindTable, LevelState, deepest_changed, is_aborted, level_above, owner_of, first_of, opening, top_context, Moment, Scene, Around, Element, failure, Ended, nothing, switched, where_there, for_each, in_order, where_so, context_gone, say, aborted, cleaned_up, committed, subcommitted, given_up, level_rolled_back, recovered, exited, level_made, new_context_made, new_owner_made, owner_made, Done, fallible, refused_call, unless_refused, does, does_all, then_done, AreOuter, IsOpen, Stands, AreOpen, FitLevels, StandsBetweenLines, Command, table_of, line_elements, turn, turn_of}
 use Rattle.session_laws.proofs.Rules.{allows_all, seen_after, aborted_stands, at_settled, is_left, rolled_stands, settled, AreSpoken, Follows, IsRun, IsSpoken, Meets, Runs, element_follows, AreSaid, said_both, said_none, said_one, said_gone, line_spoken}
-use Rattle.lifetime_laws.specs.Order.{Batch, Releasing, member_in, ordering, nothing_releasing}
+use Rattle.lifetime_laws.specs.Order.{Releasing, ordering, nothing_releasing}
 use Rattle.lifetime_laws.specs.Parents.{Node}
 use Rattle.session_rules.proofs.EndsStand.{Leaves as Leaving}
 use Rattle.session_rules.proofs.LevelsKept.{is_there}
@@ -100,10 +100,7 @@ module _ (kinds : KindTable) (w : Option ℕ) where
   unfolding does
   level_step x m (makes name implicit) meets seen fit at =
       goes_weaker kinds (λ b closed none. closed) (closed_goes kinds (try_said w m _ (level_made name implicit) (said_one (what.BeginLevel _) refl)) seen at.0)
-  level_step x m stands meets seen fit at =
-      let o : Option ℕ = level_context m.scene.session in
-      goes_weaker kinds (λ b closed none. (closed, subst (λ (levels : List LevelState). HasOwner (deepest_changed (λ level. record level { starting = false }) levels)) (sym (stands_levels o m.scene)) (changed_owned m.scene.session.levels at.1)))
-      (closed_goes kinds (stands_said o m.scene) seen at.0)
+  level_step x m stands meets seen fit at = grind (arith, nat_tests, goes_weaker, stands_levels, changed_owned, closed_goes, stands_said)
   level_step x m tops meets seen fit at =
       let level : LevelState = meets.asks.0 in
       let lo = is_there level.owner (subst HasOwner meets.asks.1 at.1) in
@@ -152,18 +149,7 @@ module _ (kinds : KindTable) (w : Option ℕ) where
 
   -- where the deepest level is aborted
   said_goes : (event : What) → IsSaid event → (seen : Releasing) → Goes kinds seen (event ∷ []) (λ b. Unit {0})
-  said_goes event h seen = record { allowed = and_from ((ordering kinds).allows event seen) true (lone_allows kinds event seen (none event h)) refl; behind = tt }
-    where
-      none : (event : What) → IsSaid event → (b : Option Batch) → option_and_then (λ batch. member_in kinds seen.warning event batch) b ≡ None
-      none (what.Fetched name rows) h None = refl
-      none (what.Fetched name rows) h (Some batch) = refl
-      none what.AlreadyInTransaction h None = refl
-      none what.AlreadyInTransaction h (Some batch) = refl
-      none what.NotInTransaction h None = refl
-      none what.NotInTransaction h (Some batch) = refl
-      none what.Ok h None = refl
-      none what.Ok h (Some batch) = refl
-      none other h b = elim h [ ]
+  said_goes event h seen = grind (arith, nat_tests, and_from, lone_allows)
 
   check_step : (r : Option Error) (m : Moment) → is_aborted m.scene.session.levels ≡ true → (seen : Releasing)
       → Goes kinds seen (unless_refused r m nothing).events (λ b. (unless_refused r m nothing).refusal ≡ None → is_aborted (unless_refused r m nothing).moment.scene.session.levels ≡ true)
@@ -269,9 +255,7 @@ module _ (kinds : KindTable) where
   -- the deepest level aborts, and is aborted then
   abort_opened : (level : LevelState) (levels : List LevelState) (s : Scene) → level.aborted ≡ false → IsOpen level → Stands (settled (level ∷ levels) s) → (seen : Releasing) → Fit kinds seen.owners (settled (level ∷ levels) s)
       → Goes kinds seen (aborted (settled (level ∷ levels) s)).events (λ b. IsOpened b (aborted (settled (level ∷ levels) s)).scene)
-  abort_opened level levels s active free k seen fit =
-      let left : Leaving (record level { aborted = true } ∷ levels) (aborted (settled (level ∷ levels) s)).scene = aborted_stands level levels s active free k in
-      goes_weaker kinds (λ b any un. absurd (both_ways (is_aborted (aborted (settled (level ∷ levels) s)).scene.session.levels) un (ap is_aborted left.are))) (abort_goes kinds level levels s k seen fit)
+  abort_opened level levels s active free k seen fit = grind (arith, nat_tests, settled, aborted_stands, goes_weaker, both_ways, abort_goes)
 
   -- the level above one that went is aborted
   above_goes : (levels : List LevelState) (s : Scene) → Leaving levels s → AreOuter levels → (seen : Releasing) → seen.batch ≡ None → Fit kinds seen.owners s
@@ -356,11 +340,7 @@ between_owned [] s free fit = tt
 between_owned (level ∷ levels) s free fit = (fit.0.made free.0.started).owner
 
 begins_at : (s : Scene) → StandsBetweenLines s → (seen : Releasing) → IsOpened seen s → At (stage_of s.session.levels) seen s
-begins_at s h seen opened = go (is_aborted s.session.levels) refl
-  where
-    go : (b : Bool) → is_aborted s.session.levels ≡ b → At (if b then Hushed else Working) seen s
-    go true is = is
-    go false is = (opened is, between_owned s.session.levels s h.open_levels h.stands.fit)
+begins_at s h seen opened = grind (arith, nat_tests, between_owned)
 
 module _ (kinds : KindTable) where
   turn_opened : (w : Option ℕ) (done : Done) (refusal : Option Error) → done.refusal ≡ refusal → Stands done.moment.scene → (seen : Releasing) → Goes kinds seen done.events (HasRun kinds w done)

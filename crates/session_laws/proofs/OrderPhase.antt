@@ -34,7 +34,7 @@ module _ {A : Type 0} (nodes : List replayed.Node) (whole : Forest A) (fit : Fit
 
 module _ (nodes : List replayed.Node) (whole : OwnerTree) (fit : FitsTree nodes whole) where
   splits_of : (k : ℕ) (a : Owner) (below beside : OwnerTree) → Once (Node k a below beside) → ((x : ℕ) → has x (Node k a below beside) ≡ true → IsInside x (Node k a below beside) whole) → Splits nodes k below beside
-  splits_of k a below beside once inside = grind (arith, nat_tests, apart_of, or_left, eq-eqb, or_right, cond-true, inside_below, above_is, not_above, both_ways, ne_eqb)
+  splits_of k a below beside once inside = grind (arith, nat_tests, apart_of, or_left, eq-eqb, or_right, cond-true, above_is, not_above, both_ways, ne_eqb)
 
   walked_of : (part : OwnerTree) → Once part → ((x : ℕ) → has x part ≡ true → IsInside x part whole) → AreWalked nodes part
   walked_of Empty once inside = tt

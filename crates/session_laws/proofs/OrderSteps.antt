@@ -1,6 +1,6 @@
 -- The items that a phase releases, in order: by rising priority, and of one priority the newest first.
-use Rattle.session_laws.proofs.Words.{◌≡◌, ℕ, ◌<◌, ◌≤◌, Bool, true, false, cond, nat_le, nat_lt, List, [], ◌∷◌, filter, All, refl, inl, inr, arith, not, ◌++◌, Option, Some, None, sym, subst, ap, ◌∙◌, if◌then◌else◌, ◌⊎◌, ◌==◌, ◌&&◌, ◌||◌, and_from, eq-eqb, lt-ltb, not_from_false, or_left, or_right, nat_tests, All-nil, All-cons, All-head, All-tail, All-filter, All-append, All-weaker, option_map, list_all-from_AllPass, append_assoc, append-nil, Empty, Node, AllNodes, has}
-use Rattle.session_laws.proofs.Scenes.{Item, AreFalling, with_item, by_rank, is_of_phase, is_phase, priority, release_order, What, Phase, BeforeLocks, Locks, AfterLocks, Mode, KindTable, row_of, Owner, OwnerTree, Step, ReleasesLocks, PassesLocks, ReleasesAllLocks, own_steps, releases_of, lock_step, steps_below, top_locks, Lock, IsInOrder, comes_before, lock_total, owner_count, Scene, Ended, behind, for_each, nothing, given_back, step_done}
+use Rattle.session_laws.proofs.Words.{◌≡◌, ℕ, ◌<◌, ◌≤◌, Bool, true, false, cond, nat_le, List, [], ◌∷◌, filter, All, refl, inl, inr, arith, not, ◌++◌, Option, Some, None, sym, subst, ap, ◌∙◌, if◌then◌else◌, ◌⊎◌, ◌==◌, ◌&&◌, ◌||◌, and_from, eq-eqb, lt-ltb, not_from_false, or_left, or_right, nat_tests, All-nil, All-cons, All-head, All-tail, All-filter, All-append, All-weaker, option_map, list_all-from_AllPass, append_assoc, append-nil, Empty, Node, AllNodes, has}
+use Rattle.session_laws.proofs.Scenes.{Item, AreFalling, with_item, by_rank, is_of_phase, priority, release_order, What, Phase, BeforeLocks, Locks, AfterLocks, Mode, KindTable, row_of, Owner, OwnerTree, Step, ReleasesLocks, PassesLocks, ReleasesAllLocks, own_steps, releases_of, lock_step, steps_below, top_locks, Lock, IsInOrder, comes_before, lock_total, owner_count, Scene, Ended, behind, for_each, nothing, given_back, step_done}
 use Rattle.session_laws.proofs.Rules.{allows_all, seen_after, allows_all-append, seen_after-append, AreSaid, said_more, said_none}
 use Rattle.session_laws.proofs.OwnerEnds.{Stays, given_quiet, step_stays, stays, stays_both}
 use Rattle.pgs_step.specs.Mode.{mode_number}
@@ -89,8 +89,6 @@ pub record AreApart (nodes : List replayed.Node) (a b : ℕ) : Type 0 where
   pub other : (a == b) ≡ false
 
 -- which member may come before which
-pub earlier_phase : (nodes : List replayed.Node) (a b : Member) → place_of a < place_of b → may_precede nodes a b ≡ true
-earlier_phase nodes a b h = or_left (nat_lt (place_of a) (place_of b)) _ (lt-ltb (place_of a) (place_of b) h)
 
 pub same_phase : (nodes : List replayed.Node) (a b : Member) → place_of a ≡ place_of b → is_above (owner_of a) (owner_of b) nodes ≡ false → ((owner_of a == owner_of b) ≡ false) ⊎ (goes_before a b ≡ true)
     → may_precede nodes a b ≡ true
@@ -140,20 +138,9 @@ module _ (kinds : KindTable) (nodes : List replayed.Node) (aborts : Bool) where
 abbrev pub item_member : KindTable → Phase → ℕ → Item → Member
 item_member kinds phase n item = AnItem phase (priority kinds item) item.serial n
 
-one_phase : (a b : Phase) → is_phase a b ≡ true → b ≡ a
-one_phase BeforeLocks BeforeLocks h = refl
-one_phase Locks Locks h = refl
-one_phase AfterLocks AfterLocks h = refl
-one_phase BeforeLocks Locks h = absurd (cc h)
-one_phase BeforeLocks AfterLocks h = absurd (cc h)
-one_phase Locks BeforeLocks h = absurd (cc h)
-one_phase Locks AfterLocks h = absurd (cc h)
-one_phase AfterLocks BeforeLocks h = absurd (cc h)
-one_phase AfterLocks Locks h = absurd (cc h)
-
 pub member_is : (kinds : KindTable) (phase : Phase) (n : ℕ) (item : Item) → is_of_phase kinds phase item ≡ true
     → option_map (λ row. AnItem row.phase row.priority item.serial n) (row_of kinds item.kind) ≡ Some (item_member kinds phase n item)
-member_is kinds phase n item h = grind (arith, nat_tests, one_phase)
+member_is kinds phase n item h = grind (arith, nat_tests)
 
 module _ (kinds : KindTable) (nodes : List replayed.Node) (phase : Phase) (n : ℕ) where
   -- at abort a release counts as it stands
@@ -252,10 +239,7 @@ module _ (kinds : KindTable) (nodes : List replayed.Node) (phase : Phase) (n : �
 -- one act for each of a list and then of another
 pub each_both : {A : Type 0} (act : A → Scene → Ended) (xs ys : List A) (s : Scene) → for_each act (xs ++ ys) s ≡ behind (for_each act xs s).events (for_each act ys (for_each act xs s).scene)
 each_both act [] ys s = refl
-each_both act (x ∷ xs) ys s =
-    ap (λ (e : Ended). behind (act x s).events e) (each_both act xs ys (act x s).scene)
-    ∙ ap (λ (events : List What). record { scene = (for_each act ys (for_each act xs (act x s).scene).scene).scene; events = events })
-    (sym (append_assoc (act x s).events (for_each act xs (act x s).scene).events (for_each act ys (for_each act xs (act x s).scene).scene).events))
+each_both act (x ∷ xs) ys s = search (each_both act xs ys, append_assoc)
 
 releases_more : (commit : Bool) (n : ℕ) (item : Item) (items : List Item) → releases_of commit n (item ∷ items) ≡ releases_of commit n (item ∷ []) ++ releases_of commit n items
 releases_more true n item items = refl
@@ -287,10 +271,7 @@ module _ (kinds : KindTable) (nodes : List replayed.Node) (phase : Phase) (n : �
 
   pub ordered_release : (items : List Item) (s : Scene) (old : List Member) → AreFalling items → MayRelease nodes (place_of_phase phase) n old
       → Releases kinds nodes (not commit) (IsOwn (place_of_phase phase) n) old s (for_each step_done (releases_of commit n (release_order kinds phase items)) s)
-  ordered_release items s old falling may =
-      items_release (release_order kinds phase items) s old (order_ranked (is_of_phase kinds phase) (priority kinds) items falling)
-      (order_passes (is_of_phase kinds phase) (priority kinds) items)
-      (all_of (λ (i : Item). MayFollow nodes old (item_member kinds phase n i)) (λ i. may (item_member kinds phase n i) (refl, refl)) (release_order kinds phase items))
+  ordered_release items s old falling may = search (items_release, order_ranked, order_passes, all_of)
 
 -- The events of some of these locks, in their order.
 data Told (tell : Lock → What) : List Lock → List What → Type 0 where
@@ -390,7 +371,7 @@ pub clear_weaker : (nodes : List replayed.Node) (place : ℕ) (In Out : ℕ → 
 clear_weaker nodes place In Out members f h = grind (arith, nat_tests)
 
 pub may_release : (nodes : List replayed.Node) (place n : ℕ) (members : List Member) → AreClear nodes place (λ w. w ≡ n) members → MayRelease nodes place n members
-may_release nodes place n members h = grind (arith, nat_tests, earlier_phase, same_phase)
+may_release nodes place n members h = grind (arith, nat_tests, same_phase)
 
 -- Of a node, what is below it and what stands behind it: no owner is above one that is released later.
 pub record Splits (nodes : List replayed.Node) (n : ℕ) (below beside : OwnerTree) : Type 0 where

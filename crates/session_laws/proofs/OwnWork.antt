@@ -1,22 +1,9 @@
 -- Where a line stands between its elements. While the deepest level is aborted a line says nothing until it cleans that level up: an
 -- element is a check then, or a word at the line's end, or the cleanup.
-use Rattle.session_laws.proofs.Words.{◌≡◌, ℕ, zero, suc, ◌+◌, ◌-◌, ◌≤◌, Bool, true, false, if◌then◌else◌, List, [], ◌∷◌, ◌++◌, map, length, replicate, flat_map, Option, Some, None, refl, sym, subst, inl, inr, arith, append_assoc, codes, le-ltb, ◌⊎◌, option_map_or, option_and_then, nat_tests}
-use Rattle.session_laws.proofs.Scenes.{Error, What, Command, LevelState, OpenPortal, SessionState, is_aborted, level_owner, Check, Element, LevelContext, NewContext, OfLevel, OwnerRole, Text, portal_named, context_named, Scene, Moment, AreOuter, Stands, line_elements, KindId, Phase, Mode, CtxKind, owner_gone, phase_released, portal_ended, at_kind, at_owner, at_portal, lock_given_back, snapshot_popped, context_made, new_context_made, new_owner_made, owner_made, plan_made, descriptor_given, item_taken, lock_taken, snapshot_pushed, does}
+use Rattle.session_laws.proofs.Words.{◌≡◌, ℕ, zero, suc, ◌+◌, ◌-◌, ◌≤◌, Bool, true, false, if◌then◌else◌, List, [], ◌∷◌, ◌++◌, map, length, replicate, Option, Some, None, refl, sym, subst, inl, inr, arith, append_assoc, codes, le-ltb, ◌⊎◌, option_map_or, option_and_then, nat_tests}
+use Rattle.session_laws.proofs.Scenes.{Error, What, Command, LevelState, OpenPortal, SessionState, is_aborted, level_owner, Check, Element, LevelContext, NewContext, OfLevel, OwnerRole, Text, portal_named, context_named, Scene, Moment, AreOuter, Stands, line_elements, KindId, Phase, Mode, CtxKind, owner_gone, phase_released, portal_ended, at_kind, at_owner, at_portal, lock_given_back, snapshot_popped, context_made, new_context_made, new_owner_made, owner_made, plan_made, descriptor_given, item_taken, lock_taken, snapshot_pushed, does, TransactionCommand, Work, ContextCommand, ChunkCommand, ItemCommand, LockCommand, SnapshotCommand, PlanCommand, PortalCommand, TellCommand, Scan, after_turn, chunk_row, context_row, fetch_steps, item_row, lock_row, plan_row, portal_row, snapshot_row, tell_row, work_of, at_savepoint, begin, commit, committed_to, elements_of, ends_aborted, in_transaction, is_end, refused, rollback, rolled_back_to, save, savepoint, start, then_ok, transaction_of, unaborted}
+use Rattle.session_rules.specs.Works.{row_of}
 use Rattle.session_laws.proofs.Rules.{Acts, Follows, IsSpoken, Keeps, Law, Leaves, MoveLeaves, Owes, is_word, last, next, by_kind, by_order, by_owner, by_portal, by_portal_named, by_there, element_follows, fallible_at, fallible_so, moves_owed, unfailing_so, portal_ends}
-use Rattle.pgs_command.specs.declared.commands.TransactionCommand.{TransactionCommand}
-use Rattle.pgs_command.specs.declared.commands.Work.{Work}
-use Rattle.pgs_command.specs.declared.commands.ContextCommand.{ContextCommand}
-use Rattle.pgs_command.specs.declared.commands.ChunkCommand.{ChunkCommand}
-use Rattle.pgs_command.specs.declared.commands.ItemCommand.{ItemCommand}
-use Rattle.pgs_command.specs.declared.commands.LockCommand.{LockCommand}
-use Rattle.pgs_command.specs.declared.commands.SnapshotCommand.{SnapshotCommand}
-use Rattle.pgs_command.specs.declared.commands.PlanCommand.{PlanCommand}
-use Rattle.pgs_command.specs.declared.commands.PortalCommand.{PortalCommand}
-use Rattle.pgs_command.specs.declared.commands.TellCommand.{TellCommand}
-use Rattle.exec_core.specs.declared.scan.Scan.{Scan}
-use Rattle.exec_core.specs.declared.steps.ScanStep.{ScanStep}
-use Rattle.session_rules.specs.Works.{after_turn, chunk_row, context_row, fallible_part, fetch_steps, item_row, lock_row, plan_row, portal_row, row_of, snapshot_row, tell_row, work_of}
-use Rattle.session_rules.specs.Commands.{at_savepoint, begin, commit, committed_to, elements_of, ends_aborted, in_transaction, is_end, refused, rollback, rolled_back_to, save, savepoint, start, then_ok, transaction_of, unaborted}
 use Rattle.pgs_step.specs.declared.errors.Error.TheVariants as error
 use Rattle.pgs_step.specs.declared.events.What.TheVariants as what
 use Rattle.pgs_command.specs.declared.commands.Command.TheVariants as command
@@ -30,7 +17,6 @@ use Rattle.pgs_command.specs.declared.commands.SnapshotCommand.TheVariants as sn
 use Rattle.pgs_command.specs.declared.commands.PlanCommand.TheVariants as plan
 use Rattle.pgs_command.specs.declared.commands.PortalCommand.TheVariants as portal
 use Rattle.pgs_command.specs.declared.commands.TellCommand.TheVariants as tell
-use Rattle.exec_core.specs.declared.steps.ScanStep.TheVariants as step
 use Rattle.session_rules.specs.Elements as e
 use Rattle.any_ctx.specs.declared.any.CtxKind.TheVariants as kind
 
@@ -154,21 +140,6 @@ checks_work [] = tt
 checks_work (check ∷ checks) = (tt, checks_work checks)
 
 -- of a scan
-turned_work : (name : Text) (es : List Element) → AreWork es → AreWork (map (e.InTurn name) es)
-turned_work name [] h = tt
-turned_work name (x ∷ es) h = (h.0, turned_work name es h.1)
-
-part_work : (name : Text) (s : ScanStep) → AreWork (fallible_part name s)
-part_work name (step.Pin page) = (tt, (tt, tt))
-part_work name (step.Bad row) = (tt, tt)
-part_work name step.Alloc = (tt, tt)
-part_work name other = tt
-
-scans_work : (name : Text) (steps : List ScanStep) → AreWork (flat_map (λ s. map (e.InTurn name) (e.Scans name s ∷ fallible_part name s)) steps)
-scans_work name [] = tt
-scans_work name (s ∷ steps) =
-    both_work (map (e.InTurn name) (e.Scans name s ∷ fallible_part name s)) _
-    (turned_work name (e.Scans name s ∷ fallible_part name s) (tt, part_work name s)) (scans_work name steps)
 
 last_or_more : (b : Bool) (xs ys : List Element) → AreWork xs → AreWork ys → AreWork (elim b as (λ _. List Element) [ true ↦ xs | false ↦ ys ])
 last_or_more true xs ys h k = h
@@ -176,7 +147,7 @@ last_or_more false xs ys h k = k
 
 fetch_work : (name : Text) (count : ℕ) (scan : Scan) (rows : ℕ) → AreWork (fetch_steps name count scan rows)
 fetch_work name zero scan rows = (tt, tt)
-fetch_work name (suc count) scan rows = grind (arith, nat_tests, fetch_work name count (after_turn scan), both_work, scans_work, last_or_more)
+fetch_work name (suc count) scan rows = grind (arith, nat_tests, fetch_work name count (after_turn scan), both_work, last_or_more)
 
 fetches_work : (name : Text) (count : ℕ) (o : Option OpenPortal) → AreWork (option_map_or (λ portal. fetch_steps name count portal.scan 0) o [])
 fetches_work name count None = tt
@@ -247,18 +218,13 @@ own_due other h = (tt, refl)
 
 work_due : (xs ys : List Element) → AreWork xs → AreDue Working ys → AreDue Working (xs ++ ys)
 work_due [] ys h k = k
-work_due (x ∷ xs) ys h k =
-    let d : IsLively x × (working_next x ≡ Working) = own_due x h.0 in
-    (d.0, subst (λ (stage : Stage). AreDue stage (xs ++ ys)) (sym d.1) (work_due xs ys h.1 k))
+work_due (x ∷ xs) ys h k = grind (arith, nat_tests, work_due xs ys h.1 k, own_due)
 
 commits_due : (n : ℕ) (ys : List Element) → AreDue Working ys → AreDue Working (replicate n e.Subcommit ++ ys)
 commits_due zero ys k = k
 commits_due (suc n) ys k = (tt, commits_due n ys k)
 
 -- a refusal may come anywhere between two lines
-refused_due : (b : Bool) (x : Error) → AreDue (if b then Hushed else Working) (e.Checks (e.Refuse x) ∷ e.Says what.Ok ∷ [])
-refused_due true x = (tt, (tt, tt))
-refused_due false x = (tt, (tt, tt))
 
 refused_alone : (b : Bool) (x : Error) → AreDue (if b then Hushed else Working) (refused x)
 refused_alone true x = (tt, tt)
@@ -284,7 +250,7 @@ at_due : (name : Text) (levels : List LevelState) (go_on : ℕ → List Element)
     → ((n : ℕ) → savepoint name levels ≡ Some n → AreDue (stage_of levels) (go_on n ++ (e.Says what.Ok ∷ [])))
     → AreDue (stage_of levels) (at_savepoint name levels go_on ++ (e.Says what.Ok ∷ []))
 at_due name [] go_on h = (tt, (tt, tt))
-at_due name (level ∷ levels) go_on h = grind (arith, nat_tests, refused_due)
+at_due name (level ∷ levels) go_on h = grind (arith, nat_tests)
 
 -- the ends of transactions, and back to a savepoint, in an aborted one too
 rollback_due : (levels : List LevelState) → AreAbove levels → AreDue (stage_of levels) (rollback levels ++ (e.Says what.Ok ∷ []))
@@ -315,9 +281,7 @@ save_due name [] = (tt, (tt, tt))
 save_due name (level ∷ levels) = (tt, (tt, (tt, (tt, (tt, tt)))))
 
 release_due : (name : Text) (levels : List LevelState) → is_aborted levels ≡ false → AreDue (stage_of levels) (at_savepoint name levels (λ n. committed_to n levels) ++ (e.Says what.Ok ∷ []))
-release_due name levels un =
-    at_due name levels (λ n. committed_to n levels)
-    (λ n is. subst (λ (b : Bool). AreDue (if b then Hushed else Working) (committed_to n levels ++ (e.Says what.Ok ∷ []))) (sym un) (commits_due (length levels + 1 - n) _ (tt, tt)))
+release_due name levels un = grind (arith, nat_tests, at_due, commits_due)
 
 -- a stage that is known
 active_due : (levels : List LevelState) (xs : List Element) → is_aborted levels ≡ false → AreDue Working xs → AreDue (stage_of levels) xs

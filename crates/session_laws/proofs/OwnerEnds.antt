@@ -248,9 +248,7 @@ level_leaves commit top s k there = go (level_owner s.session) refl
         subst (λ (m : ℕ). MayLeave m t) one (release_leaving commit top p s k (there p e))
 
 same_leaves : (s t : Scene) → t.session.owners ≡ s.session.owners → level_owner t.session ≡ level_owner s.session → MayEndLevel s → MayEndLevel t
-same_leaves s t owners same h n e =
-    let k : MayLeave n s = h n (sym same ∙ e) in
-    record { there = ap (has n) owners ∙ k.there; idle = subst (AllAt HoldsNothing n) (sym owners) k.idle }
+same_leaves s t owners same h n e = grind (arith, nat_tests)
 
 -- What such a law owes.
 pub record OwnerEnds (R : Law) : Type 0 where
@@ -397,9 +395,7 @@ module _ (R : Law) (h : OwnerEnds R) where
 
   -- where a scene with these levels stands
   in_settled : (P : Scene → Type 0) (level : LevelState) (levels : List LevelState) (s : Scene) → s.session.levels ≡ level ∷ levels → Stands s → ((z : Scene) → Stands (settled (level ∷ levels) z) → P (settled (level ∷ levels) z)) → P s
-  in_settled P level levels s is k all =
-      let same : s ≡ settled (level ∷ levels) s = is_settled s k ∙ ap (λ (ls : List LevelState). settled ls s) is in
-      subst P (sym same) (all s (subst Stands same k))
+  in_settled P level levels s is k all = grind (arith, nat_tests, settled, is_settled)
 
   all_ends : OwesEnds R
   all_ends = record {

@@ -50,9 +50,7 @@ single_without n (first ∷ rest) h = elim (cases_Bool (first.number == n)) [ in
 
 pub without_none : (n : ℕ) (nodes : List Kept) → is_there n nodes ≡ false → without n nodes ≡ nodes
 without_none n [] h = refl
-without_none n (first ∷ rest) h =
-    let p : ((first.number == n) ≡ false) × (is_there n rest ≡ false) = or_parts (first.number == n) (is_there n rest) h in
-    rw p.0 (ap (λ (nodes : List Kept). first ∷ nodes) (without_none n rest p.1))
+without_none n (first ∷ rest) h = grind (arith, nat_tests, without_none n rest, or_parts)
 
 pub length_without : (n : ℕ) (nodes : List Kept) → AreSingle nodes → is_there n nodes ≡ true → 1 + length (without n nodes) ≡ length nodes
 length_without n [] single h = absurd (cc h)
@@ -90,9 +88,7 @@ module _ {A : Type 0} where
       (λ m ne. (has_put_other m p n a Empty t ne refl, parent_put_other m p n a Empty t ne refl)) (omega (arith, ap length (without_none n nodes (f.there n ∙ away)), f.length, size_put p n a Empty t f.once h))
 
   pub fits_front : (n : ℕ) (a : A) (nodes : List Kept) (t : Forest A) → FitsTree nodes t → has n t ≡ false → FitsTree (placed n None nodes) (Node n a Empty t)
-  fits_front n a nodes t f away =
-      fits_placed n None nodes t (Node n a Empty t) f (once_front n a t f.once away) (ap (λ (b : Bool). b || has n t) (eq-eqb n n refl)) (parent_absent n t away)
-      (λ m ne. (ap (λ (b : Bool). b || has m t) (ne_eqb n m (λ e. ne (sym e))), refl)) (omega (arith, ap length (without_none n nodes (f.there n ∙ away)), f.length))
+  fits_front n a nodes t f away = grind (arith, nat_tests, fits_placed, once_front, eq-eqb, parent_absent, ne_eqb, without_none)
 
   -- a node moves with all below it
   moved_parent : (m n p : ℕ) (a : A) (t : Forest A) → Once t → Moves n p t → m ≢ n → parent_of m (put p n a (children n t) (removed n t)) ≡ parent_of m t
@@ -168,9 +164,7 @@ module _ {A : Type 0} where
 -- a number that isn't there has no parent
 no_parent : (n : ℕ) (nodes : List Kept) → is_there n nodes ≡ false → replayed.parent_of n nodes ≡ None
 no_parent n [] h = refl
-no_parent n (first ∷ rest) h =
-    let p : ((first.number == n) ≡ false) × (is_there n rest ≡ false) = or_parts (first.number == n) (is_there n rest) h in
-    rw p.0 (no_parent n rest p.1)
+no_parent n (first ∷ rest) h = grind (arith, nat_tests, no_parent n rest, or_parts)
 
 -- what is no number's parent has no child
 childless : (n : ℕ) (nodes : List Kept) → AreSingle nodes → ((m : ℕ) → replayed.parent_of m nodes ≡ Some n → ⊥) → has_child n nodes ≡ false
@@ -398,9 +392,7 @@ module _ (reader : Reader Growth) where
 
   pub pruned : {A : Type 0} {ns : List ℕ} {events : List What} {t u : Forest A} → Takes ns events → Plucked ns t u → (growth : Growth) → FitsTree growth.nodes t → IsPruned growth u events
   pruned takes_none none_left growth f = record { allowed = refl; tree = f; next = refl }
-  pruned {A} {u = u} (takes_past {event = event} {events = events} h hs) p growth f =
-      let k : IsPruned (reader.next event growth) u events = subst (λ (g : Growth). IsPruned g u events) (sym (h.same growth)) (pruned hs p growth f) in
-      record { allowed = and_from (reader.allows event growth) (allows_all reader (reader.next event growth) events) (h.allowed growth) k.allowed; tree = k.tree; next = k.next ∙ ap (λ (g : Growth). g.next) (h.same growth) }
+  pruned {A} {u = u} (takes_past {event = event} {events = events} h hs) p growth f = grind (arith, nat_tests, pruned hs p growth f, and_from)
   pruned {A} {t = t} {u = u} (takes_one {n = n} {event = event} {events = events} h hs) (one_less there leaf p) growth f = grind (arith, nat_tests, pruned hs p, fits_gone, and_from, same_childless)
 
   pub takes_quiet : {P : What → Bool} → ((event : What) → P event ≡ true → IsPassed reader event) → {events : List What} → AreSaid P events → Takes [] events
@@ -414,6 +406,4 @@ module _ (reader : Reader Growth) where
 
   pub read_past : {events : List What} → Takes [] events → (growth : Growth) → AreRead growth events
   read_past takes_none growth = record { allowed = refl; same = refl }
-  read_past (takes_past {event = event} {events = events} h hs) growth =
-      let k : AreRead (reader.next event growth) events = subst (λ (g : Growth). AreRead g events) (sym (h.same growth)) (read_past hs growth) in
-      record { allowed = and_from (reader.allows event growth) (allows_all reader (reader.next event growth) events) (h.allowed growth) k.allowed; same = k.same ∙ h.same growth }
+  read_past (takes_past {event = event} {events = events} h hs) growth = grind (arith, nat_tests, read_past hs growth, and_from)

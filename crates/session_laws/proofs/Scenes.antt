@@ -7,11 +7,25 @@ pub use Rattle.pgs_step.specs.declared.ids.Phase.{Phase}
 pub use Rattle.pgs_step.specs.declared.ids.Phase.TheVariants.{AfterLocks, BeforeLocks, Locks}
 pub use Rattle.pgs_step.specs.declared.lock_modes.Mode.{Mode}
 pub use Rattle.pgs_command.specs.declared.commands.Command.{Command}
+pub use Rattle.pgs_command.specs.declared.commands.TransactionCommand.{TransactionCommand}
+pub use Rattle.pgs_command.specs.declared.commands.Work.{Work}
+pub use Rattle.pgs_command.specs.declared.commands.ContextCommand.{ContextCommand}
+pub use Rattle.pgs_command.specs.declared.commands.ChunkCommand.{ChunkCommand}
+pub use Rattle.pgs_command.specs.declared.commands.ItemCommand.{ItemCommand}
+pub use Rattle.pgs_command.specs.declared.commands.LockCommand.{LockCommand}
+pub use Rattle.pgs_command.specs.declared.commands.SnapshotCommand.{SnapshotCommand}
+pub use Rattle.pgs_command.specs.declared.commands.PlanCommand.{PlanCommand}
+pub use Rattle.pgs_command.specs.declared.commands.PortalCommand.{PortalCommand}
+pub use Rattle.pgs_command.specs.declared.commands.TellCommand.{TellCommand}
+pub use Rattle.exec_core.specs.declared.scan.Scan.{Scan}
+pub use Rattle.session_rules.specs.Works.{Row, after_turn, chunk_row, context_row, elements, fetch_steps, item_row, lock_row, plan_row, portal_row, snapshot_row, tell_row, work_of}
+pub use Rattle.session_rules.specs.Commands.{at_savepoint, begin, commit, committed_to, ends_aborted, in_transaction, is_end, refused, rollback, rolled_back_to, save, savepoint, start, then_ok, transaction_of, unaborted}
+unfoldable pub use Rattle.session_rules.specs.Commands.{elements_of}
 pub use Rattle.reset_callbacks.specs.Hook.{AreDistinct, Hook}
 pub use Rattle.owner_kinds.specs.KindTable.{IsSound, KindTable, row_of}
 pub use Rattle.owner_kinds.specs.KindShelf.{table_of}
 pub use Rattle.owner_items.specs.ItemList.{AreFalling, is_of, uses, without_newest}
-pub use Rattle.owner_items.specs.Next.{by_rank, is_of_phase, is_phase, priority, release_order, with_item}
+pub use Rattle.owner_items.specs.Next.{by_rank, is_of_phase, priority, release_order, with_item}
 pub use Rattle.owner_core.specs.Owners.{AllAt, HoldsNothing, Owner, OwnerTree, created, forgotten, held, remembered}
 pub use Rattle.owner_core.specs.Steps.{GivesBack, PassesLocks, ReleasesAllLocks, ReleasesLocks, Said, Step, lock_step, made_event, own_steps, release_steps, releases_of, steps_below, top_locks}
 pub use Rattle.owner_core.specs.Released.{left_of, own_released, released}

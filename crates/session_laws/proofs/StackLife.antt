@@ -101,9 +101,7 @@ newest_taken entries entry h = go (reverse entries) refl h
 -- none of a level below is left where all are at least of it
 none_kept : (level least : ℕ) (entries : List Active) → level ≤ least → IsRising least entries → kept_below level entries ≡ []
 none_kept level least [] l h = refl
-none_kept level least (entry ∷ entries) l h =
-    let more : level ≤ entry.level = omega (arith, l, h.0) in
-    rw (le-ltb entry.level level more) (none_kept level entry.level entries more h.1)
+none_kept level least (entry ∷ entries) l h = grind (arith, nat_tests, none_kept level entry.level entries, le-ltb)
 
 joined : {a b c d : List Active} → a ≡ b → c ≡ d → a ++ c ≡ b ++ d
 joined {a = a} {d = d} e f = ap (λ (zs : List Active). a ++ zs) f ∙ ap (λ (zs : List Active). zs ++ d) e

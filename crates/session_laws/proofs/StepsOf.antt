@@ -1,5 +1,5 @@
 -- The steps of a release, each for an owner of which something is so: a release of an item stands directly before what gives that back, and at commit behind its warning.
-use Rattle.session_laws.proofs.Words.{◌≡◌, ℕ, Bool, true, false, List, [], ◌∷◌, ◌++◌, Option, Some, None, refl, inl, inr, if◌then◌else◌, ◌==◌, option_map_or, cases_Bool, eq-eqb, or_left, Empty, Node, Forest, at, children, has, parent_of}
+use Rattle.session_laws.proofs.Words.{◌≡◌, ℕ, Bool, true, false, List, [], ◌∷◌, ◌++◌, Option, Some, None, refl, if◌then◌else◌, option_map_or, eq-eqb, or_left, Empty, Node, Forest, at, children, has, parent_of, nat_tests, arith}
 use Rattle.session_laws.proofs.Scenes.{Item, Phase, BeforeLocks, Locks, AfterLocks, KindTable, Owner, OwnerTree, Step, Said, GivesBack, ReleasesLocks, PassesLocks, ReleasesAllLocks, releases_of, own_steps, lock_step, steps_below, top_locks, release_order, release_steps}
 use Rattle.pgs_step.specs.declared.events.What.TheVariants as what
 
@@ -19,17 +19,7 @@ AllNumbers P (Node k a below beside) = P k × AllNumbers P below × AllNumbers P
 module _ (P : ℕ → Type 0) where
   pub numbers_of : {A : Type 0} (t : Forest A) → ((m : ℕ) → has m t ≡ true → P m) → AllNumbers P t
   numbers_of Empty h = tt
-  numbers_of (Node k a below beside) h =
-      (h k (or_left (k == k) _ (here k)), numbers_of below (λ m u. h m (deeper k m u)), numbers_of beside (λ m u. h m (further k m u)))
-    where
-      here : (k : ℕ) → (k == k) ≡ true
-      here k = eq-eqb k k refl
-
-      deeper : (k m : ℕ) → has m below ≡ true → has m (Node k a below beside) ≡ true
-      deeper k m u = elim (cases_Bool (k == m)) [ inl y ↦ or_left (k == m) _ y | inr z ↦ rw (z, u) refl ]
-
-      further : (k m : ℕ) → has m beside ≡ true → has m (Node k a below beside) ≡ true
-      further k m u = elim (cases_Bool (k == m)) [ inl y ↦ or_left (k == m) _ y | inr z ↦ elim (cases_Bool (has m below)) [ inl v ↦ rw (z, v) refl | inr v ↦ rw (z, v, u) refl ] ]
+  numbers_of (Node k a below beside) h = grind (arith, nat_tests, numbers_of below, numbers_of beside, or_left, eq-eqb)
 
   both_of : {commit : Bool} {xs ys : List Step} → AreOf P commit xs → AreOf P commit ys → AreOf P commit (xs ++ ys)
   both_of no_step k = k

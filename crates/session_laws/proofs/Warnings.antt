@@ -1,5 +1,5 @@
 -- Which events open a release, warn, or stand beside what a release releases.
-use Rattle.session_laws.proofs.Words.{Bool, true, false, ◌≡◌, ℕ, not, List, [], ◌∷◌, Option, None, refl, subst, sym, ◌==◌, ◌&&◌, and_from, eq-eqb}
+use Rattle.session_laws.proofs.Words.{Bool, true, false, ◌≡◌, ℕ, not, List, [], ◌∷◌, Option, None, refl, subst, sym, and_from, eq-eqb, nat_tests, arith}
 use Rattle.session_laws.proofs.Scenes.{What, Error, Item, Command, KindTable, Moment, Scene, exited, turn}
 use Rattle.session_laws.proofs.Rules.{allows_all, seen_after, EndLeaves, Law, OwnerLeaves, AreSaid, said_more, said_none, said_one, Sight, item_comes, no_part, owner_makes, unseen_keys, exit_follows}
 use Rattle.session_laws.proofs.Usual.{Usual, any_turn_follows, is_usual, usual_makes, usual_moves, plain_ends}
@@ -68,15 +68,11 @@ one_reads : (s t : Scene) (event : What) → is_calm event ≡ true → Warns s 
 one_reads s t event h = calm_reads s t (said_one event h)
 
 pub same_itself : (item : Item) → same_item item item ≡ true
-same_itself item =
-    and_from (item.kind.0 == item.kind.0) ((item.key == item.key) && (item.serial == item.serial)) (eq-eqb item.kind.0 item.kind.0 refl)
-    (and_from (item.key == item.key) (item.serial == item.serial) (eq-eqb item.key item.key refl) (eq-eqb item.serial item.serial refl))
+same_itself item = grind (arith, nat_tests, and_from, eq-eqb)
 
 -- a warning and the release of its item
 pub pair_reads : (s : Scene) (item : Item) (n : ℕ) → Warns s s (what.NotClosed item n ∷ what.Release item n ∷ [])
-pair_reads s item n =
-    let same : (same_item item item && (n == n)) ≡ true = and_from (same_item item item) (n == n) (same_itself item) (eq-eqb n n refl) in
-    record { so = from_none s (what.NotClosed item n ∷ what.Release item n ∷ []) (and_from (same_item item item && (n == n)) true same refl) refl }
+pair_reads s item n = grind (arith, nat_tests, and_from, same_itself, eq-eqb, from_none)
 
 sight : Sight no_part is_calm Warns
 sight = record { both = λ h k. read_both warning IsSettled h k; aside = λ s t same h. calm_reads s t h }
