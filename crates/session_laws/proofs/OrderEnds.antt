@@ -99,7 +99,6 @@ module _ (kinds : KindTable) where
   closes {event = event} h seen = grind (arith, nat_tests, and_from, lone_allows)
 
   -- what passes over a release that has released nothing so far
-
   pub passing_goes : (aborts : Bool) (nodes : List replayed.Node) {events : List What} → AreSaid (is_passing aborts) events → Goes (in_batch nodes aborts []) events (λ behind. behind ≡ in_batch (nodes_after nodes events) aborts [])
   passing_goes aborts nodes said_none = goes_none (in_batch nodes aborts []) (λ behind. behind ≡ in_batch nodes aborts []) refl
   passing_goes aborts nodes (said_more {event = event} {events = events} h hs) = grind (arith, nat_tests, passing_goes aborts (owners_behind event nodes) hs, last, goes_both, in_batch)
