@@ -1,45 +1,208 @@
--- The law of the items of a file: each act on owners and on descriptors keeps it.
-use Rattle.std.proofs.Common.{◌≡◌, ℕ, zero, suc, ◌+◌, ◌-◌, ◌≤◌, find, Bool, true, false, cond, nat_eq, if◌then◌else◌, List, [], ◌∷◌, ◌++◌, take, Option, Some, None, refl, sym, ap, subst, ◌∙◌, inl, inr, arith}
-use Rattle.std.specs.Prelude.{◌==◌, ◌&&◌, nat_le, nat_lt}
-use Rattle.std.specs.Option.{option_map_or}
-use Rattle.std.proofs.lemmas.Bool.{cases_Bool, and_from, eqb-true, le-leb}
-use Rattle.pgs_step.specs.declared.events.What.{What}
-use Rattle.pgs_step.specs.declared.events.What.TheVariants as what
-use Rattle.pgs_step.specs.declared.ids.Item.{Item}
-use Rattle.pgs_step.specs.declared.ids.KindId.{KindId}
-use Rattle.pgs_step.specs.declared.ids.Phase.{Phase}
-use Rattle.lifetime_laws.specs.Reading.{seen_after}
-use Rattle.lifetime_laws.proofs.Readings.{allows_all-append, seen_after-append}
-use Rattle.forest.specs.Forest.{Once, has}
-use Rattle.forest.specs.Walk.{order_at}
-use Rattle.forest.proofs.Trees.{at_absent, at_some, changed_absent, once_changed}
+-- What becomes of owners makes them hold no more, and leaves each number once.
+use Rattle.session_laws.proofs.Words.{◌≡◌, ℕ, ◌≤◌, true, Some, List, [], ◌∷◌, refl, ap, inl, inr, arith, ◌+◌, ◌-◌, Bool, false, cond, nat_eq, if◌then◌else◌, ◌++◌, Option, None, sym, subst, ◌∙◌, zero, suc, find, take, ◌==◌, ◌&&◌, nat_le, nat_lt, list_any, cases_Bool, and_from, eqb-true, le-leb, Empty, Node, Once, at, children, has, moved, put, removed, subtree, size, order_at, at_absent, at_some, once_removed, put_absent, removed_absent, times_put, times_removed, changed_absent, once_changed, option_map_or, nat_tests}
+use Rattle.session_laws.proofs.Scenes.{Item, KindId, is_of, uses, without_newest, Owner, OwnerTree, held, created, forgotten, remembered, What, Phase, KindTable, Step, GivesBack, ReleasesLocks, PassesLocks, ReleasesAllLocks, release_steps, StandingPlan, file_kind, level_above, level_owner, owner_of, opening, Scene, Around, Moment, plan_at, newest, Ended, for_each, where_there, changes, in_order, say, NoOne, TheDescriptors, TheKind, ThePlans, given_back, left_to, plan_becomes, plan_settled, plan_stays, step_done, item_released, keeper_of, owner_gone, owner_moved, phase_released, table_of, own_released, released, OfLevel, OfPortal, OwnerRole, Element, new_owner_made, owner_made, limit, descriptor_given, files, item_taken, remembers, taken_by, snapshot_pushed, Error, Command, failure, refused_call, unless_refused, does, exited, Stands, StandsBetweenLines, line_elements, turn}
+use Rattle.session_laws.proofs.Rules.{Reader, allows_all, seen_after, count, allows_all-append, seen_after-append, Law, Follows, IsRun, Meets, line_runs, fallible_at, fallible_so, said_none, said_more, said_map, said_gone, said_lock_releases, said_lock_passes, said_all_locks, of_recent, of_owners}
+use Rattle.session_laws.proofs.Parents.{alike_swept, once_alike}
+use Rattle.session_laws.proofs.StepsOf.{AreOf, gives_up, no_step, numbers_of, passes, steps_of, unlocks, unlocks_all, warns}
+use Rattle.std.proofs.lemmas.Grind.{common_steps}
+use Rattle.owner_core.specs.Sound.{total}
+use Rattle.owner_core.proofs.Sounds.{total_put, total_removed, once_of, sound_created}
+use Rattle.session_rules.specs.Counts.{all_items, holds}
+use Rattle.session_rules.proofs.HeldItems.{gives, gives_phase, held_created, held_forgotten, held_remembered}
 use Rattle.file_table.specs.Descriptors.{is_among, without}
-use Rattle.file_table.specs.Files.{given_events, given_file, loser, touch_events, touched_file}
 use Rattle.file_table.proofs.FileCounts.{times, times_none, times_without}
-use Rattle.owner_kinds.specs.KindShelf.{table_of}
-use Rattle.owner_kinds.specs.KindTable.{KindTable}
-use Rattle.owner_items.specs.ItemList.{is_of, without_newest}
-use Rattle.owner_core.specs.Owners.{Owner, OwnerTree, created, forgotten, held, remembered}
-use Rattle.owner_core.specs.Released.{own_released, released}
-use Rattle.owner_core.specs.Steps.{GivesBack, Step, release_steps}
-use Rattle.session_rules.specs.State.{file_kind, level_above, level_owner, owner_of}
-use Rattle.session_rules.specs.World.{Scene}
-use Rattle.session_rules.specs.Elements.{OfLevel, OfPortal, OwnerRole}
-use Rattle.session_rules.specs.Lookup.{newest}
-use Rattle.session_rules.specs.Acts.{changes, for_each, in_order, say, where_there}
-use Rattle.session_rules.specs.Releases.{NoOne, TheDescriptors, TheKind, ThePlans, given_back, item_released, keeper_of, owner_gone, owner_moved, phase_released, step_done}
-use Rattle.session_rules.specs.Making.{new_owner_made, owner_made}
-use Rattle.session_rules.specs.Taking.{descriptor_given, files, item_taken, remembers, taken_by}
-use Rattle.session_rules.proofs.HeldItems.{gives_phase, held_created, held_forgotten, held_remembered}
-use Rattle.session_rules.proofs.Leaves.{Law}
-use Rattle.session_laws.proofs.ReaderLaws.{IsRead, Reads, read_both}
-use Rattle.session_laws.proofs.LocksSight.{Sees, of_items, plain_map, plain_none}
-use Rattle.session_laws.proofs.LocksHidden.{popped_hidden, stack_gone_hidden, stack_passed_hidden}
-use Rattle.session_laws.proofs.LocksWalk.{Turns}
-use Rattle.session_laws.proofs.StepsRest.{steps_stay}
-use Rattle.session_laws.proofs.FilesCount.{mark, mark_swapped, times_more}
-use Rattle.session_laws.proofs.FilesOwners.{held_less_moved, held_less_removed, once_less_moved, once_less_removed, once_swept}
-use Rattle.session_laws.proofs.FilesItems.{AreStill, Falls, falls_both, falls_still, given_falls, item_reader, of_file, phase_units, plain_still, release_falls, still_allowed, still_left, still_more, still_none, still_one, units_fall}
+use Rattle.session_laws.proofs.LocksSight.{ArePlain, hides, of_items, subject, Sees, Turns, locked_hidden, pushed_hidden, unlocked_hidden, Least, OwesUnlocks, ending_turn, least_acts, lock_owed, session_exits, unlock_owed, stack_hidden}
+use Rattle.session_laws.proofs.FilesLife.{mark, mark_swapped, times_more}
+use Rattle.file_table.specs.Files.{given_events, given_file, loser, touch_events, touched_file}
+use Rattle.session_laws.proofs.Lives.{IsRead, Reads, read_both}
+use Rattle.session_laws.proofs.OwnerEnds.{steps_stay}
+use Rattle.session_rules.proofs.StepsStand.{below_limit, own_refusal}
+use Rattle.session_laws.proofs.LocksChecked.{IsChecked, line_checked, passed_unless}
+use Rattle.pgs_step.specs.declared.events.What.TheVariants as what
+use Rattle.session_rules.specs.Elements as e
+
+module _ (kind : KindId) (key : ℕ) where
+  abbrev used : Owner → ℕ
+  used owner = uses kind key owner.items
+
+  held_is : (t : OwnerTree) → held kind key t ≡ total used t
+  held_is Empty = refl
+  held_is (Node n a below beside) = omega (arith, held_is below, held_is beside)
+
+  -- owners that go
+  pub held_less_removed : (n : ℕ) (t : OwnerTree) → Once t → held kind key (removed n t) ≤ held kind key t
+  held_less_removed n t once = grind (arith, nat_tests, at_some, total_removed, held_is, removed_absent)
+
+  -- an owner that moves
+  put_less : (n p : ℕ) (a : Owner) (t : OwnerTree) → Once t → Once (removed n t) → at n t ≡ Some a → held kind key (put p n a (children n t) (removed n t)) ≤ held kind key t
+  put_less n p a t once left is = grind (arith, nat_tests, total_put, total_removed, held_is, put_absent, held_less_removed)
+
+  pub held_less_moved : (n p : ℕ) (t : OwnerTree) → Once t → held kind key (moved n p t) ≤ held kind key t
+  held_less_moved n p t once = grind (arith, nat_tests, at_some, put_less, once_removed, at_absent)
+
+  -- one of these items is held where some owner has it
+  some_counted : (items : List Item) → list_any (is_of kind key) items ≡ true → 1 ≤ uses kind key items
+  some_counted [] h = absurd (cc h)
+  some_counted (item ∷ items) h = grind (arith, common_steps, some_counted items)
+
+  pub held_some : (t : OwnerTree) → list_any (is_of kind key) (all_items t) ≡ true → 1 ≤ held kind key t
+  held_some Empty h = absurd (cc h)
+  held_some (Node n a below beside) h = grind (arith, common_steps, some_counted a.items, held_some below, held_some beside)
+
+-- each number stands once
+
+pub once_less_removed : (n : ℕ) (t : OwnerTree) → Once t → Once (removed n t)
+once_less_removed n t once = grind (arith, nat_tests, once_removed, removed_absent)
+
+once_put_back : (n p : ℕ) (a : Owner) (t : OwnerTree) → Once t → has n t ≡ true → Once (put p n a (children n t) (removed n t))
+once_put_back n p a t once there = grind (arith, nat_tests, once_removed, times_put, times_removed, put_absent)
+
+pub once_less_moved : (n p : ℕ) (t : OwnerTree) → Once t → Once (moved n p t)
+once_less_moved n p t once = grind (arith, nat_tests, at_some, once_put_back, at_absent)
+
+-- A file has a descriptor only while an item of it is held: what a reader has seen of such items covers the file's descriptor.
+
+-- how many items of a file an event acquires, or releases
+abbrev pub takes_file : ℕ → What → ℕ
+takes_file f (what.Acquire item owner) = cond (is_of file_kind f item) 1 0
+takes_file f other = 0
+
+abbrev pub leaves_file : ℕ → What → ℕ
+leaves_file f (what.Release item owner) = cond (is_of file_kind f item) 1 0
+leaves_file f other = 0
+
+module _ (f : ℕ) where
+  abbrev pub item_reader : Reader ℕ
+  item_reader = count (takes_file f) (leaves_file f)
+
+  -- 1 for an item of this file
+  abbrev pub of_file : Item → ℕ
+  of_file item = cond (is_of file_kind f item) 1 0
+
+  -- events that neither acquire nor release one
+  pub record IsStill (event : What) : Type 0 where
+    pub takes : takes_file f event ≡ 0
+    pub leaves : leaves_file f event ≡ 0
+
+  pub data AreStill : List What → Type 0 where
+    still_none : AreStill []
+    still_more : {event : What} {events : List What} → IsStill event → AreStill events → AreStill (event ∷ events)
+
+  pub still_both : {xs ys : List What} → AreStill xs → AreStill ys → AreStill (xs ++ ys)
+  still_both still_none k = k
+  still_both (still_more h hs) k = still_more h (still_both hs k)
+
+  plain_takes : (event : What) → hides (subject event) of_items ≡ true → takes_file f event ≡ 0
+  plain_takes (what.Acquire item owner) h = absurd (cc h)
+  plain_takes other h = refl
+
+  plain_leaves : (event : What) → hides (subject event) of_items ≡ true → leaves_file f event ≡ 0
+  plain_leaves (what.Release item owner) h = absurd (cc h)
+  plain_leaves other h = refl
+
+  pub plain_still : {events : List What} → ArePlain of_items events → AreStill events
+  plain_still said_none = still_none
+  plain_still (said_more {event = event} h hs) = still_more (record { takes = plain_takes event h; leaves = plain_leaves event h }) (plain_still hs)
+
+  pub still_allowed : (m : ℕ) {events : List What} → AreStill events → allows_all item_reader m events ≡ true
+  still_allowed m still_none = refl
+  still_allowed m (still_more {event = event} {events = events} h hs) = grind (arith, nat_tests, still_allowed m hs, and_from, le-leb)
+
+  pub still_left : (m : ℕ) {events : List What} → AreStill events → seen_after item_reader m events ≡ m
+  still_left m still_none = refl
+  still_left m (still_more {event = event} {events = events} h hs) =
+      ap (λ (k : ℕ). seen_after item_reader k events) (omega (arith, h.takes, h.leaves)) ∙ still_left m hs
+
+  pub still_one : (event : What) → takes_file f event ≡ 0 → leaves_file f event ≡ 0 → AreStill (event ∷ [])
+  still_one event t l = still_more (record { takes = t; leaves = l }) still_none
+
+  -- Behind some events the file is among those with a descriptor once at most, what the reader has seen covers it, and so much besides.
+  pub record Falls (K m : ℕ) (t : Scene) (events : List What) : Type 0 where
+    pub allowed : allows_all item_reader m events ≡ true
+    pub few : times f t.session.recent ≤ 1
+    pub covered : times f t.session.recent ≤ seen_after item_reader m events
+    pub left : K ≤ seen_after item_reader m events
+
+  pub falls_still : (K m : ℕ) (t : Scene) {events : List What} → AreStill events → times f t.session.recent ≤ 1 → times f t.session.recent ≤ m → K ≤ m → Falls K m t events
+  falls_still K m t {events = events} still few covered more = grind (arith, nat_tests, still_left, still_allowed)
+
+  pub falls_both : {J K m : ℕ} {t u : Scene} {xs ys : List What} → Falls J m t xs → Falls K (seen_after item_reader m xs) u ys → Falls K m u (xs ++ ys)
+  falls_both {m = m} {xs = xs} {ys = ys} a b = grind (arith, nat_tests, seen_after-append, allows_all-append)
+
+  -- a plan that is given back changes no file
+  plan_events : (plan : StandingPlan) (s : Scene) → AreStill (plan_becomes plan s).events
+  plan_events plan s = go (plan.discarded && (plan.references == 0))
+    where
+      go : (b : Bool) → AreStill (elim b as (λ _. Ended) [ true ↦ plan_settled plan s | false ↦ plan_stays plan s ]).events
+      go true = still_both (plain_still (said_gone (λ word n. refl) (λ n. refl) (subtree plan.context s.session.contexts))) still_none
+      go false = still_none
+
+  plan_recent : (plan : StandingPlan) (s : Scene) → (plan_becomes plan s).scene.session.recent ≡ s.session.recent
+  plan_recent plan s = grind (arith, nat_tests)
+
+  plan_falls : (key K m : ℕ) (s : Scene) → times f s.session.recent ≤ 1 → times f s.session.recent ≤ m → K ≤ m → Falls K m (left_to ThePlans key s).scene (left_to ThePlans key s).events
+  plan_falls key K m s few covered more = go (plan_at key s.session.plans)
+    where
+      go : (o : Option StandingPlan) → Falls K m (where_there o (λ plan. plan_becomes (record plan { references = plan.references - 1 })) s).scene (where_there o (λ plan. plan_becomes (record plan { references = plan.references - 1 })) s).events
+      go None = falls_still K m s still_none few covered more
+      go (Some plan) =
+          let same : (plan_becomes (record plan { references = plan.references - 1 }) s).scene.session.recent ≡ s.session.recent = plan_recent (record plan { references = plan.references - 1 }) s in
+          falls_still K m (plan_becomes (record plan { references = plan.references - 1 }) s).scene (plan_events (record plan { references = plan.references - 1 }) s)
+          (subst (λ (xs : List ℕ). times f xs ≤ 1) (sym same) few) (subst (λ (xs : List ℕ). times f xs ≤ m) (sym same) covered) more
+
+  -- a file that is closed
+  closed_falls : (key K m : ℕ) (s : Scene) → times f s.session.recent ≤ 1 → times f s.session.recent ≤ m + mark f key → K ≤ m → Falls K m (left_to TheDescriptors key s).scene (left_to TheDescriptors key s).events
+  closed_falls key K m s few covered more = grind (arith, nat_tests, times_without, falls_still, still_one, mark_swapped, nat_eq, times_none, eqb-true, mark)
+
+  -- an item that is given back
+  pub given_falls : (item : Item) (K m : ℕ) (s : Scene) → times f s.session.recent ≤ 1 → times f s.session.recent ≤ m + of_file item → K ≤ m → Falls K m (given_back item s).scene (given_back item s).events
+  given_falls item K m s few covered more = go (item.kind.0 == 5) (item.kind.0 == 8) (nat_lt item.kind.0 16) refl refl
+    where
+      other : (item.kind.0 == 8) ≡ false → times f s.session.recent ≤ m
+      other e = let none : of_file item ≡ 0 = ap (λ (b : Bool). cond (b && (item.key == f)) 1 0) e in omega (arith, covered, none)
+
+      this : (item.kind.0 == 8) ≡ true → times f s.session.recent ≤ m + mark f item.key
+      this e =
+          let one : of_file item ≡ mark item.key f = ap (λ (b : Bool). cond (b && (item.key == f)) 1 0) e in
+          omega (arith, covered, one, mark_swapped f item.key)
+
+      go : (a b c : Bool) → (item.kind.0 == 5) ≡ a → (item.kind.0 == 8) ≡ b
+          → Falls K m (left_to (if a then ThePlans else (if b then TheDescriptors else (if c then NoOne else TheKind (item.kind.0 - 16)))) item.key s).scene
+          (left_to (if a then ThePlans else (if b then TheDescriptors else (if c then NoOne else TheKind (item.kind.0 - 16)))) item.key s).events
+      go true b c p q = plan_falls item.key K m s few (other (ap (λ (n : ℕ). n == 8) (eqb-true item.kind.0 5 p))) more
+      go false true c p q = closed_falls item.key K m s few (this q) more
+      go false false true p q = falls_still K m s still_none few (other q) more
+      go false false false p q = falls_still K m _ still_none few (other q) more
+
+  -- a release, and then what gives the item back
+  pub release_falls : {K m : ℕ} {t : Scene} {events : List What} (item : Item) (n : ℕ) → of_file item ≤ m → Falls K (m + 0 - of_file item) t events → Falls K m t (what.Release item n ∷ events)
+  release_falls {m = m} item n h k = record { allowed = and_from (nat_le (of_file item) m) _ (le-leb (of_file item) m h) k.allowed; few = k.few; covered = k.covered; left = k.left }
+
+  -- What the steps of a phase give back is taken off.
+  pub units_fall : {commit : Bool} {steps : List Step} → AreOf (λ n. Unit {0}) commit steps → (s : Scene) (K m : ℕ) → times f s.session.recent ≤ 1 → times f s.session.recent ≤ m → gives file_kind f steps + K ≤ m
+      → Falls K m (for_each step_done steps s).scene (for_each step_done steps s).events
+  units_fall no_step s K m few covered more = falls_still K m s still_none few covered (omega (arith, more))
+  units_fall (warns {item = item} {n = n} {rest = steps} e h) s K m few covered more =
+      let first : Falls (gives file_kind f steps + K) m s (what.NotClosed item n ∷ []) = falls_still (gives file_kind f steps + K) m s (still_one (what.NotClosed item n) refl refl) few covered (omega (arith, more)) in
+      falls_both first (units_fall h s K (seen_after item_reader m (what.NotClosed item n ∷ [])) first.few first.covered first.left)
+  units_fall (unlocks {n = owner} {rest = steps} p h) s K m few covered more =
+      let first : Falls (gives file_kind f steps + K) m (step_done (ReleasesLocks owner) s).scene (step_done (ReleasesLocks owner) s).events =
+      falls_still (gives file_kind f steps + K) m (step_done (ReleasesLocks owner) s).scene (plain_still (said_lock_releases (λ object mode count owner. refl) owner s.session.locks)) few covered (omega (arith, more)) in
+      falls_both first (units_fall h (step_done (ReleasesLocks owner) s).scene K _ first.few first.covered first.left)
+  units_fall (passes {n = from} {to = to} {rest = steps} e h) s K m few covered more =
+      let first : Falls (gives file_kind f steps + K) m (step_done (PassesLocks from to) s).scene (step_done (PassesLocks from to) s).events =
+      falls_still (gives file_kind f steps + K) m (step_done (PassesLocks from to) s).scene (plain_still (said_lock_passes (λ object mode count from to. refl) from to s.session.locks)) few covered (omega (arith, more)) in
+      falls_both first (units_fall h (step_done (PassesLocks from to) s).scene K _ first.few first.covered first.left)
+  units_fall (unlocks_all {n = top} {rest = steps} p h) s K m few covered more =
+      let first : Falls (gives file_kind f steps + K) m (step_done (ReleasesAllLocks top) s).scene (step_done (ReleasesAllLocks top) s).events =
+      falls_still (gives file_kind f steps + K) m (step_done (ReleasesAllLocks top) s).scene (plain_still (said_all_locks (λ object mode count owner. refl) top s.session.locks)) few covered (omega (arith, more)) in
+      falls_both first (units_fall h (step_done (ReleasesAllLocks top) s).scene K _ first.few first.covered first.left)
+  units_fall (gives_up {item = item} {n = n} {rest = steps} p h) s K m few covered more =
+      let r : ℕ = of_file item in
+      let first : Falls (gives file_kind f steps + K) (m + 0 - r) (given_back item s).scene (given_back item s).events = given_falls item (gives file_kind f steps + K) (m + 0 - r) s few (omega (arith, covered, more)) (omega (arith, more)) in
+      release_falls item n (omega (arith, more)) (falls_both first (units_fall h (given_back item s).scene K _ first.few first.covered first.left))
+
+-- The law of the items of a file: each act on owners and on descriptors keeps it.
 
 take_times : (f k : ℕ) (xs : List ℕ) → times f (take k xs) ≤ times f xs
 take_times f zero xs = omega arith
@@ -60,15 +223,15 @@ module _ (f : ℕ) where
   fallen : {K m : ℕ} {t : Scene} {events : List What} → Falls f K m t events → held file_kind f t.session.owners ≤ K → Once t.session.owners → IsRead (item_reader f) ItemFits m t events
   fallen a less once = record { allowed = a.allowed; fits = record { few = a.few; covered = a.covered; covers = omega (arith, less, a.left); once = once } }
 
-  pub items_seen : Sees of_items ReadsItems
-  items_seen = record {
-    both = λ a b. read_both (item_reader f) ItemFits a b;
-    aside = λ s t same plain. record {
-      so = λ m h.
-          fallen (falls_still f m m t (plain_still f plain) (subst (λ (xs : List ℕ). times f xs ≤ 1) (sym same.0) h.few) (subst (λ (xs : List ℕ). times f xs ≤ m) (sym same.0) h.covered) (omega arith))
-          (subst (λ (x : OwnerTree). held file_kind f x ≤ m) (sym same.1) h.covers) (subst Once (sym same.1) h.once);
-    };
+  pub items_aside : (s t : Scene) {events : List What} → t.session.recent ≡ s.session.recent → t.session.owners ≡ s.session.owners → ArePlain of_items events → ReadsItems s t events
+  items_aside s t recent owners plain = record {
+    so = λ m h.
+        fallen (falls_still f m m t (plain_still f plain) (subst (λ (xs : List ℕ). times f xs ≤ 1) (sym recent) h.few) (subst (λ (xs : List ℕ). times f xs ≤ m) (sym recent) h.covered) (omega arith))
+        (subst (λ (x : OwnerTree). held file_kind f x ≤ m) (sym owners) h.covers) (subst Once (sym owners) h.once);
   }
+
+  pub items_seen : Sees of_items ReadsItems
+  items_seen = record { both = λ a b. read_both (item_reader f) ItemFits a b; aside = λ s t same plain. items_aside s t (same.so of_recent refl) (same.so of_owners refl) plain }
 
   -- an item is released
   released_so : (owner : ℕ) (kind : KindId) (key : ℕ) (s : Scene) → ReadsItems s (item_released owner kind key s).scene (item_released owner kind key s).events
@@ -117,26 +280,22 @@ module _ (f : ℕ) where
         let steps : List Step = release_steps table phase commit top n x in
         let K : ℕ = held file_kind f (released table phase n x) in
         let all : Falls f K m (for_each step_done steps s).scene (for_each step_done steps s).events =
-        units_fall f (phase_units f table phase commit top n x) s K m h.few h.covered (omega (arith, gives_phase file_kind f table phase commit top n x h.once, h.covers)) in
+        units_fall f (steps_of (λ k. Unit {0}) table phase commit top n x tt (numbers_of (λ k. Unit {0}) (children n x) (λ k u. tt))) s K m h.few h.covered (omega (arith, gives_phase file_kind f table phase commit top n x h.once, h.covers)) in
         let same : (for_each step_done steps s).scene.session.owners ≡ x = (steps_stay steps s).owners in
         fallen (falls_both f all (falls_still f K _ (phase_released commit top n phase s).scene still_none all.few all.covered all.left))
         (subst (λ (z : OwnerTree). held file_kind f (released table phase n z) ≤ K) (sym same) (omega arith))
-        (subst (λ (z : OwnerTree). Once (released table phase n z)) (sym same) (once_swept (own_released table phase) n x h.once));
+        (subst (λ (z : OwnerTree). Once (released table phase n z)) (sym same) (once_alike x _ (alike_swept (own_released table phase) n x) h.once));
   }
 
   gone_so : (n : ℕ) (s : Scene) → ReadsItems s (owner_gone n s).scene (owner_gone n s).events
   gone_so n s = record {
     so = λ m h.
-        fallen (falls_still f m m (owner_gone n s).scene (plain_still f (plain_map of_items (λ (k : ℕ). what.OwnerGone k) (λ k. refl) (order_at n s.session.owners))) h.few h.covered (omega arith))
+        fallen (falls_still f m m (owner_gone n s).scene (plain_still f (said_map (λ (k : ℕ). what.OwnerGone k) (λ k. refl) (order_at n s.session.owners))) h.few h.covered (omega arith))
         (omega (arith, h.covers, held_less_removed file_kind f n s.session.owners h.once)) (once_less_removed n s.session.owners h.once);
   }
 
   moved_so : (n parent : ℕ) (s : Scene) → ReadsItems s (owner_moved n parent s).scene (owner_moved n parent s).events
-  moved_so n parent s = record {
-    so = λ m h.
-        fallen (falls_still f m m (owner_moved n parent s).scene (still_one f (what.MoveOwner n parent) refl refl) h.few h.covered (omega arith))
-        (omega (arith, h.covers, held_less_moved file_kind f n parent s.session.owners h.once)) (once_less_moved n parent s.session.owners h.once);
-  }
+  moved_so n parent s = grind (arith, nat_tests, fallen, falls_still, still_one, held_less_moved, once_less_moved)
 
   -- a file that is used
   given_still : (o : Option ℕ) (file : ℕ) → AreStill f (given_events o file)
@@ -174,15 +333,7 @@ module _ (f : ℕ) where
           record { few = omega (arith, all, take_times f k xs, marked (nat_eq f file) refl e); more = omega (arith, all, take_times f k xs) }
 
   pub used_so : (file : ℕ) (s : Scene) → (nat_eq f file ≡ true → 1 ≤ held file_kind f s.session.owners) → ReadsItems s (descriptor_given file s).scene (descriptor_given file s).events
-  used_so file s some = record {
-    so = λ m h.
-        let t : Touched file s (touched_file file (files s)).recent = touches file s h.few in
-        fallen (falls_still f m m (descriptor_given file s).scene (touch_still file s) t.few (reached m h t (nat_eq f file) refl) (omega arith)) h.covers h.once;
-  }
-    where
-      reached : (m : ℕ) → ItemFits m s → (t : Touched file s (touched_file file (files s)).recent) → (b : Bool) → nat_eq f file ≡ b → times f (touched_file file (files s)).recent ≤ m
-      reached m h t true e = omega (arith, t.few, some e, h.covers)
-      reached m h t false e = let none : mark f file ≡ 0 = ap (λ (b : Bool). cond b 1 0) e in omega (arith, t.more, none, h.covered)
+  used_so file s some = grind (arith, nat_tests, touches, fallen, falls_still, touch_still, nat_eq, mark)
 
   -- an item that is taken
   record Took (m r : ℕ) (s t : Scene) (events : List What) : Type 0 where
@@ -209,10 +360,7 @@ module _ (f : ℕ) where
       go false false false q = record { still = still_none; few = h.few; covered = omega (arith, h.covered); owners = refl }
 
   remembered_less : (owner : ℕ) (item : Item) (x : OwnerTree) → Once x → held file_kind f (remembered owner item x) ≤ held file_kind f x + of_file f item
-  remembered_less owner item x once = elim (cases_Bool (has owner x)) [
-    | inl there ↦ let a = at_some owner x there in omega (arith, held_remembered file_kind f owner item a.0 x once a.1)
-    | inr absent ↦ omega (arith, ap (held file_kind f) (changed_absent owner (λ (o : Owner). record o { items = item ∷ o.items }) x absent))
-  ]
+  remembered_less owner item x once = grind (arith, nat_tests, at_some, held_remembered, changed_absent)
 
   taken_so : (owner : ℕ) (kind : KindId) (key : ℕ) (s : Scene) → ReadsItems s (item_taken owner kind key s).scene (item_taken owner kind key s).events
   taken_so owner kind key s = record {
@@ -242,11 +390,7 @@ module _ (f : ℕ) where
 
   -- an owner that is made
   made_so : (parent : Option ℕ) (s : Scene) → Once (created parent s.session.next_owner s.session.owners) → ReadsItems s (owner_made parent s).scene (owner_made parent s).events
-  made_so None s once = record {
-    so = λ m h.
-        fallen (falls_still f m m (owner_made None s).scene (still_one f (what.Owner s.session.next_owner) refl refl) h.few h.covered (omega arith))
-        (omega (arith, h.covers, held_created file_kind f None s.session.next_owner s.session.owners)) once;
-  }
+  made_so None s once = grind (arith, nat_tests, fallen, falls_still, still_one, held_created)
   made_so (Some p) s once = record {
     so = λ m h.
         fallen (falls_still f m m (owner_made (Some p) s).scene (still_one f (what.OwnerIn s.session.next_owner p) refl refl) h.few h.covered (omega arith))
@@ -254,25 +398,85 @@ module _ (f : ℕ) where
   }
 
   pub role_so : (role : OwnerRole) (s : Scene) → ((parent : Option ℕ) → Once (created parent s.session.next_owner s.session.owners)) → ReadsItems s (new_owner_made role s).scene (new_owner_made role s).events
-  role_so OfLevel s once = items_seen.both (made_so (owner_of (level_above s.session)) s (once (owner_of (level_above s.session)))) (items_seen.aside _ _ (refl, refl, refl) plain_none)
-  role_so (OfPortal name) s once = items_seen.both (made_so (level_owner s.session) s (once (level_owner s.session))) (items_seen.aside _ _ (refl, refl, refl) plain_none)
+  role_so OfLevel s once = items_seen.both (made_so (owner_of (level_above s.session)) s (once (owner_of (level_above s.session)))) (items_aside _ _ refl refl said_none)
+  role_so (OfPortal name) s once = items_seen.both (made_so (level_owner s.session) s (once (level_owner s.session))) (items_aside _ _ refl refl said_none)
 
   pub items_law : Turns of_items ReadsItems
   items_law = record {
-    ending = record {
-      least = record {
-        sees = items_seen;
-        items = record {
-          taken = λ owner kind key. record { so = taken_so owner kind key };
-          released = λ owner kind key. record { so = released_so owner kind key };
-          phase = λ commit top n phase. record { so = phase_so commit top n phase };
-          gone = λ n. record { so = gone_so n };
-          moved = λ n parent. record { so = moved_so n parent };
-        };
+    least = record {
+      sees = items_seen;
+      items = record {
+        taken = λ owner kind key. record { so = taken_so owner kind key };
+        released = λ owner kind key. record { so = released_so owner kind key };
+        phase = λ commit top n phase. record { so = phase_so commit top n phase };
+        gone = λ n. record { so = gone_so n };
+        moved = λ n parent. record { so = moved_so n parent };
       };
-      levels = λ levels s. items_seen.aside s _ (refl, refl, refl) plain_none;
-      stack_gone = stack_gone_hidden of_items ReadsItems items_seen refl;
-      stack_passed = stack_passed_hidden of_items ReadsItems items_seen refl;
     };
-    popped = popped_hidden of_items ReadsItems items_seen refl;
+    levels = λ levels s. items_aside s _ refl refl said_none;
+    stack = stack_hidden of_items ReadsItems items_seen refl;
   }
+
+-- A line keeps the law of the items of a file, and so does the end of a session.
+
+-- two things that are known of each element that a run meets
+run_both : (P Q : Element → Scene → Type 0) (w : Option ℕ) (xs : List Element) (m : Moment) → IsRun P w xs m → IsRun Q w xs m → IsRun (λ x s. P x s × Q x s) w xs m
+run_both P Q w [] m p q = tt
+run_both P Q w (x ∷ xs) m p q = ((p.0, q.0), λ none. run_both P Q w xs (does w x m).moment (p.1 none) (q.1 none))
+
+module _ (f : ℕ) where
+  abbrev least : Least of_items (ReadsItems f)
+  least = (items_law f).least
+
+  -- an owner is made where there are not too many
+  made_owed : (w : Option ℕ) (role : OwnerRole) (m : Moment) → Stands m.scene → Follows (ReadsItems f) m.scene (does w (e.MakeOwner role) m)
+  unfolding does
+  made_owed w role m stands =
+      let done : Follows (ReadsItems f) m.scene (unless_refused (refused_call w m.fail (m.calls + 1) (limit 65536 (size m.scene.session.owners))) (record m { calls = m.calls + 1 }) (new_owner_made role)) =
+      go (refused_call w m.fail (m.calls + 1) (limit 65536 (size m.scene.session.owners))) (own_refusal w m.fail (m.calls + 1) (limit 65536 (size m.scene.session.owners))) in
+      record { so = done.so }
+    where
+      once : limit 65536 (size m.scene.session.owners) ≡ None → (parent : Option ℕ) → Once (created parent m.scene.session.next_owner m.scene.session.owners)
+      once room parent =
+          let a : ℕ = m.scene.session.next_owner in
+          let b : ℕ = m.scene.session.next_serial in
+          once_of (created parent a m.scene.session.owners) (a + 1) b (sound_created parent m.scene.session.owners a b stands.owners.sound (below_limit 65536 (size m.scene.session.owners) room))
+
+      go : (r : Option Error) → (r ≡ None → limit 65536 (size m.scene.session.owners) ≡ None) → Follows (ReadsItems f) m.scene (unless_refused r (record m { calls = m.calls + 1 }) (new_owner_made role))
+      go None room = record { so = role_so f role m.scene (once (room refl)) }
+      go (Some error) room = record { so = (least_acts of_items (ReadsItems f) least).none m.scene }
+
+  -- a file that is open is used
+  used_owed : (w : Option ℕ) (file : ℕ) (m : Moment) → failure (e.IsFile file) m.scene ≡ None → Follows (ReadsItems f) m.scene (does w (e.Touch file) m)
+  unfolding does
+  used_owed w file m checked =
+      fallible_at (ReadsItems f) (least_acts of_items (ReadsItems f) least) w m None (descriptor_given file)
+      (used_so f file m.scene
+      (λ same.
+      let some : holds file_kind file m.scene.session ≡ true = passed_unless (holds file_kind file m.scene.session) _ checked in
+      held_some file_kind f m.scene.session.owners (ap (λ (k : ℕ). list_any (is_of file_kind k) (all_items m.scene.session.owners)) (eqb-true f file same) ∙ some)))
+
+  items_owed : (w : Option ℕ) (x : Element) (m : Moment) → Meets x m.scene × IsChecked x m.scene → OwesUnlocks (ReadsItems f) w x m
+  unfolding does
+  items_owed w (e.InTurn name x) m known = items_owed w x m (record { stands = known.0.stands; asks = known.0.asks }, known.1)
+  items_owed w (e.MakeOwner role) m known = made_owed w role m known.0.stands
+  items_owed w (e.TakeLock role o mo) m known = lock_owed of_items (ReadsItems f) least w role o mo m (locked_hidden of_items (ReadsItems f) (items_seen f) refl o mo)
+  items_owed w (e.Unlock o mo) m known = unlock_owed of_items (ReadsItems f) least w o mo m (unlocked_hidden of_items (ReadsItems f) (items_seen f) refl o mo)
+  items_owed w (e.Touch file) m known = used_owed w file m known.1
+  items_owed w (e.PushSnapshot snapshot) m known = fallible_so (ReadsItems f) (least_acts of_items (ReadsItems f) least) w m _ (snapshot_pushed snapshot) (pushed_hidden of_items (ReadsItems f) (items_seen f) refl snapshot)
+  items_owed w other m known = tt
+
+  -- Each line keeps it, in a session that stands between lines.
+  pub items_turn : (w : Option ℕ) (line : Option Command) (m : Moment) → StandsBetweenLines m.scene → ReadsItems f m.scene (turn w line m).moment.scene (turn w line m).events
+  items_turn w line m h =
+      ending_turn of_items (ReadsItems f) (items_law f) (λ x s. Meets x s × IsChecked x s) w line m
+      (run_both Meets IsChecked w (line_elements line m.scene.session) m (line_runs w line m h) (line_checked w line m)) (items_owed w)
+
+  -- So does the end of a session.
+  pub items_exit : (s : Scene) → ReadsItems f s (exited s).scene (exited s).events
+  items_exit s = session_exits of_items (ReadsItems f) (items_law f) s
+
+  -- a session as it opens
+  pub items_open : (around : Around) → ItemFits f 0 (record { session = opening; around = around })
+  unfolding opening
+  items_open around = record { few = omega arith; covered = omega arith; covers = omega arith; once = record { once = λ m. omega arith } }

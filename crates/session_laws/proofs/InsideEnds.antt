@@ -1,41 +1,237 @@
--- The end of a level, from its abort to its cleanup, is read, and names nothing outside the level.
-use Rattle.std.proofs.Common.{◌≡◌, ℕ, ◌+◌, Bool, true, false, not, List, [], ◌∷◌, ◌++◌, length, Option, Some, None, refl, sym, ap, ◌∙◌, subst, inl, inr, arith, append-nil}
-use Rattle.std.specs.Prelude.{◌==◌, ◌&&◌, ◌⊎◌, All, drop, is_none, option_to_list}
-use Rattle.std.specs.Option.{option_map_or}
-use Rattle.std.proofs.lemmas.Bool.{and_from, both_ways, cases_Bool, eq-eqb, eqb-true, or_left}
-use Rattle.pgs_step.specs.declared.events.What.{What}
-use Rattle.pgs_step.specs.declared.events.What.TheVariants as what
-use Rattle.forest.specs.Forest.{Forest, Empty, Node, at, children, has, removed, subtree}
-use Rattle.forest.specs.Walk.{order, order_at}
-use Rattle.context_rules.specs.Contexts.{Context}
-use Rattle.context_rules.specs.Ends.{gone_events}
-use Rattle.lifetime_laws.specs.Reading.{allows_all, is_one_of, seen_after}
-use Rattle.lifetime_laws.specs.Parents.{is_there}
-use Rattle.lifetime_laws.specs.Inside.{Awaited, Begun, ItsOwner, Leaving, Neither, awaited_behind, contexts_inside, ends_behind, ends_with, level_begun, owners_inside, staying}
-use Rattle.std.specs.Prelude.{unwrap_or}
-use Rattle.session_rules.specs.State.{top_context, level_above, LevelState, OpenPortal, abort_context, context_of, deepest_changed, first_of, level_context, level_owner, owner_of}
-use Rattle.session_rules.specs.World.{Scene}
-use Rattle.session_rules.specs.Acts.{Ended, changes, context_gone, for_each, in_order, portal_gone, switched, where_so, where_there}
-use Rattle.session_rules.specs.Releases.{owner_gone}
-use Rattle.session_rules.specs.Portals.{portal_aborted}
-use Rattle.session_rules.specs.Ends.{aborted, cleaned_up, level_context_gone, level_owner_gone, level_popped, level_released, stack_popped, switched_up}
-use Rattle.session_rules.specs.Standing.{IsPlan, Stands, active_depth}
+-- A level that aborts names nothing outside it.
+use Rattle.session_laws.proofs.Words.{◌≡◌, ℕ, ◌-◌, ◌≤◌, Bool, true, false, if◌then◌else◌, List, [], ◌∷◌, ◌++◌, map, length, reverse, Option, Some, None, refl, sym, ap, ◌∙◌, subst, inl, arith, append-nil, ◌+◌, inr, ◌==◌, ◌&&◌, All, filter, option_to_list, ◌⊎◌, drop, is_none, unwrap_or, option_map_or, and_from, eqb-true, both_ways, eq-eqb, or_left, All-head, All-tail, Empty, Node, Once, at, children, has, moved, subtree, Forest, removed, order, order_at, Moves, nat_tests}
+use Rattle.session_laws.proofs.Scenes.{What, Context, Contexts, gone_events, LevelState, OpenPortal, StandingPlan, top_context, level_above, abort_context, context_of, deepest_changed, first_of, level_context, level_owner, owner_of, Scene, has_failed, Ended, children_gone, context_gone, for_each, in_order, portal_becomes, where_so, where_there, changes, portal_gone, switched, owner_moved, owner_released, owner_gone, portal_aborted, portal_failed, portal_withdrawn, stack_popped, aborted, cleaned_up, level_context_gone, level_owner_gone, level_popped, level_released, switched_up, IsAttached, IsPlan, IsPortal, active_depth, Stands}
+use Rattle.session_laws.proofs.Rules.{is_one_of, seen_after, allows_all, aborted_leads, all_aborted, off_begins, owner_when_active, resettled, settled, switched_off, Keeps, last, next, by_each, by_order, by_there, level_context_goes, level_releases, portal_aborts, portal_cleans}
+use Rattle.snap_table.specs.declared.active.Active.{Active}
+use Rattle.snap_table.specs.Snapshots.{is_deep}
+use Rattle.lifetime_laws.specs.Parents.{Node as Replayed, contexts_behind, is_there, placed_where}
+use Rattle.lifetime_laws.specs.Inside.{Begun, Leaving, level_begun, staying, Awaited, ItsOwner, Neither, awaited_behind, contexts_inside, ends_behind, owners_inside}
 use Rattle.session_rules.specs.Ending.{Ending, gone_levels}
+use Rattle.session_rules.proofs.Ending.{Leads, with_parts}
+use Rattle.session_laws.proofs.Lives.{IsRead, Reads, read_both, read_none, then_read}
+use Rattle.session_laws.proofs.Parents.{FitsContexts, FitsTree, fits_moved, Growth, growing_contexts}
+use Rattle.session_laws.proofs.ParentsLife.{HasContexts, KeepsContexts, contexts_end_leaves}
+use Rattle.session_laws.proofs.InsidePhases.{Confined, GoInside, below_inside, confined, confined_sees, gone_confined, is_confined, node_inside, owner_confined, root_within, roots_of, AreBare, InRelease, IsBare, owner_read, InEnd, IsOver, Stayed, confined_stays, all_in, next_in, next_over, none_left, owners_confined}
+use Rattle.session_laws.proofs.InsideWalk.{AreKnown, AreSeen, AreBegun, Lessens, Sees, nothing_ends, number_of, by_discarded, by_moved, by_switch, inside_acts, inside_phase, inside_stack}
+use Rattle.session_laws.proofs.InsideHooks.{AreQuiet, no_hooks, quiet_emptied, quiet_removed}
 use Rattle.session_rules.proofs.ContextsKept.{protected_has}
-use Rattle.session_rules.proofs.Ending.{Leads}
-use Rattle.session_rules.proofs.EndsStand.{off_begins, owner_when_active, resettled, settled, switched_off}
-use Rattle.session_rules.proofs.Failing.{all_aborted}
-use Rattle.session_rules.proofs.Leaves.{Keeps, last, next}
-use Rattle.session_laws.proofs.ReaderLaws.{IsRead, Reads, read_both, read_none}
-use Rattle.session_laws.proofs.ParentsFit.{FitsContexts, FitsTree}
-use Rattle.session_laws.proofs.ParentsContexts.{contexts_end_leaves}
-use Rattle.session_laws.proofs.InsideEvents.{Confined, GoInside, InEnd, IsOver, Stayed, confined, confined_stays, all_in, confined_sees, gone_confined, next_in, next_over, node_inside, none_left, owners_confined, roots_of}
-use Rattle.session_laws.proofs.InsideSeen.{AreBegun, AreKnown, AreSeen, Lessens, Sees, nothing_ends, number_of}
-use Rattle.session_rules.proofs.Walk.{by_each, by_order, by_there}
-use Rattle.session_rules.proofs.WalkEnds.{level_context_goes, level_releases, portal_aborts, portal_cleans}
-use Rattle.session_laws.proofs.InsideWalk.{by_discarded, by_moved, by_switch, inside_acts, inside_phase, inside_stack}
-use Rattle.session_laws.proofs.InsideQuiet.{AreQuiet}
-use Rattle.session_laws.proofs.InsideAborts.{AreIn, HasOwnersSeen, InPortals, all_read, contexts_confined, gone_read, portals_read, read_then, release_read, seen_in, stack_read}
+use Rattle.pgs_step.specs.declared.events.What.TheVariants as what
+use Rattle.portal_store.specs.declared.portal.PortalState.TheVariants as portal
+
+-- the replayed contexts are those of the session behind what keeps them
+same_nodes : (events : List What) (leaving : Leaving) (growth : Growth) → growth.nodes ≡ leaving.parents.contexts → (seen_after growing_contexts growth events).nodes ≡ (seen_after staying leaving events).parents.contexts
+same_nodes [] leaving growth e = e
+same_nodes (event ∷ events) leaving growth e = same_nodes events (staying.next event leaving) (growing_contexts.next event growth) (ap (contexts_behind event) e)
+
+pub contexts_fit : (s t : Scene) (events : List What) (leaving : Leaving) → KeepsContexts s t events → FitsContexts leaving.parents.contexts s → FitsContexts (seen_after staying leaving events).parents.contexts t
+contexts_fit s t events leaving law fits =
+    let growth : Growth = record { nodes = leaving.parents.contexts; next = s.session.next_context } in
+    let read : IsRead growing_contexts HasContexts growth t events = law.so growth (record { fits = fits; next = refl }) in
+    subst (λ (nodes : List Replayed). FitsContexts nodes t) (same_nodes events leaving growth refl) read.fits.fits
+
+pub contexts_confined : (entry : Begun) (s t : Scene) (events : List What) (leaving : Leaving) → KeepsContexts s t events → FitsContexts leaving.parents.contexts s → FitsContexts (seen_after (confined entry) leaving events).parents.contexts t
+contexts_confined entry s t events leaving law fits =
+    subst (λ (l : Leaving). FitsContexts l.parents.contexts t) (sym (confined_sees entry leaving events)) (contexts_fit s t events leaving law fits)
+
+-- what is seen while the portals of a level end with it
+pub record InPortals (leaving : Leaving) (s : Scene) : Type 0 where
+  pub contexts : FitsContexts leaving.parents.contexts s
+  pub owners : FitsTree leaving.parents.owners s.session.owners
+  pub plans : AreKnown s.session.plans leaving.plans
+  pub quiet : AreQuiet None s.session.contexts
+
+-- the contexts of portals of the level of this number may be touched in its end
+abbrev pub AreIn : ℕ → Begun → List OpenPortal → Type 0
+AreIn n entry [] = Unit {0}
+AreIn n entry (p ∷ ps) = ((c : ℕ) → p.created ≡ n → p.context ≡ Some c → is_one_of c (roots_of entry) ≡ true) × AreIn n entry ps
+
+pub seen_in : (n : ℕ) (begun : List Begun) → 1 ≤ n → (ps : List OpenPortal) → AreSeen ps begun → AreIn n (level_begun n begun) ps
+seen_in n begun low [] h = tt
+seen_in n begun low (p ∷ ps) h = grind (arith, nat_tests, seen_in n begun low ps h.1)
+
+module _ (entry : Begun) where
+  -- a context goes with all below it, or all below it does
+  pub gone_read : (n : ℕ) → is_one_of n (roots_of entry) ≡ true → (s : Scene) → Reads (confined entry) InPortals s (context_gone n s).scene (context_gone n s).events
+  gone_read n one s = record {
+    so = λ leaving k.
+        let t : Contexts = s.session.contexts in
+        let c : Confined entry n leaving [] (gone_events (subtree n t)) = gone_confined entry n one (subtree n t) leaving [] (inside (at n t) leaving k) in
+        record {
+          allowed = c.allowed;
+          fits = record {
+            contexts = contexts_confined entry s (context_gone n s).scene (context_gone n s).events leaving ((contexts_end_leaves.levels.leaves.acts.gone n).so s) k.contexts;
+            owners = subst (λ (nodes : List Replayed). FitsTree nodes s.session.owners) (sym c.owners) k.owners;
+            plans = subst (AreKnown s.session.plans) (sym c.plans) k.plans;
+            quiet = quiet_removed None n t k.quiet;
+          };
+        };
+  }
+    where
+      inside : (o : Option Context) (leaving : Leaving) → InPortals leaving s → GoInside n leaving.parents.contexts (order (option_map_or (λ a. Node n a (children n s.session.contexts) Empty) o Empty) ++ [])
+      inside None leaving k = tt
+      inside (Some a) leaving k =
+          subst (GoInside n leaving.parents.contexts) (sym (append-nil (order_at n s.session.contexts))) (node_inside n leaving.parents.contexts s.session.contexts k.contexts.tree)
+
+  pub children_read : (n : ℕ) → is_one_of n (roots_of entry) ≡ true → (s : Scene) → Reads (confined entry) InPortals s (children_gone n s).scene (children_gone n s).events
+  children_read n one s = record {
+    so = λ leaving k.
+        let t : Contexts = s.session.contexts in
+        let c : Confined entry n leaving [] (gone_events (children n t)) =
+        gone_confined entry n one (children n t) leaving []
+        (subst (GoInside n leaving.parents.contexts) (sym (append-nil (order (children n t)))) (below_inside n leaving.parents.contexts t k.contexts.tree)) in
+        record {
+          allowed = c.allowed;
+          fits = record {
+            contexts = contexts_confined entry s (children_gone n s).scene (children_gone n s).events leaving ((contexts_end_leaves.levels.leaves.acts.children n).so s) k.contexts;
+            owners = subst (λ (nodes : List Replayed). FitsTree nodes s.session.owners) (sym c.owners) k.owners;
+            plans = subst (AreKnown s.session.plans) (sym c.plans) k.plans;
+            quiet = quiet_emptied None n t k.quiet;
+          };
+        };
+  }
+
+  -- what changes portals alone
+  pub portals_read : (ps : List OpenPortal) (s : Scene) → Reads (confined entry) InPortals s (record s { session = record s.session { portals = ps } }) []
+  portals_read ps s = record {
+    so = λ leaving k. record {
+      allowed = refl;
+      fits = record { contexts = record { tree = k.contexts.tree; below = k.contexts.below }; owners = k.owners; plans = k.plans; quiet = k.quiet };
+    };
+  }
+
+  -- an owner moves to that of the level
+  moved_read : (o lo : ℕ) (s : Scene) → Moves o lo s.session.owners → entry.owner ≡ Some lo → Reads (confined entry) InPortals s (owner_moved o lo s).scene (owner_moved o lo s).events
+  moved_read o lo s w is = record {
+    so = λ leaving k.
+        let nodes : List Replayed = leaving.parents.owners in
+        let there : (is_there o nodes && is_there lo nodes) ≡ true = and_from (is_there o nodes) (is_there lo nodes) (k.owners.there o ∙ w.node) (k.owners.there lo ∙ w.parent) in
+        record {
+          allowed = and_from (is_confined entry (what.MoveOwner o lo) leaving && true) true
+              (and_from (is_confined entry (what.MoveOwner o lo) leaving) true (and_from _ true (owner_confined entry leaving lo lo is (root_within lo nodes)) refl) refl) refl;
+          fits = record {
+            contexts = record { tree = k.contexts.tree; below = k.contexts.below };
+            owners = subst (λ (b : Bool). FitsTree (placed_where b o (Some lo) nodes) (moved o lo s.session.owners)) (sym there) (fits_moved o lo nodes s.session.owners k.owners w);
+            plans = k.plans;
+            quiet = k.quiet;
+          };
+        };
+  }
+
+  -- a portal of the level fails
+  failed_read : (p : OpenPortal) (s : Scene) → ((c : ℕ) → p.context ≡ Some c → is_one_of c (roots_of entry) ≡ true) → Reads (confined entry) InPortals s (portal_failed p s).scene (portal_failed p s).events
+  failed_read p s inside = go p.context inside
+    where
+      becomes : Scene → Ended
+      becomes = portal_becomes p.name (λ old. record old { state = portal.Failed; owner = None; expr = None })
+
+      go : (o : Option ℕ) → ((c : ℕ) → o ≡ Some c → is_one_of c (roots_of entry) ≡ true)
+          → Reads (confined entry) InPortals s (in_order (becomes ∷ where_there o children_gone ∷ []) s).scene (in_order (becomes ∷ where_there o children_gone ∷ []) s).events
+      go None inside = portals_read _ s
+      go (Some c) inside = read_both (confined entry) InPortals (portals_read _ s) (read_both (confined entry) InPortals (children_read c (inside c refl) (becomes s).scene) (read_none (confined entry) InPortals _))
+
+module _ (level : LevelState) (levels : List LevelState) (made : active_depth (level ∷ levels) ≡ length (level ∷ levels) → (lo : ℕ) × (level.owner ≡ Some lo)) (entry : Begun) (own : entry.owner ≡ level.owner) where
+  abbrev height : ℕ
+  height = length (level ∷ levels)
+
+  -- one from further out belongs to the level above
+  moves : (p : OpenPortal) (front back : List OpenPortal) (s : Scene) (o lo : ℕ) → Ending level levels (gone_levels level levels) front (p ∷ back) s → p.owner ≡ Some o → level.owner ≡ Some lo → Moves o lo s.session.owners
+  moves p front back s o lo h is_o is_lo =
+      let i : IsPortal p (level ∷ levels) s.session.contexts s.session.owners s.session.current =
+      All-head (λ q. IsPortal q (level ∷ levels) s.session.contexts s.session.owners s.session.current) p back h.rest in
+      let a : IsAttached o p.created (level ∷ levels) s.session.owners = i.owner o is_o in
+      record { node = a.there; parent = (h.all.0.owner lo is_lo).there; other = λ z. a.other (inl (is_lo ∙ ap Some z)); apart = ap (has lo) a.lone }
+
+  withdrawn_read : (p : OpenPortal) (front back : List OpenPortal) (s : Scene) → Ending level levels (gone_levels level levels) front (p ∷ back) s
+      → Reads (confined entry) InPortals s (portal_withdrawn height level.owner p s).scene (portal_withdrawn height level.owner p s).events
+  withdrawn_read p front back s h = by_state (has_failed p.state)
+    where
+      becomes : Scene → Ended
+      becomes = portal_becomes p.name (λ old. record old { active = height - 1; owner = if has_failed old.state then None else old.owner })
+
+      after : (act : Scene → Ended) → Reads (confined entry) InPortals s (act s).scene (act s).events → Reads (confined entry) InPortals s (in_order (act ∷ becomes ∷ []) s).scene (in_order (act ∷ becomes ∷ []) s).events
+      after act k = read_both (confined entry) InPortals k (read_both (confined entry) InPortals (portals_read entry _ (act s).scene) (read_none (confined entry) InPortals _))
+
+      by_level : (o : ℕ) → p.owner ≡ Some o → (lo : Option ℕ) → level.owner ≡ lo → Reads (confined entry) InPortals s (where_there lo (owner_moved o) s).scene (where_there lo (owner_moved o) s).events
+      by_level o e None is = read_none (confined entry) InPortals s
+      by_level o e (Some lo) is = moved_read entry o lo s (moves p front back s o lo h e is) (own ∙ is)
+
+      by_owner : (o : Option ℕ) → p.owner ≡ o → Reads (confined entry) InPortals s (where_there o (λ owner. where_there level.owner (owner_moved owner)) s).scene (where_there o (λ owner. where_there level.owner (owner_moved owner)) s).events
+      by_owner None e = read_none (confined entry) InPortals s
+      by_owner (Some o) e = by_level o e level.owner refl
+
+      by_state : (b : Bool) → Reads (confined entry) InPortals s (in_order (where_so b (where_there p.owner (λ owner. where_there level.owner (owner_moved owner))) ∷ becomes ∷ []) s).scene
+          (in_order (where_so b (where_there p.owner (λ owner. where_there level.owner (owner_moved owner))) ∷ becomes ∷ []) s).events
+      by_state true = after (where_there p.owner (λ owner. where_there level.owner (owner_moved owner))) (by_owner p.owner refl)
+      by_state false = after (where_so false (where_there p.owner (λ owner. where_there level.owner (owner_moved owner)))) (read_none (confined entry) InPortals s)
+
+  portal_read : (p : OpenPortal) (front back : List OpenPortal) (s : Scene) → Ending level levels (gone_levels level levels) front (p ∷ back) s
+      → ((c : ℕ) → p.created ≡ height → p.context ≡ Some c → is_one_of c (roots_of entry) ≡ true) → Reads (confined entry) InPortals s (portal_aborted height level.owner p s).scene (portal_aborted height level.owner p s).events
+  portal_read p front back s h inside = by_created (p.created == height) refl
+    where
+      by_active : (b : Bool) → Reads (confined entry) InPortals s (where_so b (portal_withdrawn height level.owner p) s).scene (where_so b (portal_withdrawn height level.owner p) s).events
+      by_active true = withdrawn_read p front back s h
+      by_active false = read_none (confined entry) InPortals s
+
+      by_created : (b : Bool) → (p.created == height) ≡ b
+          → Reads (confined entry) InPortals s (elim b as (λ _. Ended) [ true ↦ portal_failed p s | false ↦ where_so (p.active == height) (portal_withdrawn height level.owner p) s ]).scene
+          (elim b as (λ _. Ended) [ true ↦ portal_failed p s | false ↦ where_so (p.active == height) (portal_withdrawn height level.owner p) s ]).events
+      by_created true e = failed_read entry p s (λ c is. inside c (eqb-true p.created height e) is)
+      by_created false e = by_active (p.active == height)
+
+  pub all_read : (ps front : List OpenPortal) (s : Scene) → Ending level levels (gone_levels level levels) front ps s → AreIn height entry ps
+      → Reads (confined entry) InPortals s (for_each (portal_aborted height level.owner) ps s).scene (for_each (portal_aborted height level.owner) ps s).events
+  all_read [] front s h inside = read_none (confined entry) InPortals s
+  all_read (p ∷ ps) front s h inside =
+      let act : OpenPortal → Scene → Ended = portal_aborted height level.owner in
+      let first : Leads level levels (gone_levels level levels) ps s (act p s).scene = aborted_leads level levels made p front ps s h in
+      let next : Scene = with_parts first.goes.parts s in
+      let rest : Reads (confined entry) InPortals next (for_each act ps next).scene (for_each act ps next).events = all_read ps first.front next first.goes.ending inside.1 in
+      read_both (confined entry) InPortals (portal_read p front ps s h inside.0)
+      (subst (λ (z : Scene). Reads (confined entry) InPortals z (for_each act ps z).scene (for_each act ps z).events) (sym first.goes.is) rest)
+
+-- the contexts of plans are bare where the session stands
+bare_is : (plan : StandingPlan) (s : Scene) → Once s.session.contexts → AreQuiet None s.session.contexts → IsPlan plan s.session.contexts s.session.current → IsBare plan.context s.session.contexts
+bare_is plan s o q i = record { lone = i.lone; free = λ c is. no_hooks plan.context c s.session.contexts o q is i.protected i.parent }
+
+pub bare_of : (plans : List StandingPlan) (known : List ℕ) (s : Scene) → Once s.session.contexts → AreQuiet None s.session.contexts → All (λ plan. IsPlan plan s.session.contexts s.session.current) plans → AreKnown plans known
+    → AreBare plans s.session.contexts known
+bare_of [] known s o q each h = tt
+bare_of (plan ∷ plans) known s o q each h =
+    let P : StandingPlan → Type 0 = λ plan. IsPlan plan s.session.contexts s.session.current in
+    (h.0, bare_is plan s o q (All-head P plan plans each), bare_of plans known s o q (All-tail P plan plans each) h.1)
+
+-- what is seen of owners behind a release
+pub record HasOwnersSeen (leaving : Leaving) (s : Scene) : Type 0 where
+  pub tree : FitsTree leaving.parents.owners s.session.owners
+
+module _ (entry : Begun) where
+  pub release_read : (top : Bool) (o : Option ℕ) (s : Scene) (leaving : Leaving) → entry.owner ≡ o → InPortals leaving s → All (λ plan. IsPlan plan s.session.contexts s.session.current) s.session.plans
+      → IsRead (confined entry) HasOwnersSeen leaving (where_there o (owner_released false top) s).scene (where_there o (owner_released false top) s).events
+  release_read top None s leaving own k each = record { allowed = refl; fits = record { tree = k.owners } }
+  release_read top (Some root) s leaving own k each =
+      let nodes : List Replayed = leaving.parents.owners in
+      let start : InRelease root nodes leaving s = record {
+        owners = refl;
+        tree = k.owners;
+        once = k.contexts.tree.once;
+        plans = bare_of s.session.plans leaving.plans s k.contexts.tree.once k.quiet each k.plans;
+      } in
+      let read : IsRead (confined entry) (InRelease root nodes) leaving (owner_released false top root s).scene (owner_released false top root s).events =
+      (owner_read entry root own nodes top s (root_within root nodes)).so leaving start in
+      record { allowed = read.allowed; fits = record { tree = subst (λ (x : List Replayed). FitsTree x (owner_released false top root s).scene.session.owners) (sym read.fits.owners) read.fits.tree } }
+
+  -- snapshots that are popped
+  popped_read : (entries : List Active) (leaving : Leaving) (s t : Scene) → t.session.owners ≡ s.session.owners → HasOwnersSeen leaving s → IsRead (confined entry) HasOwnersSeen leaving t (map (λ (x : Active). what.Pop x.snapshot) entries)
+  popped_read [] leaving s t same k = record { allowed = refl; fits = record { tree = subst (FitsTree leaving.parents.owners) (sym same) k.tree } }
+  popped_read (x ∷ entries) leaving s t same k =
+      let more : IsRead (confined entry) HasOwnersSeen (staying.next (what.Pop x.snapshot) leaving) t (map (λ (x : Active). what.Pop x.snapshot) entries) =
+      popped_read entries (staying.next (what.Pop x.snapshot) leaving) s t same (record { tree = k.tree }) in
+      record { allowed = more.allowed; fits = record { tree = more.fits.tree } }
+
+  pub stack_read : (n : ℕ) (leaving : Leaving) (s : Scene) → HasOwnersSeen leaving s → IsRead (confined entry) HasOwnersSeen leaving (stack_popped n s).scene (stack_popped n s).events
+  stack_read n leaving s k = popped_read (filter (is_deep n) (reverse s.session.snapshots)) leaving s (stack_popped n s).scene refl k
+
+-- The end of a level, from its abort to its cleanup, is read, and names nothing outside the level.
 
 -- what the parts of an end leave of levels, portals and plans
 pub switches_up : Keeps Lessens switched_up
@@ -118,12 +314,7 @@ module _ (level : LevelState) (levels : List LevelState) (s : Scene) (h : Stands
   begins = resettled level levels (gone_levels level levels) [] s.session.portals (switched_off s) (off_begins level levels (gone_levels level levels) s h)
 
   start : InPortals later z0
-  start = record {
-    contexts = record { tree = k.contexts.tree; below = k.contexts.below };
-    owners = k.owners;
-    plans = k.sees.plans;
-    quiet = k.quiet;
-  }
+  start = grind (arith, nat_tests)
 
   portals_part : IsRead (confined entry) InPortals later z1 (for_each (portal_aborted n level.owner) s.session.portals z0).events
   portals_part = (all_read level levels made entry own_owner s.session.portals [] z0 begins (seen_in n leaving.begun (omega arith) s.session.portals k.sees.portals)).so later start
@@ -143,20 +334,18 @@ module _ (level : LevelState) (levels : List LevelState) (s : Scene) (h : Stands
   tail_part l i =
       let z2 : Scene = (level_released false (n == 1) z1).scene in
       let z3 : Scene = (stack_popped n z2).scene in
-      read_then entry l z2 (tail z1).scene (level_released false (n == 1) z1).events ((stack_popped n z2).events ++ [])
+      then_read (confined entry) l z2 (tail z1).scene (level_released false (n == 1) z1).events ((stack_popped n z2).events ++ [])
       (release_read entry (n == 1) (level_owner z1.session) z1 l (own_owner ∙ sym still_level) i plans_there)
-      (λ a. read_then entry _ z3 (tail z1).scene (stack_popped n z2).events [] (stack_read entry n _ z2 a) (λ b. record { allowed = refl; fits = record { tree = b.tree } }))
+      (λ a. then_read (confined entry) _ z3 (tail z1).scene (stack_popped n z2).events [] (stack_read entry n _ z2 a) (λ b. record { allowed = refl; fits = record { tree = b.tree } }))
 
   rest : IsRead (confined entry) HasOwnersSeen later (tail z1).scene ((for_each (portal_aborted n level.owner) s.session.portals z0).events ++ (tail z1).events)
-  rest = read_then entry later z1 (tail z1).scene (for_each (portal_aborted n level.owner) s.session.portals z0).events (tail z1).events portals_part (λ i. tail_part _ i)
+  rest = then_read (confined entry) later z1 (tail z1).scene (for_each (portal_aborted n level.owner) s.session.portals z0).events (tail z1).events portals_part (λ i. tail_part _ i)
 
   first_ends : leaving.ends ≡ [] → InEnd entry later.ends
   first_ends e = subst (λ (ends : List Begun). InEnd entry (ends_behind (what.AbortLevel n) leaving.begun ends)) (sym e) (refl, tt)
 
   not_over : IsOver entry later
-  not_over c is away =
-      let there : has c s.session.contexts ≡ true = protected_has c s.session.contexts (h.levels.0.context c (sym own_context ∙ is)).protected in
-      absurd (both_ways (is_there c leaving.parents.contexts) away (k.contexts.tree.there c ∙ there))
+  not_over c is away = grind (arith, nat_tests, protected_has, own_context, both_ways)
 
   pub aborts_read : leaving.ends ≡ [] → IsSoon leaving.awaited → AbortRead leaving s0
   aborts_read e soon =
@@ -242,10 +431,7 @@ module _ (entry : Begun) where
 
 gone_away : {A : Type 0} (n : ℕ) (t : Forest A) → has n (removed n t) ≡ false
 gone_away n Empty = refl
-gone_away n (Node k a below beside) = elim (cases_Bool (k == n)) [
-  | inl y ↦ rw y (gone_away n beside)
-  | inr z ↦ rw (z, z, gone_away n below, gone_away n beside) refl
-]
+gone_away n (Node k a below beside) = grind (arith, nat_tests, gone_away n beside, gone_away n below)
 
 pub record CleanRead (leaving : Leaving) (s : Scene) : Type 0 where
   pub allowed : allows_all staying leaving (cleaned_up s).events ≡ true
@@ -304,7 +490,7 @@ module _ (level : LevelState) (levels : List LevelState) (s : Scene) (leaving : 
 
   context_part : (l : Leaving) → HasContextsSeen l c2 → IsRead (confined ending) HasContextsSeen l c_last.scene c_last.events
   context_part l i =
-      read_then ending l (level_context_gone c3).scene c_last.scene (level_context_gone c3).events []
+      then_read (confined ending) l (level_context_gone c3).scene c_last.scene (level_context_gone c3).events []
       (context_gone_read ending (level_context c3.session) l c3 (ending_context ∙ sym third_level) (record { contexts = record { tree = i.contexts.tree; below = i.contexts.below } }))
       (λ a. record { allowed = refl; fits = record { contexts = record { tree = a.contexts.tree; below = a.contexts.below } } })
 
@@ -313,15 +499,13 @@ module _ (level : LevelState) (levels : List LevelState) (s : Scene) (leaving : 
 
   whole : IsRead (confined ending) HasContextsSeen behind c_last.scene all_events
   whole =
-      read_then ending behind c1 c_last.scene (for_each (sweep m) s.session.portals c0).events ((level_owner_gone c1).events ++ c_last.events)
+      then_read (confined ending) behind c1 c_last.scene (for_each (sweep m) s.session.portals c0).events ((level_owner_gone c1).events ++ c_last.events)
       ((sweeps_read ending m s.session.portals c0 (seen_in m leaving.begun (omega arith) s.session.portals k.sees.portals)).so behind swept_in)
-      (λ i. read_then ending _ c2 c_last.scene (level_owner_gone c1).events c_last.events (owner_gone_read ending (level_owner c1.session) _ c1 (ending_owner ∙ sym first_level) i) (λ j. context_part _ j))
+      (λ i. then_read (confined ending) _ c2 c_last.scene (level_owner_gone c1).events c_last.events (owner_gone_read ending (level_owner c1.session) _ c1 (ending_owner ∙ sym first_level) i) (λ j. context_part _ j))
 
   -- in the end the level isn't in its end any more
   none_named : level.context ≡ None → InEnd ending leaving.ends → behind.ends ≡ []
-  none_named none i =
-      none_left ending (λ level. not (ends_with (what.CleanupLevel m) level)) leaving.ends i
-      (ap not (and_from (ending.level == m) (is_none ending.context) (eq-eqb ending.level m (number_of m leaving.begun)) (ap is_none (ending_context ∙ none))))
+  none_named none i = grind (arith, nat_tests, none_left, and_from, is_none, eq-eqb, number_of, ending_context)
 
   still_in : InEnd ending leaving.ends → InEnd ending behind.ends
   still_in i = next_in ending (what.CleanupLevel m) leaving refl i

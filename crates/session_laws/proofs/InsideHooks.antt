@@ -1,35 +1,86 @@
--- No hook waits on a context of the session itself below the one for caches, whatever a line does.
-use Rattle.std.proofs.Common.{◌≡◌, ◌≢◌, ℕ, Bool, true, false, not, if◌then◌else◌, List, [], ◌∷◌, ◌++◌, codes, reverse, Option, Some, None, refl, sym, ap, ◌∙◌, subst, inl, inr, arith}
-use Rattle.std.specs.Prelude.{◌==◌, ◌&&◌, ◌||◌, ◌⊎◌}
-use Rattle.std.specs.Option.{option_map_or}
-use Rattle.std.proofs.lemmas.Bool.{both_ways, eq-eqb, ne_eqb}
-use Rattle.std.proofs.lemmas.List.{reverse-append}
-use Rattle.pgs_step.specs.declared.events.What.{What}
+-- No hook waits on a context of the session itself below the one for caches.
+use Rattle.session_laws.proofs.Words.{◌≡◌, ℕ, Bool, true, false, if◌then◌else◌, [], Option, Some, None, refl, sym, ap, ◌∙◌, subst, inl, inr, List, ◌∷◌, ◌++◌, codes, reverse, arith, ◌==◌, ◌⊎◌, option_map_or, both_ways, cases_Bool, cond-false, eqb-true, false_from_ne_true, eq-eqb, ne_eqb, Empty, Node, Once, at, changed, children, has, is_root, moved, parent_of, put, removed, with_children, at_absent, at_some, apart_of, has_at, where_is, reverse-append, nat_tests}
+use Rattle.session_laws.proofs.Scenes.{Context, Contexts, is_protected, new_context, cache_context, LevelState, context_of, first_of, last_of, level_context, top_context, What, CtxKind, Hook, Scene, Text, context_named, hook_waits, AreLevels, Stands}
+use Rattle.session_laws.proofs.Rules.{ContextLeaves, of_contexts, EndLeaves}
+use Rattle.forest.proofs.Neighbours.{parent_root, root_absent}
 use Rattle.pgs_command.specs.Words.{is_text}
-use Rattle.any_ctx.specs.declared.any.CtxKind.{CtxKind}
-use Rattle.forest.specs.Forest.{Empty, Node, Once, at, either, has, is_root, parent_of}
-use Rattle.forest.proofs.Trees.{apart_of, at_absent, at_some}
-use Rattle.reset_callbacks.specs.Hook.{Hook}
-use Rattle.context_rules.specs.Contexts as rules
-use Rattle.context_rules.specs.Contexts.{Context, Contexts, is_protected, new_context}
 use Rattle.context_rules.specs.Names.{same_name}
-use Rattle.context_rules.specs.Ends as ends
-use Rattle.session_rules.specs.State.{LevelState, cache_context, context_of, first_of, last_of, level_context, top_context}
-use Rattle.session_rules.specs.World.{Scene}
-use Rattle.session_rules.specs.Elements.{Text}
-use Rattle.session_rules.specs.Lookup.{context_named}
-use Rattle.session_rules.specs.Taking.{hook_waits}
-use Rattle.session_rules.specs.Standing.{AreLevels, Stands}
 use Rattle.session_rules.proofs.Aside.{ContextLaw, context_ends, context_makes}
 use Rattle.session_rules.proofs.Meeting.{StandingMoves, standing_moves}
-use Rattle.session_rules.proofs.Sight.{ContextLeaves, of_contexts}
 use Rattle.session_rules.proofs.Guarded.{top_parent}
-use Rattle.session_rules.proofs.Leaves.{EndLeaves}
 use Rattle.session_rules.proofs.LevelsKept.{IsContext}
 use Rattle.session_rules.proofs.PlansAmong.{above_other, some_is}
-use Rattle.session_laws.proofs.ReaderLaws.{OwesTurns}
-use Rattle.session_laws.proofs.Lives.{owes_by}
-use Rattle.session_laws.proofs.InsideQuiet.{AreQuiet, quiet_alone, quiet_changed, quiet_changed_at, quiet_emptied, quiet_put, quiet_removed, quiet_reparented}
+use Rattle.session_laws.proofs.Lives.{OwesTurns, owes_by}
+use Rattle.context_rules.specs.Contexts as rules
+use Rattle.context_rules.specs.Ends as ends
+
+-- on a context of the session itself no hook waits where its parent is the one for caches
+abbrev pub IsQuiet : Option ℕ → Context → Type 0
+IsQuiet parent c = parent ≡ Some cache_context → c.protected ≡ true → c.hooks ≡ []
+
+-- that is so of each context, where this is the parent of the first ones
+abbrev pub AreQuiet : Option ℕ → Contexts → Type 0
+AreQuiet parent Empty = Unit {0}
+AreQuiet parent (Node n c below beside) = IsQuiet parent c × AreQuiet (Some n) below × AreQuiet parent beside
+
+pub quiet_removed : (p : Option ℕ) (n : ℕ) (t : Contexts) → AreQuiet p t → AreQuiet p (removed n t)
+quiet_removed p n Empty h = tt
+quiet_removed p n (Node k c below beside) h = grind (arith, nat_tests, quiet_removed p n beside, quiet_removed (Some k) n below)
+
+pub quiet_emptied : (p : Option ℕ) (n : ℕ) (t : Contexts) → AreQuiet p t → AreQuiet p (with_children n Empty t)
+quiet_emptied p n Empty h = tt
+quiet_emptied p n (Node k c below beside) h = grind (arith, nat_tests, quiet_emptied p n beside, quiet_emptied (Some k) n below)
+
+-- a change that keeps whether hooks wait, or takes them away
+pub record Hushes (f : Context → Context) : Type 0 where
+  pub protected : (c : Context) → (f c).protected ≡ c.protected
+  pub hooks : (c : Context) → c.hooks ≡ [] → (f c).hooks ≡ []
+
+pub quiet_changed : (p : Option ℕ) (n : ℕ) (f : Context → Context) (t : Contexts) → Hushes f → AreQuiet p t → AreQuiet p (changed n f t)
+quiet_changed p n f Empty l h = tt
+quiet_changed p n f (Node k c below beside) l h = grind (arith, nat_tests, quiet_changed (Some k) n f below, quiet_changed p n f beside)
+
+pub quiet_put : (p : Option ℕ) (q n : ℕ) (c : Context) (sub t : Contexts) → ((o : Option ℕ) → IsQuiet o c) → AreQuiet (Some n) sub → AreQuiet p t → AreQuiet p (put q n c sub t)
+quiet_put p q n c sub Empty new low h = tt
+quiet_put p q n c sub (Node k a below beside) new low h = elim (cases_Bool (k == q)) [
+  | inl y ↦ rw y (h.0, (new (Some k), low, h.1), quiet_put p q n c sub beside new low h.2)
+  | inr z ↦ rw z (h.0, quiet_put (Some k) q n c sub below new low h.1, quiet_put p q n c sub beside new low h.2)
+]
+
+pub quiet_children : (p : Option ℕ) (n : ℕ) (t : Contexts) → AreQuiet p t → AreQuiet (Some n) (children n t)
+quiet_children p n Empty h = tt
+quiet_children p n (Node k c below beside) h = grind (arith, nat_tests, quiet_children (Some k) n below, quiet_children p n beside)
+
+-- the parent of a number, where this is that of the first ones
+abbrev up : Option ℕ → ℕ → Contexts → Option ℕ
+up p n t = if is_root n t then p else parent_of n t
+
+-- what is so of the context at a number is so wherever it stands
+pub quiet_at : (p : Option ℕ) (n : ℕ) (c : Context) (t : Contexts) → Once t → has n t ≡ true → at n t ≡ Some c → AreQuiet p t → IsQuiet (up p n t) c
+quiet_at p n c Empty o u is h = absurd (cc is)
+quiet_at p n c (Node k a below beside) o u is h = grind (arith, nat_tests, quiet_at (Some k) n c below, quiet_at p n c beside, apart_of, where_is, at_some, root_absent, at_absent)
+
+-- a context changes, where it may
+pub quiet_changed_at : (p : Option ℕ) (n : ℕ) (f : Context → Context) (t : Contexts) → Once t → ((c : Context) → at n t ≡ Some c → IsQuiet (up p n t) (f c)) → AreQuiet p t → AreQuiet p (changed n f t)
+quiet_changed_at p n f Empty o k h = tt
+quiet_changed_at p n f (Node m a below beside) o k h = grind (arith, nat_tests, quiet_changed_at (Some m) n f below, quiet_changed_at p n f beside, apart_of, eqb-true, root_absent, at_absent)
+
+-- what waits nowhere
+pub no_hooks : (n : ℕ) (c : Context) (t : Contexts) → Once t → AreQuiet None t → at n t ≡ Some c → is_protected n t ≡ true → parent_of n t ≡ Some cache_context → c.hooks ≡ []
+no_hooks n c t o h is own parent = grind (arith, nat_tests, has_at, false_from_ne_true, parent_root, quiet_at, cond-false)
+
+-- a context is reset
+pub quiet_alone : (n : ℕ) (t : Contexts) → AreQuiet None t → AreQuiet None (ends.cleared_alone n t).contexts
+quiet_alone n t h = grind (arith, nat_tests, quiet_changed)
+
+-- a context moves that isn't one of the session itself
+pub quiet_moved : (n p : ℕ) (t : Contexts) → is_protected n t ≡ false → AreQuiet None t → AreQuiet None (moved n p t)
+quiet_moved n p t free h = grind (arith, nat_tests, quiet_put, both_ways, quiet_children, quiet_removed)
+
+pub quiet_reparented : (n p : ℕ) (t : Contexts) → is_protected n t ≡ false → AreQuiet None t → AreQuiet None (rules.reparented n p t)
+quiet_reparented n p t free h = grind (arith, nat_tests, quiet_moved)
+
+-- No hook waits on a context of the session itself below the one for caches, whatever a line does.
 
 -- the law
 pub record KeepsQuiet (s t : Scene) (events : List What) : Type 0 where
@@ -64,10 +115,7 @@ first_context (level ∷ levels) n e = inl e
 
 in_both : (xs ys : List LevelState) (n : ℕ) → IsContext n (xs ++ ys) → IsContext n xs ⊎ IsContext n ys
 in_both [] ys n i = inr i
-in_both (x ∷ xs) ys n i = elim i [
-  | inl e ↦ inl (inl e)
-  | inr j ↦ elim (in_both xs ys n j) [ inl k ↦ inl (inr k) | inr k ↦ inr k ]
-]
+in_both (x ∷ xs) ys n i = grind (arith, nat_tests, in_both xs ys n)
 
 in_reverse : (levels : List LevelState) (n : ℕ) → IsContext n (reverse levels) → IsContext n levels
 in_reverse [] n i = i
@@ -79,58 +127,16 @@ in_reverse (level ∷ levels) n i = elim (in_both (reverse levels) (level ∷ []
 -- a level's context isn't below the one for caches
 levels_elsewhere : (levels : List LevelState) (s : Scene) (n : ℕ) → AreLevels levels s.session.contexts s.session.owners → IsContext n levels → parent_of n s.session.contexts ≡ Some cache_context → ⊥
 levels_elsewhere [] s n l i e = i
-levels_elsewhere (level ∷ levels) s n l i e = elim i [
-  | inl is ↦ above_other levels s.session.contexts s.session.owners l.1 (some_is _ cache_context (sym (l.0.context n is).parent ∙ e))
-  | inr j ↦ levels_elsewhere levels s n l.1 j e
-]
+levels_elsewhere (level ∷ levels) s n l i e = grind (arith, nat_tests, levels_elsewhere levels s n l.1, above_other, some_is)
 
 -- a context of the script is none of the session's own
 script_there : (name : Text) (t : Contexts) (n : ℕ) → rules.context_named name t ≡ Some n → has n t ≡ true
 script_there name Empty n e = absurd (cc e)
-script_there name (Node k c below beside) n e =
-    by_name (not c.protected && same_name c.name name) (rules.context_named name below) refl e (λ q. script_there name below n q) (λ q. script_there name beside n q)
-  where
-    second : (x y z : Bool) → y ≡ true → (x || (y || z)) ≡ true
-    second true y z h = refl
-    second false true z h = refl
-    second false false z h = absurd (cc h)
-
-    third : (x y z : Bool) → z ≡ true → (x || (y || z)) ≡ true
-    third true y z h = refl
-    third false true z h = refl
-    third false false z h = h
-
-    by_name : (b : Bool) (o : Option ℕ) → rules.context_named name below ≡ o → (if b then Some k else either o (rules.context_named name beside)) ≡ Some n
-        → (rules.context_named name below ≡ Some n → has n below ≡ true) → (rules.context_named name beside ≡ Some n → has n beside ≡ true) → has n (Node k c below beside) ≡ true
-    by_name true o q e low high = rw (eq-eqb k n (some_is k n e)) refl
-    by_name false None q e low high = third (k == n) (has n below) (has n beside) (high e)
-    by_name false (Some m) q e low high = second (k == n) (has n below) (has n beside) (low (q ∙ e))
+script_there name (Node k c below beside) n e = grind (arith, nat_tests, script_there name below, script_there name beside)
 
 script_free : (name : Text) (t : Contexts) (n : ℕ) → Once t → rules.context_named name t ≡ Some n → is_protected n t ≡ false
 script_free name Empty n o e = refl
-script_free name (Node k c below beside) n o e =
-    by_name (not c.protected && same_name c.name name) refl (rules.context_named name below) refl e
-    (λ once q. script_free name below n once q) (λ once q. script_free name beside n once q)
-  where
-    free : (a b : Bool) → (not a && b) ≡ true → a ≡ false
-    free true b q = absurd (cc q)
-    free false b q = refl
-
-    by_name : (b : Bool) → (not c.protected && same_name c.name name) ≡ b → (o : Option ℕ) → rules.context_named name below ≡ o → (if b then Some k else either o (rules.context_named name beside)) ≡ Some n
-        → (Once below → rules.context_named name below ≡ Some n → is_protected n below ≡ false) → (Once beside → rules.context_named name beside ≡ Some n → is_protected n beside ≡ false)
-        → is_protected n (Node k c below beside) ≡ false
-    by_name true y o q e low high = rw (eq-eqb k n (some_is k n e)) (free c.protected (same_name c.name name) y)
-    by_name false y None q e low high =
-        let u : has n beside ≡ true = script_there name beside n e in
-        let ne : k ≢ n = λ z. both_ways (has n beside) (ap (λ (j : ℕ). has j beside) (sym z) ∙ (apart_of k c below beside o).not_beside) u in
-        rw (ne_eqb k n ne, at_absent n below ((apart_of k c below beside o).apart_back n u)) (high (apart_of k c below beside o).once_beside e)
-    by_name false y (Some m) q e low high =
-        let there : rules.context_named name below ≡ Some n = q ∙ e in
-        let u : has n below ≡ true = script_there name below n there in
-        let ne : k ≢ n = λ z. both_ways (has n below) (ap (λ (j : ℕ). has j below) (sym z) ∙ (apart_of k c below beside o).not_below) u in
-        let w = at_some n below u in
-        let known : w.0.protected ≡ false = rw w.1 at (low (apart_of k c below beside o).once_below there) in
-        rw (ne_eqb k n ne, w.1) known
+script_free name (Node k c below beside) n o e = grind (arith, nat_tests, script_free name below, script_free name beside, same_name, eq-eqb, some_is, script_there, both_ways, apart_of, ne_eqb, at_absent, at_some)
 
 -- so a context that a name leads to isn't one of the session below the one for caches
 named_elsewhere : (name : Text) (s : Scene) (n : ℕ) → Stands s → context_named name s.session ≡ Some n → is_protected n s.session.contexts ≡ true → parent_of n s.session.contexts ≡ Some cache_context → ⊥

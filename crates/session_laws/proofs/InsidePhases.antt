@@ -1,43 +1,228 @@
--- The release of an owner in the end of a level that aborts names nothing outside the level.
-use Rattle.std.proofs.Common.{◌≡◌, ◌≢◌, ℕ, ◌-◌, Bool, true, false, not, if◌then◌else◌, List, [], ◌∷◌, ◌++◌, Option, Some, None, refl, sym, ap, ◌∙◌, subst, inl, inr, append-nil}
-use Rattle.std.specs.Prelude.{◌==◌, ◌&&◌, ◌⊎◌, nat_lt}
-use Rattle.std.specs.Option.{option_map_or}
-use Rattle.std.proofs.lemmas.Bool.{and_from, cases_Bool, cond-false, cond-true, eq-eqb, or_left}
-use Rattle.pgs_step.specs.declared.events.What.{What}
-use Rattle.pgs_step.specs.declared.events.What.TheVariants as what
-use Rattle.pgs_step.specs.declared.ids.Item.{Item}
-use Rattle.pgs_step.specs.declared.ids.Phase.{Phase}
-use Rattle.pgs_step.specs.declared.ids.Phase.TheVariants.{BeforeLocks, Locks, AfterLocks}
+-- The end of one level, read by itself: what each event of it may name, and the events of contexts and owners that go.
+use Rattle.session_laws.proofs.Words.{◌≡◌, ℕ, ◌+◌, Bool, true, false, not, List, [], ◌∷◌, ◌++◌, map, Option, Some, refl, sym, ap, ◌∙◌, subst, inl, inr, arith, append-nil, append_assoc, ◌-◌, if◌then◌else◌, None, ◌==◌, ◌&&◌, ◌||◌, filter, option_to_list, ◌⊎◌, nat_lt, list_all, and_from, and_parts, cases_eq, eq-eqb, eqb-true, or_cases, or_left, or_right, Forest, Empty, Node, Once, children, has, is_above, removed, size, at, subtree, order, order_at, has_children, at_absent, children_absent, left_apart, removed_absent, nat_tests}
+use Rattle.session_laws.proofs.Scenes.{What, Hook, Contexts, Context, callbacks, gone_events, Item, Phase, BeforeLocks, Locks, AfterLocks, Lock, owner_count, table_of, KindTable, Owner, own_released, released, Step, ReleasesLocks, ReleasesAllLocks, release_steps, StandingPlan, Scene, plan_at, plan_changed, plans_but, Ended, for_each, where_there, Keeper, NoOne, TheDescriptors, TheKind, ThePlans, descriptor_left, given_back, left_to, owner_released, phase_released, plan_becomes, plan_left, plan_settled, plan_stays, step_done}
+use Rattle.session_laws.proofs.Rules.{Reader, allows_all, is_one_of, seen_after, allows_all-append, seen_after-append, at_left, once_left}
+use Rattle.session_laws.proofs.StepsOf.{AreOf, no_step, numbers_of, passes, steps_of, unlocks, unlocks_all, warns, gives_up}
+use Rattle.lifetime_laws.specs.Parents.{Node as Kept, is_there, is_within, placed, placed_where, without}
+use Rattle.lifetime_laws.proofs.Replays.{is_there-placed_other, is_there-placed_same, is_there-without_other}
+use Rattle.lifetime_laws.specs.Inside.{Awaited, Begun, Leaving, Neither, awaited_behind, begun_behind, contexts_inside, ends_behind, ends_with, is_within_some, owners_inside, plans_behind, staying, with_end}
+use Rattle.session_laws.proofs.Parents.{by_children, FitsTree, fits_gone, same_within, alike_swept}
 use Rattle.pgs_step.specs.declared.ids.TheConstants.KindId.{PLAN_REFERENCE, FILE, FIRST_EXTENSION}
-use Rattle.forest.specs.Forest.{Forest, Empty, Node, Once, at, children, has, parent_of, removed, subtree}
-use Rattle.forest.proofs.Trees.{at_absent, children_absent, left_apart, removed_absent}
-use Rattle.reset_callbacks.specs.Hook.{Hook}
-use Rattle.context_rules.specs.Contexts.{Context, Contexts}
-use Rattle.context_rules.specs.Ends.{callbacks, gone_events}
-use Rattle.lock_local.specs.Locks.{Lock, owner_count}
-use Rattle.lock_local.specs.Changes as locks
-use Rattle.file_table.specs.Descriptors.{is_among}
-use Rattle.owner_kinds.specs.KindShelf.{table_of}
-use Rattle.owner_kinds.specs.KindTable.{KindTable}
-use Rattle.owner_items.specs.Next.{release_order}
-use Rattle.owner_core.specs.Owners.{Owner, OwnerTree}
-use Rattle.owner_core.specs.Released.{own_released, released}
-use Rattle.owner_core.specs.Steps.{Step, Said, GivesBack, ReleasesLocks, ReleasesAllLocks, lock_step, own_steps, release_steps, releases_of, steps_below, top_locks}
-use Rattle.session_rules.specs.State.{StandingPlan}
-use Rattle.session_rules.specs.World.{Scene}
-use Rattle.session_rules.specs.Lookup.{plan_at, plan_changed, plans_but}
-use Rattle.session_rules.specs.Acts.{Ended, for_each, where_there}
-use Rattle.session_rules.specs.Releases.{Keeper, NoOne, TheDescriptors, TheKind, ThePlans, descriptor_left, given_back, left_to, owner_released, phase_released, plan_becomes, plan_left, plan_settled, plan_stays, step_done}
-use Rattle.session_rules.proofs.Forests.{at_left, once_left}
 use Rattle.session_rules.proofs.Lone.{lone_left}
-use Rattle.lifetime_laws.specs.Reading.{allows_all, is_one_of, seen_after}
-use Rattle.lifetime_laws.specs.Parents.{Node as Kept, is_within}
-use Rattle.lifetime_laws.specs.Inside.{Begun, Leaving, is_plan_left, staying}
-use Rattle.session_laws.proofs.ReaderLaws.{IsRead, Reads, read_both, read_none}
-use Rattle.session_laws.proofs.ParentsFit.{FitsTree}
-use Rattle.session_laws.proofs.ParentsAside.{alike_swept}
-use Rattle.session_laws.proofs.ParentsContexts.{fits_alike}
-use Rattle.session_laws.proofs.InsideEvents.{below_within, confined, is_confined, owner_confined}
+use Rattle.session_laws.proofs.Lives.{IsRead, Reads, read_both, read_none}
+use Rattle.session_laws.proofs.ParentsLife.{fits_alike}
+use Rattle.pgs_step.specs.declared.events.What.TheVariants as what
+use Rattle.lock_local.specs.Changes as locks
+
+-- an event that begins a level or its end, or makes a context or an owner
+abbrev pub is_edge : What → Bool
+is_edge (what.AbortLevel level) = true
+is_edge (what.BeginLevel level) = true
+is_edge (what.Create context name parent) = true
+is_edge (what.Owner owner) = true
+is_edge (what.OwnerIn owner parent) = true
+is_edge other = false
+
+-- what an event may name in the end of this level
+abbrev pub is_confined : Begun → What → Leaving → Bool
+is_confined entry event leaving = owners_inside event leaving entry && contexts_inside event leaving entry
+
+-- the reader of the end of this level alone
+abbrev pub confined : Begun → Reader Leaving
+confined entry = record { next = staying.next; allows = λ event leaving. is_confined entry event leaving && not (is_edge event) }
+
+-- only this level is in its end, if any
+abbrev pub InEnd : Begun → List Begun → Type 0
+InEnd entry [] = Unit {0}
+InEnd entry (level ∷ levels) = (level ≡ entry) × InEnd entry levels
+
+filter_in : (entry : Begun) (test : Begun → Bool) (ends : List Begun) → InEnd entry ends → InEnd entry (filter test ends)
+filter_in entry test [] h = tt
+filter_in entry test (level ∷ levels) h = grind (arith, nat_tests, filter_in entry test levels h.1)
+
+no_more_ends : (event : What) (levels ends : List Begun) → is_edge event ≡ false → with_end event levels ends ≡ ends
+no_more_ends (what.AbortLevel level) levels ends h = absurd (cc h)
+no_more_ends other levels ends h = refl
+
+pub next_in : (entry : Begun) (event : What) (leaving : Leaving) → is_edge event ≡ false → InEnd entry leaving.ends → InEnd entry (ends_behind event leaving.begun leaving.ends)
+next_in entry event leaving h k =
+    subst (InEnd entry) (sym (no_more_ends event leaving.begun (filter (λ level. not (ends_with event level)) leaving.ends) h)) (filter_in entry (λ level. not (ends_with event level)) leaving.ends k)
+
+no_more_begun : (event : What) (awaited : Awaited) (levels : List Begun) → is_edge event ≡ false → begun_behind event awaited levels ≡ levels
+no_more_begun (what.BeginLevel level) awaited levels h = absurd (cc h)
+no_more_begun other awaited levels h = cc
+
+no_more_plans : (event : What) (plans : List ℕ) → is_edge event ≡ false → plans_behind event plans ≡ plans
+no_more_plans (what.Create context name parent) plans h = absurd (cc h)
+no_more_plans other plans h = refl
+
+none_awaited : (event : What) → is_edge event ≡ false → awaited_behind event Neither ≡ Neither
+none_awaited (what.BeginLevel level) h = absurd (cc h)
+none_awaited other h = refl
+
+-- the end is over where the level's context isn't there
+abbrev pub IsOver : Begun → Leaving → Type 0
+IsOver entry leaving = (c : ℕ) → entry.context ≡ Some c → is_there c leaving.parents.contexts ≡ false → leaving.ends ≡ []
+
+pub none_left : (entry : Begun) (test : Begun → Bool) (ends : List Begun) → InEnd entry ends → test entry ≡ false → filter test ends ≡ []
+none_left entry test [] h out = refl
+none_left entry test (level ∷ levels) h out =
+    rw (ap test h.0 ∙ out) (none_left entry test levels h.1 out)
+
+away_placed : (c m : ℕ) (b : Bool) (parent : Option ℕ) (nodes : List Kept) → is_there c (placed_where b m parent nodes) ≡ false → is_there c nodes ≡ false
+away_placed c m false parent nodes h = h
+away_placed c m true parent nodes h = elim (cases_eq c m) [
+  | inl e ↦
+      let bad : true ≡ false = sym (ap (λ (x : ℕ). is_there x (placed m parent nodes)) e ∙ is_there-placed_same m parent nodes) ∙ h in
+      absurd (cc bad)
+  | inr ne ↦ sym (is_there-placed_other c m parent nodes ne) ∙ h
+]
+
+-- so it is behind each event
+empty_ends : (event : What) (begun ends : List Begun) → is_edge event ≡ false → ends ≡ [] → ends_behind event begun ends ≡ []
+empty_ends event begun ends h e = ap (ends_behind event begun) e ∙ no_more_ends event begun [] h
+
+pub next_over : (entry : Begun) (event : What) (leaving : Leaving) → is_edge event ≡ false → InEnd entry leaving.ends → IsOver entry leaving → IsOver entry (staying.next event leaving)
+next_over entry (what.Create context name parent) leaving h k o c is away = absurd (cc h)
+next_over entry (what.Move context parent) leaving h k o c is away =
+    empty_ends (what.Move context parent) leaving.begun leaving.ends h (o c is (away_placed c context (is_there context leaving.parents.contexts && is_there parent leaving.parents.contexts) (Some parent) leaving.parents.contexts away))
+next_over entry (what.Delete context) leaving h k o c is away = grind (arith, nat_tests, none_left, eq-eqb, empty_ends, is_there-without_other)
+next_over entry other leaving h k o c is away = empty_ends other leaving.begun leaving.ends h (o c is away)
+
+pub all_in : (test : Begun → Bool) (entry : Begun) (ends : List Begun) → InEnd entry ends → test entry ≡ true → list_all test ends ≡ true
+all_in test entry [] h k = refl
+all_in test entry (level ∷ levels) h k = and_from (test level) (list_all test levels) (ap test h.0 ∙ k) (all_in test entry levels h.1 k)
+
+-- What that reader allows is allowed where no other level is in its end, and none is then.
+pub record Stayed (entry : Begun) (leaving : Leaving) (events : List What) : Type 0 where
+  pub allowed : allows_all staying leaving events ≡ true
+  pub ends : InEnd entry (seen_after staying leaving events).ends
+  pub begun : (seen_after staying leaving events).begun ≡ leaving.begun
+  pub plans : (seen_after staying leaving events).plans ≡ leaving.plans
+  pub awaited : leaving.awaited ≡ Neither → (seen_after staying leaving events).awaited ≡ Neither
+  pub over : IsOver entry leaving → IsOver entry (seen_after staying leaving events)
+  pub closed : leaving.ends ≡ [] → (seen_after staying leaving events).ends ≡ []
+
+no_edge : (b : Bool) → not b ≡ true → b ≡ false
+no_edge true h = absurd (cc h)
+no_edge false h = refl
+
+pub confined_stays : (entry : Begun) (leaving : Leaving) (events : List What) → InEnd entry leaving.ends → allows_all (confined entry) leaving events ≡ true → Stayed entry leaving events
+confined_stays entry leaving [] k h = record { allowed = refl; ends = k; begun = refl; plans = refl; awaited = λ aw. aw; over = λ o. o; closed = λ e. e }
+confined_stays entry leaving (event ∷ events) k h =
+    let p : ((is_confined entry event leaving && not (is_edge event)) ≡ true) × (allows_all (confined entry) (staying.next event leaving) events ≡ true) =
+    and_parts (is_confined entry event leaving && not (is_edge event)) (allows_all (confined entry) (staying.next event leaving) events) h in
+    let q : (is_confined entry event leaving ≡ true) × (not (is_edge event) ≡ true) = and_parts (is_confined entry event leaving) (not (is_edge event)) p.0 in
+    let calm : is_edge event ≡ false = no_edge (is_edge event) q.1 in
+    let more : Stayed entry (staying.next event leaving) events =
+    confined_stays entry (staying.next event leaving) events (next_in entry event leaving calm k) p.1 in
+    record {
+      allowed = and_from (staying.allows event leaving) (allows_all staying (staying.next event leaving) events) (all_in (is_confined_by event leaving) entry leaving.ends k q.0) more.allowed;
+      ends = more.ends;
+      begun = more.begun ∙ no_more_begun event leaving.awaited leaving.begun calm;
+      plans = more.plans ∙ no_more_plans event leaving.plans calm;
+      awaited = λ aw. more.awaited (ap (awaited_behind event) aw ∙ none_awaited event calm);
+      over = λ o. more.over (next_over entry event leaving calm k o);
+      closed = λ e. more.closed (empty_ends event leaving.begun leaving.ends calm e);
+    }
+  where
+    is_confined_by : What → Leaving → Begun → Bool
+    is_confined_by event leaving level = owners_inside event leaving level && contexts_inside event leaving level
+
+-- and both readers see the same
+pub confined_sees : (entry : Begun) (leaving : Leaving) (events : List What) → seen_after (confined entry) leaving events ≡ seen_after staying leaving events
+confined_sees entry leaving [] = refl
+confined_sees entry leaving (event ∷ events) = confined_sees entry (staying.next event leaving) events
+
+-- what lies within a root lies within some of the roots
+pub within_some : (roots : List ℕ) (within : ℕ → ℕ → Bool) (root n : ℕ) → is_one_of root roots ≡ true → within root n ≡ true → is_within_some roots within n ≡ true
+within_some [] within root n h k = absurd (cc h)
+within_some (first ∷ rest) within root n h k = grind (arith, nat_tests, within_some rest within root n, or_cases, or_left, eqb-true, or_right)
+
+-- the contexts that the end of a level may touch, and all below them
+abbrev pub roots_of : Begun → List ℕ
+roots_of entry = option_to_list entry.context ++ entry.portals
+
+-- an event that names one context, which lies within a root
+pub context_confined : (entry : Begun) (leaving : Leaving) (root n : ℕ) → is_one_of root (roots_of entry) ≡ true → is_within root n leaving.parents.contexts ≡ true
+    → list_all (is_within_some (roots_of entry) (λ root n. is_within root n leaving.parents.contexts)) (n ∷ []) ≡ true
+context_confined entry leaving root n h k =
+    and_from (is_within_some (roots_of entry) (λ root n. is_within root n leaving.parents.contexts) n) true (within_some (roots_of entry) (λ root n. is_within root n leaving.parents.contexts) root n h k) refl
+
+-- one owner, which lies within that of the level
+pub owner_confined : (entry : Begun) (leaving : Leaving) (root n : ℕ) → entry.owner ≡ Some root → is_within root n leaving.parents.owners ≡ true
+    → list_all (is_within_some (option_to_list entry.owner) (λ root n. is_within root n leaving.parents.owners)) (n ∷ []) ≡ true
+owner_confined entry leaving root n h k = grind (arith, nat_tests, option_to_list, and_from, or_left)
+
+-- each of these numbers is within the root when it goes
+abbrev pub GoInside : ℕ → List Kept → List ℕ → Type 0
+GoInside root nodes [] = Unit {0}
+GoInside root nodes (n ∷ ns) = (is_within root n nodes ≡ true) × GoInside root (without n nodes) ns
+
+pub root_within : (root : ℕ) (nodes : List Kept) → is_within root root nodes ≡ true
+root_within root nodes = or_left (root == root) _ (eq-eqb root root refl)
+
+and_the_root : (root : ℕ) (nodes : List Kept) (ns : List ℕ) → GoInside root nodes ns → GoInside root nodes (ns ++ (root ∷ []))
+and_the_root root nodes [] h = (root_within root nodes, tt)
+and_the_root root nodes (n ∷ ns) h = (h.0, and_the_root root (without n nodes) ns h.1)
+
+module _ {A : Type 0} where
+  pub below_within : (m n : ℕ) (nodes : List Kept) (t : Forest A) → FitsTree nodes t → has m (children n t) ≡ true → is_within n m nodes ≡ true
+  below_within m n nodes t f here =
+      same_within n m nodes t f (has_children m n t f.once here) ∙ or_right (m == n) (is_above n m t) here
+
+  -- what is below a node, in the order in which it goes
+  pub below_inside : (n : ℕ) (nodes : List Kept) (t : Forest A) → FitsTree nodes t → GoInside n nodes (order (children n t))
+  below_inside n nodes t f =
+      by_children (λ u ns. (kept : List Kept) → FitsTree kept u → GoInside n kept ns) n (λ u once e kept fit. tt)
+      (λ m ns u once here leaf rest kept fit. (below_within m n kept u fit here, rest (without m kept) (fits_gone m kept u fit (has_children m n u once here) leaf))) (size (children n t) + 1) t (omega arith) f.once nodes f
+
+  pub node_inside : (n : ℕ) (nodes : List Kept) (t : Forest A) → FitsTree nodes t → GoInside n nodes (order_at n t)
+  node_inside n nodes t f = and_the_root n nodes (order (children n t)) (below_inside n nodes t f)
+
+-- Contexts that go are confined, and those that go behind them still go inside.
+pub record Confined (entry : Begun) (root : ℕ) (leaving : Leaving) (rest : List ℕ) (events : List What) : Type 0 where
+  pub allowed : allows_all (confined entry) leaving events ≡ true
+  pub left : GoInside root (seen_after (confined entry) leaving events).parents.contexts rest
+  pub owners : (seen_after (confined entry) leaving events).parents.owners ≡ leaving.parents.owners
+  pub plans : (seen_after (confined entry) leaving events).plans ≡ leaving.plans
+
+confined_both : (entry : Begun) (root : ℕ) (leaving : Leaving) (ms ns : List ℕ) (xs ys : List What) → Confined entry root leaving ms xs
+    → (GoInside root (seen_after (confined entry) leaving xs).parents.contexts ms → Confined entry root (seen_after (confined entry) leaving xs) ns ys) → Confined entry root leaving ns (xs ++ ys)
+confined_both entry root leaving ms ns xs ys a more = grind (arith, nat_tests, allows_all-append, seen_after-append)
+
+module _ (entry : Begun) (root : ℕ) (one : is_one_of root (roots_of entry) ≡ true) where
+  callbacks_confined : (n : ℕ) (hooks : List Hook) (leaving : Leaving) (rest : List ℕ) → is_within root n leaving.parents.contexts ≡ true → GoInside root leaving.parents.contexts rest
+      → Confined entry root leaving rest (callbacks n hooks)
+  callbacks_confined n [] leaving rest h k = record { allowed = refl; left = k; owners = refl; plans = refl }
+  callbacks_confined n (hook ∷ hooks) leaving rest h k =
+      let more : Confined entry root (staying.next (what.Callback hook.word n) leaving) rest (callbacks n hooks) =
+      callbacks_confined n hooks (staying.next (what.Callback hook.word n) leaving) rest h k in
+      record {
+        allowed = and_from ((true && (false || list_all (is_within_some (roots_of entry) (λ root n. is_within root n leaving.parents.contexts)) (n ∷ []))) && true) _
+            (and_from _ true (context_confined entry leaving root n one h) refl) more.allowed;
+        left = more.left;
+        owners = more.owners;
+        plans = more.plans;
+      }
+
+  deleted_confined : (n : ℕ) (leaving : Leaving) (rest : List ℕ) → GoInside root leaving.parents.contexts (n ∷ rest) → Confined entry root leaving rest (what.Delete n ∷ [])
+  deleted_confined n leaving rest h = grind (arith, nat_tests, and_from, or_right, context_confined)
+
+  pub gone_confined : (t : Contexts) (leaving : Leaving) (rest : List ℕ) → GoInside root leaving.parents.contexts (order t ++ rest) → Confined entry root leaving rest (gone_events t)
+  gone_confined Empty leaving rest h = record { allowed = refl; left = h; owners = refl; plans = refl }
+  gone_confined (Node n c below beside) leaving rest h =
+      confined_both entry root leaving (n ∷ (order beside ++ rest)) rest (gone_events below) (callbacks n c.hooks ++ (what.Delete n ∷ gone_events beside))
+      (gone_confined below leaving (n ∷ (order beside ++ rest)) (subst (GoInside root leaving.parents.contexts) (append_assoc (order below) (n ∷ order beside) rest) h))
+      (λ k. confined_both entry root _ (n ∷ (order beside ++ rest)) rest (callbacks n c.hooks) (what.Delete n ∷ gone_events beside) (callbacks_confined n c.hooks _ (n ∷ (order beside ++ rest)) k.0 k)
+      (λ j. confined_both entry root _ (order beside ++ rest) rest (what.Delete n ∷ []) (gone_events beside) (deleted_confined n _ (order beside ++ rest) j) (gone_confined beside _ rest)))
+
+-- owners that go
+pub owners_confined : (entry : Begun) (root : ℕ) (ns : List ℕ) (leaving : Leaving) → entry.owner ≡ Some root → GoInside root leaving.parents.owners ns → allows_all (confined entry) leaving (map (λ n. what.OwnerGone n) ns) ≡ true
+owners_confined entry root [] leaving is h = refl
+owners_confined entry root (n ∷ ns) leaving is h = grind (arith, nat_tests, owners_confined entry root ns, and_from, owner_confined)
+
+-- The release of an owner in the end of a level that aborts names nothing outside the level.
 
 -- a context with nothing below it, on which no hook waits
 pub record IsBare (n : ℕ) (t : Contexts) : Type 0 where
@@ -45,32 +230,11 @@ pub record IsBare (n : ℕ) (t : Contexts) : Type 0 where
   pub free : (c : Context) → at n t ≡ Some c → c.hooks ≡ []
 
 bare_removed : (m k : ℕ) (t : Contexts) → Once t → IsBare m t → IsBare m (removed k t)
-bare_removed m k t o h = elim (cases_Bool (has k t)) [
-  | inr away ↦ subst (IsBare m) (sym (removed_absent k t away)) h
-  | inl there ↦ elim (cases_Bool (has m (removed k t))) [
-    | inr gone ↦ record {
-      lone = children_absent m (removed k t) gone;
-      free = λ c is. let none : None ≡ Some c = sym (at_absent m (removed k t) gone) ∙ is in absurd (cc none);
-    }
-    | inl still ↦
-        let a : (m ≢ k) × (has m (children k t) ≡ false) = left_apart m k t o there still in
-        record { lone = lone_left m k t o a.0 a.1 h.lone; free = λ c is. h.free c (sym (at_left m k t o a.0 a.1) ∙ is) }
-  ]
-]
+bare_removed m k t o h = grind (arith, nat_tests, removed_absent, children_absent, at_absent, left_apart, lone_left, at_left)
 
 -- what is said where such a context goes
 bare_gone : (n : ℕ) (t : Contexts) → IsBare n t → (gone_events (subtree n t) ≡ []) ⊎ (gone_events (subtree n t) ≡ what.Delete n ∷ [])
-bare_gone n t h = go (at n t) refl
-  where
-    said : (c : Context) → c.hooks ≡ [] → gone_events (Node n c (children n t) Empty) ≡ what.Delete n ∷ []
-    said c none =
-        ap (λ (low : Contexts). gone_events low ++ (callbacks n c.hooks ++ (what.Delete n ∷ []))) h.lone
-        ∙ ap (λ (hooks : List Hook). callbacks n hooks ++ (what.Delete n ∷ [])) none
-
-    go : (o : Option Context) → at n t ≡ o
-        → (gone_events (option_map_or (λ a. Node n a (children n t) Empty) o Empty) ≡ []) ⊎ (gone_events (option_map_or (λ a. Node n a (children n t) Empty) o Empty) ≡ what.Delete n ∷ [])
-    go None is = inl refl
-    go (Some c) is = inr (said c (h.free c is))
+bare_gone n t h = grind (arith, nat_tests)
 
 -- the contexts of plans are known, and bare
 abbrev pub AreBare : List StandingPlan → Contexts → List ℕ → Type 0
@@ -83,22 +247,11 @@ still_bare k t known o (plan ∷ plans) h = (h.0, bare_removed plan.context k t 
 
 bare_but : (n : ℕ) (t : Contexts) (known : List ℕ) (plans : List StandingPlan) → AreBare plans t known → AreBare (plans_but n plans) t known
 bare_but n t known [] h = tt
-bare_but n t known (plan ∷ plans) h = elim (cases_Bool (plan.number == n)) [
-  | inl y ↦ subst (λ (l : List StandingPlan). AreBare l t known) (sym (cond-false (not (plan.number == n)) (plan ∷ plans_but n plans) (plans_but n plans) (ap not y))) (bare_but n t known plans h.2)
-  | inr z ↦ subst (λ (l : List StandingPlan). AreBare l t known) (sym (cond-true (not (plan.number == n)) (plan ∷ plans_but n plans) (plans_but n plans) (ap not z))) (h.0, h.1, bare_but n t known plans h.2)
-]
+bare_but n t known (plan ∷ plans) h = grind (arith, nat_tests, bare_but n t known plans h.2)
 
 bare_changed : (n : ℕ) (q : StandingPlan) (t : Contexts) (known : List ℕ) → is_one_of q.context known ≡ true → IsBare q.context t → (plans : List StandingPlan) → AreBare plans t known → AreBare (plan_changed n (λ old. q) plans) t known
 bare_changed n q t known k b [] h = tt
-bare_changed n q t known k b (plan ∷ plans) h = (one (plan.number == n), two (plan.number == n), bare_changed n q t known k b plans h.2)
-  where
-    one : (b : Bool) → is_one_of (if b then q else plan).context known ≡ true
-    one true = k
-    one false = h.0
-
-    two : (b : Bool) → IsBare (if b then q else plan).context t
-    two true = b
-    two false = h.1
+bare_changed n q t known k b (plan ∷ plans) h = grind (arith, nat_tests, bare_changed n q t known k b plans h.2)
 
 record Found (p : StandingPlan) (t : Contexts) (known : List ℕ) : Type 0 where
   known_is : is_one_of p.context known ≡ true
@@ -106,13 +259,7 @@ record Found (p : StandingPlan) (t : Contexts) (known : List ℕ) : Type 0 where
 
 bare_at : (n : ℕ) (p : StandingPlan) (t : Contexts) (known : List ℕ) (plans : List StandingPlan) → plan_at n plans ≡ Some p → AreBare plans t known → Found p t known
 bare_at n p t known [] is h = absurd (cc is)
-bare_at n p t known (plan ∷ plans) is h = elim (cases_Bool (plan.number == n)) [
-  | inl y ↦
-      let same : Some plan ≡ Some p = sym (cond-true (plan.number == n) (Some plan) (plan_at n plans) y) ∙ is in
-      let here : plan ≡ p = cc same in
-      subst (λ (q : StandingPlan). Found q t known) here (record { known_is = h.0; bare = h.1 })
-  | inr z ↦ bare_at n p t known plans (sym (cond-false (plan.number == n) (Some plan) (plan_at n plans) z) ∙ is) h.2
-]
+bare_at n p t known (plan ∷ plans) is h = grind (arith, nat_tests, bare_at n p t known plans)
 
 -- what holds within a release: these owners are seen, each number of a context stands once, and the plans' contexts are bare
 pub record InRelease (root : ℕ) (nodes : List Kept) (leaving : Leaving) (s : Scene) : Type 0 where
@@ -133,11 +280,7 @@ module _ (entry : Begun) (root : ℕ) (own : entry.owner ≡ Some root) (nodes :
 
   pass_one : (event : What) (events : List What) (leaving : Leaving) → (confined entry).allows event leaving ≡ true → (staying.next event leaving).parents.owners ≡ leaving.parents.owners
       → (staying.next event leaving).plans ≡ leaving.plans → Passes (staying.next event leaving) events → Passes leaving (event ∷ events)
-  pass_one event events leaving a p q more = record {
-    allowed = and_from ((confined entry).allows event leaving) _ a more.allowed;
-    parents = more.parents ∙ p;
-    plans = more.plans ∙ q;
-  }
+  pass_one event events leaving a p q more = grind (arith, nat_tests, and_from)
 
   pass_none : (leaving : Leaving) → Passes leaving []
   pass_none leaving = record { allowed = refl; parents = refl; plans = refl }
@@ -166,21 +309,7 @@ module _ (entry : Begun) (root : ℕ) (own : entry.owner ≡ Some root) (nodes :
 
   -- where contexts and plans stay as they are
   passing : (s t : Scene) (events : List What) → t.session.owners ≡ s.session.owners → t.session.contexts ≡ s.session.contexts → t.session.plans ≡ s.session.plans → ((leaving : Leaving) → leaving.parents.owners ≡ nodes → Passes leaving events) → Released s t events
-  passing s t events o c p h = record {
-    so = λ leaving k.
-        let a : Passes leaving events = h leaving k.owners in
-        let now : Leaving = seen_after (confined entry) leaving events in
-        record {
-          allowed = a.allowed;
-          fits = record {
-            owners = a.parents ∙ k.owners;
-            tree = subst (FitsTree nodes) (sym o) k.tree;
-            once = subst Once (sym c) k.once;
-            plans = subst (λ (plans : List StandingPlan). AreBare plans t.session.contexts now.plans) (sym p)
-                (subst (λ (x : Contexts). AreBare s.session.plans x now.plans) (sym c) (subst (AreBare s.session.plans s.session.contexts) (sym a.plans) k.plans));
-          };
-        };
-  }
+  passing s t events o c p h = grind (arith, nat_tests)
 
   -- a plan that goes directly behind the release of a reference to it
   record Behind (leaving : Leaving) (s : Scene) : Type 0 where
@@ -188,9 +317,7 @@ module _ (entry : Begun) (root : ℕ) (own : entry.owner ≡ Some root) (nodes :
     left : leaving.plan_left ≡ true
 
   plan_deleted : (n : ℕ) (leaving : Leaving) → leaving.plan_left ≡ true → is_one_of n leaving.plans ≡ true → (confined entry).allows (what.Delete n) leaving ≡ true
-  plan_deleted n leaving left known =
-      and_from (is_confined entry (what.Delete n) leaving) true
-      (and_from true _ refl (or_left (is_plan_left (what.Delete n) leaving) _ (and_from leaving.plan_left (is_one_of n leaving.plans) left known))) refl
+  plan_deleted n leaving left known = grind (arith, nat_tests, and_from, or_left)
 
   gone_behind : (leaving : Leaving) (s : Scene) (p q : StandingPlan) (n : ℕ) → Behind leaving s → plan_at n s.session.plans ≡ Some p → q.context ≡ p.context
       → IsRead (confined entry) (InRelease root nodes) leaving (plan_settled q s).scene (plan_settled q s).events
@@ -245,11 +372,7 @@ module _ (entry : Begun) (root : ℕ) (own : entry.owner ≡ Some root) (nodes :
 
   -- what else follows a release
   closed_so : (file : ℕ) (s : Scene) → Released s (descriptor_left file s).scene (descriptor_left file s).events
-  closed_so file s = go (is_among file s.session.recent) refl
-    where
-      go : (b : Bool) → is_among file s.session.recent ≡ b → Released s (descriptor_left file s).scene (descriptor_left file s).events
-      go true is = rw is (passing s _ (what.DescriptorClosed file ∷ []) refl refl refl (λ leaving k. pass_one (what.DescriptorClosed file) [] leaving refl refl refl (pass_none _)))
-      go false is = rw is (read_none (confined entry) (InRelease root nodes) s)
+  closed_so file s = grind (arith, nat_tests, passing, pass_one, pass_none, read_none)
 
   other_left : (a b : Bool) (place key : ℕ) (s : Scene)
       → Released s (left_to (if a then TheDescriptors else (if b then NoOne else TheKind place)) key s).scene (left_to (if a then TheDescriptors else (if b then NoOne else TheKind place)) key s).events
@@ -282,76 +405,15 @@ module _ (entry : Begun) (root : ℕ) (own : entry.owner ≡ Some root) (nodes :
         record { allowed = and_from ((confined entry).allows (what.Release item n) leaving) _ (release_allowed item n leaving within) more.allowed; fits = more.fits };
   }
 
--- steps of a release at abort, each for an owner of which this is so
-pub data AreOf (P : ℕ → Type 0) : List Step → Type 0 where
-  no_step : AreOf P []
-  gives : {item : Item} {n : ℕ} {rest : List Step} → P n → AreOf P rest → AreOf P (Said (what.Release item n) ∷ GivesBack item ∷ rest)
-  unlocks : {n : ℕ} {rest : List Step} → P n → AreOf P rest → AreOf P (ReleasesLocks n ∷ rest)
-  unlocks_all : {n : ℕ} {rest : List Step} → P n → AreOf P rest → AreOf P (ReleasesAllLocks n ∷ rest)
-
--- what is so of each number of a forest
-abbrev pub AllNumbers : {A : Type 0} → (ℕ → Type 0) → Forest A → Type 0
-AllNumbers P Empty = Unit {0}
-AllNumbers P (Node k a below beside) = P k × AllNumbers P below × AllNumbers P beside
-
-module _ (P : ℕ → Type 0) where
-  pub numbers_of : {A : Type 0} (t : Forest A) → ((m : ℕ) → has m t ≡ true → P m) → AllNumbers P t
-  numbers_of Empty h = tt
-  numbers_of (Node k a below beside) h =
-      (h k (or_left (k == k) _ (here k)), numbers_of below (λ m u. h m (deeper k m u)), numbers_of beside (λ m u. h m (further k m u)))
-    where
-      here : (k : ℕ) → (k == k) ≡ true
-      here k = eq-eqb k k refl
-
-      deeper : (k m : ℕ) → has m below ≡ true → has m (Node k a below beside) ≡ true
-      deeper k m u = elim (cases_Bool (k == m)) [ inl y ↦ or_left (k == m) _ y | inr z ↦ rw (z, u) refl ]
-
-      further : (k m : ℕ) → has m beside ≡ true → has m (Node k a below beside) ≡ true
-      further k m u = elim (cases_Bool (k == m)) [ inl y ↦ or_left (k == m) _ y | inr z ↦ elim (cases_Bool (has m below)) [ inl v ↦ rw (z, v) refl | inr v ↦ rw (z, v, u) refl ] ]
-
-  both_of : {xs ys : List Step} → AreOf P xs → AreOf P ys → AreOf P (xs ++ ys)
-  both_of no_step k = k
-  both_of (gives p h) k = gives p (both_of h k)
-  both_of (unlocks p h) k = unlocks p (both_of h k)
-  both_of (unlocks_all p h) k = unlocks_all p (both_of h k)
-
-  items_of : (n : ℕ) (items : List Item) → P n → AreOf P (releases_of false n items)
-  items_of n [] p = no_step
-  items_of n (item ∷ items) p = gives p (items_of n items p)
-
-  own_of : (kinds : KindTable) (phase : Phase) (n : ℕ) (owner : Owner) (locks : List Step) → P n → AreOf P locks → AreOf P (own_steps kinds phase false n owner locks)
-  own_of kinds Locks n owner locks p h = h
-  own_of kinds BeforeLocks n owner locks p h = items_of n (release_order kinds BeforeLocks owner.items) p
-  own_of kinds AfterLocks n owner locks p h = items_of n (release_order kinds AfterLocks owner.items) p
-
-  maybe_lock : (top : Bool) (n parent : ℕ) → P n → AreOf P (if top then [] else lock_step false n parent ∷ [])
-  maybe_lock true n parent p = no_step
-  maybe_lock false n parent p = unlocks p no_step
-
-  below_of : (kinds : KindTable) (phase : Phase) (top : Bool) (parent : ℕ) (owners : OwnerTree) → AllNumbers P owners → AreOf P (steps_below kinds phase false top parent owners)
-  below_of kinds phase top parent Empty h = no_step
-  below_of kinds phase top parent (Node n owner below beside) h =
-      both_of (below_of kinds phase top n below h.1) (both_of (own_of kinds phase n owner _ h.0 (maybe_lock top n parent h.0)) (below_of kinds phase top parent beside h.2))
-
-  top_of : (top : Bool) (n : ℕ) (parent : Option ℕ) → P n → AreOf P (top_locks top false n parent)
-  top_of true n parent p = unlocks_all p no_step
-  top_of false n None p = no_step
-  top_of false n (Some parent) p = unlocks p no_step
-
-  pub steps_of : (kinds : KindTable) (phase : Phase) (top : Bool) (n : ℕ) (owners : OwnerTree) → P n → AllNumbers P (children n owners) → AreOf P (release_steps kinds phase false top n owners)
-  steps_of kinds phase top n owners p h = go (at n owners)
-    where
-      go : (o : Option Owner) → AreOf P (option_map_or (λ owner. steps_below kinds phase false top n (children n owners) ++ own_steps kinds phase false n owner (top_locks top false n (parent_of n owners))) o [])
-      go None = no_step
-      go (Some owner) = both_of (below_of kinds phase top n (children n owners) h) (own_of kinds phase n owner _ p (top_of top n (parent_of n owners) p))
-
 module _ (entry : Begun) (root : ℕ) (own : entry.owner ≡ Some root) (nodes : List Kept) where
   abbrev Inside : ℕ → Type 0
   Inside n = is_within root n nodes ≡ true
 
-  steps_read : (steps : List Step) → AreOf Inside steps → (s : Scene) → Reads (confined entry) (InRelease root nodes) s (for_each step_done steps s).scene (for_each step_done steps s).events
+  steps_read : (steps : List Step) → AreOf Inside false steps → (s : Scene) → Reads (confined entry) (InRelease root nodes) s (for_each step_done steps s).scene (for_each step_done steps s).events
   steps_read _ no_step s = read_none (confined entry) (InRelease root nodes) s
-  steps_read _ (gives {item = item} {n = n} {rest = rest} p h) s = read_both (confined entry) (InRelease root nodes) (pair_so entry root own nodes item n s p) (steps_read rest h (given_back item s).scene)
+  steps_read _ (warns e h) s = absurd (cc e)
+  steps_read _ (passes e h) s = absurd (cc e)
+  steps_read _ (gives_up {item = item} {n = n} {rest = rest} p h) s = read_both (confined entry) (InRelease root nodes) (pair_so entry root own nodes item n s p) (steps_read rest h (given_back item s).scene)
   steps_read _ (unlocks {n = n} {rest = rest} p h) s =
       read_both (confined entry) (InRelease root nodes)
       (passing entry root own nodes s (step_done (ReleasesLocks n) s).scene (locks.releases n s.session.locks) refl refl refl (λ leaving k. locks_pass entry root own nodes n s.session.locks leaving (ap (is_within root n) k ∙ p)))
@@ -377,7 +439,7 @@ module _ (entry : Begun) (root : ℕ) (own : entry.owner ≡ Some root) (nodes :
         let steps : List Step = release_steps kinds phase false top root s.session.owners in
         let all : Reads (confined entry) (InRelease root nodes) s (phase_released false top root phase s).scene (phase_released false top root phase s).events =
         read_both (confined entry) (InRelease root nodes)
-        (steps_read steps (steps_of Inside kinds phase top root s.session.owners here (numbers_of Inside (children root s.session.owners) (λ m u. below_within m root nodes s.session.owners k.tree u))) s) (changed_so kinds phase (for_each step_done steps s).scene) in
+        (steps_read steps (steps_of Inside kinds phase false top root s.session.owners here (numbers_of Inside (children root s.session.owners) (λ m u. below_within m root nodes s.session.owners k.tree u))) s) (changed_so kinds phase (for_each step_done steps s).scene) in
         all.so leaving k;
   }
 

@@ -1,36 +1,77 @@
--- Each item that is acquired is released once, by its owner: what a line and an exit owe for that.
-use Rattle.std.proofs.Common.{◌≡◌, ℕ, true, refl, ap, ◌∙◌, arith}
-use Rattle.pgs_step.specs.declared.events.What.{What}
-use Rattle.pgs_step.specs.declared.events.What.TheVariants as what
-use Rattle.pgs_step.specs.declared.ids.Item.{Item}
-use Rattle.pgs_step.specs.declared.ids.KindId.{KindId}
-use Rattle.forest.specs.Forest.{has}
-use Rattle.session_rules.specs.State.{SessionState, opening}
-use Rattle.session_rules.specs.World.{Around, Scene}
-use Rattle.session_rules.specs.Acts.{say}
-use Rattle.session_rules.specs.Releases.{Keeper, NoOne, TheDescriptors, TheKind, ThePlans, keeper_of}
-use Rattle.session_rules.specs.Standing.{HasExited}
-use Rattle.session_rules.specs.Taking.{item_taken, taken_by}
-use Rattle.session_rules.proofs.Leaves.{Keeps, Law, LevelLeaves, MakeLeaves, MoveLeaves, is_level_word, is_word}
-use Rattle.session_rules.proofs.Sight.{ContextLeaves, FileLeaves, KeyLeaves, Sight, hook_waits_so, level_leaves_of, locks_one, makes_context, moves_context, of_next_owner, of_owners, places, plans_one, pushes, releases, takes, unlocks, unseen_contexts, unseen_files, unseen_keys, unseen_stack}
-use Rattle.session_rules.proofs.Said.{said_one}
-use Rattle.session_rules.proofs.Walk.{moves_owed}
-use Rattle.session_laws.proofs.ReaderLaws.{OwesTurns, Reads, read_both}
-use Rattle.session_laws.proofs.ItemsCounted.{Counted, Counts, aside_reads, discarded_reads, forgotten_reads, made_reads, moved_reads, phase_reads, reader, remembered_reads}
-use Rattle.session_laws.proofs.ItemsHeld.{has_it}
+-- Items are numbered as they are acquired.
+use Rattle.session_laws.proofs.Words.{◌≡◌, ℕ, true, List, refl, sym, ap, ◌∙◌, arith, Bool, false, and_from, eq-eqb, has, nat_tests}
+use Rattle.session_laws.proofs.Scenes.{What, KindId, Scene, Around, say, remembers, item_taken, taken_by, Item, SessionState, opening, Keeper, NoOne, TheDescriptors, TheKind, ThePlans, keeper_of, HasExited, KindTable}
+use Rattle.session_laws.proofs.Rules.{allows_all, seen_after, EndLeaves, Keeps, Law, MakeLeaves, LevelLeaves, AreSaid, said_more, said_none, said_one, Part, Sight, of_next_serial, owner_makes, unseen_keys, unseen_owners, of_next_owner, of_owners, takes, moves_owed, BalancesFrom, covers, left, KeyLeaves}
+use Rattle.session_laws.proofs.Usual.{Usual, is_usual, level_words, usual_files, usual_makes, usual_moves, plain_ends, usual_levels}
+use Rattle.lifetime_laws.specs.Once.{numbering, acquires, releases}
+use Rattle.session_laws.proofs.Lives.{OwesTurns, Reads, read_both, owes_by, IsLife, life_by}
+use Rattle.session_laws.proofs.ItemsCounted.{Counted, Counts, aside_reads, discarded_reads, forgotten_reads, made_reads, moved_reads, phase_reads, reader, remembered_reads, has_it, is_still}
 use Rattle.session_laws.proofs.OwnerEnds.{owes_where}
-use Rattle.session_laws.proofs.ParentsOwners.{sees_owners}
-use Rattle.session_laws.proofs.StepsRest.{is_still}
+use Rattle.session_laws.proofs.ParentsLife.{sees_owners}
+use Rattle.pgs_step.specs.declared.events.What.TheVariants as what
 
-word_still : (event : What) → is_word event ≡ true → is_still event ≡ true
-word_still (what.Acquire item owner) h = absurd (cc h)
-word_still (what.Release item owner) h = absurd (cc h)
-word_still other h = refl
+-- an event that acquires no item
+abbrev is_past : What → Bool
+is_past (what.Acquire item owner) = false
+is_past other = true
 
-level_still : (event : What) → is_level_word event ≡ true → is_still event ≡ true
-level_still (what.Acquire item owner) h = absurd (cc h)
-level_still (what.Release item owner) h = absurd (cc h)
-level_still other h = refl
+-- Such events are allowed, and change no number.
+
+past_passes : {events : List What} → AreSaid is_past events → (n : ℕ) → (allows_all numbering n events ≡ true) × (seen_after numbering n events ≡ n)
+past_passes said_none n = (refl, refl)
+past_passes (said_more {event = event} {events = events} h hs) n = grind (arith, nat_tests, past_passes hs n, and_from)
+
+-- The reader has seen the number of the next item.
+abbrev pub IsNext : ℕ → Scene → Type 0
+IsNext n s = n ≡ s.session.next_serial
+
+abbrev Numbers : Law
+Numbers = Reads numbering IsNext
+
+past_reads : (s t : Scene) {events : List What} → t.session.next_serial ≡ s.session.next_serial → AreSaid is_past events → Numbers s t events
+past_reads s t same h = record { so = λ n is. let p = past_passes h n in record { allowed = p.0; fits = p.1 ∙ is ∙ sym same } }
+
+abbrev sees_serial : Part → Bool
+sees_serial of_next_serial = true
+sees_serial other = false
+
+number_sight : Sight sees_serial is_past Numbers
+number_sight = record { both = λ a b. read_both numbering IsNext a b; aside = λ s t same h. past_reads s t (same.so of_next_serial refl) h }
+
+-- an item is acquired with the next number
+remembered_numbers : (n : ℕ) (kind : KindId) (key : ℕ) (s : Scene) → Numbers s (remembers n kind key s).scene (remembers n kind key s).events
+remembered_numbers n kind key s = grind (arith, nat_tests, and_from, eq-eqb)
+
+usual_past : (event : What) → is_usual event ≡ true → is_past event ≡ true
+usual_past (what.Acquire item owner) h = absurd (cc h)
+usual_past other h = refl
+
+number_usual : Usual sees_serial is_past
+number_usual = assumption usual_past
+
+number_ends : EndLeaves Numbers
+number_ends =
+    plain_ends number_sight number_usual (unseen_keys sees_serial is_past Numbers number_sight refl) refl refl refl (λ level. (refl, refl, refl, refl)) (λ item n. refl) (λ n. refl) (λ n parent. refl)
+    (unseen_owners sees_serial is_past Numbers number_sight refl (λ item n. refl) (λ item n. refl) (λ n kind key. record { so = remembered_numbers n kind key }))
+
+number_makes : MakeLeaves Numbers
+number_makes = usual_makes number_sight number_usual (λ n parent name. refl) refl (owner_makes sees_serial is_past Numbers number_sight refl refl (λ n. refl) (λ n parent. refl))
+
+-- what a line and an exit owe
+pub numbers_turns : OwesTurns (Reads numbering IsNext)
+numbers_turns = owes_by Numbers number_ends number_makes (λ error s. past_reads s s refl (said_one (what.Error error) refl)) (λ w x m meets. moves_owed Numbers number_ends.levels.leaves.acts (usual_moves number_sight number_usual) w x m)
+
+pub numbers_exit : Keeps Numbers (say what.Exit)
+numbers_exit = record { so = λ s. past_reads s s refl (said_one what.Exit refl) }
+
+-- Each item that is acquired is released once, by its owner: what a line and an exit owe for that.
+
+usual_still : (event : What) → is_usual event ≡ true → is_still event ≡ true
+usual_still (what.Acquire item owner) h = absurd (cc h)
+usual_still other h = cc
+
+usual : Usual sees_owners is_still
+usual = assumption usual_still
 
 -- what counts an item besides its owner leaves owners alone
 taken_stays : (keeper : Keeper) (key : ℕ) (s : Scene) → (taken_by keeper key s).scene.session.owners ≡ s.session.owners
@@ -46,41 +87,17 @@ module _ (item : Item) (owner : ℕ) where
   abbrev sight : Sight sees_owners is_still R
   sight = record { both = λ a b. read_both (reader item owner) (Counts item owner) a b; aside = λ s t same h. aside_reads item owner s t (same.so of_owners refl) (same.so of_next_owner refl) h }
 
-  file_leaves : FileLeaves R
-  file_leaves = unseen_files sees_owners is_still R sight refl (λ file. refl) (λ file. refl)
-
-  key_leaves : KeyLeaves R
-  key_leaves = unseen_keys sees_owners is_still R sight refl
-
-  contexts : ContextLeaves R
-  contexts = unseen_contexts sees_owners is_still R sight refl refl refl (λ word n. refl) (λ n. refl) (λ n. refl)
+  keys : KeyLeaves R
+  keys = unseen_keys sees_owners is_still R sight refl
 
   levels : LevelLeaves R
-  levels =
-      level_leaves_of sees_owners is_still R sight refl refl contexts (record { word = word_still; line = λ depth n name stats. refl; total = λ total. refl }) level_still
-      (releases sees_owners is_still R sight refl refl contexts.gone contexts.children file_leaves.closed key_leaves.closed (λ n kind key old s found. forgotten_reads item owner n kind key old s found))
-      refl (unseen_stack sees_owners is_still R sight refl (λ snapshot. refl))
-
-  make_leaves : MakeLeaves R
-  make_leaves = record {
-    made = makes_context sees_owners is_still R sight refl refl refl (λ n parent name. refl);
-    placed = places sees_owners is_still R sight refl refl;
-    planned = plans_one sees_owners is_still R sight refl refl (makes_context sees_owners is_still R sight refl refl refl (λ n parent name. refl));
-    owner = λ parent. record { so = made_reads item owner parent };
-    locked = locks_one sees_owners is_still R sight refl (λ object mode count owner. refl) (λ object mode owner. refl);
-    unlocked = unlocks sees_owners is_still R sight refl (λ object mode count owner. refl);
-    used = file_leaves.used;
-    pushed = pushes sees_owners is_still R sight refl (λ snapshot. refl);
-  }
-
-  move_leaves : MoveLeaves R
-  move_leaves = record { hooked = hook_waits_so sees_owners is_still R sight refl refl refl (λ word n. refl); shifted = moves_context sees_owners is_still R sight refl refl refl (λ n parent. refl) }
+  levels = usual_levels sight usual keys refl (level_words is_still (λ level. (refl, refl, refl, refl))) (λ n kind key old s found. forgotten_reads item owner n kind key old s found)
 
   -- an item is taken by an owner that is there
   item_taken_so : (n : ℕ) (kind : KindId) (key : ℕ) (s : Scene) → has n s.session.owners ≡ true → R s (item_taken n kind key s).scene (item_taken n kind key s).events
   item_taken_so n kind key s there =
       let z : Scene = (taken_by (keeper_of kind) key s).scene in
-      sight.both ((takes sees_owners is_still R sight refl refl file_leaves key_leaves (keeper_of kind) key).so s)
+      sight.both ((takes sees_owners is_still R sight refl refl (usual_files sight usual) keys (keeper_of kind) key).so s)
       (sight.both (remembered_reads item owner n kind key z (ap (has n) (taken_stays (keeper_of kind) key s) ∙ there)) (levels.leaves.acts.none _))
 
   pub counts_turns : OwesTurns (Reads (reader item owner) (Counts item owner))
@@ -88,13 +105,13 @@ module _ (item : Item) (owner : ℕ) where
       owes_where R
       (record {
         levels = levels;
-        makes = make_leaves;
+        makes = usual_makes sight usual (λ n parent name. refl) refl (λ parent. record { so = made_reads item owner parent });
         taken = item_taken_so;
         phase = λ commit top n phase. record { so = phase_reads item owner commit top n phase };
         gone = λ n s may. discarded_reads item owner n s may.idle;
         moved = moved_reads item owner;
       })
-      (λ error s. aside_reads item owner s s refl refl (said_one (what.Error error) refl)) (λ w x m meets. moves_owed R levels.leaves.acts move_leaves w x m)
+      (λ error s. aside_reads item owner s s refl refl (said_one (what.Error error) refl)) (λ w x m meets. moves_owed R levels.leaves.acts (usual_moves sight usual) w x m)
 
   -- the end of a session says nothing of items
   pub counts_exit : Keeps R (say what.Exit)
@@ -103,10 +120,7 @@ module _ (item : Item) (owner : ℕ) where
   -- a session begins without owners
   pub counts_open : (around : Around) → Counts item owner 0 (record { session = opening; around = around })
   unfolding opening
-  counts_open around = record {
-    numbered = record { once = record { once = λ n. omega arith }; below = λ n u. absurd (cc u) };
-    is = refl;
-  }
+  counts_open around = grind (arith, nat_tests)
 
   pub counts_elsewhere : (n : ℕ) (session : SessionState) (a b : Around) → Counts item owner n (record { session = session; around = a }) → Counts item owner n (record { session = session; around = b })
   counts_elsewhere n session a b h = record { numbered = h.numbered; is = h.is }
@@ -114,3 +128,35 @@ module _ (item : Item) (owner : ℕ) where
   -- and where it has ended nothing is left
   pub counts_ended : (n : ℕ) (s : Scene) → HasExited s → Counts item owner n s → n ≡ 0
   counts_ended n s h fits = fits.is ∙ ap (has_it item owner) h.owners
+
+-- In the life of a session items are numbered as they are acquired, and each item that an owner acquires it releases once, and no other.
+
+-- what there is in the end: nothing
+abbrev pub IsNone : ℕ → Type 0
+IsNone n = n ≡ 0
+
+-- of each item and owner
+pub items_life : (kinds : KindTable) (item : Item) (owner : ℕ) → IsLife kinds (reader item owner) (Counts item owner) 0 IsNone
+items_life kinds item owner =
+    life_by kinds (reader item owner) (Counts item owner) 0 IsNone (counts_turns item owner)
+    (λ around is. counts_open item owner around)
+    (λ n session a b same h. counts_elsewhere item owner n session a b h) (counts_exit item owner)
+    (λ n s h fits. counts_ended item owner n s h fits)
+
+-- of a session that has just opened there is nothing either
+numbers_open : (around : Around) → IsNext 1 (record { session = opening; around = around })
+unfolding opening
+numbers_open around = refl
+
+-- of the numbers; what there is in the end doesn't matter
+abbrev pub IsSome : ℕ → Type 0
+IsSome n = Unit {0}
+
+pub numbers_life : (kinds : KindTable) → IsLife kinds numbering IsNext 1 IsSome
+numbers_life kinds =
+    life_by kinds numbering IsNext 1 IsSome numbers_turns (λ around is. numbers_open around) (λ n session a b same h. h) numbers_exit (λ n s h fits. tt)
+
+-- what the law says then of a list of events
+pub items_balance : (item : Item) (owner : ℕ) (events : List What) → allows_all (reader item owner) 0 events ≡ true → IsNone (seen_after (reader item owner) 0 events)
+    → BalancesFrom 0 (acquires item owner) (releases item owner) events
+items_balance item owner events allowed none = grind (arith, nat_tests, and_from, covers, left, eq-eqb)

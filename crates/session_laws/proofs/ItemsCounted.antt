@@ -1,62 +1,163 @@
--- How often an owner holds an item is counted by what is said: where an item is taken and given back, where owners come, are released, move and go.
-use Rattle.std.proofs.Common.{◌≡◌, ℕ, ◌+◌, ◌-◌, ◌<◌, ◌≤◌, find, Bool, true, false, cond, Option, Some, None, List, [], ◌∷◌, ◌++◌, refl, sym, ap, ◌∙◌, subst, inl, inr, arith}
-use Rattle.std.specs.Prelude.{◌==◌, nat_le}
-use Rattle.std.specs.Option.{option_map_or}
-use Rattle.std.proofs.lemmas.Bool.{and_from, cases_Bool, cases_eq, false_from_ne_true, le-leb, ne_eqb}
-use Rattle.pgs_step.specs.declared.events.What.{What}
+-- How often the owner of a number has an item, behind each change of the owners, and how often a phase of a release says that it releases it.
+use Rattle.session_laws.proofs.Words.{◌≡◌, ℕ, ◌+◌, count_by, find, Bool, true, false, cond, Option, Some, None, List, [], ◌∷◌, ◌++◌, refl, ap, ◌∙◌, arith, ◌-◌, ◌<◌, ◌≤◌, sym, subst, ◌==◌, ◌&&◌, if◌then◌else◌, and_from, false_from_ne_true, le-leb, ne_eqb, sum_by-cons, Empty, Node, Once, has, at, changed, children, moved, put, removed, AllNodes, all_changed, swept, order_at, Moves, apart_of, at_absent, at_some, changed_absent, has_at, once_removed, parent_stays, put_absent, removed_absent, where_is, has_changed, has_of_removed, has_some, once_changed, once_front, once_put, times_moved, times_some, nat_tests}
+use Rattle.session_laws.proofs.Scenes.{Item, KindId, Phase, BeforeLocks, Locks, AfterLocks, KindTable, is_of, without_newest, is_of_phase, priority, release_order, Owner, OwnerTree, AllAt, HoldsNothing, created, forgotten, remembered, left_of, own_released, released, Said, Step, lock_step, own_steps, release_steps, releases_of, steps_below, top_locks, GivesBack, ReleasesLocks, PassesLocks, ReleasesAllLocks, made_event, What, table_of, Scene, newest, for_each, owner_made, given_back, owner_gone, owner_moved, phase_released, step_done, remembers}
+use Rattle.session_laws.proofs.Rules.{Reader, allows_all, seen_after, count, allows_all-append, seen_after-append, has_put_other, once_left, has_swept, AreReleaseSteps, IsReleaseStep, is_release, no_step, phase_release, then_step, warned_step, AreSaid, said_all_locks, said_lock_passes, said_lock_releases, said_map, said_more, said_none, said_one, said_weaker}
+use Rattle.session_laws.proofs.Parents.{alike_swept, once_alike}
+use Rattle.session_laws.proofs.Warnings.{is_aside}
+use Rattle.owner_items.proofs.Uses.{count-parts, count-without}
+use Rattle.lifetime_laws.specs.Once.{releases, same_item, acquires}
+use Rattle.session_laws.proofs.Lives.{Reads}
+use Rattle.session_laws.proofs.OwnerEnds.{Quiet, Stays, given_quiet, steps_stay}
 use Rattle.pgs_step.specs.declared.events.What.TheVariants as what
-use Rattle.pgs_step.specs.declared.ids.Item.{Item}
-use Rattle.pgs_step.specs.declared.ids.KindId.{KindId}
-use Rattle.pgs_step.specs.declared.ids.Phase.{Phase}
-use Rattle.forest.specs.Forest.{Empty, Node, Once, at, changed, has, moved, removed, times}
-use Rattle.forest.specs.Walk.{all_changed, order_at, swept}
-use Rattle.forest.proofs.Trees.{Moves, at_absent, at_some, has_changed, has_of_removed, has_some, once_changed, once_front, once_put, put_absent, times_moved, times_some}
-use Rattle.owner_kinds.specs.KindTable.{KindTable}
-use Rattle.owner_kinds.specs.KindShelf.{table_of}
-use Rattle.owner_items.specs.ItemList.{is_of, without_newest}
-use Rattle.owner_core.specs.Owners.{Owner, OwnerTree, AllAt, HoldsNothing, created, forgotten, remembered}
-use Rattle.owner_core.specs.Released.{own_released, released}
-use Rattle.owner_core.specs.Steps.{Step, Said, GivesBack, ReleasesLocks, PassesLocks, ReleasesAllLocks, made_event, release_steps}
-use Rattle.lifetime_laws.specs.Reading.{Reader, allows_all, seen_after}
-use Rattle.lifetime_laws.specs.Balance.{count}
-use Rattle.lifetime_laws.specs.Once.{acquires, releases}
-use Rattle.lifetime_laws.proofs.Readings.{allows_all-append, seen_after-append}
-use Rattle.session_rules.specs.World.{Scene}
-use Rattle.session_rules.specs.Lookup.{newest}
-use Rattle.session_rules.specs.Acts.{for_each}
-use Rattle.session_rules.specs.Making.{owner_made}
-use Rattle.session_rules.specs.Releases.{given_back, owner_gone, owner_moved, phase_released, step_done}
-use Rattle.session_rules.specs.Taking.{remembers}
-use Rattle.session_rules.proofs.Forests.{has_put_other, once_left}
-use Rattle.session_rules.proofs.Swept.{has_swept}
-use Rattle.session_laws.proofs.ReaderLaws.{Reads}
-use Rattle.session_rules.proofs.ReleaseSteps.{AreReleaseSteps, IsReleaseStep, is_release, no_step, phase_release, then_step, warned_step}
-use Rattle.session_rules.proofs.Said.{AreSaid, said_all_locks, said_lock_passes, said_lock_releases, said_map, said_more, said_none, said_one}
-use Rattle.session_laws.proofs.StepsRest.{Quiet, Stays, given_quiet, is_still, steps_stay}
-use Rattle.session_laws.proofs.ItemsHeld.{has_it, is_it, it_created, it_forgotten, it_moved, it_remembered, it_removed, says, says_phase}
+
+-- an event that acquires no item and releases none
+abbrev pub is_still : What → Bool
+is_still (what.Acquire item owner) = false
+is_still (what.Release item owner) = false
+is_still other = true
+
+aside_still : (event : What) → is_aside event ≡ true → is_still event ≡ true
+aside_still (what.Acquire item owner) h = absurd (cc h)
+aside_still other h = cc
+
+module _ (item : Item) (owner : ℕ) where
+  -- whether an item of the owner of this number is the one
+  abbrev pub is_it : ℕ → Item → Bool
+  is_it n other = same_item item other && (owner == n)
+
+  -- how often it is among the items of the owner of this number, and of all owners
+  abbrev pub own : ℕ → List Item → ℕ
+  own n items = count_by (is_it n) items
+
+  abbrev pub has_it : OwnerTree → ℕ
+  has_it Empty = 0
+  has_it (Node n o below beside) = own n o.items + (has_it below + has_it beside)
+
+  own_one : (n : ℕ) (other : Item) (items : List Item) → own n (other ∷ items) ≡ cond (is_it n other) 1 0 + own n items
+  own_one n other items = sum_by-cons (λ z. cond (is_it n z) 1 0) other items
+
+  -- a new owner has nothing
+  it_put_bare : (p n : ℕ) (t : OwnerTree) → has_it (put p n (record { begun = false; items = [] }) Empty t) ≡ has_it t
+  it_put_bare p n Empty = refl
+  it_put_bare p n (Node k b below beside) = grind (arith, nat_tests, it_put_bare p n beside, it_put_bare p n below)
+
+  pub it_created : (parent : Option ℕ) (n : ℕ) (t : OwnerTree) → has_it (created parent n t) ≡ has_it t
+  it_created None n t = omega arith
+  it_created (Some p) n t = it_put_bare p n t
+
+  -- an owner and those below it
+  it_put : (p n : ℕ) (a : Owner) (sub t : OwnerTree) → Once t → has p t ≡ true → has_it (put p n a sub t) ≡ has_it t + (own n a.items + has_it sub)
+  it_put p n a sub Empty o h = absurd (cc)
+  it_put p n a sub (Node k b below beside) o h = grind (arith, nat_tests, it_put p n a sub below, it_put p n a sub beside, apart_of, where_is, put_absent)
+
+  it_parts : (n : ℕ) (a : Owner) (t : OwnerTree) → Once t → at n t ≡ Some a → has_it (removed n t) + (own n a.items + has_it (children n t)) ≡ has_it t
+  it_parts n a Empty o h = absurd (cc)
+  it_parts n a (Node k b below beside) o h = grind (arith, nat_tests, it_parts n a below, it_parts n a beside, apart_of, where_is, has_at, removed_absent, at_some, at_absent)
+
+  it_nothing : (t : OwnerTree) → AllNodes HoldsNothing t → has_it t ≡ 0
+  it_nothing Empty h = refl
+  it_nothing (Node n a below beside) h = omega (arith, ap (own n) h.0, it_nothing below h.1, it_nothing beside h.2)
+
+  -- owners go that hold nothing
+  pub it_removed : (n : ℕ) (t : OwnerTree) → Once t → AllAt HoldsNothing n t → has_it (removed n t) ≡ has_it t
+  it_removed n t o all = grind (arith, nat_tests, at_some, it_parts, it_nothing, removed_absent)
+
+  -- an owner moves
+  pub it_moved : (n q : ℕ) (t : OwnerTree) → Once t → Moves n q t → has_it (moved n q t) ≡ has_it t
+  it_moved n q t o w = grind (arith, nat_tests, at_some, it_put, once_removed, parent_stays, it_parts)
+
+  -- the items of one owner change
+  it_changed : (n : ℕ) (f : Owner → Owner) (a : Owner) (t : OwnerTree) → Once t → at n t ≡ Some a → has_it (changed n f t) + own n a.items ≡ has_it t + own n (f a).items
+  it_changed n f a Empty o h = absurd (cc)
+  it_changed n f a (Node k b below beside) o h = grind (arith, nat_tests, it_changed n f a below, it_changed n f a beside, apart_of, where_is, has_at, changed_absent, at_some, at_absent)
+
+  -- one item more
+  pub it_remembered : (n : ℕ) (new : Item) (a : Owner) (t : OwnerTree) → Once t → at n t ≡ Some a → has_it (remembered n new t) ≡ has_it t + cond (is_it n new) 1 0
+  it_remembered n new a t o h =
+      omega (arith, it_changed n (λ (x : Owner). record x { items = new ∷ x.items }) a t o h, own_one n new a.items)
+
+  -- one item fewer
+  pub it_forgotten : (n : ℕ) (kind : KindId) (key : ℕ) (old : Item) (a : Owner) (t : OwnerTree) → Once t → at n t ≡ Some a → find (is_of kind key) a.items ≡ Some old
+      → has_it (forgotten n kind key t) + cond (is_it n old) 1 0 ≡ has_it t
+  it_forgotten n kind key old a t o h found =
+      omega (
+        arith,
+        it_changed n (λ (x : Owner). record x { items = without_newest (is_of kind key) x.items }) a t o h,
+        count-without (is_it n) (is_of kind key) a.items old found,
+      )
+
+  -- how often steps say that it is released
+  abbrev pub said : Step → ℕ
+  said (Said event) = releases item owner event
+  said other = 0
+
+  abbrev pub says : List Step → ℕ
+  says [] = 0
+  says (step ∷ steps) = said step + says steps
+
+  says_both : (xs ys : List Step) → says (xs ++ ys) ≡ says xs + says ys
+  says_both [] ys = omega arith
+  says_both (x ∷ xs) ys = omega (arith, says_both xs ys)
+
+  says_releases : (commit : Bool) (n : ℕ) (items : List Item) → says (releases_of commit n items) ≡ own n items
+  says_releases commit n [] = refl
+  says_releases true n (other ∷ items) = omega (arith, says_releases true n items, own_one n other items)
+  says_releases false n (other ∷ items) = omega (arith, says_releases false n items, own_one n other items)
+
+  -- of one owner: what it releases and what is left to it is what it had
+  says_own : (kinds : KindTable) (phase : Phase) (commit : Bool) (n : ℕ) (o : Owner) (locks : List Step) → says locks ≡ 0
+      → says (own_steps kinds phase commit n o locks) + own n (left_of kinds phase o.items) ≡ own n o.items
+  says_own kinds Locks commit n o locks none = omega (arith, none)
+  says_own kinds BeforeLocks commit n o locks none =
+      omega (arith, says_releases commit n (release_order kinds BeforeLocks o.items), count-parts (is_it n) (is_of_phase kinds BeforeLocks) (priority kinds) o.items)
+  says_own kinds AfterLocks commit n o locks none =
+      omega (arith, says_releases commit n (release_order kinds AfterLocks o.items), count-parts (is_it n) (is_of_phase kinds AfterLocks) (priority kinds) o.items)
+
+  lock_says : (commit : Bool) (n parent : ℕ) → said (lock_step commit n parent) ≡ 0
+  lock_says true n parent = refl
+  lock_says false n parent = refl
+
+  locks_say : (top commit : Bool) (n parent : ℕ) → says (if top then [] else lock_step commit n parent ∷ []) ≡ 0
+  locks_say true commit n parent = refl
+  locks_say false commit n parent = omega (arith, lock_says commit n parent)
+
+  top_says : (top commit : Bool) (n : ℕ) (parent : Option ℕ) → says (top_locks top commit n parent) ≡ 0
+  top_says true commit n parent = refl
+  top_says false commit n None = refl
+  top_says false commit n (Some p) = omega (arith, lock_says commit n p)
+
+  -- of the owners below one
+  says_below : (kinds : KindTable) (phase : Phase) (commit top : Bool) (parent : ℕ) (t : OwnerTree)
+      → says (steps_below kinds phase commit top parent t) + has_it (all_changed (own_released kinds phase) t) ≡ has_it t
+  says_below kinds phase commit top parent Empty = refl
+  says_below kinds phase commit top parent (Node n o below beside) = grind (arith, nat_tests, says_below kinds phase commit top n below, says_below kinds phase commit top parent beside, says_both, says_own, locks_say)
+
+  -- what a change of an owner and of all below it does to the sum
+  unswept : (f : Owner → Owner) (n : ℕ) (t : OwnerTree) → has n t ≡ false → swept f n t ≡ t
+  unswept f n Empty h = refl
+  unswept f n (Node k a below beside) h = grind (arith, nat_tests, unswept f n below, unswept f n beside)
+
+  it_swept : (f : Owner → Owner) (n : ℕ) (a : Owner) (t : OwnerTree) → Once t → at n t ≡ Some a
+      → has_it (swept f n t) + (own n a.items + has_it (children n t)) ≡ has_it t + (own n (f a).items + has_it (all_changed f (children n t)))
+  it_swept f n a Empty o h = absurd (cc h)
+  it_swept f n a (Node k b below beside) o h = grind (arith, nat_tests, it_swept f n a below, it_swept f n a beside, apart_of, where_is, has_at, unswept, at_some, at_absent)
+
+  -- A phase says of what it takes off the owners that it is released.
+  pub says_phase : (kinds : KindTable) (phase : Phase) (commit top : Bool) (n : ℕ) (t : OwnerTree) → Once t
+      → says (release_steps kinds phase commit top n t) + has_it (released kinds phase n t) ≡ has_it t
+  says_phase kinds phase commit top n t o = grind (arith, nat_tests, at_some, says_both, says_below, says_own, top_says, it_swept, at_absent, unswept)
+
+-- How often an owner holds an item is counted by what is said: where an item is taken and given back, where owners come, are released, move and go.
 
 -- each owner's number stands once and is below the next one
 pub record AreNumbered (owners : OwnerTree) (next : ℕ) : Type 0 where
   pub once : Once owners
   pub below : (n : ℕ) → has n owners ≡ true → n < next
 
--- a sweep leaves numbers
-times_all : (m : ℕ) (f : Owner → Owner) (t : OwnerTree) → times m (all_changed f t) ≡ times m t
-times_all m f Empty = refl
-times_all m f (Node k a below beside) = rw (times_all m f below, times_all m f beside) refl
-
-times_swept : (m : ℕ) (f : Owner → Owner) (n : ℕ) (t : OwnerTree) → times m (swept f n t) ≡ times m t
-times_swept m f n Empty = refl
-times_swept m f n (Node k a below beside) =
-    elim (cases_Bool (k == n)) [
-      | inl y ↦ rw (y, times_all m f below, times_swept m f n beside) refl
-      | inr y ↦ rw (y, times_swept m f n below, times_swept m f n beside) refl
-    ]
-
 -- numbers behind each change of the owners
 numbered_swept : (f : Owner → Owner) (n : ℕ) (t : OwnerTree) (next : ℕ) → AreNumbered t next → AreNumbered (swept f n t) next
 numbered_swept f n t next k = record {
-  once = record { once = λ m. omega (arith, times_swept m f n t, k.once.once m) };
+  once = once_alike t (swept f n t) (alike_swept f n t) k.once;
   below = λ m u. k.below m (sym (has_swept f m n t) ∙ u);
 }
 
@@ -67,34 +168,14 @@ numbered_removed : (n : ℕ) (t : OwnerTree) (next : ℕ) → AreNumbered t next
 numbered_removed n t next k = record { once = once_left n t k.once; below = λ m u. k.below m (has_of_removed m n t u) }
 
 numbered_moved : (n q : ℕ) (t : OwnerTree) (next : ℕ) → AreNumbered t next → Moves n q t → AreNumbered (moved n q t) next
-numbered_moved n q t next k w =
-    let same : (m : ℕ) → times m (moved n q t) ≡ times m t = λ m. let a = at_some n t w.node in rw a.1 (times_moved m n q a.0 t k.once w) in
-    record {
-      once = record { once = λ m. omega (arith, same m, k.once.once m) };
-      below = λ m u. k.below m (has_some m t (omega (arith, same m, times_some m (moved n q t) u)));
-    }
+numbered_moved n q t next k w = grind (arith, nat_tests, at_some, times_moved, has_some, times_some)
 
 fresh : (t : OwnerTree) (next : ℕ) → AreNumbered t next → has next t ≡ false
 fresh t next k = false_from_ne_true (has next t) (λ e. omega (arith, k.below next e))
 
 numbered_created : (parent : Option ℕ) (t : OwnerTree) (next : ℕ) → AreNumbered t next → AreNumbered (created parent next t) (next + 1)
-numbered_created None t next k = record {
-  once = once_front next (record { begun = false; items = [] }) t k.once (fresh t next k);
-  below = λ m u. elim (cases_eq next m) [
-    | inl e ↦ omega (arith, e)
-    | inr ne ↦ let r : has m t ≡ true = rw (ne_eqb next m ne) at u in omega (arith, k.below m r)
-  ];
-}
-numbered_created (Some p) t next k = elim (cases_Bool (has p t)) [
-  | inl y ↦ record {
-    once = once_put p next (record { begun = false; items = [] }) t k.once y (fresh t next k);
-    below = λ m u. elim (cases_eq m next) [
-      | inl e ↦ omega (arith, e)
-      | inr ne ↦ omega (arith, k.below m (sym (has_put_other m p next (record { begun = false; items = [] }) Empty t ne refl) ∙ u))
-    ];
-  }
-  | inr y ↦ rw (put_absent p next (record { begun = false; items = [] }) Empty t y) (record { once = k.once; below = λ m u. omega (arith, k.below m u) })
-]
+numbered_created None t next k = grind (arith, nat_tests, once_front, fresh, ne_eqb)
+numbered_created (Some p) t next k = grind (arith, nat_tests, once_put, fresh, has_put_other, put_absent)
 
 -- The count is how often the owner of that number holds the item.
 pub record Counts (item : Item) (owner n : ℕ) (s : Scene) : Type 0 where
@@ -116,17 +197,11 @@ module _ (item : Item) (owner : ℕ) where
     is : seen_after reader n events ≡ behind
 
   leads_both : (n m k : ℕ) (xs ys : List What) → Leads n m xs → Leads m k ys → Leads n k (xs ++ ys)
-  leads_both n m k xs ys a b = record {
-    allowed = allows_all-append reader n xs ys a.allowed (ap (λ (j : ℕ). allows_all reader j ys) a.is ∙ b.allowed);
-    is = seen_after-append reader n xs ys ∙ ap (λ (j : ℕ). seen_after reader j ys) a.is ∙ b.is;
-  }
+  leads_both n m k xs ys a b = grind (arith, nat_tests, allows_all-append, seen_after-append)
 
   -- one event
   one_leads : (event : What) (n a r : ℕ) → acquires item owner event ≡ a → releases item owner event ≡ r → r ≤ n → Leads n ((n + a) - r) (event ∷ [])
-  one_leads event n a r brings takes few = record {
-    allowed = and_from (nat_le (releases item owner event) n) true (ap (λ (k : ℕ). nat_le k n) takes ∙ le-leb r n few) refl;
-    is = ap (λ (k : ℕ). (n + k) - releases item owner event) brings ∙ ap (λ (k : ℕ). (n + a) - k) takes;
-  }
+  one_leads event n a r brings takes few = grind (arith, nat_tests, and_from, le-leb)
 
   brings_none : (event : What) → is_still event ≡ true → acquires item owner event ≡ 0
   brings_none (what.Acquire other by) h = absurd (cc h)
@@ -137,9 +212,7 @@ module _ (item : Item) (owner : ℕ) where
   takes_none other h = refl
 
   still_one_leads : (event : What) (n : ℕ) → is_still event ≡ true → Leads n n (event ∷ [])
-  still_one_leads event n h =
-      let one : Leads n ((n + 0) - 0) (event ∷ []) = one_leads event n 0 0 (brings_none event h) (takes_none event h) (omega arith) in
-      record { allowed = one.allowed; is = one.is ∙ omega arith }
+  still_one_leads event n h = grind (arith, nat_tests, one_leads, brings_none, takes_none)
 
   still_leads : {events : List What} → AreSaid is_still events → (n : ℕ) → Leads n n events
   still_leads said_none n = record { allowed = refl; is = refl }
@@ -151,12 +224,10 @@ module _ (item : Item) (owner : ℕ) where
   release_brings other h = refl
 
   step_leads : (step : Step) → IsReleaseStep step → (s : Scene) (n k : ℕ) → n ≡ says item owner (step ∷ []) + k → Leads n k (step_done step s).events
-  step_leads (Said event) h s n k e =
-      let one : Leads n ((n + 0) - releases item owner event) (event ∷ []) = one_leads event n 0 (releases item owner event) (release_brings event h) refl (omega (arith, e)) in
-      record { allowed = one.allowed; is = one.is ∙ omega (arith, e) }
+  step_leads (Said event) h s n k e = grind (arith, nat_tests, one_leads, release_brings)
   step_leads (GivesBack other) h s n k e =
       let q : Quiet s (given_back other s).scene (given_back other s).events = (given_quiet other).so s in
-      let z : Leads n n (given_back other s).events = still_leads q.still n in
+      let z : Leads n n (given_back other s).events = still_leads (said_weaker aside_still q.said) n in
       record { allowed = z.allowed; is = z.is ∙ omega (arith, e) }
   step_leads (ReleasesLocks o) h s n k e = let z = still_leads (said_lock_releases (λ object mode count by. refl) o s.session.locks) n in record { allowed = z.allowed; is = z.is ∙ omega (arith, e) }
   step_leads (PassesLocks from to) h s n k e = let z = still_leads (said_lock_passes (λ object mode count by to. refl) from to s.session.locks) n in record { allowed = z.allowed; is = z.is ∙ omega (arith, e) }
@@ -179,14 +250,7 @@ module _ (item : Item) (owner : ℕ) where
 
   reads_by : (s t : Scene) (events : List What) → (AreNumbered s.session.owners s.session.next_owner → AreNumbered t.session.owners t.session.next_owner)
       → (AreNumbered s.session.owners s.session.next_owner → Leads (has_it item owner s.session.owners) (has_it item owner t.session.owners) events) → Counted s t events
-  reads_by s t events numbered leads = record {
-    so = λ n fits.
-        let l : Leads (has_it item owner s.session.owners) (has_it item owner t.session.owners) events = leads fits.numbered in
-        record {
-          allowed = ap (λ (k : ℕ). allows_all reader k events) fits.is ∙ l.allowed;
-          fits = record { numbered = numbered fits.numbered; is = ap (λ (k : ℕ). seen_after reader k events) fits.is ∙ l.is };
-        };
-  }
+  reads_by s t events numbered leads = grind (arith, nat_tests)
 
   -- where owners stay, or hold the item as often as before
   still_reads : (s t : Scene) {events : List What} → (AreNumbered s.session.owners s.session.next_owner → AreNumbered t.session.owners t.session.next_owner)
@@ -196,9 +260,7 @@ module _ (item : Item) (owner : ℕ) where
       (λ k. let z = still_leads h (has_it item owner s.session.owners) in record { allowed = z.allowed; is = z.is ∙ sym (same k) })
 
   pub aside_reads : (s t : Scene) {events : List What} → t.session.owners ≡ s.session.owners → t.session.next_owner ≡ s.session.next_owner → AreSaid is_still events → Counted s t events
-  aside_reads s t owners next h =
-      still_reads s t (λ k. subst (λ (x : OwnerTree). AreNumbered x t.session.next_owner) (sym owners) (subst (AreNumbered s.session.owners) (sym next) k))
-      (λ k. ap (has_it item owner) owners) h
+  aside_reads s t owners next h = grind (arith, nat_tests, still_reads)
 
   -- an owner is made
   pub made_reads : (parent : Option ℕ) (s : Scene) → Counted s (owner_made parent s).scene (owner_made parent s).events
@@ -222,14 +284,7 @@ module _ (item : Item) (owner : ℕ) where
       record { allowed = l.allowed; is = l.is ∙ omega (arith, sum) })
 
   pub forgotten_reads : (n : ℕ) (kind : KindId) (key : ℕ) (old : Item) (s : Scene) → newest n kind key s.session ≡ Some old → Counted s (forgets n kind key s) (what.Release old n ∷ [])
-  forgotten_reads n kind key old s found = elim (cases_Bool (has n s.session.owners)) [
-    | inl y ↦
-        let a = at_some n s.session.owners y in
-        forgotten_at n kind key old a.0 s a.1 (ap (λ (z : Option Owner). find (is_of kind key) (option_map_or (λ o. o.items) z [])) (sym a.1) ∙ found)
-    | inr y ↦
-        let none : None ≡ Some old = ap (λ (z : Option Owner). find (is_of kind key) (option_map_or (λ o. o.items) z [])) (sym (at_absent n s.session.owners y)) ∙ found in
-        absurd (cc none)
-  ]
+  forgotten_reads n kind key old s found = grind (arith, nat_tests, at_some, forgotten_at, at_absent)
 
   -- an owner that is there takes an item
   pub remembered_reads : (n : ℕ) (kind : KindId) (key : ℕ) (s : Scene) → has n s.session.owners ≡ true → Counted s (remembers n kind key s).scene (remembers n kind key s).events

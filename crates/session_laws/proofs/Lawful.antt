@@ -1,48 +1,31 @@
 -- Each transcript keeps the laws of lifetimes.
-use Rattle.std.proofs.Common.{◌≡◌, ℕ, ◌≤◌, true, false, Option, None, List, [], refl, ap}
-use Rattle.std.specs.Prelude.{◌==◌, IsTrue, is_none}
-use Rattle.std.proofs.lemmas.Bool.{and_from, eq-eqb}
-use Rattle.pgs_step.specs.declared.ids.Item.{Item}
+use Rattle.session_laws.proofs.Words.{◌≡◌, ℕ, ◌≤◌, true, false, Option, None, List, [], refl, ap, ◌==◌, IsTrue, is_none, and_from, eq-eqb}
+use Rattle.session_laws.proofs.Scenes.{Item, What, table_of, IsSound, AreDistinct, Options, Scene, exited, Reading, transcript_by}
+use Rattle.session_laws.proofs.Rules.{Reader, allows_all, events_of, seen_after, BalancesFrom, Covers, count, covers, left}
 use Rattle.pgs_step.specs.declared.events.Event.{Event}
-use Rattle.pgs_step.specs.declared.events.What.{What}
 use Rattle.owner_kinds.specs.Kind.{Kind}
-use Rattle.owner_kinds.specs.KindShelf.{table_of}
-use Rattle.owner_kinds.specs.KindTable.{IsSound}
-use Rattle.reset_callbacks.specs.Hook.{AreDistinct}
 use Rattle.reset_callbacks.specs.ShelfState.{ShelfState, held}
-use Rattle.lifetime_laws.specs.Reading.{Reader, allows_all, events_of, seen_after}
-use Rattle.lifetime_laws.specs.Balance.{BalancesFrom, Covers, count, covers, left}
 use Rattle.lifetime_laws.specs.Once.{ReleasesOnce, acquires, closes, deletes, discards, ending, exits_last, first_parents, goes_childless, happens, has_context, locks, makes_owner, none_left, nothing, numbers_items, opens, pops_newest, releases, stacking, unlocks}
 use Rattle.lifetime_laws.specs.Made.{MakesOnce}
 use Rattle.lifetime_laws.specs.Order.{ReleasesInOrder, warning, warns_of_releases}
 use Rattle.lifetime_laws.specs.Inside.{StaysInside}
 use Rattle.lifetime_laws.specs.Called.{CallsBack}
 use Rattle.lifetime_laws.specs.Laws.{IsLawful}
-use Rattle.session_rules.specs.World.{Options, Scene}
-use Rattle.session_rules.specs.Ends.{exited}
-use Rattle.session_rules.specs.Transcript.{Reading, transcript_by}
-use Rattle.session_laws.proofs.ReaderLaws.{IsLife, IsRead}
-use Rattle.session_laws.proofs.Lifts.{HaveLived, IsLifeAmong, last_of_all, lives_among, lives_in_run}
-use Rattle.session_laws.proofs.LiftExits.{exits_life}
-use Rattle.session_laws.proofs.CallWords.{transcript_calls_back}
-use Rattle.session_laws.proofs.FilesCount.{FilesFit, MayOpen, closing_turns}
-use Rattle.session_laws.proofs.ParentsFollow.{paired}
-use Rattle.session_laws.proofs.FilesItems.{item_reader}
-use Rattle.session_laws.proofs.FilesHeld.{ItemFits}
-use Rattle.session_laws.proofs.LiftFiles.{FitsBoth, files_balance, files_life, items_cover, nothing_seen}
-use Rattle.session_laws.proofs.FilesLife.{files_elsewhere, files_error, files_exit, files_open, files_turn}
+use Rattle.session_laws.proofs.Lives.{IsLife, IsRead}
+use Rattle.session_laws.proofs.Lifts.{HaveLived, last_of_all, lives_in_run, exits_life}
+use Rattle.session_laws.proofs.Calls.{transcript_calls_back}
+use Rattle.session_laws.proofs.FilesLife.{FilesFit, MayOpen, closing_turns, files_elsewhere, files_error, files_exit, files_open, files_turn}
+use Rattle.session_laws.proofs.MadeOnce.{paired, FitsParents, NoneLeft, shedding_life, made_once_of}
+use Rattle.session_laws.proofs.FilesHeld.{item_reader, ItemFits}
+use Rattle.session_laws.proofs.FilesBalance.{FitsBoth, files_balance, files_life, items_cover, nothing_seen}
 use Rattle.session_laws.proofs.LocksLife.{lock_life}
 use Rattle.session_laws.proofs.StackLife.{stack_life}
-use Rattle.session_laws.proofs.ParentsLife.{contexts_life}
-use Rattle.session_laws.proofs.ParentsOwnersLife.{owners_life}
-use Rattle.session_laws.proofs.MadeChildless.{FitsParents, NoneLeft, shedding_life}
-use Rattle.session_laws.proofs.MadeOnce.{made_once_of}
-use Rattle.session_laws.proofs.MadePlaced.{placing, placing_life}
-use Rattle.session_laws.proofs.MadeGone.{contexts_gone_of, owners_gone_of}
+use Rattle.session_laws.proofs.ParentsLife.{contexts_life, owners_life}
+use Rattle.session_laws.proofs.MadeGone.{placing, placing_life, contexts_gone_of, owners_gone_of}
 use Rattle.session_laws.proofs.OrderLife.{order}
 use Rattle.session_laws.proofs.InsideLife.{inside_life}
 use Rattle.session_laws.proofs.Warnings.{warnings}
-use Rattle.session_laws.proofs.ItemsLives.{items_balance, items_life, numbers_life}
+use Rattle.session_laws.proofs.Items.{items_balance, items_life, numbers_life}
 
 -- what balances in the end
 balances : (brings takes : What → ℕ) (start : ℕ) (whats : List What) → allows_all (count brings takes) start whats ≡ true → seen_after (count brings takes) start whats ≡ 0 → BalancesFrom start brings takes whats
@@ -74,7 +57,7 @@ module _ (reads : Reading) (w : Option ℕ) (options : Options) (kinds : List Ki
   locks_kept n l u object mode = let life = lived (lock_life object mode (table_of kinds)) in balances (locks object mode) (unlocks object mode) 0 (own n) (life.allowed n) (life.lasts n l u)
 
   -- a file's descriptor is opened only where it has none
-  turns_life : (file : ℕ) → IsLifeAmong (table_of kinds) (count (closes file) (opens file)) (FilesFit file MayOpen) 1 (λ n. Unit {0})
+  turns_life : (file : ℕ) → IsLife (table_of kinds) (count (closes file) (opens file)) (FilesFit file MayOpen) 1 (λ n. Unit {0})
   turns_life file = record {
     opens = λ around table. files_open file MayOpen 1 around refl;
     elsewhere = λ n session a b table descriptors h. files_elsewhere file MayOpen n session a b descriptors h;
@@ -87,7 +70,7 @@ module _ (reads : Reading) (w : Option ℕ) (options : Options) (kinds : List Ki
 
   pub turns_kept : (n : ℕ) (file : ℕ) → Covers (closes file) (opens file) 1 (own n)
   turns_kept n file =
-      let life = lives_among (count (closes file) (opens file)) (FilesFit file MayOpen) 1 (λ n. Unit {0}) reads w options kinds shelf lines sound differ (turns_life file) in
+      let life = lives_in_run (count (closes file) (opens file)) (FilesFit file MayOpen) 1 (λ n. Unit {0}) reads w options kinds shelf lines sound differ (turns_life file) in
       life.allowed n
 
   -- each pop is of the newest active snapshot, and none is left
@@ -135,7 +118,7 @@ module _ (reads : Reading) (w : Option ℕ) (options : Options) (kinds : List Ki
   descriptors_kept : (n : ℕ) → 1 ≤ n → n ≤ options.sessions → (file : ℕ) → BalancesFrom 0 (opens file) (closes file) (own n)
   descriptors_kept n l u file =
       let items = item_reader file in
-      let life = lives_among (paired (count (opens file) (closes file)) items) (FitsBoth file items (ItemFits file) (items_cover file)) (nothing_seen file items (ItemFits file) (items_cover file))
+      let life = lives_in_run (paired (count (opens file) (closes file)) items) (FitsBoth file items (ItemFits file) (items_cover file)) (nothing_seen file items (ItemFits file) (items_cover file))
       (λ seen. seen.first ≤ seen.second) reads w options kinds shelf lines sound differ (files_life file items (ItemFits file) (items_cover file) (table_of kinds)) in
       files_balance file (own n) (items_kept n l u) (life.allowed n) (life.lasts n l u)
 

@@ -1,37 +1,194 @@
--- What each turn and each exit of a session keeps, a whole run keeps: so the events of each session in a transcript are read as those of a life.
-use Rattle.std.proofs.Common.{◌≡◌, ◌≢◌, ℕ, zero, suc, ◌+◌, ◌-◌, ◌<◌, ◌≤◌, ◌⊎◌, inl, inr, true, false, Bool, Option, Some, None, Result, Ok, Err, List, [], ◌∷◌, ◌++◌, length, refl, sym, ap, ◌∙◌, subst, arith}
-use Rattle.std.specs.Prelude.{◌==◌, slice_get, slice_set}
-use Rattle.std.proofs.lemmas.Bool.{cases_eq, cases_lt, cond-false, ne_eqb}
-use Rattle.std.proofs.lemmas.List.{append-nil, length-set, length-replicate}
-use Rattle.std.proofs.lemmas.Option.{slice_get_cases, slice_get_within}
-use Rattle.pgs_step.specs.declared.errors.Error.{Error}
+-- A line and an exit leave what never changes around a session: the names of the extension kinds, when their items are released, and how many descriptors there are.
+use Rattle.session_laws.proofs.Words.{◌≡◌, ℕ, ◌∙◌, true, false, Bool, Option, Some, None, List, ap, refl, ◌≢◌, zero, suc, ◌+◌, ◌≤◌, ◌⊎◌, inl, inr, cond, [], ◌∷◌, ◌++◌, length, sym, subst, arith, ◌-◌, ◌<◌, Result, Ok, Err, ◌==◌, replicate, slice_get, slice_set, slice_index_or, flat_map, sum_by, get_or-le-sum_by, sum_by-cons, sum_by-set, cases_eq, cases_lt, cond-false, ne_eqb, append-nil, length-set, length-replicate, nat_tests}
+use Rattle.session_laws.proofs.Scenes.{What, Error, Command, table_of, Moment, Scene, Around, Options, World, around, moment, opened, session_at, with_scene, Done, does_all, exited, recovered, level_rolled_back, line_elements, turn, turn_of, Course, Reading, Turn, after_command, after_exit, after_line, after_read, at_start, course_by, ended, exits, goes_on, missing, of_session, transcript_by, AreDistinct, Hook, waiting, SessionState, opening, top_context, AreHooks, StandsBetweenLines, IsSound, KindTable, Ended, context_gone, for_each, switched}
+use Rattle.session_laws.proofs.Rules.{EndLeaves, KeyLeaves, Part, Sight, item_comes, of_descriptors, of_kinds, owner_makes, unseen_owners, exit_follows, line_spoken, Reader, allows_all, events_of, seen_after, allows_all-append, events_of-append, events_of-other, events_of-own, seen_after-append, turn_stands, AreSaid, said_more, said_none}
+use Rattle.session_laws.proofs.Usual.{Usual, any, usual_any, any_turn_follows, usual_makes, usual_moves, plain_ends}
+use Rattle.owner_kinds.proofs.Places.{table-closed, table-opened}
+use Rattle.std.proofs.lemmas.List.Concat.{flat_map-cons, length-flat_map}
+use Rattle.std.proofs.lemmas.Option.{get_or_from_slice_get, slice_get_within, slice_get_cases}
+use Rattle.reset_callbacks.specs.ShelfState.{ShelfState, held}
+use Rattle.session_rules.specs.HookCounts.{HooksCounted, hooks_of}
+use Rattle.session_rules.proofs.HooksKept.{distinct_times, times_append, times_distinct, word_times}
 use Rattle.pgs_step.specs.declared.events.Event.{Event}
-use Rattle.pgs_step.specs.declared.events.What.{What}
-use Rattle.pgs_step.specs.declared.events.What.TheVariants as what
-use Rattle.pgs_command.specs.declared.commands.Command.{Command}
 use Rattle.pgs_command.specs.declared.lines.Line.{Line}
 use Rattle.pgs_command.specs.declared.lines.BadLine.{BadLine}
 use Rattle.owner_kinds.specs.Kind.{Kind}
-use Rattle.owner_kinds.specs.KindShelf.{table_of}
-use Rattle.owner_kinds.specs.KindTable.{IsSound, KindTable}
-use Rattle.reset_callbacks.specs.Hook.{AreDistinct}
-use Rattle.reset_callbacks.specs.ShelfState.{ShelfState, held}
-use Rattle.lifetime_laws.specs.Reading.{Reader, allows_all, events_of, seen_after}
-use Rattle.lifetime_laws.proofs.Readings.{allows_all-append, events_of-append, events_of-other, events_of-own, seen_after-append}
-use Rattle.session_rules.specs.State.{SessionState, opening}
-use Rattle.session_rules.specs.World.{Around, Moment, Options, Scene, World, around, moment, opened, session_at, with_scene}
-use Rattle.session_rules.specs.Acts.{Ended}
-use Rattle.session_rules.specs.Ends.{exited}
-use Rattle.session_rules.specs.Standing.{AreHooks, StandsBetweenLines}
-use Rattle.session_rules.specs.HookCounts.{HooksCounted}
-use Rattle.session_rules.specs.Transcript.{Course, Reading, Turn, after_command, after_exit, after_line, after_read, at_start, course_by, ended, exits, goes_on, missing, of_session, transcript_by, turn}
 use Rattle.session_rules.proofs.HookLaws.{exited_counts_hooks, turn_counts_hooks}
 use Rattle.session_rules.proofs.OpeningStands.{opening_stands}
 use Rattle.session_rules.proofs.Standings.{stands_between_elsewhere}
-use Rattle.session_rules.proofs.TurnStands.{turn_stands}
-use Rattle.session_laws.proofs.ReaderLaws.{IsLife, IsRead, Reads}
-use Rattle.session_laws.proofs.LiftHooks.{HooksFit, hooks_at_first, hooks_behind, hooks_of_one, place_other, place_set, replicated}
-use Rattle.session_laws.proofs.LiftKinds.{exit_keeps_kinds, turn_keeps_descriptors, turn_keeps_kinds}
+use Rattle.session_laws.proofs.Lives.{IsLife, IsRead, Reads, read_both, then_read}
+use Rattle.lifetime_laws.specs.Once.{ending}
+use Rattle.session_rules.proofs.Ordinary.{elements_ordinary, gone_ordinary, is_ordinary, recovery_ordinary, rollback_ordinary}
+use Rattle.pgs_step.specs.declared.events.What.TheVariants as what
+
+-- The law: the table of the kinds is the same behind, and so is how many descriptors there are.
+pub record KeepsKinds (s t : Scene) (events : List What) : Type 0 where
+  pub same : table_of t.around.kinds ≡ table_of s.around.kinds
+  pub descriptors : t.around.descriptors ≡ s.around.descriptors
+
+abbrev sees_kinds : Part → Bool
+sees_kinds of_kinds = true
+sees_kinds of_descriptors = true
+sees_kinds other = false
+
+abbrev sight : Sight sees_kinds any KeepsKinds
+sight = record {
+  both = λ h k. record { same = k.same ∙ h.same; descriptors = k.descriptors ∙ h.descriptors };
+  aside = λ s t same said. record { same = ap table_of (same.so of_kinds refl); descriptors = same.so of_descriptors refl };
+}
+
+keys : KeyLeaves KeepsKinds
+keys = search (table-opened, table-closed)
+
+usual : Usual sees_kinds any
+usual = assumption usual_any
+
+kinds_ends : EndLeaves KeepsKinds
+kinds_ends =
+    plain_ends sight usual keys refl refl refl (λ level. (refl, refl, refl, refl)) (λ item n. refl) (λ n. refl) (λ n parent. refl)
+    (unseen_owners sees_kinds any KeepsKinds sight refl (λ item n. refl) (λ item n. refl) (item_comes sees_kinds any KeepsKinds sight refl refl (λ item n. refl)))
+
+turn_so : (w : Option ℕ) (line : Option Command) (m : Moment) → KeepsKinds m.scene (turn w line m).moment.scene (turn w line m).events
+turn_so =
+    any_turn_follows KeepsKinds kinds_ends (λ error. record { so = λ s. record { same = refl; descriptors = refl } }) (usual_makes sight usual (λ n parent name. refl) refl (owner_makes sees_kinds any KeepsKinds sight refl refl (λ n. refl) (λ n parent. refl))) (usual_moves sight usual)
+
+exit_so : (s : Scene) → KeepsKinds s (exited s).scene (exited s).events
+exit_so s = exit_follows KeepsKinds kinds_ends (record { so = λ s. record { same = refl; descriptors = refl } }) s
+
+pub turn_keeps_kinds : (w : Option ℕ) (line : Option Command) (m : Moment) → table_of (turn w line m).moment.scene.around.kinds ≡ table_of m.scene.around.kinds
+turn_keeps_kinds w line m = (turn_so w line m).same
+
+pub turn_keeps_descriptors : (w : Option ℕ) (line : Option Command) (m : Moment) → (turn w line m).moment.scene.around.descriptors ≡ m.scene.around.descriptors
+turn_keeps_descriptors w line m = (turn_so w line m).descriptors
+
+pub exit_keeps_kinds : (s : Scene) → table_of (exited s).scene.around.kinds ≡ table_of s.around.kinds
+exit_keeps_kinds s = (exit_so s).same
+
+-- The hooks of all sessions together, when those of one session change; and places of lists.
+
+-- the hooks that wait in sessions
+abbrev pub all_waiting : List SessionState → List Hook
+all_waiting sessions = flat_map (λ session. waiting session.contexts) sessions
+
+-- As many hooks are out of the shelf as wait in all sessions, and no two of those that wait and those that the shelf holds have one word.
+pub record HooksFit (sessions : List SessionState) (x : ShelfState) : Type 0 where
+  pub out : length (all_waiting sessions) ≤ x.out
+  pub words : AreDistinct (all_waiting sessions ++ held x)
+
+-- how many of a session's hooks have a word, and how many wait
+abbrev words_in : ℕ → SessionState → ℕ
+words_in n session = word_times n (waiting session.contexts)
+
+abbrev many_in : SessionState → ℕ
+many_in session = length (waiting session.contexts)
+
+words_together : (n : ℕ) (sessions : List SessionState) → word_times n (all_waiting sessions) ≡ sum_by (words_in n) sessions
+words_together n [] = refl
+words_together n (session ∷ sessions) =
+    ap (word_times n) (flat_map-cons (λ (s : SessionState). waiting s.contexts) session sessions) ∙ omega (
+      arith,
+      times_append n (waiting session.contexts) (all_waiting sessions),
+      words_together n sessions,
+      sum_by-cons (words_in n) session sessions,
+    )
+
+many_together : (sessions : List SessionState) → length (all_waiting sessions) ≡ sum_by many_in sessions
+many_together sessions = length-flat_map (λ (s : SessionState). waiting s.contexts) sessions
+
+-- a session's part of the sum
+part_of : (f : SessionState → ℕ) (sessions : List SessionState) (place : ℕ) (session : SessionState) → slice_get sessions place ≡ Some session → f session ≤ sum_by f sessions
+part_of f sessions place session there =
+    let is : slice_index_or sessions place session ≡ session = get_or_from_slice_get sessions place session session there in
+    omega (arith, ap f is, get_or-le-sum_by f sessions place session (slice_get_within sessions place session there))
+
+changed : (f : SessionState → ℕ) (sessions : List SessionState) (place : ℕ) (session left : SessionState) → slice_get sessions place ≡ Some session
+    → sum_by f (slice_set sessions place left) + f session ≡ sum_by f sessions + f left
+changed f sessions place session left there =
+    let is : slice_index_or sessions place session ≡ session = get_or_from_slice_get sessions place session session there in
+    omega (arith, ap f is, sum_by-set f sessions place left session (slice_get_within sessions place session there))
+
+-- the hooks of each session fit the shelf
+pub hooks_of_one : (sessions : List SessionState) (x : ShelfState) (place : ℕ) (session : SessionState) → slice_get sessions place ≡ Some session → HooksFit sessions x → AreHooks session.contexts x
+hooks_of_one sessions x place session there h = record {
+  out = omega (arith, h.out, many_together sessions, part_of many_in sessions place session there);
+  words = times_distinct (waiting session.contexts ++ held x)
+      (λ n. omega (
+        arith,
+        distinct_times (all_waiting sessions ++ held x) h.words n,
+        times_append n (all_waiting sessions) (held x),
+        times_append n (waiting session.contexts) (held x),
+        words_together n sessions,
+        part_of (words_in n) sessions place session there,
+      ));
+}
+
+pub word_times_are : (n : ℕ) (hooks : List Hook) → word_times n hooks ≡ hooks_of n hooks
+word_times_are n [] = refl
+word_times_are n (hook ∷ hooks) = omega (arith, word_times_are n hooks, sum_by-cons (λ (h : Hook). cond (h.word == n) 1 0) hook hooks)
+
+-- one session's hooks changed as they are counted
+pub hooks_behind : (sessions : List SessionState) (x y : ShelfState) (place : ℕ) (session left : SessionState) (events : List What) → slice_get sessions place ≡ Some session
+    → HooksCounted session.contexts x left.contexts y events → HooksFit sessions x → HooksFit (slice_set sessions place left) y
+hooks_behind sessions x y place session left events there count h = record {
+  out =
+      let own = hooks_of_one sessions x place session there h in
+      omega (
+        arith,
+        h.out,
+        many_together sessions,
+        many_together (slice_set sessions place left),
+        changed many_in sessions place session left there,
+        count.out own.out,
+      );
+  words = times_distinct (all_waiting (slice_set sessions place left) ++ held y)
+      (λ n. omega (
+        arith,
+        distinct_times (all_waiting sessions ++ held x) h.words n,
+        times_append n (all_waiting sessions) (held x),
+        times_append n (all_waiting (slice_set sessions place left)) (held y),
+        words_together n sessions,
+        words_together n (slice_set sessions place left),
+        changed (words_in n) sessions place session left there,
+        count.counts.whole n,
+        word_times_are n (waiting session.contexts ++ held x),
+        word_times_are n (waiting left.contexts ++ held y),
+        times_append n (waiting session.contexts) (held x),
+        times_append n (waiting left.contexts) (held y),
+      ));
+}
+
+-- no hook waits in sessions as they open
+none_wait : (n : ℕ) → all_waiting (replicate n opening) ≡ []
+unfolding opening
+none_wait zero = refl
+none_wait (suc n) = none_wait n
+
+pub hooks_at_first : (n : ℕ) (x : ShelfState) → AreDistinct (held x) → HooksFit (replicate n opening) x
+hooks_at_first n x differ = grind (arith, nat_tests, none_wait)
+
+-- places of lists
+pub replicated : {A : Type 0} (n place : ℕ) (x y : A) → slice_get (replicate n x) place ≡ Some y → y ≡ x
+replicated zero place x y h = cc
+replicated (suc n) zero x y h = cc
+replicated (suc n) (suc place) x y h = replicated n place x y h
+
+-- what stands in a list one of whose places was set
+pub place_set : {A : Type 0} (xs : List A) (i : ℕ) (y : A) (j : ℕ) (x : A) → slice_get (slice_set xs i y) j ≡ Some x → ((j ≡ i) × (x ≡ y)) ⊎ ((j ≢ i) × (slice_get xs j ≡ Some x))
+place_set [] i y j x h = absurd (cc h)
+place_set (z ∷ zs) zero y zero x h = inl (refl, cc)
+place_set (z ∷ zs) zero y (suc j) x h = inr (λ e. omega (arith, e), h)
+place_set (z ∷ zs) (suc i) y zero x h = inr (λ e. omega (arith, e), h)
+place_set (z ∷ zs) (suc i) y (suc j) x h = grind (arith, nat_tests, place_set zs i y j x h)
+
+-- the other places of it
+pub place_other : {A : Type 0} (xs : List A) (i j : ℕ) (y : A) → j ≢ i → slice_get (slice_set xs i y) j ≡ slice_get xs j
+place_other [] i j y other = refl
+place_other (z ∷ zs) zero zero y other = absurd (other refl)
+place_other (z ∷ zs) zero (suc j) y other = refl
+place_other (z ∷ zs) (suc i) zero y other = refl
+place_other (z ∷ zs) (suc i) (suc j) y other = place_other zs i j y (λ e. other (omega (arith, e)))
+
+-- What each turn and each exit of a session keeps, a whole run keeps: so the events of each session in a transcript are read as those of a life.
 
 -- the session of this number in its surroundings
 abbrev pub scene_at : ℕ → SessionState → World → Scene
@@ -55,10 +212,7 @@ there_of (suc n) session x h = record { some = omega arith; there = sym (at_suc 
 
 outside_of : (n : ℕ) (x : World) → session_at n x ≡ None → IsOutside (length x.sessions) n
 outside_of zero x h = inl refl
-outside_of (suc n) x h = elim (slice_get_cases x.sessions (suc n - 1)).1 [
-  | inl some ↦ let z : None ≡ Some some.0 = sym h ∙ (at_suc n x ∙ some.2) in absurd (cc z)
-  | inr none ↦ inr (omega (arith, none.0))
-]
+outside_of (suc n) x h = grind (arith, nat_tests, slice_get_cases, at_suc)
 
 -- As a run stands: the sessions from this number on are between two lines.
 pub record AreStanding (kinds : KindTable) (sessions from : ℕ) (x : World) : Type 0 where
@@ -191,26 +345,6 @@ module _ (kinds : KindTable) (sessions : ℕ) where
         (all_end (goes_on reads w lines (at_start (opened options all shelf)))
         (lines_hold reads w lines (at_start (opened options all shelf)) (record { stands = stand_first options all shelf table sound differ many; keeps = first }))).keeps
 
--- The life of a session by what a reader has seen of it, where that may fit other surroundings only if there are as many descriptors.
-pub record IsLifeAmong {Seen : Type 0} (kinds : KindTable) (reader : Reader Seen) (Fits : Seen → Scene → Type 0) (start : Seen) (Last : Seen → Type 0) : Type 0 where
-  pub opens : (around : Around) → table_of around.kinds ≡ kinds → Fits start (record { session = opening; around = around })
-  pub elsewhere : (seen : Seen) (session : SessionState) (a b : Around) → table_of b.kinds ≡ table_of a.kinds → b.descriptors ≡ a.descriptors
-      → Fits seen (record { session = session; around = a }) → Fits seen (record { session = session; around = b })
-  pub error : (error : Error) (s : Scene) → Reads reader Fits s s (what.Error error ∷ [])
-  pub turns : (w : Option ℕ) (line : Option Command) (m : Moment) → StandsBetweenLines m.scene
-      → Reads reader Fits m.scene (turn w line m).moment.scene (turn w line m).events
-  pub exits : (s : Scene) → StandsBetweenLines s → (seen : Seen) → Fits seen s
-      → (allows_all reader seen (exited s).events ≡ true) × Last (seen_after reader seen (exited s).events)
-
-pub life_among : {Seen : Type 0} {kinds : KindTable} {reader : Reader Seen} {Fits : Seen → Scene → Type 0} {start : Seen} {Last : Seen → Type 0} → IsLife kinds reader Fits start Last → IsLifeAmong kinds reader Fits start Last
-life_among life = record {
-  opens = life.opens;
-  elsewhere = λ seen session a b table descriptors fit. life.elsewhere seen session a b table fit;
-  error = life.error;
-  turns = life.turns;
-  exits = life.exits;
-}
-
 -- What the events of each session in a transcript owe a reader: those of a session of the run are allowed, and what is seen in the end is as it is to be;
 -- of a number that no session has there are only errors, and what is seen fits a session that has just opened.
 pub record HaveLived {Seen : Type 0} (kinds : KindTable) (reader : Reader Seen) (Fits : Seen → Scene → Type 0) (start : Seen) (Last : Seen → Type 0) (sessions : ℕ) (events : List Event) : Type 0 where
@@ -225,7 +359,7 @@ other_events : (n m : ℕ) (events : List Event) (whats : List What) → m ≢ n
 other_events n m events whats differ =
     events_of-append n events (of_session m whats) ∙ (ap (λ (more : List What). events_of n events ++ more) (events_of-other n m whats differ) ∙ append-nil (events_of n events))
 
-module _ {Seen : Type 0} (kinds : KindTable) (reader : Reader Seen) (Fits : Seen → Scene → Type 0) (start : Seen) (Last : Seen → Type 0) (life : IsLifeAmong kinds reader Fits start Last) (sessions : ℕ) (nowhere : Around) where
+module _ {Seen : Type 0} (kinds : KindTable) (reader : Reader Seen) (Fits : Seen → Scene → Type 0) (start : Seen) (Last : Seen → Type 0) (life : IsLife kinds reader Fits start Last) (sessions : ℕ) (nowhere : Around) where
   -- what was read so far, and what is read of it in the end
   abbrev Has : Scene → List What → Type 0
   Has s whats = IsRead reader Fits start s whats
@@ -241,21 +375,14 @@ module _ {Seen : Type 0} (kinds : KindTable) (reader : Reader Seen) (Fits : Seen
     beside : (n : ℕ) → IsOutside sessions n → Has (record { session = opening; around = nowhere }) (events_of n events)
 
   read_on : (s t : Scene) (before whats : List What) → Has s before → Reads reader Fits s t whats → Has t (before ++ whats)
-  read_on s t before whats h k =
-      let more : IsRead reader Fits (seen_after reader start before) t whats = k.so (seen_after reader start before) h.fits in
-      record {
-        allowed = allows_all-append reader start before whats h.allowed more.allowed;
-        fits = subst (λ (seen : Seen). Fits seen t) (sym (seen_after-append reader start before whats)) more.fits;
-      }
+  read_on s t before whats h k = then_read reader start s t before whats h (k.so (seen_after reader start before))
 
   read_elsewhere : (session : SessionState) (a b : Around) (whats : List What) → table_of b.kinds ≡ table_of a.kinds → b.descriptors ≡ a.descriptors → Has (record { session = session; around = a }) whats → Has (record { session = session; around = b }) whats
   read_elsewhere session a b whats same descriptors h = record { allowed = h.allowed; fits = life.elsewhere (seen_after reader start whats) session a b same descriptors h.fits }
 
   -- a number that no session has isn't that of one
   apart : (n m : ℕ) (session : SessionState) (x : World) → length x.sessions ≡ sessions → IsThere n session x → IsOutside sessions m → n ≢ m
-  apart n m session x many there out e =
-      let within : n - 1 < length x.sessions = slice_get_within x.sessions (n - 1) session there.there in
-      elim out [ inl none ↦ omega (arith, e, none, there.some) | inr past ↦ omega (arith, e, past, within, many, there.some) ]
+  apart n m session x many there out e = grind (arith, nat_tests, slice_get_within)
 
   turned : (n : ℕ) (session : SessionState) (x : World) (events : List Event) (w : Option ℕ) (line : Option Command) → IsThere n session x → AreStanding kinds sessions 1 x → AreReading 1 x events
       → AreReading 1 (behind_turn n (turn w line (moment n session x)) x) (events ++ of_session n (turn w line (moment n session x)).events)
@@ -361,21 +488,16 @@ module _ {Seen : Type 0} (kinds : KindTable) (reader : Reader Seen) (Fits : Seen
       ]
 
 -- From the life of a session to the events of each session in a transcript, where the hooks on the shelf differ and the kinds are sound.
-pub lives_among : {Seen : Type 0} (reader : Reader Seen) (Fits : Seen → Scene → Type 0) (start : Seen) (Last : Seen → Type 0) (reads : Reading) (w : Option ℕ) (options : Options) (kinds : List Kind) (shelf : ShelfState) (lines : List (List ℕ))
-    → IsSound (table_of kinds) → AreDistinct (held shelf) → IsLifeAmong (table_of kinds) reader Fits start Last
+pub lives_in_run : {Seen : Type 0} (reader : Reader Seen) (Fits : Seen → Scene → Type 0) (start : Seen) (Last : Seen → Type 0) (reads : Reading) (w : Option ℕ) (options : Options) (kinds : List Kind) (shelf : ShelfState) (lines : List (List ℕ))
+    → IsSound (table_of kinds) → AreDistinct (held shelf) → IsLife (table_of kinds) reader Fits start Last
     → HaveLived (table_of kinds) reader Fits start Last options.sessions (transcript_by reads w options kinds shelf lines)
-lives_among reader Fits start Last reads w options kinds shelf lines sound differ life =
+lives_in_run reader Fits start Last reads w options kinds shelf lines sound differ life =
     let x : World = opened options kinds shelf in
     let nowhere : Around = around 0 x in
     have_lived (table_of kinds) reader Fits start Last life options.sessions nowhere (ended (course_by reads w options kinds shelf lines)).world (transcript_by reads w options kinds shelf lines) refl
     (run_keeps (table_of kinds) options.sessions (AreReading (table_of kinds) reader Fits start Last life options.sessions nowhere) (reading_law (table_of kinds) reader Fits start Last life options.sessions nowhere)
     reads w options kinds shelf lines refl refl sound differ
     (first_read (table_of kinds) reader Fits start Last life options.sessions nowhere x (λ n session u. replicated options.sessions (n - 1) opening session u.there) refl refl))
-
-pub lives_in_run : {Seen : Type 0} (reader : Reader Seen) (Fits : Seen → Scene → Type 0) (start : Seen) (Last : Seen → Type 0) (reads : Reading) (w : Option ℕ) (options : Options) (kinds : List Kind) (shelf : ShelfState) (lines : List (List ℕ))
-    → IsSound (table_of kinds) → AreDistinct (held shelf) → IsLife (table_of kinds) reader Fits start Last
-    → HaveLived (table_of kinds) reader Fits start Last options.sessions (transcript_by reads w options kinds shelf lines)
-lives_in_run reader Fits start Last reads w options kinds shelf lines sound differ life = lives_among reader Fits start Last reads w options kinds shelf lines sound differ (life_among life)
 
 -- What is seen in the end is as it is to be for each number, where that is so of a session that has just opened.
 pub last_of_all : {Seen : Type 0} {kinds : KindTable} {reader : Reader Seen} {Fits : Seen → Scene → Type 0} {start : Seen} {Last : Seen → Type 0} {sessions : ℕ} {events : List Event}
@@ -389,3 +511,60 @@ last_of_all {reader = reader} {start = start} {sessions = sessions} {events = ev
         | inr within ↦ h.lasts n (omega (arith, some)) within
       ]
     ]
+
+-- A session says that it ends once, and nothing behind that.
+
+-- the reader lets what says neither pass, and the session goes on
+passes : (event : What) → is_ordinary event ≡ true → (ending.allows event false ≡ true) × (ending.next event false ≡ false)
+passes what.Exit h = absurd (cc h)
+passes other h = (refl, refl)
+
+all_pass : {events : List What} → AreSaid is_ordinary events → (allows_all ending false events ≡ true) × (seen_after ending false events ≡ false)
+all_pass said_none = (refl, refl)
+all_pass (said_more {event = event} {events = events} h hs) = grind (arith, nat_tests, all_pass hs, passes)
+
+-- the session hasn't said that it ends
+abbrev pub IsOn : Bool → Scene → Type 0
+IsOn ended s = ended ≡ false
+
+from_going : (t : Scene) (events : List What) → (allows_all ending false events ≡ true) × (seen_after ending false events ≡ false) → (ended : Bool) → IsOn ended t → IsRead ending IsOn ended t events
+from_going t events read ended on = subst (λ (b : Bool). IsRead ending IsOn b t events) (sym on) (record { allowed = read.0; fits = read.1 })
+
+turn_of_goes : (s : Scene) (done : Done) (refusal : Option Error) → AreSaid is_ordinary done.events → Reads ending IsOn s (turn_of done refusal).moment.scene (turn_of done refusal).events
+unfolding recovered
+turn_of_goes s done None h = record { so = from_going _ _ (all_pass h) }
+turn_of_goes s done (Some error) h =
+    read_both ending IsOn {t = done.moment.scene} (record { so = from_going _ _ (all_pass h) })
+    (read_both ending IsOn {t = done.moment.scene} {xs = what.Error error ∷ []} (record { so = from_going done.moment.scene (what.Error error ∷ []) (refl, refl) }) (record { so = from_going _ _ (all_pass (recovery_ordinary done.moment.scene)) }))
+
+turn_goes : (w : Option ℕ) (line : Option Command) (m : Moment) → Reads ending IsOn m.scene (turn w line m).moment.scene (turn w line m).events
+unfolding turn
+turn_goes w line m =
+    let done : Done = does_all w (line_elements line m.scene.session) m in
+    turn_of_goes m.scene done done.refusal (elements_ordinary w (line_elements line m.scene.session) m (line_spoken false line m.scene.session (λ usual. absurd (cc usual))))
+
+-- what a session says at its exit
+exit_said : (s : Scene) → (allows_all ending false (exited s).events ≡ true) × (seen_after ending false (exited s).events ≡ true)
+unfolding exited
+exit_said s =
+    let rolled : Ended = for_each level_rolled_back s.session.levels s in
+    let rest : List What = (context_gone top_context (switched top_context rolled.scene).scene).events in
+    let first = all_pass (rollback_ordinary s) in
+    let gone = all_pass (gone_ordinary top_context (switched top_context rolled.scene).scene) in
+    let end : (allows_all ending false (rest ++ (what.Exit ∷ [])) ≡ true) × (seen_after ending false (rest ++ (what.Exit ∷ [])) ≡ true) = (
+      allows_all-append ending false rest (what.Exit ∷ []) gone.0 (ap (λ (ended : Bool). allows_all ending ended (what.Exit ∷ [])) gone.1),
+      seen_after-append ending false rest (what.Exit ∷ []) ∙ ap (λ (ended : Bool). seen_after ending ended (what.Exit ∷ [])) gone.1,
+    ) in (
+      allows_all-append ending false rolled.events (rest ++ (what.Exit ∷ [])) first.0 (ap (λ (ended : Bool). allows_all ending ended (rest ++ (what.Exit ∷ []))) first.1 ∙ end.0),
+      seen_after-append ending false rolled.events (rest ++ (what.Exit ∷ [])) ∙ (ap (λ (ended : Bool). seen_after ending ended (rest ++ (what.Exit ∷ []))) first.1 ∙ end.1),
+    )
+
+-- In the life of a session its end is said once, last.
+pub exits_life : (kinds : KindTable) → IsLife kinds ending IsOn false (λ ended. ended ≡ true)
+exits_life kinds = record {
+  opens = λ around table. refl;
+  elsewhere = λ ended session a b same descriptors on. on;
+  error = λ error s. record { so = from_going s (what.Error error ∷ []) (refl, refl) };
+  turns = λ w line m h. turn_goes w line m;
+  exits = λ s h ended on. subst (λ (b : Bool). (allows_all ending b (exited s).events ≡ true) × (seen_after ending b (exited s).events ≡ true)) (sym on) (exit_said s);
+}

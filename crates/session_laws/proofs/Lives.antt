@@ -1,29 +1,66 @@
--- What a law owes for a line makes it hold of each turn and of what an exit rolls back; so the events of a session's whole life are read.
-use Rattle.std.proofs.Common.{◌≡◌, ℕ, Bool, true, false, not, List, [], ◌∷◌, Option, Some, None, refl, sym, subst}
-use Rattle.pgs_step.specs.declared.errors.Error.{Error}
-use Rattle.pgs_step.specs.declared.errors.Error.TheVariants as error
+-- What a reader of events owes for one session, from its opening to its exit.
+use Rattle.session_laws.proofs.Words.{◌≡◌, ℕ, true, false, List, [], ◌∷◌, ◌++◌, Option, refl, subst, sym, Bool, not, Some, None}
+use Rattle.session_laws.proofs.Scenes.{Error, What, Command, KindTable, table_of, LevelState, SessionState, opening, first_of, is_aborted, top_context, Around, Moment, Scene, Element, aborted, cleaned_up, exited, level_rolled_back, given_up, recovered, Stands, StandsBetweenLines, AreOuter, HasExited, turn, line_elements, turn_of, Ended, context_gone, for_each, in_order, say, switched, where_so, where_there, Done, does_all}
+use Rattle.session_laws.proofs.Rules.{Reader, allows_all, seen_after, allows_all-append, seen_after-append, Law, Leaves, Owes, EndLeaves, Follows, Keeps, MakeLeaves, OwesMoves, last, next, Meets, Runs, command_leads, refused_leads, at_settled, behind_rollback, exited_left, is_left, rolled_stands, settled, by_order, run_follows, aborts, all_owed, cleans_up, rolls_back, line_spoken}
+use Rattle.session_rules.proofs.EndsStand.{Leaves as Leaving}
 use Rattle.pgs_step.specs.declared.events.What.TheVariants as what
-use Rattle.pgs_command.specs.declared.commands.Command.{Command}
-use Rattle.owner_kinds.specs.KindTable.{KindTable}
-use Rattle.owner_kinds.specs.KindShelf.{table_of}
-use Rattle.lifetime_laws.specs.Reading.{Reader, allows_all, seen_after}
-use Rattle.lifetime_laws.proofs.Readings.{allows_all-append, seen_after-append}
-use Rattle.session_rules.specs.State.{LevelState, SessionState, first_of, is_aborted, opening, top_context}
-use Rattle.session_rules.specs.World.{Around, Moment, Scene}
-use Rattle.session_rules.specs.Acts.{Ended, context_gone, for_each, in_order, say, switched, where_so, where_there}
-use Rattle.session_rules.specs.Ends.{aborted, cleaned_up, exited, given_up, level_rolled_back, recovered}
-use Rattle.session_rules.specs.Calls.{Done}
-use Rattle.session_rules.specs.Does.{does_all}
-use Rattle.session_rules.specs.Elements.{Element}
-use Rattle.session_rules.specs.Standing.{AreOuter, HasExited, Stands, StandsBetweenLines}
-use Rattle.session_rules.specs.Transcript.{line_elements, turn, turn_of}
-use Rattle.session_rules.proofs.EndsStand.{Leaves as Leaving, at_settled, behind_rollback, exited_left, is_left, rolled_stands, settled}
-use Rattle.session_rules.proofs.Leaves.{EndLeaves, Follows, Keeps, Law, MakeLeaves, OwesMoves, last, next}
-use Rattle.session_rules.proofs.Walk.{by_order, run_follows}
-use Rattle.session_rules.proofs.WalkEnds.{aborts, all_owed, cleans_up, rolls_back}
-use Rattle.session_rules.proofs.Spoken.{line_spoken}
-use Rattle.session_rules.proofs.TurnStands.{Meets, Runs, command_leads, refused_leads}
-use Rattle.session_laws.proofs.ReaderLaws.{IsLife, IsRead, OwesTurns, Reads}
+use Rattle.pgs_step.specs.declared.errors.Error.TheVariants as error
+
+-- A reader allows these events, and what it has seen behind them fits the scene behind.
+pub record IsRead {Seen : Type 0} (reader : Reader Seen) (Fits : Seen → Scene → Type 0) (seen : Seen) (behind : Scene) (events : List What) : Type 0 where
+  pub allowed : allows_all reader seen events ≡ true
+  pub fits : Fits (seen_after reader seen events) behind
+
+-- one part of what is read and then another
+pub then_read : {Seen : Type 0} {F G : Seen → Scene → Type 0} (reader : Reader Seen) (seen : Seen) (t u : Scene) (xs ys : List What) → IsRead reader F seen t xs
+    → (F (seen_after reader seen xs) t → IsRead reader G (seen_after reader seen xs) u ys) → IsRead reader G seen u (xs ++ ys)
+then_read {Seen} {G = G} reader seen t u xs ys a more =
+    let b : IsRead reader G (seen_after reader seen xs) u ys = more a.fits in
+    record {
+      allowed = allows_all-append reader seen xs ys a.allowed b.allowed;
+      fits = subst (λ (after : Seen). G after u) (sym (seen_after-append reader seen xs ys)) b.fits;
+    }
+
+-- The law of a reader: where what it has seen fits the scene, it allows the events, and fits the scene behind.
+pub record Reads {Seen : Type 0} (reader : Reader Seen) (Fits : Seen → Scene → Type 0) (s t : Scene) (events : List What) : Type 0 where
+  pub so : (seen : Seen) → Fits seen s → IsRead reader Fits seen t events
+
+module _ {Seen : Type 0} (reader : Reader Seen) (Fits : Seen → Scene → Type 0) where
+  pub read_none : (s : Scene) → Reads reader Fits s s []
+  read_none s = record { so = λ seen h. record { allowed = refl; fits = h } }
+
+  pub read_both : {s t u : Scene} {xs ys : List What} → Reads reader Fits s t xs → Reads reader Fits t u ys → Reads reader Fits s u (xs ++ ys)
+  read_both {t = t} {u = u} {xs = xs} {ys = ys} a b = record { so = λ seen h. then_read reader seen t u xs ys (a.so seen h) (b.so (seen_after reader seen xs)) }
+
+-- What a law owes for the end of the deepest level, where the scene stands: it aborts, it is cleaned up, or both in one.
+pub record OwesEnds (R : Law) : Type 0 where
+  pub aborts : (level : LevelState) (levels : List LevelState) (s : Scene) → Stands s → s.session.levels ≡ level ∷ levels → level.aborted ≡ false
+      → R s (aborted s).scene (aborted s).events
+  pub cleans : (level : LevelState) (levels : List LevelState) (s : Scene) → Stands s → s.session.levels ≡ level ∷ levels → level.aborted ≡ true
+      → R s (cleaned_up s).scene (cleaned_up s).events
+  pub rolls_back : (level : LevelState) (levels : List LevelState) (s : Scene) → Stands s → s.session.levels ≡ level ∷ levels → level.aborted ≡ false
+      → R s (level_rolled_back level s).scene (level_rolled_back level s).events
+
+-- What a law owes for a line and for the end of a session.
+pub record OwesTurns (R : Law) : Type 0 where
+  pub leaves : Leaves R
+  pub error : (error : Error) (s : Scene) → R s s (what.Error error ∷ [])
+  pub owed : (w : Option ℕ) (x : Element) (m : Moment) → Meets x m.scene → Owes R w x m
+  pub ends : OwesEnds R
+
+-- A reader of the events of a session, from its opening to its exit. What it has seen in the end is as `Last` says, and fits other surroundings
+-- with the same kinds and as many descriptors.
+pub record IsLife {Seen : Type 0} (kinds : KindTable) (reader : Reader Seen) (Fits : Seen → Scene → Type 0) (start : Seen) (Last : Seen → Type 0) : Type 0 where
+  pub opens : (around : Around) → table_of around.kinds ≡ kinds → Fits start (record { session = opening; around = around })
+  pub elsewhere : (seen : Seen) (session : SessionState) (a b : Around) → table_of b.kinds ≡ table_of a.kinds → b.descriptors ≡ a.descriptors
+      → Fits seen (record { session = session; around = a }) → Fits seen (record { session = session; around = b })
+  pub error : (error : Error) (s : Scene) → Reads reader Fits s s (what.Error error ∷ [])
+  pub turns : (w : Option ℕ) (line : Option Command) (m : Moment) → StandsBetweenLines m.scene
+      → Reads reader Fits m.scene (turn w line m).moment.scene (turn w line m).events
+  pub exits : (s : Scene) → StandsBetweenLines s → (seen : Seen) → Fits seen s
+      → (allows_all reader seen (exited s).events ≡ true) × Last (seen_after reader seen (exited s).events)
+
+-- What a law owes for a line makes it hold of each turn and of what an exit rolls back; so the events of a session's whole life are read.
 
 -- the levels of a scene are rolled back, and what is left stands without levels
 pub record HasGone (R : Law) (s : Scene) (behind : Ended) : Type 0 where
@@ -31,6 +68,11 @@ pub record HasGone (R : Law) (s : Scene) (behind : Ended) : Type 0 where
   pub stands : Stands (settled [] left)
   pub is : behind.scene ≡ settled [] left
   pub keeps : R s behind.scene behind.events
+
+-- each element of a line meets what it asks
+pub line_leads : (w : Option ℕ) (line : Option Command) (m : Moment) → StandsBetweenLines m.scene → Runs w StandsBetweenLines (line_elements line m.scene.session) m
+line_leads w None m h = refused_leads w StandsBetweenLines error.SyntaxError m h.stands
+line_leads w (Some c) m h = command_leads w c m h
 
 module _ (R : Law) (o : OwesTurns R) where
   -- a level is rolled back, whether it is aborted already or not
@@ -81,10 +123,6 @@ module _ (R : Law) (o : OwesTurns R) where
   turn_of_keeps : (s : Scene) (done : Done) (refusal : Option Error) → Stands done.moment.scene → Follows R s done → R s (turn_of done refusal).moment.scene (turn_of done refusal).events
   turn_of_keeps s done None h k = k.so
   turn_of_keeps s done (Some error) h k = o.leaves.acts.both k.so (recovered_keeps error done.moment.scene h)
-
-  line_leads : (w : Option ℕ) (line : Option Command) (m : Moment) → StandsBetweenLines m.scene → Runs w StandsBetweenLines (line_elements line m.scene.session) m
-  line_leads w None m h = refused_leads w StandsBetweenLines error.SyntaxError m h.stands
-  line_leads w (Some c) m h = command_leads w c m h
 
   -- A turn keeps the law.
   pub turn_keeps : (w : Option ℕ) (line : Option Command) (m : Moment) → StandsBetweenLines m.scene → R m.scene (turn w line m).moment.scene (turn w line m).events
@@ -154,7 +192,7 @@ module _ {Seen : Type 0} (kinds : KindTable) (reader : Reader Seen) (Fits : Seen
       → OwesTail → IsLife kinds reader Fits start Last
   life_of opens elsewhere tail = record {
     opens = opens;
-    elsewhere = elsewhere;
+    elsewhere = λ seen session a b same descriptors fit. elsewhere seen session a b same fit;
     error = o.error;
     turns = λ w line m h. turn_keeps (Reads reader Fits) o w line m h;
     exits = λ s h seen fit.

@@ -1,51 +1,23 @@
 -- What is checked before a lock is given back, a file is used and a lock is taken holds where these come.
-use Rattle.std.proofs.Common.{◌≡◌, ℕ, zero, suc, ◌+◌, ◌-◌, Bool, true, false, not, if◌then◌else◌, List, [], ◌∷◌, ◌++◌, map, length, replicate, flat_map, Option, Some, None, refl, inl, inr, ◌∙◌}
-use Rattle.std.specs.Prelude.{nat_lt, ◌&&◌, ◌==◌, ◌⊎◌}
-use Rattle.std.specs.Option.{option_map_or}
+use Rattle.session_laws.proofs.Words.{◌≡◌, ℕ, zero, suc, ◌+◌, ◌-◌, Bool, true, false, not, List, [], ◌∷◌, ◌++◌, map, length, replicate, Option, Some, None, refl, inl, inr, ◌∙◌, arith, ◌&&◌, ◌⊎◌, option_map_or, ltb-true, nat_tests}
+use Rattle.session_laws.proofs.Scenes.{Command, LevelState, OpenPortal, SessionState, deepest_changed, is_aborted, level_context, Check, Element, LevelContext, OfLevel, OfPortal, OwnerRole, PortalContext, Text, portal_named, line_elements, turn, Error, Mode, Moment, Scene, Ended, nothing, switched, where_there, failure, unless, level_made, new_context_made, new_owner_made, portal_made, fallible, refused_call, unless_refused, does, at_owner, lock_given_back, snapshot_pushed, exited, TransactionCommand, Work, ContextCommand, ChunkCommand, ItemCommand, LockCommand, SnapshotCommand, PlanCommand, PortalCommand, TellCommand, Scan, Row, after_turn, elements, chunk_row, context_row, fetch_steps, item_row, lock_row, plan_row, portal_row, snapshot_row, tell_row, work_of, at_savepoint, begin, commit, committed_to, elements_of, in_transaction, is_end, refused, rollback, rolled_back_to, save, savepoint, then_ok, transaction_of, unaborted}
+use Rattle.session_laws.proofs.Rules.{IsRun, fallible_so}
+use Rattle.session_laws.proofs.LocksSight.{of_locks, files_hidden, pushed_hidden, OwesUnlocks, ending_turn, least_acts, lock_owed, owner_owed, session_exits, touch_owed, by_owner_made}
+use Rattle.session_laws.proofs.LocksRead.{ReadsLocks, given_back_so, locks_base, locks_law, locks_seen, taken_so}
 use Rattle.pgs_step.specs.declared.errors.Error.TheVariants as error
 use Rattle.pgs_step.specs.declared.events.What.TheVariants as what
-use Rattle.pgs_command.specs.declared.commands.Command.{Command}
 use Rattle.pgs_command.specs.declared.commands.Command.TheVariants as command
-use Rattle.pgs_command.specs.declared.commands.TransactionCommand.{TransactionCommand}
 use Rattle.pgs_command.specs.declared.commands.TransactionCommand.TheVariants as transaction
-use Rattle.pgs_command.specs.declared.commands.Work.{Work}
 use Rattle.pgs_command.specs.declared.commands.Work.TheVariants as work
-use Rattle.pgs_command.specs.declared.commands.ContextCommand.{ContextCommand}
 use Rattle.pgs_command.specs.declared.commands.ContextCommand.TheVariants as context
-use Rattle.pgs_command.specs.declared.commands.ChunkCommand.{ChunkCommand}
 use Rattle.pgs_command.specs.declared.commands.ChunkCommand.TheVariants as chunk
-use Rattle.pgs_command.specs.declared.commands.ItemCommand.{ItemCommand}
 use Rattle.pgs_command.specs.declared.commands.ItemCommand.TheVariants as item
-use Rattle.pgs_command.specs.declared.commands.LockCommand.{LockCommand}
 use Rattle.pgs_command.specs.declared.commands.LockCommand.TheVariants as lock
-use Rattle.pgs_command.specs.declared.commands.SnapshotCommand.{SnapshotCommand}
 use Rattle.pgs_command.specs.declared.commands.SnapshotCommand.TheVariants as snapshot
-use Rattle.pgs_command.specs.declared.commands.PlanCommand.{PlanCommand}
 use Rattle.pgs_command.specs.declared.commands.PlanCommand.TheVariants as plan
-use Rattle.pgs_command.specs.declared.commands.PortalCommand.{PortalCommand}
 use Rattle.pgs_command.specs.declared.commands.PortalCommand.TheVariants as portal
-use Rattle.pgs_command.specs.declared.commands.TellCommand.{TellCommand}
 use Rattle.pgs_command.specs.declared.commands.TellCommand.TheVariants as tell
-use Rattle.exec_core.specs.declared.scan.Scan.{Scan}
-use Rattle.exec_core.specs.declared.steps.ScanStep.{ScanStep}
-use Rattle.exec_core.specs.declared.steps.ScanStep.TheVariants as step
-use Rattle.exec_core.specs.Turn as exec
-use Rattle.session_rules.specs.State.{LevelState, OpenPortal, SessionState, deepest_changed, is_aborted, level_context}
 use Rattle.session_rules.specs.Elements as e
-use Rattle.session_rules.specs.Elements.{Check, Element, LevelContext, OfLevel, OfPortal, OwnerRole, PortalContext, Text}
-use Rattle.session_rules.specs.Lookup.{portal_named}
-use Rattle.session_rules.specs.Works.{Row, after_turn, elements, chunk_row, context_row, fallible_part, fetch_steps, item_row, lock_row, plan_row, portal_row, snapshot_row, tell_row, turn_steps, work_of}
-use Rattle.session_rules.specs.Commands.{at_savepoint, begin, commit, committed_to, elements_of, in_transaction, is_end, refused, rollback, rolled_back_to, save, savepoint, start, then_ok, transaction_of, unaborted}
-use Rattle.session_rules.specs.Transcript.{line_elements}
-use Rattle.pgs_step.specs.declared.errors.Error.{Error}
-use Rattle.pgs_step.specs.declared.lock_modes.Mode.{Mode}
-use Rattle.session_rules.specs.World.{Moment, Scene}
-use Rattle.session_rules.specs.Acts.{Ended, nothing, switched, where_there}
-use Rattle.session_rules.specs.Checks.{failure}
-use Rattle.session_rules.specs.Making.{level_made, new_context_made, new_owner_made, portal_made}
-use Rattle.session_rules.specs.Calls.{fallible, refused_call, unless_refused}
-use Rattle.session_rules.specs.Does.{does}
-use Rattle.session_rules.proofs.Leaves.{IsRun}
 
 -- what was checked for an element, in the scene that it meets: that the lock is held, that the file is open, and that the level isn't aborted
 abbrev pub IsChecked : Element → Scene → Type 0
@@ -145,11 +117,7 @@ calm_keeps w other m c h = absurd c
 -- where a check passed it holds, of the same scene
 passed_check : (w : Option ℕ) (check : Check) (m : Moment) → (does w (e.Checks check) m).refusal ≡ None → failure check (does w (e.Checks check) m).moment.scene ≡ None
 unfolding does
-passed_check w check m none = go (failure check m.scene) refl none
-  where
-    go : (r : Option Error) → failure check m.scene ≡ r → (unless_refused r m nothing).refusal ≡ None → failure check (unless_refused r m nothing).moment.scene ≡ None
-    go None is n = is
-    go (Some error) is n = absurd (cc n)
+passed_check w check m none = grind (arith, nat_tests)
 
 safe_run : (w : Option ℕ) (xs : List Element) (m : Moment) → Safe xs → is_aborted m.scene.session.levels ≡ false → IsRun IsChecked w xs m
 safe_run w xs m (free h) active = free_run w xs m h
@@ -186,10 +154,6 @@ then_free ys (takes {xs = xs} h) k = takes (both_are_free xs ys h k)
 then_free ys (unlock {xs = xs} h) k = unlock (both_are_free xs ys h k)
 then_free ys (touch {xs = xs} h) k = touch (both_are_free xs ys h k)
 
-either_are_free : (b : Bool) (xs ys : List Element) → AreFree xs → AreFree ys → AreFree (if b then xs else ys)
-either_are_free true xs ys h k = h
-either_are_free false xs ys h k = k
-
 checks_are_free : (checks : List Check) → AreFree (map e.Checks checks)
 checks_are_free [] = tt
 checks_are_free (check ∷ checks) = (tt, checks_are_free checks)
@@ -200,10 +164,7 @@ commits_are_free (suc n) = (tt, commits_are_free n)
 
 rolled_back_free : (n : ℕ) (levels : List LevelState) → AreFree (rolled_back_to n levels)
 rolled_back_free n [] = tt
-rolled_back_free n (level ∷ levels) =
-    either_are_free (nat_lt (length levels + 1) n) [] _ tt
-    (both_are_free (if level.aborted then e.Cleanup ∷ [] else e.Abort ∷ e.Cleanup ∷ []) (rolled_back_to n levels)
-    (either_are_free level.aborted (e.Cleanup ∷ []) (e.Abort ∷ e.Cleanup ∷ []) (tt, tt) (tt, (tt, tt))) (rolled_back_free n levels))
+rolled_back_free n (level ∷ levels) = grind (arith, nat_tests, rolled_back_free n levels, both_are_free)
 
 then_ok_free : (es : List Element) → AreFree es → AreFree (then_ok es)
 then_ok_free es h = both_are_free es (e.Says what.Ok ∷ []) h (tt, tt)
@@ -211,10 +172,7 @@ then_ok_free es h = both_are_free es (e.Says what.Ok ∷ []) h (tt, tt)
 -- of the commands on transactions
 commit_free : (levels : List LevelState) → AreFree (commit levels)
 commit_free [] = (tt, tt)
-commit_free (level ∷ levels) =
-    either_are_free level.aborted (rolled_back_to 1 (level ∷ levels)) (committed_to 2 (level ∷ levels) ++ (e.CommitTop ∷ []))
-    (rolled_back_free 1 (level ∷ levels))
-    (both_are_free (committed_to 2 (level ∷ levels)) (e.CommitTop ∷ []) (commits_are_free (length (level ∷ levels) + 1 - 2)) (tt, tt))
+commit_free (level ∷ levels) = grind (arith, nat_tests, rolled_back_free, both_are_free, commits_are_free)
 
 rollback_free : (levels : List LevelState) → AreFree (rollback levels)
 rollback_free [] = (tt, tt)
@@ -237,21 +195,6 @@ savepoint_free name [] go_on h = (tt, tt)
 savepoint_free name (level ∷ levels) go_on h = at_free (savepoint name (level ∷ levels)) go_on h
 
 -- of a scan
-mapped_free : (name : Text) (es : List Element) → AreFree es → AreFree (map (e.InTurn name) es)
-mapped_free name [] h = tt
-mapped_free name (x ∷ es) h = (h.0, mapped_free name es h.1)
-
-part_free : (name : Text) (s : ScanStep) → AreFree (fallible_part name s)
-part_free name (step.Pin page) = (tt, (tt, tt))
-part_free name (step.Bad row) = (tt, tt)
-part_free name step.Alloc = (tt, tt)
-part_free name other = tt
-
-scans_free : (name : Text) (steps : List ScanStep) → AreFree (flat_map (λ s. map (e.InTurn name) (e.Scans name s ∷ fallible_part name s)) steps)
-scans_free name [] = tt
-scans_free name (s ∷ steps) =
-    both_are_free (map (e.InTurn name) (e.Scans name s ∷ fallible_part name s)) _
-    (mapped_free name (e.Scans name s ∷ fallible_part name s) (tt, part_free name s)) (scans_free name steps)
 
 last_or_more : (b : Bool) (xs ys : List Element) → AreFree xs → AreFree ys → AreFree (elim b as (λ _. List Element) [ true ↦ xs | false ↦ ys ])
 last_or_more true xs ys h k = h
@@ -259,10 +202,7 @@ last_or_more false xs ys h k = k
 
 fetch_free : (name : Text) (count : ℕ) (scan : Scan) (rows : ℕ) → AreFree (fetch_steps name count scan rows)
 fetch_free name zero scan rows = (tt, tt)
-fetch_free name (suc count) scan rows =
-    both_are_free (turn_steps name scan) _ (scans_free name (exec.turn scan))
-    (last_or_more (scan.at == scan.rows) (e.Says (what.Fetched name rows) ∷ []) (fetch_steps name count (after_turn scan) (rows + 1))
-    (tt, tt) (fetch_free name count (after_turn scan) (rows + 1)))
+fetch_free name (suc count) scan rows = grind (arith, nat_tests, fetch_free name count (after_turn scan), both_are_free, last_or_more)
 
 fetches_free : (name : Text) (count : ℕ) (o : Option OpenPortal) → AreFree (option_map_or (λ portal. fetch_steps name count portal.scan 0) o [])
 fetches_free name count None = tt
@@ -335,9 +275,7 @@ transaction_free transaction.Commit levels = commit_free levels
 transaction_free transaction.Rollback levels = rollback_free levels
 transaction_free (transaction.Savepoint name) levels = save_free name levels
 transaction_free (transaction.Release name) levels = savepoint_free name levels (λ n. committed_to n levels) (λ n. commits_are_free (length levels + 1 - n))
-transaction_free (transaction.RollbackTo name) levels =
-    savepoint_free name levels (λ n. rolled_back_to n levels ++ start (Some name) false)
-    (λ n. both_are_free (rolled_back_to n levels) (start (Some name) false) (rolled_back_free n levels) (tt, (tt, (tt, (tt, tt)))))
+transaction_free (transaction.RollbackTo name) levels = grind (arith, nat_tests, savepoint_free, both_are_free, rolled_back_free)
 
 -- A line is free of these, or its session isn't aborted and they are safe.
 unaborted_safe : (c : Command) (session : SessionState) → (is_aborted session.levels && not (is_end c)) ≡ false → AreFree (unaborted c session) ⊎ ((is_aborted session.levels ≡ false) × Safe (unaborted c session))
@@ -347,18 +285,41 @@ unaborted_safe (command.Work w) s active = inr (only_left (is_aborted s.levels) 
 
 elements_safe : (c : Command) (session : SessionState) → AreFree (elements_of c session) ⊎ ((is_aborted session.levels ≡ false) × Safe (elements_of c session))
 unfolding elements_of
-elements_safe c s = go (is_aborted s.levels && not (is_end c)) refl
-  where
-    go : (b : Bool) → (is_aborted s.levels && not (is_end c)) ≡ b
-        → AreFree (elim b as (λ _. List Element) [ true ↦ refused error.TransactionAborted | false ↦ unaborted c s ])
-        ⊎ ((is_aborted s.levels ≡ false) × Safe (elim b as (λ _. List Element) [ true ↦ refused error.TransactionAborted | false ↦ unaborted c s ]))
-    go true is = inl (tt, tt)
-    go false is = unaborted_safe c s is
+elements_safe c s = grind (arith, nat_tests, unaborted_safe)
 
 -- Each element of a line meets a scene in which what was checked for it holds.
 pub line_checked : (w : Option ℕ) (line : Option Command) (m : Moment) → IsRun IsChecked w (line_elements line m.scene.session) m
 line_checked w None m = free_run w (line_elements None m.scene.session) m (tt, tt)
-line_checked w (Some c) m = elim (elements_safe c m.scene.session) [
-  | inl h ↦ free_run w (elements_of c m.scene.session) m h
-  | inr h ↦ safe_run w (elements_of c m.scene.session) m h.1 h.0
-]
+line_checked w (Some c) m = grind (arith, nat_tests, elements_safe, free_run, safe_run)
+
+-- A line keeps the law of a lock, and so does the end of a session.
+
+pub passed_unless : (b : Bool) (error : Error) → unless b error ≡ None → b ≡ true
+passed_unless true error e = refl
+passed_unless false error e = absurd (cc e)
+
+module _ (object mode : ℕ) where
+  -- a lock that the level's owner holds is given back
+  unlock_so : (o : ℕ) (m : Mode) (s : Scene) → failure (e.HoldsLock o m) s ≡ None → ReadsLocks object mode s (at_owner OfLevel (lock_given_back o m) s).scene (at_owner OfLevel (lock_given_back o m) s).events
+  unlock_so o m s checked = grind (arith, nat_tests, ltb-true, passed_unless, given_back_so)
+
+  locks_owed : (w : Option ℕ) (x : Element) (m : Moment) → IsChecked x m.scene → OwesUnlocks (ReadsLocks object mode) w x m
+  unfolding does
+  locks_owed w (e.InTurn name x) m checked = locks_owed w x m checked
+  locks_owed w (e.MakeOwner role) m checked = owner_owed of_locks (ReadsLocks object mode) (locks_law object mode) w role m (by_owner_made of_locks (ReadsLocks object mode) (locks_base object mode) refl)
+  locks_owed w (e.TakeLock role o mo) m checked =
+      lock_owed of_locks (ReadsLocks object mode) (locks_law object mode).least w role o mo m (λ n. record { so = taken_so object mode o mo n })
+  locks_owed w (e.Unlock o mo) m checked = record { so = unlock_so o mo m.scene checked }
+  locks_owed w (e.Touch file) m checked =
+      touch_owed of_locks (ReadsLocks object mode) (locks_law object mode).least w file m ((files_hidden of_locks (ReadsLocks object mode) (locks_seen object mode) refl).used file)
+  locks_owed w (e.PushSnapshot snapshot) m checked =
+      fallible_so (ReadsLocks object mode) (least_acts of_locks (ReadsLocks object mode) (locks_law object mode).least) w m _ (snapshot_pushed snapshot) (pushed_hidden of_locks (ReadsLocks object mode) (locks_seen object mode) refl snapshot)
+  locks_owed w other m checked = tt
+
+  -- Each line keeps it, in any session.
+  pub locks_turn : (w : Option ℕ) (line : Option Command) (m : Moment) → ReadsLocks object mode m.scene (turn w line m).moment.scene (turn w line m).events
+  locks_turn w line m = ending_turn of_locks (ReadsLocks object mode) (locks_law object mode) IsChecked w line m (line_checked w line m) (locks_owed w)
+
+  -- So does the end of a session.
+  pub locks_exit : (s : Scene) → ReadsLocks object mode s (exited s).scene (exited s).events
+  locks_exit s = session_exits of_locks (ReadsLocks object mode) (locks_law object mode) s

@@ -1,32 +1,116 @@
--- The law of a lock: each act that takes it, gives it back or passes it keeps what a reader has seen of it.
-use Rattle.std.proofs.Common.{◌≡◌, ℕ, ◌+◌, ◌-◌, ◌<◌, Bool, true, false, cond, if◌then◌else◌, List, [], ◌∷◌, ◌++◌, map, filter, refl, sym, ap, subst, ◌∙◌, arith}
-use Rattle.std.specs.Prelude.{◌==◌, nat_le}
-use Rattle.std.proofs.lemmas.Bool.{and_from, le-leb, eqb-true}
-use Rattle.std.proofs.lemmas.List.Elements.{All-nil}
-use Rattle.std.proofs.lemmas.List.Sums.{sum_by-cons}
-use Rattle.pgs_step.specs.declared.events.What.{What}
-use Rattle.pgs_step.specs.declared.events.What.TheVariants as what
-use Rattle.pgs_step.specs.declared.lock_modes.Mode.{Mode}
-use Rattle.lifetime_laws.specs.Reading.{Reader, allows_all, seen_after}
-use Rattle.lifetime_laws.specs.Balance.{count}
+-- Locks are released as often as they are acquired: what a reader has seen of a lock fits how often owners hold it.
+use Rattle.session_laws.proofs.Words.{◌≡◌, ℕ, ◌+◌, ◌<◌, Bool, true, false, cond, List, [], ◌∷◌, map, filter, refl, sym, ap, ◌∙◌, arith, if◌then◌else◌, ◌++◌, subst, ◌==◌, ◌&&◌, sum_by, All, nat_le, and_parts, eqb-true, and_from, le-leb, All-head, All-tail, All-weaker, All-nil, sum_by-cons, nat_tests}
+use Rattle.session_laws.proofs.Scenes.{Mode, IsInOrder, Lock, comes_before, count_of, has_owner, is_lock, lock_total, owner_count, AreLocks, What, Scene, step_done, lock_given_back, lock_taken, ReleasesLocks, PassesLocks, ReleasesAllLocks}
+use Rattle.session_laws.proofs.Rules.{Reader, allows_all, seen_after, count, Law, said_none, said_lock_passes}
+use Rattle.std.proofs.lemmas.List.Folds.{map_fixed}
+use Rattle.pgs_step.specs.Mode.{mode_number}
+use Rattle.lock_local.specs.declared.local_lock.OwnerCount.{OwnerCount}
+use Rattle.lock_local.specs.Changes.{acquired, counted_down, counted_up, new_lock, passed, passed_lock, without, released, releases, releases_of_all}
+use Rattle.lock_local.proofs.OwnerLemmas.{counts-added, counts-others}
+use Rattle.lock_local.proofs.ChangeLemmas.{WellCounted, by_passing, down, none_like, passes_some, AreLocks-acquired, AreLocks-filtered, AreLocks-passed, AreLocks-released, counted-down, keeps-down}
+use Rattle.lock_local.proofs.TotalLemmas.{no_total, sum_kept, sum_same, total_down, total_without}
 use Rattle.lifetime_laws.specs.Once.{locks, unlocks}
-use Rattle.lock_local.specs.Locks.{AreLocks, Lock, count_of, has_owner, lock_total, owner_count}
-use Rattle.lock_local.specs.Changes.{acquired, released, releases, releases_of_all, without}
-use Rattle.lock_local.proofs.ChangeLemmas.{WellCounted, AreLocks-acquired, AreLocks-filtered, AreLocks-passed, AreLocks-released, counted-down, down, keeps-down}
-use Rattle.lock_local.proofs.TotalLemmas.{total_without}
-use Rattle.session_rules.specs.World.{Scene}
-use Rattle.session_rules.specs.Releases.{step_done}
-use Rattle.session_rules.specs.Parts.{lock_given_back}
-use Rattle.session_rules.specs.Taking.{lock_taken}
-use Rattle.owner_core.specs.Steps.{ReleasesLocks, PassesLocks, ReleasesAllLocks}
-use Rattle.session_rules.proofs.Leaves.{Law}
-use Rattle.session_laws.proofs.ReaderLaws.{Reads, read_both}
-use Rattle.session_laws.proofs.LocksSight.{PassesOver, Sees, hides, of_locks, plain_none, read_plain, subject}
-use Rattle.session_laws.proofs.LocksHidden.{files_hidden, passes_plain, popped_hidden, stack_gone_hidden, stack_passed_hidden}
-use Rattle.session_laws.proofs.LocksItems.{Base, least_of}
-use Rattle.session_laws.proofs.LocksWalk.{Turns}
-use Rattle.session_laws.proofs.FilesCount.{count_over}
-use Rattle.session_laws.proofs.LocksCount.{is_this, once, there, there_acquired, there_down, there_kept, there_passed, weight}
+use Rattle.session_laws.proofs.Lives.{Reads, read_both}
+use Rattle.session_rules.proofs.Sight as part
+use Rattle.session_laws.proofs.LocksSight.{PassesOver, Sees, hides, of_locks, read_plain, subject, files_hidden, Base, least_of, Turns, ArePlain, stack_hidden}
+use Rattle.session_laws.proofs.FilesLife.{count_over}
+use Rattle.pgs_step.specs.declared.events.What.TheVariants as what
+
+counted_where : (b : Bool) (p q r : ℕ) → p + q ≡ r → cond b p 0 + cond b q 0 ≡ cond b r 0
+counted_where true p q r e = e
+counted_where false p q r e = refl
+
+module _ (object mode : ℕ) where
+  -- whether a lock is on this object in the mode of this number
+  abbrev pub is_this : ℕ → Mode → Bool
+  is_this o m = (object == o) && (mode == mode_number m)
+
+  -- how often owners hold it
+  abbrev pub weight : Lock → ℕ
+  weight l = cond (is_this l.object l.mode) (lock_total l) 0
+
+  abbrev pub there : List Lock → ℕ
+  there xs = sum_by weight xs
+
+  -- once, where it is this one
+  abbrev pub once : ℕ → Mode → ℕ
+  once o m = cond (is_this o m) 1 0
+
+  no_weight : (l : Lock) → has_owner l ≡ false → weight l ≡ 0
+  no_weight l e = grind (arith, nat_tests, no_total)
+
+  same_name : (o : ℕ) (m : Mode) (l : Lock) → is_lock o m l ≡ true → is_this l.object l.mode ≡ is_this o m
+  same_name o m l e = grind (arith, nat_tests, and_parts, eqb-true)
+
+  -- a lock is held once more
+  total_new : (owner o : ℕ) (m : Mode) → lock_total (new_lock o m owner) ≡ 1
+  total_new owner o m = omega (arith, sum_by-cons (λ (c : OwnerCount). c.count) (record { owner = owner; count = 1 }) [])
+
+  new_weight : (owner o : ℕ) (m : Mode) → weight (new_lock o m owner) ≡ once o m
+  new_weight owner o m = ap (λ (n : ℕ). cond (is_this o m) n 0) (total_new owner o m)
+
+  up_weight : (owner o : ℕ) (m : Mode) (l : Lock) → is_lock o m l ≡ true → weight (counted_up owner l) ≡ weight l + once o m
+  up_weight owner o m l e = grind (arith, nat_tests, counts-added, counted_where, same_name)
+
+  pub there_acquired : (owner o : ℕ) (m : Mode) (xs : List Lock) → there (acquired owner o m xs) ≡ there xs + once o m
+  there_acquired owner o m [] = omega (arith, sum_by-cons weight (new_lock o m owner) [], new_weight owner o m)
+  there_acquired owner o m (x ∷ xs) = by_order (there_acquired owner o m xs) (comes_before x.object x.mode o m)
+    where
+      by_lock : (t : Bool) → is_lock o m x ≡ t → there (cond t (counted_up owner x ∷ xs) (new_lock o m owner ∷ x ∷ xs)) ≡ there (x ∷ xs) + once o m
+      by_lock true e = omega (arith, up_weight owner o m x e, sum_by-cons weight (counted_up owner x) xs, sum_by-cons weight x xs)
+      by_lock false e = omega (arith, sum_by-cons weight (new_lock o m owner) (x ∷ xs), new_weight owner o m)
+
+      by_order : there (acquired owner o m xs) ≡ there xs + once o m → (t : Bool)
+          → there (cond t (x ∷ acquired owner o m xs) (cond (is_lock o m x) (counted_up owner x ∷ xs) (new_lock o m owner ∷ x ∷ xs))) ≡ there (x ∷ xs) + once o m
+      by_order ih true = omega (arith, ih, sum_by-cons weight x (acquired owner o m xs), sum_by-cons weight x xs)
+      by_order ih false = by_lock (is_lock o m x) refl
+
+  -- counts are passed
+  passed_total : (from to : ℕ) (l : Lock) → lock_total (passes_some from to l) ≡ lock_total l
+  passed_total from to l = omega (arith, counts-added to (owner_count from l) (without from l).owners, counts-others from l.owners)
+
+  pub there_passed : (from to : ℕ) (xs : List Lock) → there (passed from to xs) ≡ there xs
+  there_passed from to xs =
+      sum_same weight (passed_lock from to)
+      (λ l. by_passing (λ (k : Lock). weight k ≡ weight l) from to l refl (λ some. ap (λ (n : ℕ). cond (is_this l.object l.mode) n 0) (passed_total from to l))) xs
+
+  -- a lock is held once less
+  pub there_kept : (xs : List Lock) → there (filter has_owner xs) ≡ there xs
+  there_kept xs = sum_kept weight no_weight xs
+
+  none_held : (o : ℕ) (m : Mode) (w : ℕ) (xs : List Lock) → All (λ l. is_lock o m l ≡ false) xs → count_of xs o m w ≡ 0
+  none_held o m w [] h = refl
+  none_held o m w (x ∷ xs) h =
+      let f : Lock → ℕ = λ l. cond (is_lock o m l) (owner_count w l) 0 in
+      let here : f x ≡ 0 = ap (λ b. cond b (owner_count w x) 0) (All-head (λ l. is_lock o m l ≡ false) x xs h) in
+      omega (arith, here, sum_by-cons f x xs, none_held o m w xs (All-tail (λ l. is_lock o m l ≡ false) x xs h))
+
+  pub there_down : (owner o : ℕ) (m : Mode) (xs : List Lock) → IsInOrder xs → All WellCounted xs → 0 < count_of xs o m owner → there (map (down owner o m) xs) + once o m ≡ there xs
+  there_down owner o m [] order counted held = absurd (omega (arith, held))
+  there_down owner o m (x ∷ xs) order counted held =
+      go (is_lock o m x) refl (there_down owner o m xs order.1 (All-tail WellCounted x xs counted))
+    where
+      f : Lock → ℕ
+      f l = cond (is_lock o m l) (owner_count owner l) 0
+
+      go : (b : Bool) → is_lock o m x ≡ b → (0 < count_of xs o m owner → there (map (down owner o m) xs) + once o m ≡ there xs)
+          → there (cond b (counted_down owner x) x ∷ map (down owner o m) xs) + once o m ≡ there (x ∷ xs)
+      go true e ih =
+          let none : All (λ l. is_lock o m l ≡ false) xs = none_like x xs o m order.0 e in
+          let rest : map (down owner o m) xs ≡ xs =
+          map_fixed (down owner o m) xs (All-weaker (λ l. is_lock o m l ≡ false) (λ l. down owner o m l ≡ l) (λ l n. ap (λ b. cond b (counted_down owner l) l) n) xs none) in
+          let here : f x ≡ owner_count owner x = ap (λ b. cond b (owner_count owner x) 0) e in
+          let some : 0 < owner_count owner x = omega (arith, held, sum_by-cons f x xs, here, none_held o m owner xs none) in
+          let less : weight (counted_down owner x) + once x.object x.mode ≡ weight x =
+          counted_where (is_this x.object x.mode) (lock_total (counted_down owner x)) 1 (lock_total x) (total_down owner x (All-head WellCounted x xs counted) some) in
+          let same : once x.object x.mode ≡ once o m = ap (λ (b : Bool). cond b 1 0) (same_name o m x e) in
+          let left : there (map (down owner o m) xs) ≡ there xs = ap there rest in
+          omega (arith, less, same, left, sum_by-cons weight (counted_down owner x) (map (down owner o m) xs), sum_by-cons weight x xs)
+      go false e ih =
+          let here : f x ≡ 0 = ap (λ b. cond b (owner_count owner x) 0) e in
+          omega (arith, ih (omega (arith, held, sum_by-cons f x xs, here)), sum_by-cons weight x (map (down owner o m) xs), sum_by-cons weight x xs)
+
+-- The law of a lock: each act that takes it, gives it back or passes it keeps what a reader has seen of it.
 
 module _ (object mode : ℕ) where
   abbrev pub lock_reader : Reader ℕ
@@ -51,14 +135,13 @@ module _ (object mode : ℕ) where
   lock_over : PassesOver of_locks lock_reader
   lock_over = count_over of_locks (locks object mode) (unlocks object mode) locks_none unlocks_none
 
-  pub locks_seen : Sees of_locks ReadsLocks
-  locks_seen = record {
-    both = λ a b. read_both lock_reader LocksFit a b;
-    aside = λ s t same plain. record {
-      so = λ n h. read_plain of_locks lock_reader LocksFit lock_over n t plain
-          (record { counted = h.counted ∙ ap (there object mode) (sym same); sound = subst AreLocks (sym same) h.sound });
-    };
+  pub locks_aside : (s t : Scene) {events : List What} → t.session.locks ≡ s.session.locks → ArePlain of_locks events → ReadsLocks s t events
+  locks_aside s t same plain = record {
+    so = λ n h. read_plain of_locks lock_reader LocksFit lock_over n t plain (record { counted = h.counted ∙ ap (there object mode) (sym same); sound = subst AreLocks (sym same) h.sound });
   }
+
+  pub locks_seen : Sees of_locks ReadsLocks
+  locks_seen = record { both = λ a b. read_both lock_reader LocksFit a b; aside = λ s t same plain. locks_aside s t (same.so part.of_locks refl) plain }
 
   -- a lock is taken
   pub taken_so : (o : ℕ) (m : Mode) (owner : ℕ) (s : Scene) → ReadsLocks s (lock_taken o m owner s).scene (lock_taken o m owner s).events
@@ -79,19 +162,9 @@ module _ (object mode : ℕ) where
 
   one_goes : (o : ℕ) (m : Mode) (times owner n rest : ℕ) (events : List What) → n ≡ cond (is_this object mode o m) times 0 + rest
       → ((k : ℕ) → k ≡ rest → (left : ℕ) → Goes k left events → Goes n left (what.ReleaseLock o m times owner ∷ events))
-  one_goes o m times owner n rest events is k same left goes =
-      let next : n + 0 - cond (is_this object mode o m) times 0 ≡ k = omega (arith, is, same) in
-      record {
-        allowed = and_from (nat_le (cond (is_this object mode o m) times 0) n) _ (le-leb (cond (is_this object mode o m) times 0) n (omega (arith, is)))
-            (ap (λ (j : ℕ). allows_all lock_reader j events) next ∙ goes.allowed);
-        left = ap (λ (j : ℕ). seen_after lock_reader j events) next ∙ goes.left;
-      }
+  one_goes o m times owner n rest events is k same left goes = grind (arith, nat_tests, and_from, le-leb)
 
   -- what an owner holds is given up
-  more : (b : Bool) (p q r : ℕ) → p + q ≡ r → cond b p 0 + cond b q 0 ≡ cond b r 0
-  more true p q r e = e
-  more false p q r e = refl
-
   none_more : (b : Bool) (k : ℕ) → k ≡ 0 → cond b k 0 ≡ 0
   none_more true k e = e
   none_more false k e = refl
@@ -104,7 +177,7 @@ module _ (object mode : ℕ) where
       held = cond (is_this object mode x.object x.mode) (owner_count owner x) 0
 
       less : weight object mode (without owner x) + held ≡ weight object mode x
-      less = more (is_this object mode x.object x.mode) (lock_total (without owner x)) (owner_count owner x) (lock_total x) (total_without owner x)
+      less = counted_where (is_this object mode x.object x.mode) (lock_total (without owner x)) (owner_count owner x) (lock_total x) (total_without owner x)
 
       whole : there object mode (x ∷ xs) ≡ weight object mode x + there object mode xs
       whole = sum_by-cons (weight object mode) x xs
@@ -136,7 +209,7 @@ module _ (object mode : ℕ) where
   passed_so : (from to : ℕ) (s : Scene) → ReadsLocks s (step_done (PassesLocks from to) s).scene (step_done (PassesLocks from to) s).events
   passed_so from to s = record {
     so = λ n h.
-        read_plain of_locks lock_reader LocksFit lock_over n (step_done (PassesLocks from to) s).scene (passes_plain of_locks ReadsLocks locks_seen from to s.session.locks)
+        read_plain of_locks lock_reader LocksFit lock_over n (step_done (PassesLocks from to) s).scene (said_lock_passes (λ o m count from to. refl) from to s.session.locks)
         (record { counted = h.counted ∙ sym (there_passed object mode from to s.session.locks); sound = AreLocks-passed from to s.session.locks h.sound });
   }
 
@@ -174,19 +247,7 @@ module _ (object mode : ℕ) where
   }
 
   pub locks_base : Base of_locks ReadsLocks
-  locks_base = record {
-    sees = locks_seen;
-    locks = record { let_go = λ owner. record { so = let_go_so owner }; passed = λ from to. record { so = passed_so from to }; all_gone = λ top. record { so = all_gone_so top } };
-    files = files_hidden of_locks ReadsLocks locks_seen refl;
-  }
+  locks_base = grind (arith, nat_tests, locks_seen, let_go_so, passed_so, all_gone_so, files_hidden, of_locks)
 
   pub locks_law : Turns of_locks ReadsLocks
-  locks_law = record {
-    ending = record {
-      least = least_of of_locks ReadsLocks locks_base refl;
-      levels = λ levels s. locks_seen.aside s _ refl plain_none;
-      stack_gone = stack_gone_hidden of_locks ReadsLocks locks_seen refl;
-      stack_passed = stack_passed_hidden of_locks ReadsLocks locks_seen refl;
-    };
-    popped = popped_hidden of_locks ReadsLocks locks_seen refl;
-  }
+  locks_law = grind (arith, nat_tests, least_of, of_locks, locks_base, locks_aside, said_none, stack_hidden, locks_seen)

@@ -1,21 +1,266 @@
--- Each context and each owner of a session goes exactly once.
-use Rattle.std.proofs.Common.{◌≡◌, ◌≢◌, ℕ, zero, suc, ◌+◌, ◌-◌, ◌<◌, ◌≤◌, Bool, true, false, List, [], ◌∷◌, Option, Some, None, nat_le, IsTrue, refl, sym, ap, ◌∙◌, inl, inr, arith}
-use Rattle.std.specs.Prelude.{◌==◌, ◌&&◌}
-use Rattle.std.proofs.lemmas.Bool.{and_from, and_parts, both_ways, cases_Bool, cases_eq, eq-eqb, eqb-true, ne_eqb, or_cases}
-use Rattle.pgs_step.specs.declared.events.What.{What}
-use Rattle.pgs_step.specs.declared.events.What.TheVariants as what
-use Rattle.lifetime_laws.specs.Balance.{BalancesFrom, count, covers, left}
-use Rattle.lifetime_laws.specs.Parents.{Node as Kept, contexts_behind, is_there, owners_behind, placed, placed_where, without}
-use Rattle.lifetime_laws.specs.Once.{Parents, deletes, discards, first_parents, happens, has_context, is_first_context, makes_context, makes_owner, nothing, one_where}
-use Rattle.lifetime_laws.specs.Reading.{allows_all, seen_after}
+-- Only elements that make something say that something is made.
+use Rattle.session_laws.proofs.Words.{◌≡◌, ℕ, Bool, true, false, List, Option, refl, ◌+◌, ◌<◌, ◌≤◌, All, [], ◌∷◌, ◌++◌, Some, None, ap, ◌∙◌, subst, inl, inr, arith, ◌≢◌, zero, suc, ◌-◌, IsTrue, sym, drop, ◌==◌, option_and_then, option_map_or, and_from, cases_Bool, and_parts, both_ways, cases_eq, eq-eqb, eqb-true, ne_eqb, or_cases, All-head, All-tail, has, nat_tests}
+use Rattle.session_laws.proofs.Scenes.{Error, What, Moment, Scene, Element, OfLevel, LevelContext, NewContext, OfPortal, OwnerRole, PortalContext, RowContext, ScriptContext, Text, at_owner, lock_given_back, descriptor_given, lock_taken, snapshot_pushed, does, does_all, failing_turn, then_done, exited, recovered, Command, KindTable, LevelState, OpenPortal, cache_context, first_of, level_above, owner_of, portals_context, top_context, portal_named, Ended, where_there, level_parent, new_context_made, new_owner_made, owner_made, plan_made, Done, fallible, refused_call, unless_refused, AreLevels, IsPortal, Stands, StandsBetweenLines, line_elements, turn, turn_of, table_of}
+use Rattle.session_laws.proofs.Rules.{Acts, EndLeaves, Follows, IsSpoken, OwesMakes, AreSpoken, IsRun, by_owner, element_follows, fallible_so, levels_owed, moves_owed, unfailing_so, ends_owed, exit_follows, recovers, AreSaid, said_both, said_one, said_more, said_none, Sight, item_comes, no_part, unseen_keys, unseen_owners, line_spoken, Meets, line_runs, Reader, allows_all, seen_after, allows_all-append, BalancesFrom, count, covers, left}
+use Rattle.session_laws.proofs.Usual.{Usual, is_usual, usual_files, usual_locked, usual_moves, usual_pushed, usual_unlocked, plain_ends}
+use Rattle.session_rules.proofs.ContextsKept.{protected_has, top_protected}
+use Rattle.session_rules.proofs.NamesStand.{named_there}
+use Rattle.session_rules.proofs.PortalsStand.{Named, named_in}
+use Rattle.lifetime_laws.specs.Once.{Parents, first_parents, parents_behind, shedding, deletes, discards, happens, has_context, is_first_context, makes_context, makes_owner, nothing, one_where}
+use Rattle.lifetime_laws.specs.Parents.{is_there, Node as Kept, placed, placed_where, without}
+use Rattle.session_laws.proofs.Lives.{IsLife, IsRead, Reads, read_both, read_none}
+use Rattle.session_laws.proofs.ParentsLife.{KeepsContexts, contexts_owed, KeepsOwners, owners_owed, opening_contexts, opening_owners}
+use Rattle.session_laws.proofs.MadeOnce.{FitsParents, NoneLeft, shed_reads, shedding_life, HasFollowed, IsFollowed, IsPaired, Pair, followed, pair_reads, paired, first_small, leaf_there, none_allowed, one_allowed, there_moved, there_placed}
 use Rattle.lifetime_laws.proofs.Replays.{is_there-placed_other, is_there-placed_same, is_there-without_other, is_there-without_same}
-use Rattle.session_laws.proofs.ParentsGrowth.{Growth, growing_contexts, growing_owners}
-use Rattle.session_laws.proofs.ParentsLife.{opening_contexts}
-use Rattle.session_laws.proofs.ParentsOwnersLife.{opening_owners}
-use Rattle.session_laws.proofs.ParentsFollow.{HasFollowed, IsFollowed, IsPaired, Pair, followed, pair_reads, paired}
-use Rattle.session_laws.proofs.MadeChildless.{NoneLeft}
-use Rattle.session_laws.proofs.MadeOnce.{first_small, leaf_there, none_allowed, one_allowed, there_moved, there_placed}
-use Rattle.session_laws.proofs.MadePlaced.{placing}
+use Rattle.session_laws.proofs.Parents.{Growth, growing_contexts, growing_owners}
+use Rattle.pgs_step.specs.declared.events.What.TheVariants as what
+use Rattle.session_rules.specs.Elements as e
+
+-- an event that doesn't say that a context or an owner is made
+abbrev pub is_unmade : What → Bool
+is_unmade (what.Create context name parent) = false
+is_unmade (what.Owner owner) = false
+is_unmade (what.OwnerIn owner parent) = false
+is_unmade other = true
+
+usual_unmade : (event : What) → is_usual event ≡ true → is_unmade event ≡ true
+usual_unmade (what.Create context name parent) h = absurd (cc h)
+usual_unmade other h = cc
+
+-- the law that all are such ones
+record NoneMade (s t : Scene) (events : List What) : Type 0 where
+  said : AreSaid is_unmade events
+
+sight : Sight no_part is_unmade NoneMade
+sight = record { both = λ h k. record { said = said_both h.said k.said }; aside = λ s t same said. record { said = said } }
+
+usual : Usual no_part is_unmade
+usual = assumption usual_unmade
+
+unmade_ends : EndLeaves NoneMade
+unmade_ends =
+    plain_ends sight usual (unseen_keys no_part is_unmade NoneMade sight refl) refl refl refl (λ level. (refl, refl, refl, refl)) (λ item n. refl) (λ n. refl) (λ n parent. refl)
+    (unseen_owners no_part is_unmade NoneMade sight refl (λ item n. refl) (λ item n. refl) (item_comes no_part is_unmade NoneMade sight refl refl (λ item n. refl)))
+
+abbrev acts : Acts NoneMade
+acts = unmade_ends.levels.leaves.acts
+
+-- whether an element makes a context or an owner
+abbrev pub is_making : Element → Bool
+is_making (e.MakeContext new) = true
+is_making (e.MakeOwner role) = true
+is_making (e.MakePlan plan) = true
+is_making (e.InTurn name x) = is_making x
+is_making other = false
+
+owed : (w : Option ℕ) (x : Element) (m : Moment) → is_making x ≡ false → OwesMakes NoneMade w x m
+unfolding does
+owed w (e.InTurn name x) m h = owed w x m h
+owed w (e.MakeContext new) m h = absurd (cc h)
+owed w (e.MakeOwner role) m h = absurd (cc h)
+owed w (e.MakePlan plan) m h = absurd (cc h)
+owed w (e.TakeLock role object mode) m h =
+    fallible_so NoneMade acts w m _ (at_owner role (lock_taken object mode)) (by_owner NoneMade acts role (lock_taken object mode) (usual_locked sight usual refl object mode))
+owed w (e.Unlock object mode) m h =
+    unfailing_so NoneMade acts m (at_owner OfLevel (lock_given_back object mode)) (by_owner NoneMade acts OfLevel (lock_given_back object mode) (usual_unlocked sight usual refl object mode))
+owed w (e.Touch file) m h = fallible_so NoneMade acts w m _ (descriptor_given file) ((usual_files sight usual).used file)
+owed w (e.PushSnapshot snapshot) m h = fallible_so NoneMade acts w m _ (snapshot_pushed snapshot) (usual_pushed sight usual snapshot)
+owed w (e.Register name) m h = moves_owed NoneMade acts (usual_moves sight usual) w (e.Register name) m
+owed w (e.Reparent name parent) m h = moves_owed NoneMade acts (usual_moves sight usual) w (e.Reparent name parent) m
+owed w other m h = tt
+
+-- An element that makes nothing says nothing of that kind.
+pub element_silent : (w : Option ℕ) (x : Element) (m : Moment) → IsSpoken false x → is_making x ≡ false → AreSaid is_unmade (does w x m).events
+element_silent w x m spoken makes =
+    let k : Follows NoneMade m.scene (does w x m) =
+    element_follows NoneMade unmade_ends.levels.leaves false w x m spoken (levels_owed NoneMade unmade_ends.levels w x m (ends_owed NoneMade unmade_ends w x m (owed w x m makes))) in
+    k.so.said
+
+-- nor does a recovery, nor an exit
+pub recovers_silent : (error : Error) (s : Scene) → AreSaid is_unmade (recovered error s).events
+recovers_silent error s =
+    let k : NoneMade s (recovered error s).scene (recovered error s).events = (recovers NoneMade unmade_ends error (record { so = λ z. record { said = said_one (what.Error error) refl } })).so s in
+    k.said
+
+pub exits_silent : (s : Scene) → AreSaid is_unmade (exited s).events
+exits_silent s = let k : NoneMade s (exited s).scene (exited s).events = exit_follows NoneMade unmade_ends (record { so = λ z. record { said = said_one what.Exit refl } }) s in k.said
+
+-- What is made is made below something that is there.
+
+-- The reader of parents that lets nothing be made but below what is there.
+abbrev pub placing : Reader Parents
+placing = record { next = parents_behind; allows = allows }
+  where
+    allows : What → Parents → Bool
+    allows (what.Create context name parent) parents = is_there parent parents.contexts
+    allows (what.OwnerIn owner parent) parents = is_there parent parents.owners
+    allows other parents = true
+
+-- both readers of parents see the same
+pub same_seen : (events : List What) (parents : Parents) → seen_after shedding parents events ≡ seen_after placing parents events
+same_seen [] parents = refl
+same_seen (event ∷ events) parents = same_seen events (parents_behind event parents)
+
+one_placed : (event : What) (parents : Parents) → is_unmade event ≡ true → placing.allows event parents ≡ true
+one_placed (what.Create context name parent) parents h = absurd (cc h)
+one_placed other parents h = cc
+
+none_placed : {events : List What} → AreSaid is_unmade events → (parents : Parents) → allows_all placing parents events ≡ true
+none_placed said_none parents = refl
+none_placed (said_more {event = event} {events = events} h hs) parents =
+    and_from (placing.allows event parents) (allows_all placing (parents_behind event parents) events) (one_placed event parents h) (none_placed hs (parents_behind event parents))
+
+-- what is allowed from parents that fit a scene
+pub record ArePlaced (s : Scene) (events : List What) : Type 0 where
+  pub allowed : (parents : Parents) → FitsParents parents s → allows_all placing parents events ≡ true
+
+pub place_reads : {s t : Scene} {events : List What} → Reads shedding FitsParents s t events → ArePlaced s events → Reads placing FitsParents s t events
+place_reads {t = t} {events = events} r h = record {
+  so = λ parents fit.
+      let k : IsRead shedding FitsParents parents t events = r.so parents fit in
+      record { allowed = h.allowed parents fit; fits = subst (λ (seen : Parents). FitsParents seen t) (same_seen events parents) k.fits };
+}
+
+-- a context or an owner that is made below one that is there
+below_context : (n parent : ℕ) (name : Text) (s : Scene) → has parent s.session.contexts ≡ true → ArePlaced s (what.Create n name parent ∷ [])
+below_context n parent name s there = record { allowed = λ parents fit. and_from (is_there parent parents.contexts) true (fit.contexts.tree.there parent ∙ there) refl }
+
+owner_placed : (o : Option ℕ) (s : Scene) → ((q : ℕ) → o ≡ Some q → has q s.session.owners ≡ true) → ArePlaced s (owner_made o s).events
+owner_placed None s there = record { allowed = λ parents fit. refl }
+owner_placed (Some q) s there = record { allowed = λ parents fit. and_from (is_there q parents.owners) true (fit.owners.tree.there q ∙ there q refl) refl }
+
+-- what is there in a scene that stands
+module _ (s : Scene) (h : Stands s) where
+  top_there : has top_context s.session.contexts ≡ true
+  top_there = protected_has top_context s.session.contexts (top_protected s.session.contexts s.session.next_context h.contexts)
+
+  own_there : (n : ℕ) → 1 < n → n ≤ 5 → has n s.session.contexts ≡ true
+  own_there n l u = protected_has n s.session.contexts (h.contexts.own n l u).protected
+
+  above_there : (o : Option LevelState) → ((level : LevelState) → o ≡ Some level → (n : ℕ) → level.context ≡ Some n → has n s.session.contexts ≡ true) → has (level_parent o) s.session.contexts ≡ true
+  above_there None there = top_there
+  above_there (Some level) there = go level.context (there level refl)
+    where
+      go : (c : Option ℕ) → ((n : ℕ) → c ≡ Some n → has n s.session.contexts ≡ true) → has (option_map_or (λ n. n) c top_context) s.session.contexts ≡ true
+      go None there = top_there
+      go (Some n) there = there n refl
+
+  second_context : (levels : List LevelState) → AreLevels levels s.session.contexts s.session.owners → (level : LevelState) → first_of (drop 1 levels) ≡ Some level → (n : ℕ) → level.context ≡ Some n → has n s.session.contexts ≡ true
+  second_context [] all level is n e = absurd (cc is)
+  second_context (first ∷ []) all level is n e = absurd (cc is)
+  second_context (first ∷ (above ∷ rest)) all level is n e = grind (arith, nat_tests, protected_has)
+
+  first_owner : (levels : List LevelState) → AreLevels levels s.session.contexts s.session.owners → (q : ℕ) → owner_of (first_of levels) ≡ Some q → has q s.session.owners ≡ true
+  first_owner [] all q e = absurd (cc e)
+  first_owner (first ∷ rest) all q e = (all.0.owner q e).there
+
+  middle : (p : OpenPortal) (front back : List OpenPortal) → All (λ r. IsPortal r s.session.levels s.session.contexts s.session.owners s.session.current) (front ++ (p ∷ back))
+      → IsPortal p s.session.levels s.session.contexts s.session.owners s.session.current
+  middle p [] back all = All-head (λ r. IsPortal r s.session.levels s.session.contexts s.session.owners s.session.current) p back all
+  middle p (x ∷ front) back all = middle p front back (All-tail (λ r. IsPortal r s.session.levels s.session.contexts s.session.owners s.session.current) x (front ++ (p ∷ back)) all)
+
+  place_there : (name : Text) (o : Option OpenPortal) → portal_named name s.session.portals ≡ o → (n : ℕ) → option_and_then (λ (p : OpenPortal). p.context) o ≡ Some n → has n s.session.contexts ≡ true
+  place_there name None is n e = absurd (cc e)
+  place_there name (Some p) is n e =
+      let m : Named name p s.session.portals = named_in name p s.session.portals is in
+      let i = middle p m.front m.back (subst (All (λ r. IsPortal r s.session.levels s.session.contexts s.session.owners s.session.current)) m.is h.portals.each) in
+      protected_has n s.session.contexts (i.place n e).protected
+
+  placed_there : (o : Option ℕ) (act : ℕ → Scene → Ended) → ((n : ℕ) → o ≡ Some n → ArePlaced s (act n s).events) → ArePlaced s (where_there o act s).events
+  placed_there None act k = record { allowed = λ parents fit. refl }
+  placed_there (Some n) act k = k n refl
+
+  context_placed : (new : NewContext) → ArePlaced s (new_context_made new s).events
+  context_placed LevelContext = below_context s.session.next_context _ _ s (above_there (level_above s.session) (second_context s.session.levels h.levels))
+  context_placed (PortalContext name) = below_context s.session.next_context portals_context _ s (own_there portals_context (omega arith) (omega arith))
+  context_placed (RowContext name) =
+      placed_there (option_and_then (λ (p : OpenPortal). p.context) (portal_named name s.session.portals)) _
+      (λ n e. below_context s.session.next_context n _ s (place_there name (portal_named name s.session.portals) refl n e))
+  context_placed (ScriptContext name parent kind) = grind (arith, nat_tests, placed_there, below_context, named_there)
+
+  new_owner_placed : (role : OwnerRole) → ArePlaced s (new_owner_made role s).events
+  new_owner_placed OfLevel = grind (arith, nat_tests)
+  new_owner_placed (OfPortal name) = grind (arith, nat_tests, first_owner, owner_placed)
+
+  plan_placed : (plan : ℕ) → ArePlaced s (plan_made plan s).events
+  plan_placed plan = below_context s.session.next_context cache_context _ s (own_there cache_context (omega arith) (omega arith))
+
+-- elements that make something
+unless_placed : (refusal : Option Error) (m : Moment) (act : Scene → Ended) → ArePlaced m.scene (act m.scene).events → ArePlaced m.scene (unless_refused refusal m act).events
+unless_placed None m act h = h
+unless_placed (Some error) m act h = record { allowed = λ parents fit. refl }
+
+fallible_placed : (w : Option ℕ) (m : Moment) (own : Option Error) (act : Scene → Ended) → ArePlaced m.scene (act m.scene).events → ArePlaced m.scene (fallible w m own act).events
+fallible_placed w m own act h = unless_placed (refused_call w m.fail (m.calls + 1) own) (record m { calls = m.calls + 1 }) act h
+
+failing_placed : (name : Text) (s : Scene) (done : Done) (refusal : Option Error) → ArePlaced s done.events → ArePlaced s (failing_turn name done refusal).events
+failing_placed name s done None h = h
+failing_placed name s done (Some error) h = h
+
+making_placed : (w : Option ℕ) (x : Element) (m : Moment) → Stands m.scene → is_making x ≡ true → ArePlaced m.scene (does w x m).events
+unfolding does
+making_placed w (e.MakeContext new) m h makes = fallible_placed w m _ (new_context_made new) (context_placed m.scene h new)
+making_placed w (e.MakeOwner role) m h makes = fallible_placed w m _ (new_owner_made role) (new_owner_placed m.scene h role)
+making_placed w (e.MakePlan plan) m h makes = fallible_placed w m _ (plan_made plan) (plan_placed m.scene h plan)
+making_placed w (e.InTurn name x) m h makes = failing_placed name m.scene (does w x m) (does w x m).refusal (making_placed w x m h makes)
+making_placed w other m h makes = absurd (cc makes)
+
+element_placed : (w : Option ℕ) (x : Element) (m : Moment) → Stands m.scene → IsSpoken false x → ArePlaced m.scene (does w x m).events
+element_placed w x m h spoken = elim (cases_Bool (is_making x)) [
+  | inl y ↦ making_placed w x m h y
+  | inr z ↦ record { allowed = λ parents fit. none_placed (element_silent w x m spoken z) parents }
+]
+
+-- An element reads as it may, where the scene stands.
+pub element_reads : (w : Option ℕ) (x : Element) (m : Moment) → Meets x m.scene → IsSpoken false x → Reads placing FitsParents m.scene (does w x m).moment.scene (does w x m).events
+element_reads w x m meets spoken =
+    let c : Follows KeepsContexts m.scene (does w x m) = element_follows KeepsContexts contexts_owed.leaves false w x m spoken (contexts_owed.owed w x m meets) in
+    let o : Follows KeepsOwners m.scene (does w x m) = element_follows KeepsOwners owners_owed.leaves false w x m spoken (owners_owed.owed w x m meets) in
+    place_reads (shed_reads c.so o.so) (element_placed w x m meets.stands spoken)
+
+then_reads : (s : Scene) (done : Done) (refusal : Option Error) (rest : Moment → Done) → Reads placing FitsParents s done.moment.scene done.events
+    → (refusal ≡ None → Reads placing FitsParents done.moment.scene (rest done.moment).moment.scene (rest done.moment).events) → Reads placing FitsParents s (then_done done refusal rest).moment.scene (then_done done refusal rest).events
+then_reads s done None rest h more = read_both placing FitsParents h (more refl)
+then_reads s done (Some error) rest h more = h
+
+-- So do elements in order, and so a line.
+pub run_reads : (w : Option ℕ) (xs : List Element) (m : Moment) → AreSpoken false xs → IsRun Meets w xs m → Reads placing FitsParents m.scene (does_all w xs m).moment.scene (does_all w xs m).events
+unfolding does_all
+run_reads w [] m spoken run = read_none placing FitsParents m.scene
+run_reads w (x ∷ xs) m spoken run =
+    then_reads m.scene (does w x m) (does w x m).refusal (does_all w xs) (element_reads w x m run.0 spoken.0) (λ none. run_reads w xs (does w x m).moment spoken.1 (run.1 none))
+
+turn_placed : (s : Scene) (done : Done) (refusal : Option Error) → Reads placing FitsParents s done.moment.scene done.events → ArePlaced s (turn_of done refusal).events
+turn_placed s done None h = record {
+  allowed = λ parents fit. let k : IsRead placing FitsParents parents done.moment.scene done.events = h.so parents fit in k.allowed;
+}
+turn_placed s done (Some error) h = record {
+  allowed = λ parents fit.
+      let k : IsRead placing FitsParents parents done.moment.scene done.events = h.so parents fit in
+      allows_all-append placing parents done.events (recovered error done.moment.scene).events k.allowed (none_placed (recovers_silent error done.moment.scene) (seen_after placing parents done.events));
+}
+
+line_placed : (w : Option ℕ) (line : Option Command) (m : Moment) → StandsBetweenLines m.scene → ArePlaced m.scene (turn w line m).events
+unfolding turn
+line_placed w line m h =
+    let done : Done = does_all w (line_elements line m.scene.session) m in
+    turn_placed m.scene done done.refusal (run_reads w (line_elements line m.scene.session) m (line_spoken false line m.scene.session (λ usual. absurd (cc usual))) (line_runs w line m h))
+
+-- In the life of a session what is made is made below what is there.
+pub placing_life : (kinds : KindTable) → IsLife kinds placing FitsParents first_parents NoneLeft
+placing_life kinds =
+    let life : IsLife kinds shedding FitsParents first_parents NoneLeft = shedding_life kinds in
+    record {
+      opens = life.opens;
+      elsewhere = life.elsewhere;
+      error = λ error s. place_reads (life.error error s) (record { allowed = λ parents fit. refl });
+      turns = λ w line m stands. place_reads (life.turns w line m stands) (line_placed w line m stands);
+      exits = λ s stands parents fit.
+          let k : (allows_all shedding parents (exited s).events ≡ true) × NoneLeft (seen_after shedding parents (exited s).events) = life.exits s stands parents fit in
+          (none_placed (exits_silent s) parents, subst NoneLeft (same_seen (exited s).events parents) k.1);
+    }
+
+-- Each context and each owner of a session goes exactly once.
 
 -- which numbers are there behind a node that moves
 there_stays : (b : Bool) (m n : ℕ) (parent : Option ℕ) (nodes : List Kept) → is_there m nodes ≡ true → is_there m (placed_where b n parent nodes) ≡ true
@@ -24,10 +269,6 @@ there_stays true m n parent nodes h = elim (cases_eq m n) [
   | inl e ↦ ap (λ (x : ℕ). is_there x (placed n parent nodes)) e ∙ is_there-placed_same n parent nodes
   | inr ne ↦ is_there-placed_other m n parent nodes ne ∙ h
 ]
-
-there_now : (b : Bool) (n : ℕ) (parent : Option ℕ) (nodes : List Kept) → b ≡ true → is_there n (placed_where b n parent nodes) ≡ true
-there_now true n parent nodes h = is_there-placed_same n parent nodes
-there_now false n parent nodes h = absurd (cc h)
 
 -- A number may still go once: it isn't given yet, or it is there; and so it is where it may go.
 pub record IsGoing (m least : ℕ) (nodes : List Kept) (next n : ℕ) : Type 0 where
@@ -40,60 +281,13 @@ pub record IsGoing (m least : ℕ) (nodes : List Kept) (next n : ℕ) : Type 0 w
 
 -- how that changes
 going_same : (m least : ℕ) (nodes now : List Kept) (next n : ℕ) → (is_there m now ≡ true → is_there m nodes ≡ true) → (is_there m nodes ≡ true → is_there m now ≡ true) → IsGoing m least nodes next n → IsGoing m least now next ((n + 0) - 0)
-going_same m least nodes now next n back on h = record {
-  least_is = h.least_is;
-  may = λ t. omega (arith, h.may (back t));
-  fresh = λ l. omega (arith, h.fresh l);
-  below = λ t. h.below (back t);
-  most = omega (arith, h.most);
-  kept = λ l i u. on (h.kept (omega (arith, l)) i u);
-}
+going_same m least nodes now next n back on h = grind (arith, nat_tests)
 
 going_made : (m least x : ℕ) (nodes now : List Kept) (next n : ℕ) → x ≡ next → is_there x now ≡ true → ((k : ℕ) → k ≢ x → is_there k now ≡ is_there k nodes) → IsGoing m least nodes next n → IsGoing m least now (next + 1) ((n + 0) - 0)
-going_made m least x nodes now next n is there others h = record {
-  least_is = omega (arith, h.least_is);
-  may = λ t. elim (cases_eq m x) [
-    | inl e ↦ omega (arith, h.fresh (omega (arith, e, is)))
-    | inr ne ↦ omega (arith, h.may (sym (others m ne) ∙ t))
-  ];
-  fresh = λ l. omega (arith, h.fresh (omega (arith, l)));
-  below = λ t. elim (cases_eq m x) [
-    | inl e ↦ omega (arith, e, is)
-    | inr ne ↦ omega (arith, h.below (sym (others m ne) ∙ t))
-  ];
-  most = omega (arith, h.most);
-  kept = λ l i u. elim (cases_eq m x) [
-    | inl e ↦ ap (λ (k : ℕ). is_there k now) e ∙ there
-    | inr ne ↦ others m ne ∙ h.kept (omega (arith, l)) i (omega (arith, u, ne, is))
-  ];
-}
+going_made m least x nodes now next n is there others h = grind (arith, nat_tests)
 
 going_gone : (m least x : ℕ) (nodes : List Kept) (next n : ℕ) → is_there x nodes ≡ true → IsGoing m least nodes next n → IsGoing m least (without x nodes) next ((n + 0) - one_where (m == x))
-going_gone m least x nodes next n there h = elim (cases_eq m x) [
-  | inl e ↦
-      let here : is_there m nodes ≡ true = ap (λ (k : ℕ). is_there k nodes) e ∙ there in
-      let away : is_there m (without x nodes) ≡ false = ap (λ (k : ℕ). is_there k (without x nodes)) e ∙ is_there-without_same x nodes in
-      let one : one_where (m == x) ≡ 1 = rw (eq-eqb m x e) refl in
-      record {
-        least_is = h.least_is;
-        may = λ t. absurd (both_ways (is_there m (without x nodes)) away t);
-        fresh = λ l. absurd (omega (arith, l, h.below here));
-        below = λ t. absurd (both_ways (is_there m (without x nodes)) away t);
-        most = omega (arith, h.most);
-        kept = λ l i u. absurd (omega (arith, l, one, h.most));
-      }
-  | inr ne ↦
-      let none : one_where (m == x) ≡ 0 = rw (ne_eqb m x ne) refl in
-      let same : is_there m (without x nodes) ≡ is_there m nodes = is_there-without_other m x nodes ne in
-      record {
-        least_is = h.least_is;
-        may = λ t. omega (arith, none, h.may (sym same ∙ t));
-        fresh = λ l. omega (arith, none, h.fresh l);
-        below = λ t. h.below (sym same ∙ t);
-        most = omega (arith, none, h.most);
-        kept = λ l i u. same ∙ h.kept (omega (arith, l, none)) i u;
-      }
-]
+going_gone m least x nodes next n there h = grind (arith, nat_tests, is_there-without_same, eq-eqb, both_ways, ne_eqb, is_there-without_other)
 
 -- what is seen of contexts, of the parents, and of how often a context may go
 pub record GoesContext (c : ℕ) (seen : Pair Growth Parents) (n : ℕ) : Type 0 where
@@ -102,31 +296,13 @@ pub record GoesContext (c : ℕ) (seen : Pair Growth Parents) (n : ℕ) : Type 0
 
 context_step : (c : ℕ) (event : What) (seen : Pair Growth Parents) (n : ℕ) → seen.first.nodes ≡ seen.second.contexts → IsGoing c 6 seen.first.nodes seen.first.next n → growing_contexts.allows event seen.first ≡ true → placing.allows event seen.second ≡ true
     → IsGoing c 6 (growing_contexts.next event seen.first).nodes (growing_contexts.next event seen.first).next ((n + nothing event) - deletes c event)
-context_step c (what.Create x name parent) seen n same h a b =
-    let g : Growth = seen.first in
-    let there : is_there parent g.nodes ≡ true = ap (is_there parent) same ∙ b in
-    going_made c 6 x g.nodes (placed_where (is_there parent g.nodes) x (Some parent) g.nodes) g.next n (eqb-true x g.next a) (there_now (is_there parent g.nodes) x (Some parent) g.nodes there)
-    (λ k ne. there_placed (is_there parent g.nodes) k x (Some parent) g.nodes ne) h
-context_step c (what.Move x parent) seen n same h a b =
-    let g : Growth = seen.first in
-    let moves : Bool = is_there x g.nodes && is_there parent g.nodes in
-    going_same c 6 g.nodes (placed_where moves x (Some parent) g.nodes) g.next n (there_moved c x parent g.nodes) (there_stays moves c x (Some parent) g.nodes) h
+context_step c (what.Create x name parent) seen n same h a b = grind (arith, nat_tests, going_made, eqb-true, there_placed)
+context_step c (what.Move x parent) seen n same h a b = grind (arith, nat_tests, going_same, there_moved, there_stays)
 context_step c (what.Delete x) seen n same h a b = going_gone c 6 x seen.first.nodes seen.first.next n (leaf_there x seen.first.nodes a) h
 context_step c other seen n same h a b = going_same c 6 seen.first.nodes seen.first.nodes seen.first.next n (λ t. t) (λ t. t) h
 
 contexts_going : (c : ℕ) → IsFollowed (paired growing_contexts placing) (count nothing (deletes c)) (GoesContext c)
-contexts_going c = record {
-  allowed = allowed;
-  next = λ event seen n r h.
-      let p : (growing_contexts.allows event seen.first ≡ true) × (placing.allows event seen.second ≡ true) = and_parts (growing_contexts.allows event seen.first) (placing.allows event seen.second) h in
-      record { same = ap (contexts_behind event) r.same; going = context_step c event seen n r.same r.going p.0 p.1 };
-}
-  where
-    allowed : (event : What) (seen : Pair Growth Parents) (n : ℕ) → GoesContext c seen n → (growing_contexts.allows event seen.first && placing.allows event seen.second) ≡ true → nat_le (deletes c event) n ≡ true
-    allowed (what.Delete x) seen n r h =
-        let p : (growing_contexts.allows (what.Delete x) seen.first ≡ true) × (placing.allows (what.Delete x) seen.second ≡ true) = and_parts (growing_contexts.allows (what.Delete x) seen.first) (placing.allows (what.Delete x) seen.second) h in
-        one_allowed c x n (λ e. r.going.may (ap (λ (m : ℕ). is_there m seen.first.nodes) e ∙ leaf_there x seen.first.nodes p.0))
-    allowed other seen n r h = none_allowed n
+contexts_going c = grind (arith, nat_tests, and_parts, context_step, one_allowed, leaf_there, none_allowed)
 
 -- the same of owners
 pub record GoesOwner (o : ℕ) (seen : Pair Growth Parents) (n : ℕ) : Type 0 where
@@ -138,31 +314,13 @@ owner_step : (o : ℕ) (event : What) (seen : Pair Growth Parents) (n : ℕ) →
 owner_step o (what.Owner x) seen n same h a b =
     let g : Growth = seen.first in
     going_made o 1 x g.nodes (placed x None g.nodes) g.next n (eqb-true x g.next a) (is_there-placed_same x None g.nodes) (λ k ne. is_there-placed_other k x None g.nodes ne) h
-owner_step o (what.OwnerIn x parent) seen n same h a b =
-    let g : Growth = seen.first in
-    let there : is_there parent g.nodes ≡ true = ap (is_there parent) same ∙ b in
-    going_made o 1 x g.nodes (placed_where (is_there parent g.nodes) x (Some parent) g.nodes) g.next n (eqb-true x g.next a) (there_now (is_there parent g.nodes) x (Some parent) g.nodes there)
-    (λ k ne. there_placed (is_there parent g.nodes) k x (Some parent) g.nodes ne) h
-owner_step o (what.MoveOwner x parent) seen n same h a b =
-    let g : Growth = seen.first in
-    let moves : Bool = is_there x g.nodes && is_there parent g.nodes in
-    going_same o 1 g.nodes (placed_where moves x (Some parent) g.nodes) g.next n (there_moved o x parent g.nodes) (there_stays moves o x (Some parent) g.nodes) h
+owner_step o (what.OwnerIn x parent) seen n same h a b = grind (arith, nat_tests, going_made, eqb-true, there_placed)
+owner_step o (what.MoveOwner x parent) seen n same h a b = grind (arith, nat_tests, going_same, there_moved, there_stays)
 owner_step o (what.OwnerGone x) seen n same h a b = going_gone o 1 x seen.first.nodes seen.first.next n (leaf_there x seen.first.nodes a) h
 owner_step o other seen n same h a b = going_same o 1 seen.first.nodes seen.first.nodes seen.first.next n (λ t. t) (λ t. t) h
 
 owners_going : (o : ℕ) → IsFollowed (paired growing_owners placing) (count nothing (discards o)) (GoesOwner o)
-owners_going o = record {
-  allowed = allowed;
-  next = λ event seen n r h.
-      let p : (growing_owners.allows event seen.first ≡ true) × (placing.allows event seen.second ≡ true) = and_parts (growing_owners.allows event seen.first) (placing.allows event seen.second) h in
-      record { same = ap (owners_behind event) r.same; going = owner_step o event seen n r.same r.going p.0 p.1 };
-}
-  where
-    allowed : (event : What) (seen : Pair Growth Parents) (n : ℕ) → GoesOwner o seen n → (growing_owners.allows event seen.first && placing.allows event seen.second) ≡ true → nat_le (discards o event) n ≡ true
-    allowed (what.OwnerGone x) seen n r h =
-        let p : (growing_owners.allows (what.OwnerGone x) seen.first ≡ true) × (placing.allows (what.OwnerGone x) seen.second ≡ true) = and_parts (growing_owners.allows (what.OwnerGone x) seen.first) (placing.allows (what.OwnerGone x) seen.second) h in
-        one_allowed o x n (λ e. r.going.may (ap (λ (m : ℕ). is_there m seen.first.nodes) e ∙ leaf_there x seen.first.nodes p.0))
-    allowed other seen n r h = none_allowed n
+owners_going o = grind (arith, nat_tests, and_parts, owner_step, one_allowed, leaf_there, none_allowed)
 
 -- a number that is made is below the next one then
 pub record IsGiven (m least next : ℕ) : Type 0 where
@@ -170,115 +328,39 @@ pub record IsGiven (m least next : ℕ) : Type 0 where
   pub below : m < next
 
 one_happens : (m x : ℕ) → (one_where (m == x) == 1) ≡ true → m ≡ x
-one_happens m x h = elim (cases_Bool (m == x)) [
-  | inl y ↦ eqb-true m x y
-  | inr z ↦ let none : one_where (m == x) ≡ 0 = rw z refl in let k : one_where (m == x) ≡ 1 = eqb-true (one_where (m == x)) 1 h in absurd (omega (arith, none, k))
-]
+one_happens m x h = grind (arith, nat_tests, eqb-true)
 
 contexts_rise : (events : List What) (g : Growth) → allows_all growing_contexts g events ≡ true → g.next ≤ (seen_after growing_contexts g events).next
 contexts_rise [] g h = omega arith
-contexts_rise (event ∷ events) g h =
-    let p : (growing_contexts.allows event g ≡ true) × (allows_all growing_contexts (growing_contexts.next event g) events ≡ true) = and_parts (growing_contexts.allows event g) (allows_all growing_contexts (growing_contexts.next event g) events) h in
-    omega (arith, one event, contexts_rise events (growing_contexts.next event g) p.1)
-  where
-    one : (event : What) → g.next ≤ (growing_contexts.next event g).next
-    one (what.Create context name parent) = omega arith
-    one other = omega arith
+contexts_rise (event ∷ events) g h = grind (arith, nat_tests, contexts_rise events (growing_contexts.next event g), growing_contexts, and_parts)
 
 context_given : (c : ℕ) (events : List What) (g : Growth) → allows_all growing_contexts g events ≡ true → 6 ≤ g.next → happens (makes_context c) events ≡ true → IsGiven c 6 (seen_after growing_contexts g events).next
 context_given c [] g h l made = absurd (cc made)
-context_given c (event ∷ events) g h l made =
-    let p : (growing_contexts.allows event g ≡ true) × (allows_all growing_contexts (growing_contexts.next event g) events ≡ true) = and_parts (growing_contexts.allows event g) (allows_all growing_contexts (growing_contexts.next event g) events) h in
-    let rise : (growing_contexts.next event g).next ≤ (seen_after growing_contexts (growing_contexts.next event g) events).next = contexts_rise events (growing_contexts.next event g) p.1 in
-    elim (or_cases (makes_context c event == 1) (happens (makes_context c) events) made) [
-      | inl y ↦ now event p.0 y rise
-      | inr z ↦ context_given c events (growing_contexts.next event g) p.1 (more event) z
-    ]
-  where
-    more : (event : What) → 6 ≤ (growing_contexts.next event g).next
-    more (what.Create context name parent) = omega (arith, l)
-    more other = l
-
-    now : (event : What) → growing_contexts.allows event g ≡ true → (makes_context c event == 1) ≡ true → (growing_contexts.next event g).next ≤ (seen_after growing_contexts (growing_contexts.next event g) events).next
-        → IsGiven c 6 (seen_after growing_contexts (growing_contexts.next event g) events).next
-    now (what.Create x name parent) a y rise = record { least_is = omega (arith, l, one_happens c x y, eqb-true x g.next a); below = omega (arith, rise, one_happens c x y, eqb-true x g.next a) }
-    now other a y rise = absurd (cc y)
+context_given c (event ∷ events) g h l made = grind (arith, nat_tests, context_given c events (growing_contexts.next event g), growing_contexts, and_parts, contexts_rise, or_cases, one_happens, eqb-true)
 
 owners_rise : (events : List What) (g : Growth) → allows_all growing_owners g events ≡ true → g.next ≤ (seen_after growing_owners g events).next
 owners_rise [] g h = omega arith
-owners_rise (event ∷ events) g h =
-    let p : (growing_owners.allows event g ≡ true) × (allows_all growing_owners (growing_owners.next event g) events ≡ true) = and_parts (growing_owners.allows event g) (allows_all growing_owners (growing_owners.next event g) events) h in
-    omega (arith, one event, owners_rise events (growing_owners.next event g) p.1)
-  where
-    one : (event : What) → g.next ≤ (growing_owners.next event g).next
-    one (what.Owner owner) = omega arith
-    one (what.OwnerIn owner parent) = omega arith
-    one other = omega arith
+owners_rise (event ∷ events) g h = grind (arith, nat_tests, owners_rise events (growing_owners.next event g), growing_owners, and_parts)
 
 owner_given : (o : ℕ) (events : List What) (g : Growth) → allows_all growing_owners g events ≡ true → 1 ≤ g.next → happens (makes_owner o) events ≡ true → IsGiven o 1 (seen_after growing_owners g events).next
 owner_given o [] g h l made = absurd (cc made)
-owner_given o (event ∷ events) g h l made =
-    let p : (growing_owners.allows event g ≡ true) × (allows_all growing_owners (growing_owners.next event g) events ≡ true) = and_parts (growing_owners.allows event g) (allows_all growing_owners (growing_owners.next event g) events) h in
-    let rise : (growing_owners.next event g).next ≤ (seen_after growing_owners (growing_owners.next event g) events).next = owners_rise events (growing_owners.next event g) p.1 in
-    elim (or_cases (makes_owner o event == 1) (happens (makes_owner o) events) made) [
-      | inl y ↦ now event p.0 y rise
-      | inr z ↦ owner_given o events (growing_owners.next event g) p.1 (more event) z
-    ]
-  where
-    more : (event : What) → 1 ≤ (growing_owners.next event g).next
-    more (what.Owner owner) = omega (arith, l)
-    more (what.OwnerIn owner parent) = omega (arith, l)
-    more other = l
-
-    now : (event : What) → growing_owners.allows event g ≡ true → (makes_owner o event == 1) ≡ true → (growing_owners.next event g).next ≤ (seen_after growing_owners (growing_owners.next event g) events).next
-        → IsGiven o 1 (seen_after growing_owners (growing_owners.next event g) events).next
-    now (what.Owner x) a y rise = record { least_is = omega (arith, l, one_happens o x y, eqb-true x g.next a); below = omega (arith, rise, one_happens o x y, eqb-true x g.next a) }
-    now (what.OwnerIn x parent) a y rise = record { least_is = omega (arith, l, one_happens o x y, eqb-true x g.next a); below = omega (arith, rise, one_happens o x y, eqb-true x g.next a) }
-    now other a y rise = absurd (cc y)
+owner_given o (event ∷ events) g h l made = grind (arith, nat_tests, owner_given o events (growing_owners.next event g), growing_owners, and_parts, owners_rise, or_cases, one_happens, eqb-true)
 
 -- the contexts that a session begins with may go once
-first_kept : (c : ℕ) → 1 ≤ c → c < 6 → is_there c opening_contexts.nodes ≡ true
-first_kept zero l u = absurd (omega (arith, l))
-first_kept (suc zero) l u = refl
-first_kept (suc (suc zero)) l u = refl
-first_kept (suc (suc (suc zero))) l u = refl
-first_kept (suc (suc (suc (suc zero)))) l u = refl
-first_kept (suc (suc (suc (suc (suc zero))))) l u = refl
-first_kept (suc (suc (suc (suc (suc (suc n)))))) l u = absurd (omega (arith, u))
 
 first_some : (c : ℕ) → is_first_context c ≡ true → 1 ≤ c
 first_some zero h = absurd (cc h)
 first_some (suc n) h = omega arith
 
 first_going : (c : ℕ) → IsGoing c 6 opening_contexts.nodes 6 1
-first_going c = record {
-  least_is = omega arith;
-  may = λ t. omega arith;
-  fresh = λ l. omega arith;
-  below = λ t. first_small c t;
-  most = omega arith;
-  kept = λ l i u. first_kept c i u;
-}
+first_going c = grind (arith, nat_tests, first_small)
 
 no_owner_going : (o : ℕ) → IsGoing o 1 opening_owners.nodes 1 1
-no_owner_going o = record {
-  least_is = omega arith;
-  may = λ t. omega arith;
-  fresh = λ l. omega arith;
-  below = λ t. absurd (cc t);
-  most = omega arith;
-  kept = λ l i u. absurd (omega (arith, i, u));
-}
+no_owner_going o = grind (arith, nat_tests)
 
 -- where nothing is there in the end, what was given has gone
 all_gone : (m least : ℕ) (nodes : List Kept) (next n : ℕ) → nodes ≡ [] → 1 ≤ m → m < next → IsGoing m least nodes next n → n ≡ 0
-all_gone m least nodes next n none i u h = elim (cases_eq n 0) [
-  | inl e ↦ e
-  | inr ne ↦
-      let there : is_there m nodes ≡ true = h.kept (omega (arith, ne)) i u in
-      let away : is_there m nodes ≡ false = ap (is_there m) none in
-      absurd (both_ways (is_there m nodes) away there)
-]
+all_gone m least nodes next n none i u h = grind (arith, nat_tests, both_ways)
 
 -- Where contexts grow and are placed as they are in a session, each that it has goes exactly once.
 pub contexts_gone_of : (events : List What) → allows_all growing_contexts opening_contexts events ≡ true → allows_all placing first_parents events ≡ true → NoneLeft (seen_after placing first_parents events)
@@ -312,3 +394,29 @@ owners_gone_of events h k none o made =
     let end : left nothing (discards o) 1 events ≡ 0 =
     all_gone o 1 (seen_after one seen events).first.nodes (seen_after one seen events).first.next (left nothing (discards o) 1 events) nodes w.least_is (omega (arith, w.below, ap (λ (g : Growth). g.next) p.first)) f.related.going in
     and_from (covers nothing (discards o) 1 events) (left nothing (discards o) 1 events == 0) f.allowed (eq-eqb (left nothing (discards o) 1 events) 0 end)
+
+-- Wherever a line stands between two of its elements, the replayed parents are those of the session's trees.
+
+-- the first elements of a line
+front_spoken : (usual : Bool) (xs ys : List Element) → AreSpoken usual (xs ++ ys) → AreSpoken usual xs
+front_spoken u [] ys h = tt
+front_spoken u (x ∷ xs) ys h = (h.0, front_spoken u xs ys h.1)
+
+front_run : (P : Element → Scene → Type 0) (w : Option ℕ) (xs ys : List Element) (m : Moment) → IsRun P w (xs ++ ys) m → IsRun P w xs m
+front_run P w [] ys m h = tt
+front_run P w (x ∷ xs) ys m h = (h.0, λ none. front_run P w xs ys (does w x m).moment (h.1 none))
+
+-- Behind the first elements of a line the replayed parents are those of the scene there, where they were so before the line.
+pub replayed_between : (w : Option ℕ) (line : Option Command) (m : Moment) → StandsBetweenLines m.scene → (xs ys : List Element) → line_elements line m.scene.session ≡ xs ++ ys
+    → (parents : Parents) → FitsParents parents m.scene → FitsParents (seen_after shedding parents (does_all w xs m).events) (does_all w xs m).moment.scene
+replayed_between w line m h xs ys are parents fit =
+    let spoken : AreSpoken false (xs ++ ys) = subst (AreSpoken false) are (line_spoken false line m.scene.session (λ usual. absurd (cc usual))) in
+    let run : IsRun Meets w (xs ++ ys) m = subst (λ (elements : List Element). IsRun Meets w elements m) are (line_runs w line m h) in
+    let k : IsRead placing FitsParents parents (does_all w xs m).moment.scene (does_all w xs m).events = (run_reads w xs m (front_spoken false xs ys spoken) (front_run Meets w xs ys m run)).so parents fit in
+    subst (λ (seen : Parents). FitsParents seen (does_all w xs m).moment.scene) (sym (same_seen (does_all w xs m).events parents)) k.fits
+
+-- And so they are behind the whole line, with its recovery.
+pub replayed_behind : (w : Option ℕ) (line : Option Command) (m : Moment) → StandsBetweenLines m.scene
+    → (parents : Parents) → FitsParents parents m.scene → FitsParents (seen_after shedding parents (turn w line m).events) (turn w line m).moment.scene
+replayed_behind w line m h parents fit =
+    let k : IsRead shedding FitsParents parents (turn w line m).moment.scene (turn w line m).events = ((shedding_life (table_of m.scene.around.kinds)).turns w line m h).so parents fit in k.fits

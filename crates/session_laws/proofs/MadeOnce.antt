@@ -1,20 +1,139 @@
--- Nothing is made twice, and nothing goes that was not made, nor again.
-use Rattle.std.proofs.Common.{◌≡◌, ◌≢◌, ℕ, ◌+◌, ◌-◌, ◌<◌, ◌≤◌, Bool, true, false, not, List, Option, Some, None, nat_le, refl, sym, ap, ◌∙◌, inl, inr, arith}
-use Rattle.std.specs.Prelude.{◌==◌, ◌&&◌}
-use Rattle.std.proofs.lemmas.Bool.{and_parts, both_ways, cases_Bool, cases_eq, eqb-false, eqb-true, false_from_ne_true, le-leb}
-use Rattle.std.proofs.lemmas.Bool.Decides.{nat_tests}
-use Rattle.pgs_step.specs.declared.events.What.{What}
-use Rattle.pgs_step.specs.declared.events.What.TheVariants as what
-use Rattle.lifetime_laws.specs.Balance.{count}
-use Rattle.lifetime_laws.specs.Parents.{Node as Kept, has_child, is_there, placed_where, without}
-use Rattle.lifetime_laws.specs.Once.{deletes, discards, is_first_context, makes_context, makes_owner, nothing, one_where}
+-- A reader that allows what another one allows, by what both have seen.
+use Rattle.session_laws.proofs.Words.{◌≡◌, true, List, [], ◌∷◌, refl, ℕ, not, sym, ap, ◌∙◌, subst, ◌≢◌, ◌+◌, ◌-◌, ◌<◌, ◌≤◌, Bool, false, Option, Some, nat_le, inl, inr, arith, ◌&&◌, ◌==◌, and_from, and_parts, both_ways, cases_eq, eqb-false, eqb-true, false_from_ne_true, le-leb, nat_tests}
+use Rattle.session_laws.proofs.Scenes.{What, Scene, KindTable, exited}
+use Rattle.session_laws.proofs.Rules.{Reader, allows_all, seen_after, count}
+use Rattle.lifetime_laws.specs.Parents.{Node as Kept, has_child, is_there, placed_where}
+use Rattle.lifetime_laws.specs.Once.{Parents, first_parents, shedding, deletes, discards, is_first_context, makes_context, makes_owner, nothing, one_where}
+use Rattle.session_laws.proofs.Lives.{IsLife, IsRead, Reads}
+use Rattle.session_laws.proofs.Parents.{FitsContexts, FitsOwners, Growth, growing_contexts, growing_owners, is_leaf}
+use Rattle.session_laws.proofs.ParentsLife.{HasContexts, KeepsContexts, HasOwners, KeepsOwners, contexts_life, opening_contexts, opening_owners, owners_life}
 use Rattle.lifetime_laws.specs.Made.{IsMadeOnce}
-use Rattle.lifetime_laws.specs.Reading.{allows_all}
 use Rattle.lifetime_laws.proofs.Replays.{is_there-placed_other, is_there-without_other, is_there-without_same}
-use Rattle.session_laws.proofs.ParentsGrowth.{Growth, growing_contexts, growing_owners, is_leaf}
-use Rattle.session_laws.proofs.ParentsLife.{opening_contexts}
-use Rattle.session_laws.proofs.ParentsOwnersLife.{opening_owners}
-use Rattle.session_laws.proofs.ParentsFollow.{IsFollowed, followed}
+
+module _ {A B : Type 0} (one : Reader A) (two : Reader B) where
+  -- where what both have seen is related, the second allows each event that the first allows, and so it is behind
+  pub record IsFollowed (Rel : A → B → Type 0) : Type 0 where
+    pub allowed : (event : What) (a : A) (b : B) → Rel a b → one.allows event a ≡ true → two.allows event b ≡ true
+    pub next : (event : What) (a : A) (b : B) → Rel a b → one.allows event a ≡ true → Rel (one.next event a) (two.next event b)
+
+  pub record HasFollowed (Rel : A → B → Type 0) (a : A) (b : B) (events : List What) : Type 0 where
+    pub allowed : allows_all two b events ≡ true
+    pub related : Rel (seen_after one a events) (seen_after two b events)
+
+  pub followed : {Rel : A → B → Type 0} → IsFollowed Rel → (events : List What) (a : A) (b : B) → Rel a b → allows_all one a events ≡ true → HasFollowed Rel a b events
+  followed f [] a b r h = record { allowed = refl; related = r }
+  followed {Rel} f (event ∷ events) a b r h =
+      let p : (one.allows event a ≡ true) × (allows_all one (one.next event a) events ≡ true) = and_parts (one.allows event a) (allows_all one (one.next event a) events) h in
+      let k : HasFollowed Rel (one.next event a) (two.next event b) events = followed f events (one.next event a) (two.next event b) (f.next event a b r p.0) p.1 in
+      record { allowed = and_from (two.allows event b) (allows_all two (two.next event b) events) (f.allowed event a b r p.0) k.allowed; related = k.related }
+
+  -- what the second has seen fits where the first one has seen something that fits, and is related to it
+  pub record FitsBoth (Fits : A → Scene → Type 0) (Rel : A → B → Type 0) (b : B) (s : Scene) : Type 0 where
+    pub seen : A
+    pub fits : Fits seen s
+    pub related : Rel seen b
+
+-- Two readers at once.
+pub record Pair (A B : Type 0) : Type 0 where
+  pub first : A
+  pub second : B
+
+module _ {A B : Type 0} (one : Reader A) (two : Reader B) where
+  abbrev pub paired : Reader (Pair A B)
+  paired = record {
+    next = λ event seen. record { first = one.next event seen.first; second = two.next event seen.second };
+    allows = λ event seen. one.allows event seen.first && two.allows event seen.second;
+  }
+
+  pub record IsPaired (seen : Pair A B) (events : List What) : Type 0 where
+    pub allowed : allows_all paired seen events ≡ true
+    pub first : (seen_after paired seen events).first ≡ seen_after one seen.first events
+    pub second : (seen_after paired seen events).second ≡ seen_after two seen.second events
+
+  pub pair_reads : (events : List What) (seen : Pair A B) → allows_all one seen.first events ≡ true → allows_all two seen.second events ≡ true → IsPaired seen events
+  pair_reads [] seen h k = record { allowed = refl; first = refl; second = refl }
+  pair_reads (event ∷ events) seen h k = grind (arith, nat_tests, pair_reads events (paired.next event seen), and_parts, and_from)
+
+  pub record FitsPair (F : A → Scene → Type 0) (G : B → Scene → Type 0) (seen : Pair A B) (s : Scene) : Type 0 where
+    pub first : F seen.first s
+    pub second : G seen.second s
+
+-- The replayed parents are those of the session's trees between any two elements, and what goes has no child.
+
+-- the replayed parents of contexts and of owners are those of the session's trees
+pub record FitsParents (parents : Parents) (s : Scene) : Type 0 where
+  pub contexts : FitsContexts parents.contexts s
+  pub owners : FitsOwners parents.owners s
+
+-- the same nodes
+pub record AreSame (seen : Pair Growth Growth) (parents : Parents) : Type 0 where
+  pub contexts : seen.first.nodes ≡ parents.contexts
+  pub owners : seen.second.nodes ≡ parents.owners
+
+pub sheds : IsFollowed (paired growing_contexts growing_owners) shedding AreSame
+sheds = grind (arith, nat_tests, is_leaf, and_parts)
+
+-- what is read of events that keep both trees
+record AreShed (parents : Parents) (g k : Growth) (events : List What) : Type 0 where
+  allowed : allows_all shedding parents events ≡ true
+  contexts : (seen_after growing_contexts g events).nodes ≡ (seen_after shedding parents events).contexts
+  owners : (seen_after growing_owners k events).nodes ≡ (seen_after shedding parents events).owners
+
+shed_events : (events : List What) (parents : Parents) (contexts owners : Growth) → contexts.nodes ≡ parents.contexts → owners.nodes ≡ parents.owners → allows_all growing_contexts contexts events ≡ true → allows_all growing_owners owners events ≡ true
+    → AreShed parents contexts owners events
+shed_events events parents contexts owners c o h k =
+    let seen : Pair Growth Growth = record { first = contexts; second = owners } in
+    let p : IsPaired growing_contexts growing_owners seen events = pair_reads growing_contexts growing_owners events seen h k in
+    let f : HasFollowed (paired growing_contexts growing_owners) shedding AreSame seen parents events = followed (paired growing_contexts growing_owners) shedding sheds events seen parents (record { contexts = c; owners = o }) p.allowed in
+    record {
+      allowed = f.allowed;
+      contexts = ap (λ (g : Growth). g.nodes) (sym p.first) ∙ f.related.contexts;
+      owners = ap (λ (g : Growth). g.nodes) (sym p.second) ∙ f.related.owners;
+    }
+
+-- Where a part of what a session does keeps the replayed contexts and the replayed owners, it keeps the replayed parents, and lets nothing go that has a child.
+pub shed_reads : {s t : Scene} {events : List What} → KeepsContexts s t events → KeepsOwners s t events → Reads shedding FitsParents s t events
+shed_reads {s} {t} {events} c o = record {
+  so = λ parents h.
+      let contexts : Growth = record { nodes = parents.contexts; next = s.session.next_context } in
+      let owners : Growth = record { nodes = parents.owners; next = s.session.next_owner } in
+      let x : IsRead growing_contexts HasContexts contexts t events = c.so contexts (record { fits = h.contexts; next = refl }) in
+      let y : IsRead growing_owners HasOwners owners t events = o.so owners (record { fits = h.owners; next = refl }) in
+      let w : AreShed parents contexts owners events = shed_events events parents contexts owners refl refl x.allowed y.allowed in
+      record {
+        allowed = w.allowed;
+        fits = record {
+          contexts = subst (λ (nodes : List Kept). FitsContexts nodes t) w.contexts x.fits.fits;
+          owners = subst (λ (nodes : List Kept). FitsOwners nodes t) w.owners y.fits.fits;
+        };
+      };
+}
+
+-- no context and no owner is left
+pub record NoneLeft (parents : Parents) : Type 0 where
+  pub contexts : parents.contexts ≡ []
+  pub owners : parents.owners ≡ []
+
+-- In the life of a session what goes has no child at that time, the replayed parents are those of its trees, and in the end none is left.
+pub shedding_life : (kinds : KindTable) → IsLife kinds shedding FitsParents first_parents NoneLeft
+shedding_life kinds =
+    let c : IsLife kinds growing_contexts HasContexts opening_contexts (λ growth. growth.nodes ≡ []) = contexts_life kinds in
+    let o : IsLife kinds growing_owners HasOwners opening_owners (λ growth. growth.nodes ≡ []) = owners_life kinds in
+    record {
+      opens = λ around same. record { contexts = (c.opens around same).fits; owners = (o.opens around same).fits };
+      elsewhere = λ parents session a b same descriptors h. record { contexts = h.contexts; owners = h.owners };
+      error = λ error s. shed_reads (c.error error s) (o.error error s);
+      turns = λ w line m stands. shed_reads (c.turns w line m stands) (o.turns w line m stands);
+      exits = λ s stands parents h.
+          let contexts : Growth = record { nodes = parents.contexts; next = s.session.next_context } in
+          let owners : Growth = record { nodes = parents.owners; next = s.session.next_owner } in
+          let x : (allows_all growing_contexts contexts (exited s).events ≡ true) × ((seen_after growing_contexts contexts (exited s).events).nodes ≡ []) = c.exits s stands contexts (record { fits = h.contexts; next = refl }) in
+          let y : (allows_all growing_owners owners (exited s).events ≡ true) × ((seen_after growing_owners owners (exited s).events).nodes ≡ []) = o.exits s stands owners (record { fits = h.owners; next = refl }) in
+          let w : AreShed parents contexts owners (exited s).events = shed_events (exited s).events parents contexts owners refl refl x.0 y.0 in
+          (w.allowed, record { contexts = sym w.contexts ∙ x.1; owners = sym w.owners ∙ y.1 });
+    }
+
+-- Nothing is made twice, and nothing goes that was not made, nor again.
 
 -- which numbers are there behind a node that is placed, that moves or that goes
 pub there_placed : (b : Bool) (m n : ℕ) (parent : Option ℕ) (nodes : List Kept) → m ≢ n → is_there m (placed_where b n parent nodes) ≡ is_there m nodes
@@ -38,25 +157,16 @@ leaf_there n nodes h = let p : (is_there n nodes ≡ true) × (not (has_child n 
 
 -- counts of one number
 pub one_allowed : (m x n : ℕ) → (m ≡ x → 1 ≤ n) → nat_le (one_where (m == x)) n ≡ true
-one_allowed m x n h = elim (cases_Bool (m == x)) [
-  | inl y ↦ rw y (le-leb 1 n (h (eqb-true m x y)))
-  | inr z ↦ rw z (le-leb 0 n (omega arith))
-]
+one_allowed m x n h = grind (arith, nat_tests, le-leb, eqb-true)
 
 pub none_allowed : (n : ℕ) → nat_le 0 n ≡ true
 none_allowed n = le-leb 0 n (omega arith)
 
 pub one_less : (m x n : ℕ) → m ≢ x → 1 ≤ n → 1 ≤ (n + 0) - one_where (m == x)
-one_less m x n ne h = elim (cases_Bool (m == x)) [
-  | inl y ↦ absurd (ne (eqb-true m x y))
-  | inr z ↦ rw z (omega (arith, h))
-]
+one_less m x n ne h = grind (arith, nat_tests, eqb-true)
 
 pub one_more : (m x n : ℕ) → (m ≢ x → 1 ≤ n) → 1 ≤ (n + one_where (m == x)) - 0
-one_more m x n h = elim (cases_Bool (m == x)) [
-  | inl y ↦ rw y (omega arith)
-  | inr z ↦ rw z (omega (arith, h (eqb-false m x z)))
-]
+one_more m x n h = grind (arith, nat_tests, eqb-false)
 
 pub still_one : (n : ℕ) → 1 ≤ n → 1 ≤ (n + 0) - 0
 still_one n h = omega (arith, h)
@@ -67,82 +177,20 @@ pub record IsToMake (m least : ℕ) (growth : Growth) (n : ℕ) : Type 0 where
   pub may : growth.next ≤ m → 1 ≤ n
 
 contexts_made : (c : ℕ) → IsFollowed growing_contexts (count nothing (makes_context c)) (IsToMake c 6)
-contexts_made c = record { allowed = allowed; next = next }
-  where
-    allowed : (event : What) (g : Growth) (n : ℕ) → IsToMake c 6 g n → growing_contexts.allows event g ≡ true → nat_le (makes_context c event) n ≡ true
-    allowed (what.Create x name parent) g n r h = one_allowed c x n (λ e. r.may (omega (arith, e, eqb-true x g.next h)))
-    allowed other g n r h = none_allowed n
-
-    next : (event : What) (g : Growth) (n : ℕ) → IsToMake c 6 g n → growing_contexts.allows event g ≡ true → IsToMake c 6 (growing_contexts.next event g) ((n + 0) - makes_context c event)
-    next (what.Create x name parent) g n r h = record {
-      least_is = omega (arith, r.least_is);
-      may = λ l. one_less c x n (λ e. omega (arith, e, l, eqb-true x g.next h)) (r.may (omega (arith, l)));
-    }
-    next other g n r h = record { least_is = r.least_is; may = λ l. still_one n (r.may l) }
+contexts_made c = grind (arith, nat_tests, one_allowed, eqb-true, none_allowed, one_less, still_one)
 
 owners_made : (o : ℕ) → IsFollowed growing_owners (count nothing (makes_owner o)) (IsToMake o 1)
-owners_made o = record { allowed = allowed; next = next }
-  where
-    allowed : (event : What) (g : Growth) (n : ℕ) → IsToMake o 1 g n → growing_owners.allows event g ≡ true → nat_le (makes_owner o event) n ≡ true
-    allowed (what.Owner x) g n r h = one_allowed o x n (λ e. r.may (omega (arith, e, eqb-true x g.next h)))
-    allowed (what.OwnerIn x parent) g n r h = one_allowed o x n (λ e. r.may (omega (arith, e, eqb-true x g.next h)))
-    allowed other g n r h = none_allowed n
-
-    next : (event : What) (g : Growth) (n : ℕ) → IsToMake o 1 g n → growing_owners.allows event g ≡ true → IsToMake o 1 (growing_owners.next event g) ((n + 0) - makes_owner o event)
-    next (what.Owner x) g n r h = record {
-      least_is = omega (arith, r.least_is);
-      may = λ l. one_less o x n (λ e. omega (arith, e, l, eqb-true x g.next h)) (r.may (omega (arith, l)));
-    }
-    next (what.OwnerIn x parent) g n r h = record {
-      least_is = omega (arith, r.least_is);
-      may = λ l. one_less o x n (λ e. omega (arith, e, l, eqb-true x g.next h)) (r.may (omega (arith, l)));
-    }
-    next other g n r h = record { least_is = r.least_is; may = λ l. still_one n (r.may l) }
+owners_made o = grind (arith, nat_tests, one_allowed, eqb-true, none_allowed, one_less, still_one)
 
 -- what is there may go
 pub record IsToGo (m : ℕ) (growth : Growth) (n : ℕ) : Type 0 where
   pub may : is_there m growth.nodes ≡ true → 1 ≤ n
 
 contexts_go : (c : ℕ) → IsFollowed growing_contexts (count (makes_context c) (deletes c)) (IsToGo c)
-contexts_go c = record { allowed = allowed; next = next }
-  where
-    allowed : (event : What) (g : Growth) (n : ℕ) → IsToGo c g n → growing_contexts.allows event g ≡ true → nat_le (deletes c event) n ≡ true
-    allowed (what.Delete x) g n r h = one_allowed c x n (λ e. r.may (ap (λ (m : ℕ). is_there m g.nodes) e ∙ leaf_there x g.nodes h))
-    allowed other g n r h = none_allowed n
-
-    next : (event : What) (g : Growth) (n : ℕ) → IsToGo c g n → growing_contexts.allows event g ≡ true → IsToGo c (growing_contexts.next event g) ((n + makes_context c event) - deletes c event)
-    next (what.Create x name parent) g n r h = record {
-      may = λ t. one_more c x n (λ ne. r.may (sym (there_placed (is_there parent g.nodes) c x (Some parent) g.nodes ne) ∙ t));
-    }
-    next (what.Move x parent) g n r h = record { may = λ t. still_one n (r.may (there_moved c x parent g.nodes t)) }
-    next (what.Delete x) g n r h = record {
-      may = λ t. elim (cases_eq c x) [
-        | inl e ↦ absurd (both_ways (is_there c (without x g.nodes)) (ap (λ (m : ℕ). is_there m (without x g.nodes)) e ∙ is_there-without_same x g.nodes) t)
-        | inr ne ↦ one_less c x n ne (r.may (sym (is_there-without_other c x g.nodes ne) ∙ t))
-      ];
-    }
-    next other g n r h = record { may = λ t. still_one n (r.may t) }
+contexts_go c = grind (arith, nat_tests, one_allowed, leaf_there, none_allowed, one_more, there_placed, still_one, there_moved, both_ways, is_there-without_same, one_less, is_there-without_other)
 
 owners_go : (o : ℕ) → IsFollowed growing_owners (count (makes_owner o) (discards o)) (IsToGo o)
-owners_go o = record { allowed = allowed; next = next }
-  where
-    allowed : (event : What) (g : Growth) (n : ℕ) → IsToGo o g n → growing_owners.allows event g ≡ true → nat_le (discards o event) n ≡ true
-    allowed (what.OwnerGone x) g n r h = one_allowed o x n (λ e. r.may (ap (λ (m : ℕ). is_there m g.nodes) e ∙ leaf_there x g.nodes h))
-    allowed other g n r h = none_allowed n
-
-    next : (event : What) (g : Growth) (n : ℕ) → IsToGo o g n → growing_owners.allows event g ≡ true → IsToGo o (growing_owners.next event g) ((n + makes_owner o event) - discards o event)
-    next (what.Owner x) g n r h = record { may = λ t. one_more o x n (λ ne. r.may (sym (is_there-placed_other o x None g.nodes ne) ∙ t)) }
-    next (what.OwnerIn x parent) g n r h = record {
-      may = λ t. one_more o x n (λ ne. r.may (sym (there_placed (is_there parent g.nodes) o x (Some parent) g.nodes ne) ∙ t));
-    }
-    next (what.MoveOwner x parent) g n r h = record { may = λ t. still_one n (r.may (there_moved o x parent g.nodes t)) }
-    next (what.OwnerGone x) g n r h = record {
-      may = λ t. elim (cases_eq o x) [
-        | inl e ↦ absurd (both_ways (is_there o (without x g.nodes)) (ap (λ (m : ℕ). is_there m (without x g.nodes)) e ∙ is_there-without_same x g.nodes) t)
-        | inr ne ↦ one_less o x n ne (r.may (sym (is_there-without_other o x g.nodes ne) ∙ t))
-      ];
-    }
-    next other g n r h = record { may = λ t. still_one n (r.may t) }
+owners_go o = grind (arith, nat_tests, one_allowed, leaf_there, none_allowed, one_more, is_there-placed_other, there_placed, still_one, there_moved, both_ways, is_there-without_same, one_less, is_there-without_other)
 
 -- the contexts that a session begins with
 first_to_go : (c : ℕ) → is_there c opening_contexts.nodes ≡ true → 1 ≤ one_where (is_first_context c)

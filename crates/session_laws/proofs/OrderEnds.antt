@@ -1,44 +1,309 @@
--- The ends of levels are said in order: what portals give back, the release of the level's owner, and what comes behind it.
-use Rattle.std.proofs.Common.{◌≡◌, ℕ, ◌≤◌, Bool, true, false, not, List, [], ◌∷◌, ◌++◌, length, Option, Some, None, refl, sym, ap, ◌∙◌, subst, arith}
-use Rattle.std.specs.Prelude.{◌==◌}
-use Rattle.pgs_step.specs.declared.events.What.{What}
-use Rattle.pgs_step.specs.declared.events.What.TheVariants as what
-use Rattle.forest.specs.Forest.{Empty, Node, AllNodes, children}
-use Rattle.forest.specs.Walk.{order}
-use Rattle.owner_kinds.specs.KindTable.{KindTable}
+-- A reader of releases, where none is open, as one opens, and as it closes.
+use Rattle.session_laws.proofs.Words.{◌≡◌, ℕ, Bool, true, false, not, List, [], ◌∷◌, ◌++◌, map, Option, Some, None, refl, sym, subst, codes, ◌∙◌, ◌+◌, ◌<◌, All, ap, arith, ◌≤◌, length, option_and_then, ◌==◌, option_map_or, list_all, and_from, All-filter, All-nil, All-weaker, Empty, Node, AllNodes, children, order, nat_tests}
+use Rattle.session_laws.proofs.Scenes.{What, KindTable, portals_context, opening, LevelState, OpenPortal, deepest_changed, depth, first_of, level_owner, owner_of, top_context, Moment, Scene, Around, Element, Text, new_context_made, owner_made, owner_gone, descriptor_left, owner_moved, owner_released, does, Item, Phase, BeforeLocks, Locks, AfterLocks, table_of, is_of, without_newest, is_of_phase, Owner, OwnerTree, remembered, own_released, IsInOrder, Lock, has_owner, Ended, changes, context_gone, for_each, in_order, portal_gone, switched, where_so, where_there, portal_aborted, portal_closed, portal_passed, aborted, cleaned_up, committed, empty_context_gone, level_context_gone, level_owner_gone, level_popped, level_released, stack_lowered, stack_popped, subcommitted, switched_up, Stands, active_depth}
+use Rattle.session_laws.proofs.Rules.{allows_all, seen_after, allows_all-append, seen_after-append, AreSaid, said_more, said_none, said_both, said_one, said_pops, Acts, Follows, Keeps, last, next, EndLeaves, Law, MakeLeaves, Leaves, OwnerLeaves, KeyLeaves, Part, Sight, acts_of, children_go, goes, item_comes, item_goes, leaves_of, of_levels, owner_goes, owner_makes, places, releases, unseen_keys, unseen_owners, of_kinds, of_locks, of_next_serial, of_owners, owner_moves, by_order, moves_owed, by_each, by_so, by_there, all_swept, begins, off_begins, owner_when_active, resettled, settled, switched_off, aborted_leads, empty_context_goes, level_context_goes, portal_aborts, portal_cleans, portal_closes, portal_passes}
+use Rattle.session_laws.proofs.Usual.{Usual, any, usual_any, is_usual, usual_contexts, usual_files, usual_locked, usual_locks, usual_made, usual_moves, usual_placed, usual_planned, usual_pushed, usual_stack, usual_unlocked, usual_words, usual_ends, usual_released, usual_taken, usual_phase}
+use Rattle.lifetime_laws.specs.Order.{Batch, Member, Releasing, may_precede, member_in, members_so_far, ordering}
+use Rattle.lifetime_laws.specs.Parents.{owners_behind}
+use Rattle.session_laws.proofs.Parents.{Growth, growing_owners, FitsOwners}
+use Rattle.session_laws.proofs.Warnings.{is_aside, is_line}
+use Rattle.session_laws.proofs.OrderSteps.{Adds, adds_aside, in_batch, falling_filter, Falls}
+use Rattle.session_laws.proofs.OwnWork.{IsOwnWork, WorkLeaves, own_follows}
+use Rattle.owner_kinds.proofs.Places.{table-closed, table-opened}
+use Rattle.owner_items.proofs.Order.{All-without, falling-without}
+use Rattle.lock_local.specs.Changes.{passed_lock, without}
+use Rattle.lock_local.proofs.ChangeLemmas.{IsInOrder-acquired, down, keeps-down, keeps-passed, keeps-without}
+use Rattle.lock_local.proofs.OrderLemmas.{IsInOrder-filter, IsInOrder-map}
+use Rattle.session_rules.proofs.Guarded.{all_changed, all_moved, all_put, all_removed}
+use Rattle.session_laws.proofs.Lives.{owes_by, OwesTurns, IsRead}
 use Rattle.file_table.specs.Descriptors.{is_among}
-use Rattle.owner_core.specs.Owners.{OwnerTree}
-use Rattle.lifetime_laws.specs.Order.{Member, Releasing}
-use Rattle.lifetime_laws.specs.Parents as replayed
-use Rattle.session_rules.specs.State.{LevelState, OpenPortal, deepest_changed, depth, first_of, level_owner, owner_of, top_context}
-use Rattle.session_rules.specs.World.{Scene}
-use Rattle.session_rules.specs.Acts.{Ended, changes, context_gone, for_each, in_order, portal_gone, switched, where_so, where_there}
-use Rattle.session_rules.specs.Releases.{descriptor_left, owner_gone, owner_moved, owner_released}
-use Rattle.session_rules.specs.Portals.{portal_aborted, portal_closed, portal_passed}
-use Rattle.session_rules.specs.Ends.{aborted, cleaned_up, committed, empty_context_gone, level_context_gone, level_owner_gone, level_popped, level_released, stack_lowered, stack_popped, subcommitted, switched_up}
-use Rattle.session_rules.specs.Standing.{Stands, active_depth}
 use Rattle.session_rules.specs.Ending.{gone_levels}
-use Rattle.session_rules.proofs.EndsStand.{begins, off_begins, owner_when_active, resettled, settled, switched_off}
-use Rattle.session_rules.proofs.Failing.{aborted_leads}
-use Rattle.session_rules.proofs.Leaves.{Acts, EndLeaves, Keeps, Law, Leaves}
 use Rattle.session_rules.proofs.Passing.{passed_leads}
-use Rattle.session_rules.proofs.Walk.{by_each, by_so, by_there}
-use Rattle.session_rules.proofs.WalkEnds.{empty_context_goes, level_context_goes, portal_aborts, portal_cleans, portal_closes, portal_passes}
-use Rattle.session_rules.proofs.Said.{AreSaid, said_both, said_none, said_one, said_pops}
-use Rattle.session_rules.proofs.Sight.{Sight, item_goes, owner_moves, releases, unseen_keys}
-use Rattle.session_laws.proofs.ReaderLaws.{IsRead}
-use Rattle.session_laws.proofs.ParentsFit.{FitsOwners}
-use Rattle.session_laws.proofs.ParentsGrowth.{Growth, growing_owners}
-use Rattle.session_laws.proofs.ParentsOwners.{HasOwners, KeepsOwners, owner_level_leaves, owners_moved}
-use Rattle.session_laws.proofs.OwnerEnds.{released_levels}
-use Rattle.session_laws.proofs.PortalMoves.{aborted_reads, each_reads, passed_reads}
-use Rattle.session_laws.proofs.OrderSaid.{is_aside}
-use Rattle.session_laws.proofs.OrderBatch.{in_batch}
-use Rattle.session_laws.proofs.OrderTree.{Falls}
+use Rattle.session_laws.proofs.ParentsLife.{HasOwners, KeepsOwners, owner_level_leaves, owners_moved}
+use Rattle.session_laws.proofs.OwnerEnds.{released_levels, aborted_reads, each_reads, passed_reads}
 use Rattle.session_laws.proofs.OrderPhase.{HasBatch, owner_release}
-use Rattle.session_laws.proofs.OrderBase.{Based, KeepsBase, Recalls, base_leaves}
-use Rattle.session_laws.proofs.OrderMild.{Mild, gone_mild, mild_acts, mild_sight, sees_levels}
-use Rattle.session_laws.proofs.OrderOpen.{Goes, IsClosed, abort_opens, aside_goes, by_cleanup, closed_goes, closes, commit_opens, goes_both, goes_none, gone_goes, grown_nodes, is_passing, is_unlined, nodes_after, passing_goes}
+use Rattle.pgs_step.specs.declared.events.What.TheVariants as what
+use Rattle.lifetime_laws.specs.Parents as replayed
+use Rattle.any_ctx.specs.declared.any.CtxKind.TheVariants as kind
+use Rattle.session_rules.specs.Elements as e
+
+-- the owners that are replayed behind these events
+abbrev pub nodes_after : List replayed.Node → List What → List replayed.Node
+nodes_after nodes [] = nodes
+nodes_after nodes (event ∷ events) = nodes_after (owners_behind event nodes) events
+
+pub ordered_nodes : (kinds : KindTable) (events : List What) (seen : Releasing) → (seen_after (ordering kinds) seen events).owners ≡ nodes_after seen.owners events
+ordered_nodes kinds [] seen = refl
+ordered_nodes kinds (event ∷ events) seen = ordered_nodes kinds events ((ordering kinds).next event seen)
+
+pub grown_nodes : (events : List What) (growth : Growth) → (seen_after growing_owners growth events).nodes ≡ nodes_after growth.nodes events
+grown_nodes [] growth = refl
+grown_nodes (event ∷ events) growth = grown_nodes events (growing_owners.next event growth)
+
+abbrev pub is_unlined : What → Bool
+is_unlined event = not (is_line event)
+
+-- what passes over a release that has released nothing so far: at commit also what portals give back
+abbrev pub is_passing : Bool → What → Bool
+is_passing aborts (what.Callback word context) = true
+is_passing aborts (what.Delete context) = true
+is_passing aborts (what.DescriptorClosed file) = true
+is_passing aborts (what.Pop snapshot) = true
+is_passing aborts (what.MoveOwner owner parent) = true
+is_passing aborts (what.Release item owner) = not aborts
+is_passing aborts other = false
+
+module _ (kinds : KindTable) where
+  -- The events are in order, and what is seen behind them is so.
+  pub record Goes (seen : Releasing) (events : List What) (P : Releasing → Type 0) : Type 0 where
+    pub allowed : allows_all (ordering kinds) seen events ≡ true
+    pub behind : P (seen_after (ordering kinds) seen events)
+
+  pub goes_none : (seen : Releasing) (P : Releasing → Type 0) → P seen → Goes seen [] P
+  goes_none seen P h = record { allowed = refl; behind = h }
+
+  pub goes_both : {seen : Releasing} {xs ys : List What} {P Q : Releasing → Type 0} → Goes seen xs P → ((mid : Releasing) → P mid → Goes mid ys Q) → Goes seen (xs ++ ys) Q
+  goes_both {seen = seen} {xs = xs} {ys = ys} {Q = Q} a more = grind (arith, nat_tests, allows_all-append, seen_after-append)
+
+  pub goes_weaker : {seen : Releasing} {events : List What} {P Q : Releasing → Type 0} → ((b : Releasing) → P b → Q b) → Goes seen events P → Goes seen events Q
+  goes_weaker f g = record { allowed = g.allowed; behind = f _ g.behind }
+
+  -- where no release is open, none opens but by a level's line
+  abbrev pub IsClosed : Releasing → Type 0
+  IsClosed seen = seen.batch ≡ None
+
+  pub closed_goes : {events : List What} → AreSaid is_unlined events → (seen : Releasing) → IsClosed seen → Goes seen events IsClosed
+  closed_goes said_none seen is = goes_none seen IsClosed is
+  closed_goes (said_more {event = event} {events = events} h hs) seen is = grind (arith, nat_tests, closed_goes hs, and_from)
+
+  -- an event that is no member of a release
+  pub lone_allows : (event : What) (seen : Releasing) → ((b : Option Batch) → option_and_then (λ batch. member_in kinds seen.warning event batch) b ≡ None) → (ordering kinds).allows event seen ≡ true
+  lone_allows event seen none =
+      subst (λ (o : Option Member). option_map_or (λ member. list_all (λ earlier. may_precede seen.owners earlier member) (members_so_far seen.batch)) o true ≡ true) (sym (none seen.batch)) refl
+
+  -- a level's line opens one, whatever was open before
+  pub commit_opens : (level : ℕ) (seen : Releasing) → Goes seen (what.CommitLevel level ∷ []) (λ behind. behind ≡ in_batch seen.owners false [])
+  commit_opens level seen = grind (arith, nat_tests, and_from, lone_allows)
+
+  pub abort_opens : (level : ℕ) (seen : Releasing) → Goes seen (what.AbortLevel level ∷ []) (λ behind. behind ≡ in_batch seen.owners true [])
+  abort_opens level seen = grind (arith, nat_tests, and_from, lone_allows)
+
+  -- an event that closes one
+  pub data Closes : What → Type 0 where
+    by_cleanup : (level : ℕ) → Closes (what.CleanupLevel level)
+    by_gone : (owner : ℕ) → Closes (what.OwnerGone owner)
+    by_error : {error : _} → Closes (what.Error error)
+    by_ok : Closes what.Ok
+
+  pub closes : {event : What} → Closes event → (seen : Releasing) → Goes seen (event ∷ []) IsClosed
+  closes {event = event} h seen = grind (arith, nat_tests, and_from, lone_allows)
+
+  -- what passes over a release that has released nothing so far
+  pub passing_goes : (aborts : Bool) (nodes : List replayed.Node) {events : List What} → AreSaid (is_passing aborts) events → Goes (in_batch nodes aborts []) events (λ behind. behind ≡ in_batch (nodes_after nodes events) aborts [])
+  passing_goes aborts nodes said_none = goes_none (in_batch nodes aborts []) (λ behind. behind ≡ in_batch nodes aborts []) refl
+  passing_goes aborts nodes (said_more {event = event} {events = events} h hs) = grind (arith, nat_tests, passing_goes aborts (owners_behind event nodes) hs, last, goes_both, in_batch)
+
+  -- what a release says in order, and what is said beside it
+  pub adds_goes : (nodes : List replayed.Node) (aborts : Bool) (old new : List Member) {events : List What} → Adds kinds nodes aborts old new events → Goes (in_batch nodes aborts old) events (λ behind. behind ≡ in_batch nodes aborts new)
+  adds_goes nodes aborts old new h = record { allowed = h.allowed; behind = h.behind }
+
+  pub aside_goes : (nodes : List replayed.Node) (aborts : Bool) (members : List Member) {events : List What} → AreSaid is_aside events → Goes (in_batch nodes aborts members) events (λ behind. behind ≡ in_batch nodes aborts members)
+  aside_goes nodes aborts members h = adds_goes nodes aborts members members (adds_aside kinds nodes aborts members h)
+
+  -- owners that go close it
+  gone_closed : (ns : List ℕ) (seen : Releasing) → IsClosed seen → Goes seen (map (λ n. what.OwnerGone n) ns) IsClosed
+  gone_closed [] seen is = goes_none seen IsClosed is
+  gone_closed (n ∷ ns) seen is = goes_both {xs = what.OwnerGone n ∷ []} {ys = map (λ n. what.OwnerGone n) ns} (closes (by_gone n) seen) (λ mid closed. gone_closed ns mid closed)
+
+  pub gone_goes : (ns : List ℕ) (n : ℕ) (seen : Releasing) → Goes seen (map (λ m. what.OwnerGone m) (ns ++ n ∷ [])) IsClosed
+  gone_goes [] n seen = closes (by_gone n) seen
+  gone_goes (m ∷ ns) n seen = goes_both {xs = what.OwnerGone m ∷ []} {ys = map (λ m. what.OwnerGone m) (ns ++ n ∷ [])} (closes (by_gone m) seen) (λ mid closed. gone_closed (ns ++ n ∷ []) mid closed)
+
+-- What steps of a session say, by a test of events, while they leave the levels as they are.
+
+-- all events pass a test, and the levels stay
+pub record Mild (P : What → Bool) (s t : Scene) (events : List What) : Type 0 where
+  pub said : AreSaid P events
+  pub levels : t.session.levels ≡ s.session.levels
+
+abbrev pub sees_levels : Part → Bool
+sees_levels of_levels = true
+sees_levels other = false
+
+abbrev pub mild_sight : (P : What → Bool) → Sight sees_levels P (Mild P)
+mild_sight P = record {
+  both = λ h k. record { said = said_both h.said k.said; levels = k.levels ∙ h.levels };
+  aside = λ s t same said. record { said = said; levels = same.so of_levels refl };
+}
+
+-- the ends of portals, where contexts that go pass
+pub mild_acts : (P : What → Bool) → ((word n : ℕ) → P (what.Callback word n) ≡ true) → ((n : ℕ) → P (what.Delete n) ≡ true) → Acts (Mild P)
+mild_acts P called deleted =
+    acts_of sees_levels P (Mild P) (mild_sight P) refl refl (goes sees_levels P (Mild P) (mild_sight P) refl refl refl called deleted) (children_go sees_levels P (Mild P) (mild_sight P) refl refl refl called deleted)
+
+-- an element that neither makes nor ends a level
+abbrev Unlined : Scene → Scene → List What → Type 0
+Unlined = Mild is_unlined
+
+abbrev unlined_sight : Sight sees_levels is_unlined Unlined
+unlined_sight = mild_sight is_unlined
+
+usual_unlined : (event : What) → is_usual event ≡ true → is_unlined event ≡ true
+usual_unlined (what.CommitLevel level) h = absurd (cc h)
+usual_unlined other h = cc
+
+unlined_usual : Usual sees_levels is_unlined
+unlined_usual = assumption usual_unlined
+
+owners : OwnerLeaves Unlined
+owners = unseen_owners sees_levels is_unlined Unlined unlined_sight refl (λ item n. refl) (λ item n. refl) (item_comes sees_levels is_unlined Unlined unlined_sight refl refl (λ item n. refl))
+
+keys : KeyLeaves Unlined
+keys = unseen_keys sees_levels is_unlined Unlined unlined_sight refl
+
+pub gone_mild : (n : ℕ) → Keeps Unlined (owner_gone n)
+gone_mild = owner_goes sees_levels is_unlined Unlined unlined_sight refl (λ n. refl)
+
+work_leaves : WorkLeaves Unlined
+work_leaves = record {
+  leaves = leaves_of sees_levels is_unlined Unlined unlined_sight refl refl (usual_contexts unlined_sight unlined_usual) (usual_words unlined_sight unlined_usual)
+      (usual_released unlined_sight unlined_usual keys (item_goes sees_levels is_unlined Unlined unlined_sight refl (λ item n. refl)));
+  moves = usual_moves unlined_sight unlined_usual;
+  made = usual_made unlined_sight unlined_usual (λ n parent name. refl);
+  planned = usual_planned unlined_sight unlined_usual (λ n parent name. refl);
+  owner = owner_makes sees_levels is_unlined Unlined unlined_sight refl refl (λ n. refl) (λ n parent. refl);
+  taken = usual_taken unlined_sight unlined_usual keys owners;
+  locked = usual_locked unlined_sight unlined_usual refl;
+  unlocked = usual_unlocked unlined_sight unlined_usual refl;
+  used = (usual_files unlined_sight unlined_usual).used;
+  pushed = usual_pushed unlined_sight unlined_usual;
+  popped = (usual_stack unlined_sight unlined_usual).popped;
+  phase = usual_phase unlined_sight unlined_usual keys owners (usual_locks unlined_sight unlined_usual refl);
+  discarded = gone_mild;
+}
+
+-- a portal gets its context
+places_mild : (name : Text) (s : Scene) → Unlined s (new_context_made (e.PortalContext name) s).scene (new_context_made (e.PortalContext name) s).events
+places_mild name s = (by_order Unlined work_leaves.leaves.acts (next (work_leaves.made portals_context (codes "PortalContext") true kind.Small) (next (usual_placed unlined_sight unlined_usual (λ n parent name. refl) name s.session.next_context) last))).so s
+
+pub own_mild : (w : Option ℕ) (x : Element) (m : Moment) → IsOwnWork x → Follows Unlined m.scene (does w x m)
+own_mild w x m own = own_follows Unlined work_leaves w x m own (λ name. places_mild name m.scene)
+
+-- What stands at all times besides: the locks of a session stand in order, and the items of each owner newest first.
+
+-- an owner's items stand newest first, and none has the number of the next one
+pub record Recalls (next : ℕ) (owner : Owner) : Type 0 where
+  pub falls : Falls owner
+  pub older : All (λ item. item.serial < next) owner.items
+
+pub record Based (kinds : KindTable) (s : Scene) : Type 0 where
+  pub places : table_of s.around.kinds ≡ kinds
+  pub locks : IsInOrder s.session.locks
+  pub items : AllNodes (Recalls s.session.next_serial) s.session.owners
+
+pub record KeepsBase (kinds : KindTable) (s t : Scene) (events : List What) : Type 0 where
+  pub so : Based kinds s → Based kinds t
+
+abbrev sees_base : Part → Bool
+sees_base of_owners = true
+sees_base of_next_serial = true
+sees_base of_locks = true
+sees_base of_kinds = true
+sees_base other = false
+
+module _ (kinds : KindTable) where
+  abbrev R : Law
+  R = KeepsBase kinds
+
+  -- what leaves all of it as it is
+  same : (s t : Scene) (events : List What) → t.session.locks ≡ s.session.locks → t.session.owners ≡ s.session.owners → t.session.next_serial ≡ s.session.next_serial → table_of t.around.kinds ≡ table_of s.around.kinds → R s t events
+  same s t events l o n k = grind (arith, nat_tests, places, next)
+
+  abbrev base_sight : Sight sees_base any (KeepsBase kinds)
+  base_sight = record {
+    both = λ a b. record { so = λ h. b.so (a.so h) };
+    aside = λ s t alike said. same s t _ (alike.so of_locks refl) (alike.so of_owners refl) (alike.so of_next_serial refl) (ap table_of (alike.so of_kinds refl));
+  }
+
+  new_recalls : (bound : ℕ) → Recalls bound (record { begun = false; items = [] })
+  new_recalls bound = record { falls = tt; older = All-nil (λ (item : Item). item.serial < bound) }
+
+  owner_so : (parent : Option ℕ) (s : Scene) → R s (owner_made parent s).scene (owner_made parent s).events
+  owner_so None s = record { so = λ h. record { places = h.places; locks = h.locks; items = (new_recalls s.session.next_serial, tt, h.items) } }
+  owner_so (Some parent) s = grind (arith, nat_tests, places, all_put, new_recalls)
+
+  forget : (bound : ℕ) (test : Item → Bool) (owner : Owner) → Recalls bound owner → Recalls bound (record owner { items = without_newest test owner.items })
+  forget bound test owner h = record { falls = falling-without test owner.items h.falls; older = All-without (λ (item : Item). item.serial < bound) test owner.items h.older }
+
+  -- an owner remembers the next item
+  later : (bound : ℕ) (owner : Owner) → Recalls bound owner → Recalls (bound + 1) owner
+  later bound owner h = record { falls = h.falls; older = All-weaker (λ (item : Item). item.serial < bound) (λ (item : Item). item.serial < bound + 1) (λ item l. omega (arith, l)) owner.items h.older }
+
+  recalled : (n : ℕ) (item : Item) (t : OwnerTree) → AllNodes (Recalls item.serial) t → AllNodes (Recalls (item.serial + 1)) (remembered n item t)
+  recalled n item Empty h = tt
+  recalled n item (Node k owner below beside) h = grind (arith, nat_tests, recalled n item below, recalled n item beside)
+
+  released_recalls : (places : KindTable) (phase : Phase) (bound : ℕ) (owner : Owner) → Recalls bound owner → Recalls bound (own_released places phase owner)
+  released_recalls places Locks bound owner h = record { falls = h.falls; older = h.older }
+  released_recalls places BeforeLocks bound owner h = record {
+    falls = falling_filter (λ item. not (is_of_phase places BeforeLocks item)) owner.items h.falls;
+    older = All-filter (λ item. not (is_of_phase places BeforeLocks item)) (λ (item : Item). item.serial < bound) owner.items h.older;
+  }
+  released_recalls places AfterLocks bound owner h = record {
+    falls = falling_filter (λ item. not (is_of_phase places AfterLocks item)) owner.items h.falls;
+    older = All-filter (λ item. not (is_of_phase places AfterLocks item)) (λ (item : Item). item.serial < bound) owner.items h.older;
+  }
+
+  owners_change : (s : Scene) (owners : OwnerTree) {events : List What} → (AllNodes (Recalls s.session.next_serial) s.session.owners → AllNodes (Recalls s.session.next_serial) owners) → R s (record s { session = record s.session { owners = owners } }) events
+  owners_change s owners keeps = record { so = λ h. record { places = h.places; locks = h.locks; items = keeps h.items } }
+
+  locks_change : (s : Scene) (all : List Lock) {events : List What} → (IsInOrder s.session.locks → IsInOrder all) → R s (record s { session = record s.session { locks = all } }) events
+  locks_change s all keeps = record { so = λ h. record { places = h.places; locks = keeps h.locks; items = h.items } }
+
+  usual : Usual sees_base any
+  usual = assumption usual_any
+
+  pub base_leaves : EndLeaves R
+  base_leaves =
+      usual_ends base_sight usual (record {
+        opened = λ place key. record { so = λ s. same s _ _ refl refl refl (table-opened s.around.kinds place key) };
+        closed = λ place key. record { so = λ s. same s _ _ refl refl refl (table-closed s.around.kinds place key) };
+      }) refl (λ event h. refl) (record {
+        releasing = λ item n. record { so = λ s. record { so = λ h. h } };
+        warned = λ item n s. record { so = λ h. h };
+        remembered = λ n kind key. record {
+          so = λ s. record { so = λ h. record { places = h.places; locks = h.locks; items = recalled n (record { kind = kind; key = key; serial = s.session.next_serial }) s.session.owners h.items } };
+        };
+        swept = λ places phase n s. owners_change s _ (all_swept (own_released places phase) (Recalls s.session.next_serial) n s.session.owners (released_recalls places phase s.session.next_serial));
+      }) (record {
+        let_go = λ owner. record { so = λ s. locks_change s _ (λ h. IsInOrder-filter has_owner (map (without owner) s.session.locks) (IsInOrder-map (without owner) (keeps-without owner) s.session.locks h)) };
+        passed = λ from to. record { so = λ s. locks_change s _ (IsInOrder-map (passed_lock from to) (keeps-passed from to) s.session.locks) };
+        all_gone = λ top. record { so = λ s. locks_change s [] (λ h. tt) };
+      })
+      (λ n kind key item s is. owners_change s _
+      (all_changed (Recalls s.session.next_serial) n (λ owner. record owner { items = without_newest (is_of kind key) owner.items }) s.session.owners (forget s.session.next_serial (is_of kind key))))
+      (λ n. record { so = λ s. owners_change s _ (all_removed (Recalls s.session.next_serial) n s.session.owners) }) (λ n parent. record { so = λ s. owners_change s _ (all_moved (Recalls s.session.next_serial) n parent s.session.owners) })
+
+  base_makes : MakeLeaves R
+  base_makes = record {
+    made = usual_made base_sight usual (λ n parent name. refl);
+    placed = usual_placed base_sight usual (λ n parent name. refl);
+    planned = usual_planned base_sight usual (λ n parent name. refl);
+    owner = λ parent. record { so = owner_so parent };
+    locked = λ object mode n. record { so = λ s. locks_change s _ (IsInOrder-acquired n object mode s.session.locks) };
+    unlocked = λ object mode n. record { so = λ s. locks_change s _ (λ h. IsInOrder-filter has_owner (map (down n object mode) s.session.locks) (IsInOrder-map (down n object mode) (keeps-down n object mode) s.session.locks h)) };
+    used = (usual_files base_sight usual).used;
+    pushed = usual_pushed base_sight usual;
+  }
+
+  pub base_owed : OwesTurns (KeepsBase kinds)
+  base_owed = owes_by R base_leaves base_makes (λ error s. record { so = λ h. h }) (λ w x m meets. moves_owed R base_leaves.levels.leaves.acts (usual_moves base_sight usual) w x m)
+
+  pub opening_based : (around : Around) → table_of around.kinds ≡ kinds → Based kinds (record { session = opening; around = around })
+  unfolding opening
+  opening_based around is = record { places = is; locks = tt; items = tt }
+
+-- The ends of levels are said in order: what portals give back, the release of the level's owner, and what comes behind it.
 
 abbrev own : Acts KeepsOwners
 own = owner_level_leaves.leaves.acts
@@ -51,8 +316,8 @@ aborted_levels levels = deepest_changed (λ old. record old { aborted = true }) 
 abbrev Pass : Bool → Law
 Pass aborts = Mild (is_passing aborts)
 
-abbrev sight : (aborts : Bool) → Sight sees_levels (is_passing aborts) (Pass aborts)
-sight aborts = mild_sight (is_passing aborts)
+abbrev pass_sight : (aborts : Bool) → Sight sees_levels (is_passing aborts) (Pass aborts)
+pass_sight aborts = mild_sight (is_passing aborts)
 
 pass_acts : (aborts : Bool) → Acts (Pass aborts)
 pass_acts aborts = mild_acts (is_passing aborts) (λ word n. refl) (λ n. refl)
@@ -63,11 +328,11 @@ closed_so file = record { so = λ s. (by_so (Pass false) (pass_acts false) (is_a
 closes_mild : (p : OpenPortal) → Keeps (Pass false) (portal_closed p)
 closes_mild p =
     portal_closes (Pass false) (pass_acts false)
-    (releases sees_levels (is_passing false) (Pass false) (sight false) refl refl (pass_acts false).gone (pass_acts false).children closed_so (unseen_keys sees_levels (is_passing false) (Pass false) (sight false) refl).closed
-    (item_goes sees_levels (is_passing false) (Pass false) (sight false) refl (λ item n. refl))) p
+    (releases sees_levels (is_passing false) (Pass false) (pass_sight false) refl refl (pass_acts false).gone (pass_acts false).children closed_so (unseen_keys sees_levels (is_passing false) (Pass false) (pass_sight false) refl).closed
+    (item_goes sees_levels (is_passing false) (Pass false) (pass_sight false) refl (λ item n. refl))) p
 
 moves_mild : (aborts : Bool) (n parent : ℕ) → Keeps (Pass aborts) (owner_moved n parent)
-moves_mild aborts = owner_moves sees_levels (is_passing aborts) (Pass aborts) (sight aborts) refl (λ n parent. refl)
+moves_mild aborts = owner_moves sees_levels (is_passing aborts) (Pass aborts) (pass_sight aborts) refl (λ n parent. refl)
 
 -- what comes behind an owner that goes
 abbrev Quiet : Law

@@ -1,70 +1,15 @@
 -- The three phases of a release, of an owner and all below it.
-use Rattle.std.proofs.Common.{◌≡◌, ℕ, ◌<◌, Bool, true, false, not, if◌then◌else◌, List, [], ◌++◌, All, Option, Some, None, refl, sym, subst, ap, ◌∙◌, inl, inr, arith}
-use Rattle.std.specs.Prelude.{◌==◌, ◌||◌}
-use Rattle.std.specs.Option.{option_map_or}
-use Rattle.std.proofs.lemmas.Bool.{cases_Bool, cond-false, cond-true, both_ways, eq-eqb, false_from_ne_true, ne_eqb, or_left, or_right}
-use Rattle.std.proofs.lemmas.List.{append-nil}
-use Rattle.std.proofs.lemmas.List.Elements.{All-append, All-nil, All-weaker}
-use Rattle.pgs_step.specs.declared.events.What.{What}
-use Rattle.pgs_step.specs.declared.ids.Phase.{Phase}
-use Rattle.pgs_step.specs.declared.ids.Phase.TheVariants.{BeforeLocks, Locks, AfterLocks}
-use Rattle.forest.specs.Forest.{Forest, Empty, Node, Once, AllNodes, at, children, has, parent_of, size, times}
-use Rattle.forest.specs.Walk.{all_changed, swept}
-use Rattle.forest.proofs.Trees.{Apart, apart_of, first_child_other, has_at, has_children}
+use Rattle.session_laws.proofs.Words.{◌≡◌, ℕ, ◌<◌, Bool, true, false, not, List, [], ◌++◌, All, Option, Some, None, refl, sym, subst, ap, ◌∙◌, inl, inr, arith, option_map_or, cond-false, cond-true, both_ways, eq-eqb, false_from_ne_true, ne_eqb, or_left, or_right, append-nil, All-append, All-nil, All-weaker, Forest, Empty, Node, Once, AllNodes, at, children, has, parent_of, Apart, apart_of, first_child_other, has_at, has_children, nat_tests}
+use Rattle.session_laws.proofs.Scenes.{What, Phase, BeforeLocks, Locks, AfterLocks, is_of_phase, KindTable, table_of, Owner, OwnerTree, own_released, Step, own_steps, release_steps, steps_below, top_locks, IsInOrder, Scene, Ended, for_each, owner_released, phase_released, step_done}
+use Rattle.session_laws.proofs.Rules.{all_swept}
+use Rattle.session_laws.proofs.ParentsLife.{fits_alike}
 use Rattle.forest.proofs.Walks.{children_in, once_children}
 use Rattle.lifetime_laws.specs.Parents.{is_above}
-use Rattle.lifetime_laws.specs.Parents as replayed
 use Rattle.lifetime_laws.specs.Order.{Member, owner_of, place_of, place_of_phase}
-use Rattle.owner_items.specs.Next.{is_of_phase}
-use Rattle.owner_kinds.specs.KindTable.{KindTable}
-use Rattle.owner_kinds.specs.KindShelf.{table_of}
-use Rattle.owner_core.specs.Owners.{Owner, OwnerTree}
-use Rattle.owner_core.specs.Released.{own_released}
-use Rattle.owner_core.specs.Steps.{Step, own_steps, release_steps, steps_below, top_locks}
-use Rattle.lock_local.specs.Locks.{IsInOrder}
-use Rattle.session_rules.specs.World.{Scene}
-use Rattle.session_rules.specs.Acts.{Ended, for_each}
-use Rattle.session_rules.specs.Releases.{owner_released, phase_released, step_done}
 use Rattle.session_rules.proofs.Guarded.{all_at, all_children}
-use Rattle.session_rules.proofs.Swept.{all_swept, has_swept, parent_swept}
-use Rattle.session_laws.proofs.OrderBatch.{Adds, AreApart, adds_both, adds_none}
-use Rattle.session_laws.proofs.OrderLists.{falling_filter}
-use Rattle.session_laws.proofs.OrderSteps.{Grows, IsOwn, Releases, each_both, own_release, releases_both, releases_none, releases_weaker}
-use Rattle.session_laws.proofs.OrderTree.{AreClear, AreWalked, Falls, IsClear, IsOf, Splits, below_release, may_release, owner_locks}
-use Rattle.session_laws.proofs.ParentsFit.{FitsTree, same_above}
-
-module _ {A : Type 0} (f : A → A) where
-  times_all : (m : ℕ) (t : Forest A) → times m (all_changed f t) ≡ times m t
-  times_all m Empty = refl
-  times_all m (Node k a below beside) = omega (arith, times_all m below, times_all m beside)
-
-  times_swept : (m n : ℕ) (t : Forest A) → times m (swept f n t) ≡ times m t
-  times_swept m n Empty = refl
-  times_swept m n (Node k a below beside) = elim (cases_Bool (k == n)) [
-    | inl y ↦ rw y (omega (arith, times_all m below, times_swept m n beside))
-    | inr y ↦ rw y (omega (arith, times_swept m n below, times_swept m n beside))
-  ]
-
-  size_all : (t : Forest A) → size (all_changed f t) ≡ size t
-  size_all Empty = refl
-  size_all (Node k a below beside) = omega (arith, size_all below, size_all beside)
-
-  size_swept : (n : ℕ) (t : Forest A) → size (swept f n t) ≡ size t
-  size_swept n Empty = refl
-  size_swept n (Node k a below beside) = elim (cases_Bool (k == n)) [
-    | inl y ↦ rw y (omega (arith, size_all below, size_swept n beside))
-    | inr y ↦ rw y (omega (arith, size_swept n below, size_swept n beside))
-  ]
-
-  -- other data at some nodes leaves the replayed parents as they are
-  pub fits_swept : (n : ℕ) (nodes : List replayed.Node) (t : Forest A) → FitsTree nodes t → FitsTree nodes (swept f n t)
-  fits_swept n nodes t h = record {
-    once = record { once = λ m. omega (arith, times_swept m n t, h.once.once m) };
-    there = λ m. h.there m ∙ sym (has_swept f m n t);
-    parent = λ m. h.parent m ∙ sym (parent_swept f m n t);
-    single = h.single;
-    length = h.length ∙ sym (size_swept n t);
-  }
+use Rattle.session_laws.proofs.OrderSteps.{Adds, AreApart, adds_both, adds_none, falling_filter, Grows, IsOwn, Releases, each_both, own_release, releases_both, releases_none, releases_weaker, AreClear, AreWalked, Falls, IsClear, IsOf, Splits, below_release, may_release, owner_locks}
+use Rattle.session_laws.proofs.Parents.{FitsTree, same_above, alike_swept}
+use Rattle.lifetime_laws.specs.Parents as replayed
 
 -- a number of a part of a tree has its children there
 record IsInside {A : Type 0} (x : ℕ) (part whole : Forest A) : Type 0 where
@@ -82,55 +27,18 @@ module _ {A : Type 0} (nodes : List replayed.Node) (whole : Forest A) (fit : Fit
 
   -- a number of the children, or of the siblings, of a node has its children there
   inside_below : (k : ℕ) (a : A) (below beside : Forest A) → Apart k below beside → (x : ℕ) → has x below ≡ true → IsInside x (Node k a below beside) whole → IsInside x below whole
-  inside_below k a below beside p x h inside = record {
-    there = inside.there;
-    same = inside.same
-        ∙ cond-false (k == x) below (if has x below then children x below else children x beside) (ne_eqb k x (λ e. both_ways (has x below) (subst (λ (n : ℕ). has n below ≡ false) e p.not_below) h))
-        ∙ cond-true (has x below) (children x below) (children x beside) h;
-  }
+  inside_below k a below beside p x h inside = grind (arith, nat_tests, cond-false, ne_eqb, both_ways, cond-true)
 
   inside_beside : (k : ℕ) (a : A) (below beside : Forest A) → Apart k below beside → (x : ℕ) → has x beside ≡ true → IsInside x (Node k a below beside) whole → IsInside x beside whole
-  inside_beside k a below beside p x h inside = record {
-    there = inside.there;
-    same = inside.same
-        ∙ cond-false (k == x) below (if has x below then children x below else children x beside) (ne_eqb k x (λ e. both_ways (has x beside) (subst (λ (n : ℕ). has n beside ≡ false) e p.not_beside) h))
-        ∙ cond-false (has x below) (children x below) (children x beside) (p.apart_back x h);
-  }
+  inside_beside k a below beside p x h inside = grind (arith, nat_tests, cond-false, ne_eqb, both_ways)
 
 module _ (nodes : List replayed.Node) (whole : OwnerTree) (fit : FitsTree nodes whole) where
   splits_of : (k : ℕ) (a : Owner) (below beside : OwnerTree) → Once (Node k a below beside) → ((x : ℕ) → has x (Node k a below beside) ≡ true → IsInside x (Node k a below beside) whole) → Splits nodes k below beside
-  splits_of k a below beside once inside =
-      let node : OwnerTree = Node k a below beside in
-      let p : Apart k below beside = apart_of k a below beside once in
-      let here : has k node ≡ true = or_left (k == k) (has k below || has k beside) (eq-eqb k k refl) in
-      let in_below : (x : ℕ) → has x below ≡ true → has x node ≡ true = λ x h. or_right (k == x) (has x below || has x beside) (or_left (has x below) (has x beside) h) in
-      let in_beside : (x : ℕ) → has x beside ≡ true → has x node ≡ true = λ x h. or_right (k == x) (has x below || has x beside) (or_right (has x below) (has x beside) h) in
-      let own : children k node ≡ below = cond-true (k == k) below (if has k below then children k below else children k beside) (eq-eqb k k refl) in
-      let part : (x : ℕ) → has x below ≡ true → IsInside x below whole = λ x h. inside_below nodes whole fit k a below beside p x h (inside x (in_below x h)) in
-      record {
-        self = above_is nodes whole fit k k node (inside k here) (inside k here).there ∙ ap (has k) own ∙ p.not_below;
-        up = λ x h. record {
-          below = not_above nodes whole fit x k below p.once_below (part x h) (inside k here).there (λ e. both_ways (has k below) p.not_below e);
-          other = ne_eqb x k (λ e. both_ways (has k below) p.not_below (subst (λ (n : ℕ). has n below ≡ true) e h));
-        };
-        own = λ w h. record {
-          below = above_is nodes whole fit k w node (inside k here) (inside w (in_beside w h)).there ∙ ap (has w) own ∙ p.apart_back w h;
-          other = ne_eqb k w (λ e. both_ways (has w beside) (subst (λ (n : ℕ). has n beside ≡ false) e p.not_beside) h);
-        };
-        across = λ x w h g. record {
-          below = not_above nodes whole fit x w below p.once_below (part x h) (inside w (in_beside w g)).there (λ e. both_ways (has w below) (p.apart_back w g) e);
-          other = ne_eqb x w (λ e. both_ways (has w below) (p.apart_back w g) (subst (λ (n : ℕ). has n below ≡ true) e h));
-        };
-      }
+  splits_of k a below beside once inside = grind (arith, nat_tests, apart_of, or_left, eq-eqb, or_right, cond-true, above_is, not_above, both_ways, ne_eqb)
 
   walked_of : (part : OwnerTree) → Once part → ((x : ℕ) → has x part ≡ true → IsInside x part whole) → AreWalked nodes part
   walked_of Empty once inside = tt
-  walked_of (Node k a below beside) once inside =
-      let p : Apart k below beside = apart_of k a below beside once in (
-        splits_of k a below beside once inside,
-        walked_of below p.once_below (λ x h. inside_below nodes whole fit k a below beside p x h (inside x (or_right (k == x) (has x below || has x beside) (or_left (has x below) (has x beside) h)))),
-        walked_of beside p.once_beside (λ x h. inside_beside nodes whole fit k a below beside p x h (inside x (or_right (k == x) (has x below || has x beside) (or_right (has x below) (has x beside) h)))),
-      )
+  walked_of (Node k a below beside) once inside = grind (arith, nat_tests, walked_of below, walked_of beside, apart_of, splits_of, inside_below, or_right, or_left, inside_beside)
 
   inside_children : (n x : ℕ) → has x (children n whole) ≡ true → IsInside x (children n whole) whole
   inside_children n x h = record { there = has_children x n whole fit.once h; same = sym (children_in x n whole fit.once h) }
@@ -211,7 +119,7 @@ module _ (nodes : List replayed.Node) (phase : Phase) (commit top : Bool) (n : �
       let change : Owner → Owner = own_released kinds phase in
       record {
         grows = subst (Grows kinds nodes (not commit) (IsAt (place_of_phase phase)) old) (sym (append-nil (for_each step_done steps s).events)) r.grows;
-        fit = fits_swept change n nodes (for_each step_done steps s).scene.session.owners (subst (FitsTree nodes) (sym r.stays.owners) fit);
+        fit = fits_alike nodes (for_each step_done steps s).scene.session.owners _ (alike_swept change n (for_each step_done steps s).scene.session.owners) (subst (FitsTree nodes) (sym r.stays.owners) fit);
         places = r.stays.kinds;
         falls = all_swept change Falls n (for_each step_done steps s).scene.session.owners (still_falls kinds phase) (subst (AllNodes Falls) (sym r.stays.owners) falls);
         locks = r.stays.locks order;

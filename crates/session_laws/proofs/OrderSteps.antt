@@ -1,86 +1,168 @@
--- The steps of a release, one owner: its items in the order of the phase, or its locks.
-use Rattle.std.proofs.Common.{◌≡◌, ℕ, Bool, true, false, not, if◌then◌else◌, List, [], ◌∷◌, ◌++◌, map, All, Option, Some, None, refl, sym, subst, ap, ◌∙◌, inl, inr}
-use Rattle.std.specs.Prelude.{◌==◌, ◌&&◌, ◌-◌, nat_lt}
-use Rattle.std.proofs.lemmas.Bool.{and_from, eq-eqb, lt-ltb, or_left, or_right}
-use Rattle.std.proofs.lemmas.List.{append_assoc, append-nil}
-use Rattle.std.proofs.lemmas.List.Elements.{All-nil, All-append, All-cons, All-head, All-tail, All-weaker}
-use Rattle.pgs_step.specs.declared.events.What.{What}
-use Rattle.pgs_step.specs.declared.events.What.TheVariants as what
-use Rattle.pgs_step.specs.declared.ids.Item.{Item}
-use Rattle.pgs_step.specs.declared.ids.Phase.{Phase}
-use Rattle.pgs_step.specs.declared.ids.Phase.TheVariants.{BeforeLocks, Locks, AfterLocks}
+-- The items that a phase releases, in order: by rising priority, and of one priority the newest first.
+use Rattle.session_laws.proofs.Words.{◌≡◌, ℕ, ◌<◌, ◌≤◌, Bool, true, false, cond, nat_le, List, [], ◌∷◌, filter, All, refl, inl, inr, arith, not, ◌++◌, Option, Some, None, sym, subst, ap, ◌∙◌, if◌then◌else◌, ◌⊎◌, ◌==◌, ◌&&◌, ◌||◌, and_from, eq-eqb, lt-ltb, not_from_false, or_left, or_right, nat_tests, All-nil, All-cons, All-head, All-tail, All-filter, All-append, All-weaker, option_map, list_all-from_AllPass, append_assoc, append-nil, Empty, Node, AllNodes, has}
+use Rattle.session_laws.proofs.Scenes.{Item, AreFalling, with_item, by_rank, is_of_phase, priority, release_order, What, Phase, BeforeLocks, Locks, AfterLocks, Mode, KindTable, row_of, Owner, OwnerTree, Step, ReleasesLocks, PassesLocks, ReleasesAllLocks, own_steps, releases_of, lock_step, steps_below, top_locks, Lock, IsInOrder, comes_before, lock_total, owner_count, Scene, Ended, behind, for_each, nothing, given_back, step_done}
+use Rattle.session_laws.proofs.Rules.{allows_all, seen_after, allows_all-append, seen_after-append, AreSaid, said_more, said_none}
+use Rattle.session_laws.proofs.OwnerEnds.{Stays, given_quiet, step_stays, stays, stays_both}
 use Rattle.pgs_step.specs.Mode.{mode_number}
-use Rattle.owner_kinds.specs.KindTable.{KindTable}
-use Rattle.owner_kinds.specs.KindShelf.{table_of}
-use Rattle.owner_kinds.proofs.Places.{table-closed}
-use Rattle.owner_items.specs.ItemList.{AreFalling}
-use Rattle.owner_items.specs.Next.{is_of_phase, priority, release_order}
-use Rattle.owner_core.specs.Owners.{Owner}
-use Rattle.owner_core.specs.Steps.{Step, Said, GivesBack, ReleasesLocks, PassesLocks, ReleasesAllLocks, own_steps, releases_of}
-use Rattle.lock_local.specs.Locks.{Lock, IsInOrder, comes_before, has_owner, lock_total, owner_count}
+use Rattle.lifetime_laws.specs.Once.{same_item}
+use Rattle.lifetime_laws.specs.Order.{AnItem, ALock, Member, Owned, Releasing, goes_before, is_warned, may_precede, member_of, ordering, owner_of, place_of, place_of_phase}
+use Rattle.lifetime_laws.specs.Parents.{is_above}
+use Rattle.session_laws.proofs.Warnings.{is_aside, same_itself}
+use Rattle.pgs_step.specs.declared.events.What.TheVariants as what
+use Rattle.lifetime_laws.specs.Parents as replayed
 use Rattle.lock_local.specs.Changes as locks
-use Rattle.lock_local.proofs.OrderLemmas.{IsInOrder-filter, IsInOrder-map, KeepsLock}
-use Rattle.file_table.specs.Descriptors.{is_among, without}
-use Rattle.lifetime_laws.specs.Order.{ALock, Member, goes_before, may_precede, owner_of, place_of, place_of_phase}
-use Rattle.lifetime_laws.specs.Parents.{Node, is_above}
-use Rattle.forest.specs.Forest.{subtree}
-use Rattle.session_rules.specs.State.{StandingPlan}
-use Rattle.session_rules.specs.World.{Scene}
-use Rattle.session_rules.specs.Lookup.{plan_at}
-use Rattle.session_rules.specs.Acts.{Ended, behind, for_each, nothing, where_so, where_there}
-use Rattle.session_rules.specs.Releases.{Keeper, NoOne, ThePlans, TheDescriptors, TheKind, given_back, keeper_of, left_to, plan_becomes, plan_settled, plan_stays, step_done}
-use Rattle.session_rules.proofs.Said.{AreSaid, said_gone, said_none, said_one}
-use Rattle.session_laws.proofs.OrderSaid.{is_aside}
-use Rattle.session_laws.proofs.OrderLists.{AreRanked, GoesBefore, order_passes, order_ranked}
-use Rattle.session_laws.proofs.OrderBatch.{Adds, MayFollow, adds_aside, adds_both, adds_none, adds_pass_lock, adds_release, adds_release_lock, adds_warned, item_member, same_phase}
 
--- What the steps of a release leave: the owners, the places of kinds, and the order of locks.
-pub record Stays (s t : Scene) : Type 0 where
-  pub owners : t.session.owners ≡ s.session.owners
-  pub kinds : table_of t.around.kinds ≡ table_of s.around.kinds
-  pub locks : IsInOrder s.session.locks → IsInOrder t.session.locks
-  pub levels : t.session.levels ≡ s.session.levels
-  pub serial : t.session.next_serial ≡ s.session.next_serial
+-- one goes before another: it has the lower rank, or the same and is newer
+abbrev pub GoesBefore : (Item → ℕ) → Item → Item → Type 0
+GoesBefore rank x y = (rank x < rank y) ⊎ ((rank x ≡ rank y) × (y.serial < x.serial))
 
-pub stays_same : (s : Scene) → Stays s s
-stays_same s = record { owners = refl; kinds = refl; locks = λ h. h; levels = refl; serial = refl }
+-- each goes before those behind it
+abbrev pub AreRanked : (Item → ℕ) → List Item → Type 0
+AreRanked rank [] = Unit {0}
+AreRanked rank (x ∷ xs) = All (GoesBefore rank x) xs × AreRanked rank xs
 
-pub stays_both : (s t u : Scene) → Stays s t → Stays t u → Stays s u
-stays_both s t u a b = record { owners = b.owners ∙ a.owners; kinds = b.kinds ∙ a.kinds; locks = λ h. b.locks (a.locks h); levels = b.levels ∙ a.levels; serial = b.serial ∙ a.serial }
+-- an item that is put among others is one of all
+pub All-with_item : (P : Item → Type 0) (rank : Item → ℕ) (x : Item) (zs : List Item) → P x → All P zs → All P (with_item rank x zs)
+All-with_item P rank x [] holds all = All-cons P x [] holds all
+All-with_item P rank x (z ∷ zs) holds all =
+    elim (nat_le (rank x) (rank z)) as (λ b. All P (cond b (x ∷ z ∷ zs) (z ∷ with_item rank x zs))) [
+      | true ↦ All-cons P x (z ∷ zs) holds all
+      | false ↦ All-cons P z (with_item rank x zs) (All-head P z zs all) (All-with_item P rank x zs holds (All-tail P z zs all))
+    ]
 
--- what follows the release of an item says nothing of releases
-pub record Beside (s : Scene) (ended : Ended) : Type 0 where
-  pub said : AreSaid is_aside ended.events
-  pub stays : Stays s ended.scene
+pub All-by_rank : (P : Item → Type 0) (rank : Item → ℕ) (xs : List Item) → All P xs → All P (by_rank rank xs)
+All-by_rank P rank [] all = all
+All-by_rank P rank (x ∷ xs) all = All-with_item P rank x (by_rank rank xs) (All-head P x xs all) (All-by_rank P rank xs (All-tail P x xs all))
 
-beside_nothing : (s : Scene) → Beside s (nothing s)
-beside_nothing s = record { said = said_none; stays = stays_same s }
+-- an item goes before all that are older, from the first on whose rank is no lower
+front_goes : (rank : Item → ℕ) (x z : Item) (zs : List Item) → rank x ≤ rank z → All (GoesBefore rank z) zs → All (λ y. y.serial < x.serial) (z ∷ zs) → All (GoesBefore rank x) (z ∷ zs)
+front_goes rank x z zs low ranked older = grind (arith, nat_tests, nat_tests)
 
-plan_beside : (b : Bool) (plan : StandingPlan) (s : Scene) → Beside s (elim b as (λ _. Ended) [ true ↦ plan_settled plan s | false ↦ plan_stays plan s ])
-plan_beside true plan s = record { said = subst (AreSaid is_aside) (sym (append-nil _)) (said_gone (λ word n. refl) (λ n. refl) (subtree plan.context s.session.contexts)); stays = record { owners = refl; kinds = refl; locks = λ h. h; levels = refl; serial = refl } }
-plan_beside false plan s = record { said = said_none; stays = record { owners = refl; kinds = refl; locks = λ h. h; levels = refl; serial = refl } }
+ranked_with : (rank : Item → ℕ) (x : Item) (zs : List Item) → AreRanked rank zs → All (λ y. y.serial < x.serial) zs → AreRanked rank (with_item rank x zs)
+ranked_with rank x [] h older = (All-nil (GoesBefore rank x), tt)
+ranked_with rank x (z ∷ zs) h older = go (ranked_with rank x zs h.1 (All-tail (λ (y : Item). y.serial < x.serial) z zs older)) (nat_le (rank x) (rank z)) refl
+  where
+    go : AreRanked rank (with_item rank x zs) → (b : Bool) → nat_le (rank x) (rank z) ≡ b → AreRanked rank (cond b (x ∷ z ∷ zs) (z ∷ with_item rank x zs))
+    go rest true e = (front_goes rank x z zs (grind (arith, nat_tests)) h.0 older, h)
+    go rest false e = (All-with_item (GoesBefore rank z) rank x zs (inl (grind (arith, nat_tests))) h.0, rest)
 
-plan_left_beside : (o : Option StandingPlan) (s : Scene) → Beside s (where_there o (λ plan. plan_becomes (record plan { references = plan.references - 1 })) s)
-plan_left_beside None s = beside_nothing s
-plan_left_beside (Some plan) s = plan_beside (plan.discarded && (plan.references - 1 == 0)) (record plan { references = plan.references - 1 }) s
+ranked_by : (rank : Item → ℕ) (xs : List Item) → AreFalling xs → AreRanked rank (by_rank rank xs)
+ranked_by rank [] h = tt
+ranked_by rank (x ∷ xs) h = ranked_with rank x (by_rank rank xs) (ranked_by rank xs h.1) (All-by_rank (λ (y : Item). y.serial < x.serial) rank xs h.0)
 
-file_beside : (b : Bool) (file : ℕ) (s : Scene) → Beside s (where_so b (λ scene. record {
-  scene = record scene { session = record scene.session { recent = without file scene.session.recent } };
-  events = what.DescriptorClosed file ∷ [];
-}) s)
-file_beside true file s = record { said = said_one (what.DescriptorClosed file) refl; stays = record { owners = refl; kinds = refl; locks = λ h. h; levels = refl; serial = refl } }
-file_beside false file s = beside_nothing s
+pub falling_filter : (test : Item → Bool) (xs : List Item) → AreFalling xs → AreFalling (filter test xs)
+falling_filter test [] h = tt
+falling_filter test (x ∷ xs) h =
+    elim (test x) as (λ b. AreFalling (cond b (x ∷ filter test xs) (filter test xs))) [
+      | true ↦ (All-filter test (λ (y : Item). y.serial < x.serial) xs h.0, falling_filter test xs h.1)
+      | false ↦ falling_filter test xs h.1
+    ]
 
-left_beside : (keeper : Keeper) (key : ℕ) (s : Scene) → Beside s (left_to keeper key s)
-left_beside NoOne key s = beside_nothing s
-left_beside ThePlans key s = plan_left_beside (plan_at key s.session.plans) s
-left_beside TheDescriptors key s = file_beside (is_among key s.session.recent) key s
-left_beside (TheKind place) key s = record { said = said_none; stays = record { owners = refl; kinds = table-closed s.around.kinds place key; locks = λ h. h; levels = refl; serial = refl } }
+-- The items of a test that stand newest first, by their rank.
+pub order_ranked : (test : Item → Bool) (rank : Item → ℕ) (xs : List Item) → AreFalling xs → AreRanked rank (by_rank rank (filter test xs))
+order_ranked test rank xs h = ranked_by rank (filter test xs) (falling_filter test xs h)
 
-pub given_beside : (item : Item) (s : Scene) → Beside s (given_back item s)
-given_beside item s = left_beside (keeper_of item.kind) item.key s
+-- each of them passes the test
+passes_filter : (test : Item → Bool) (xs : List Item) → All (λ x. test x ≡ true) (filter test xs)
+passes_filter test [] = All-nil (λ (x : Item). test x ≡ true)
+passes_filter test (x ∷ xs) = grind (arith, nat_tests, passes_filter test xs)
 
-module _ (kinds : KindTable) (nodes : List Node) (aborts : Bool) where
+pub order_passes : (test : Item → Bool) (rank : Item → ℕ) (xs : List Item) → All (λ x. test x ≡ true) (by_rank rank (filter test xs))
+order_passes test rank xs = All-by_rank (λ (x : Item). test x ≡ true) rank (filter test xs) (passes_filter test xs)
+
+-- What is read in a release that is going on: what it releases is in order, and all else is passed over.
+
+-- a release that is going on, with what was released so far, the newest first, and the warning directly before
+abbrev pub warned : Option Owned → List replayed.Node → Bool → List Member → Releasing
+warned warning nodes aborts members = record { owners = nodes; batch = Some (record { aborts = aborts; members = members }); warning = warning }
+
+abbrev pub in_batch : List replayed.Node → Bool → List Member → Releasing
+in_batch nodes aborts members = warned None nodes aborts members
+
+-- a member may come behind all these
+abbrev pub MayFollow : List replayed.Node → List Member → Member → Type 0
+MayFollow nodes members member = All (λ earlier. may_precede nodes earlier member ≡ true) members
+
+-- the numbers stand for owners of which the first isn't the second, nor above it
+pub record AreApart (nodes : List replayed.Node) (a b : ℕ) : Type 0 where
+  pub below : is_above a b nodes ≡ false
+  pub other : (a == b) ≡ false
+
+-- which member may come before which
+
+pub same_phase : (nodes : List replayed.Node) (a b : Member) → place_of a ≡ place_of b → is_above (owner_of a) (owner_of b) nodes ≡ false → ((owner_of a == owner_of b) ≡ false) ⊎ (goes_before a b ≡ true)
+    → may_precede nodes a b ≡ true
+same_phase nodes a b same out goes = grind (arith, nat_tests, or_right, and_from, eq-eqb, not_from_false, or_left)
+
+module _ (kinds : KindTable) (nodes : List replayed.Node) (aborts : Bool) where
+  -- The events are in order behind what was released so far, and leave that and what they release.
+  pub record Adds (old new : List Member) (events : List What) : Type 0 where
+    pub allowed : allows_all (ordering kinds) (in_batch nodes aborts old) events ≡ true
+    pub behind : seen_after (ordering kinds) (in_batch nodes aborts old) events ≡ in_batch nodes aborts new
+
+  pub adds_none : (members : List Member) → Adds members members []
+  adds_none members = record { allowed = refl; behind = refl }
+
+  pub adds_both : {old mid new : List Member} {xs ys : List What} → Adds old mid xs → Adds mid new ys → Adds old new (xs ++ ys)
+  adds_both {old = old} {mid = mid} {new = new} {xs = xs} {ys = ys} a b = grind (arith, nat_tests, allows_all-append, seen_after-append)
+
+  -- what is said besides is passed over
+  aside_adds : (members : List Member) (event : What) → is_aside event ≡ true → Adds members members (event ∷ [])
+  aside_adds members (what.Callback word context) h = record { allowed = refl; behind = refl }
+  aside_adds members (what.Delete context) h = record { allowed = refl; behind = refl }
+  aside_adds members (what.DescriptorClosed file) h = record { allowed = refl; behind = refl }
+  aside_adds members (what.Pop snapshot) h = record { allowed = refl; behind = refl }
+  aside_adds members other h = absurd (cc h)
+
+  pub adds_aside : (members : List Member) {events : List What} → AreSaid is_aside events → Adds members members events
+  adds_aside members said_none = adds_none members
+  adds_aside members (said_more {event = event} {events = events} h hs) = adds_both (aside_adds members event h) (adds_aside members hs)
+
+  -- a lock that is released or passed
+  pub adds_release_lock : (members : List Member) (object : ℕ) (mode : Mode) (count owner : ℕ) → MayFollow nodes members (ALock object (mode_number mode) owner)
+      → Adds members (ALock object (mode_number mode) owner ∷ members) (what.ReleaseLock object mode count owner ∷ [])
+  adds_release_lock members object mode count owner may = grind (arith, nat_tests, and_from, list_all-from_AllPass)
+
+  pub adds_pass_lock : (members : List Member) (object : ℕ) (mode : Mode) (count from to : ℕ) → MayFollow nodes members (ALock object (mode_number mode) from)
+      → Adds members (ALock object (mode_number mode) from ∷ members) (what.PassLock object mode count from to ∷ [])
+  adds_pass_lock members object mode count from to may = grind (arith, nat_tests, and_from, list_all-from_AllPass)
+
+  -- an item that is released, where it counts
+  release_counts : (warning : Option Owned) (members : List Member) (item : Item) (n : ℕ) (member : Member)
+      → member_of kinds (aborts || is_warned warning (what.Release item n)) (what.Release item n) ≡ Some member → MayFollow nodes members member
+      → (allows_all (ordering kinds) (warned warning nodes aborts members) (what.Release item n ∷ []) ≡ true)
+      × (seen_after (ordering kinds) (warned warning nodes aborts members) (what.Release item n ∷ []) ≡ in_batch nodes aborts (member ∷ members))
+  release_counts warning members item n member is may = grind (arith, nat_tests, and_from, list_all-from_AllPass)
+
+-- the member that an item is, where its phase releases it
+abbrev pub item_member : KindTable → Phase → ℕ → Item → Member
+item_member kinds phase n item = AnItem phase (priority kinds item) item.serial n
+
+pub member_is : (kinds : KindTable) (phase : Phase) (n : ℕ) (item : Item) → is_of_phase kinds phase item ≡ true
+    → option_map (λ row. AnItem row.phase row.priority item.serial n) (row_of kinds item.kind) ≡ Some (item_member kinds phase n item)
+member_is kinds phase n item h = grind (arith, nat_tests)
+
+module _ (kinds : KindTable) (nodes : List replayed.Node) (phase : Phase) (n : ℕ) where
+  -- at abort a release counts as it stands
+  pub adds_release : (members : List Member) (item : Item) → is_of_phase kinds phase item ≡ true → MayFollow nodes members (item_member kinds phase n item)
+      → Adds kinds nodes true members (item_member kinds phase n item ∷ members) (what.Release item n ∷ [])
+  adds_release members item h may =
+      let all = release_counts kinds nodes true None members item n (item_member kinds phase n item) (member_is kinds phase n item h) may in
+      record { allowed = all.0; behind = all.1 }
+
+  -- at commit with its warning directly before it
+  pub adds_warned : (members : List Member) (item : Item) → is_of_phase kinds phase item ≡ true → MayFollow nodes members (item_member kinds phase n item)
+      → Adds kinds nodes false members (item_member kinds phase n item ∷ members) (what.NotClosed item n ∷ what.Release item n ∷ [])
+  adds_warned members item h may =
+      let same : (same_item item item && (n == n)) ≡ true = and_from (same_item item item) (n == n) (same_itself item) (eq-eqb n n refl) in
+      let is : member_of kinds (same_item item item && (n == n)) (what.Release item n) ≡ Some (item_member kinds phase n item) =
+      ap (λ (b : Bool). member_of kinds b (what.Release item n)) same ∙ member_is kinds phase n item h in
+      let all = release_counts kinds nodes false (Some (record { item = item; owner = n })) members item n (item_member kinds phase n item) is may in
+      record { allowed = all.0; behind = all.1 }
+
+-- The steps of a release, one owner: its items in the order of the phase, or its locks.
+
+module _ (kinds : KindTable) (nodes : List replayed.Node) (aborts : Bool) where
   -- Events that release what passes a test, in order behind what was released so far; and an act that says such events.
   pub record Grows (P : Member → Type 0) (old : List Member) (events : List What) : Type 0 where
     pub new : List Member
@@ -108,10 +190,10 @@ module _ (kinds : KindTable) (nodes : List Node) (aborts : Bool) where
   grows_one {P = P} m is h = record { new = m ∷ []; adds = h; are = All-cons P m [] is (All-nil P) }
 
   pub releases_none : (P : Member → Type 0) (old : List Member) (s : Scene) → Releases P old s (nothing s)
-  releases_none P old s = record { grows = grows_none P old; stays = stays_same s }
+  releases_none P old s = record { grows = grows_none P old; stays = stays s }
 
   pub releases_both : {P : Member → Type 0} {old : List Member} {s : Scene} {first next : Ended} → (a : Releases P old s first) → Releases P (a.grows.new ++ old) first.scene next → Releases P old s (behind first.events next)
-  releases_both {s = s} {first = first} {next = next} a b = record { grows = grows_both a.grows b.grows; stays = stays_both s first.scene next.scene a.stays b.stays }
+  releases_both {s = s} {first = first} {next = next} a b = record { grows = grows_both a.grows b.grows; stays = stays_both a.stays b.stays }
 
   abbrev pub releases_weaker : {P Q : Member → Type 0} {old : List Member} {s : Scene} {ended : Ended} → ((m : Member) → P m → Q m) → Releases P old s ended → Releases Q old s ended
   releases_weaker f a = record { grows = grows_weaker f a.grows; stays = a.stays }
@@ -121,7 +203,7 @@ abbrev pub IsOwn : ℕ → ℕ → Member → Type 0
 IsOwn place n m = (place_of m ≡ place) × (owner_of m ≡ n)
 
 -- whatever an owner may release in a phase of this place may come behind these
-abbrev pub MayRelease : List Node → ℕ → ℕ → List Member → Type 0
+abbrev pub MayRelease : List replayed.Node → ℕ → ℕ → List Member → Type 0
 MayRelease nodes place n old = (m : Member) → IsOwn place n m → MayFollow nodes old m
 
 all_of : {A : Type 0} (P : A → Type 0) → ((x : A) → P x) → (xs : List A) → All P xs
@@ -129,54 +211,41 @@ all_of P f [] = All-nil P
 all_of P f (x ∷ xs) = All-cons P x xs (f x) (all_of P f xs)
 
 -- a member more may come before these, where it may come before each of them
-one_more : {A : Type 0} (nodes : List Node) (member : A → Member) (old : List Member) (m : Member) (xs : List A) → All (λ x. may_precede nodes m (member x) ≡ true) xs → All (λ x. MayFollow nodes old (member x)) xs
+one_more : {A : Type 0} (nodes : List replayed.Node) (member : A → Member) (old : List Member) (m : Member) (xs : List A) → All (λ x. may_precede nodes m (member x) ≡ true) xs → All (λ x. MayFollow nodes old (member x)) xs
     → All (λ x. MayFollow nodes (m ∷ old) (member x)) xs
 one_more nodes member old m [] h k = All-nil (λ x. MayFollow nodes (m ∷ old) (member x))
-one_more nodes member old m (x ∷ xs) h k =
-    All-cons (λ x. MayFollow nodes (m ∷ old) (member x)) x xs
-    (All-cons (λ earlier. may_precede nodes earlier (member x) ≡ true) m old (All-head (λ x. may_precede nodes m (member x) ≡ true) x xs h) (All-head (λ x. MayFollow nodes old (member x)) x xs k))
-    (one_more nodes member old m xs (All-tail (λ x. may_precede nodes m (member x) ≡ true) x xs h) (All-tail (λ x. MayFollow nodes old (member x)) x xs k))
+one_more nodes member old m (x ∷ xs) h k = grind (arith, nat_tests, one_more nodes member old m xs)
 
-module _ (kinds : KindTable) (nodes : List Node) (phase : Phase) (n : ℕ) (out : is_above n n nodes ≡ false) where
+module _ (kinds : KindTable) (nodes : List replayed.Node) (phase : Phase) (n : ℕ) (out : is_above n n nodes ≡ false) where
   item_goes : (x y : Item) → GoesBefore (priority kinds) x y → may_precede nodes (item_member kinds phase n x) (item_member kinds phase n y) ≡ true
-  item_goes x y h = same_phase nodes (item_member kinds phase n x) (item_member kinds phase n y) refl out (inr before)
-    where
-      before : goes_before (item_member kinds phase n x) (item_member kinds phase n y) ≡ true
-      before = elim h [
-        | inl l ↦ or_left (nat_lt (priority kinds x) (priority kinds y)) _ (lt-ltb (priority kinds x) (priority kinds y) l)
-        | inr p ↦ or_right (nat_lt (priority kinds x) (priority kinds y)) _
-            (and_from (priority kinds x == priority kinds y) (nat_lt y.serial x.serial) (eq-eqb (priority kinds x) (priority kinds y) p.0) (lt-ltb y.serial x.serial p.1))
-      ]
+  item_goes x y h = grind (arith, nat_tests, same_phase, or_left, lt-ltb, or_right, and_from, eq-eqb)
 
   -- an item of a phase
   one_item : (commit : Bool) (item : Item) (s : Scene) (old : List Member) → is_of_phase kinds phase item ≡ true → MayFollow nodes old (item_member kinds phase n item)
       → Adds kinds nodes (not commit) old (item_member kinds phase n item ∷ old) (for_each step_done (releases_of commit n (item ∷ [])) s).events
   one_item true item s old passes may =
       let aside : Adds kinds nodes false (item_member kinds phase n item ∷ old) (item_member kinds phase n item ∷ old) (given_back item s).events =
-      adds_aside kinds nodes false (item_member kinds phase n item ∷ old) (given_beside item s).said in
+      adds_aside kinds nodes false (item_member kinds phase n item ∷ old) ((given_quiet item).so s).said in
       adds_both kinds nodes false (adds_warned kinds nodes phase n old item passes may) (subst (Adds kinds nodes false (item_member kinds phase n item ∷ old) (item_member kinds phase n item ∷ old)) (sym (append-nil _)) aside)
   one_item false item s old passes may =
       let aside : Adds kinds nodes true (item_member kinds phase n item ∷ old) (item_member kinds phase n item ∷ old) (given_back item s).events =
-      adds_aside kinds nodes true (item_member kinds phase n item ∷ old) (given_beside item s).said in
+      adds_aside kinds nodes true (item_member kinds phase n item ∷ old) ((given_quiet item).so s).said in
       adds_both kinds nodes true (adds_release kinds nodes phase n old item passes may) (subst (Adds kinds nodes true (item_member kinds phase n item ∷ old) (item_member kinds phase n item ∷ old)) (sym (append-nil _)) aside)
 
   one_stays : (commit : Bool) (item : Item) (s : Scene) → Stays s (for_each step_done (releases_of commit n (item ∷ [])) s).scene
-  one_stays true item s = (given_beside item s).stays
-  one_stays false item s = (given_beside item s).stays
+  one_stays true item s = ((given_quiet item).so s).stays
+  one_stays false item s = ((given_quiet item).so s).stays
 
 -- one act for each of a list and then of another
 pub each_both : {A : Type 0} (act : A → Scene → Ended) (xs ys : List A) (s : Scene) → for_each act (xs ++ ys) s ≡ behind (for_each act xs s).events (for_each act ys (for_each act xs s).scene)
 each_both act [] ys s = refl
-each_both act (x ∷ xs) ys s =
-    ap (λ (e : Ended). behind (act x s).events e) (each_both act xs ys (act x s).scene)
-    ∙ ap (λ (events : List What). record { scene = (for_each act ys (for_each act xs (act x s).scene).scene).scene; events = events })
-    (sym (append_assoc (act x s).events (for_each act xs (act x s).scene).events (for_each act ys (for_each act xs (act x s).scene).scene).events))
+each_both act (x ∷ xs) ys s = search (each_both act xs ys, append_assoc)
 
 releases_more : (commit : Bool) (n : ℕ) (item : Item) (items : List Item) → releases_of commit n (item ∷ items) ≡ releases_of commit n (item ∷ []) ++ releases_of commit n items
 releases_more true n item items = refl
 releases_more false n item items = refl
 
-module _ (kinds : KindTable) (nodes : List Node) (phase : Phase) (n : ℕ) (out : is_above n n nodes ≡ false) (commit : Bool) where
+module _ (kinds : KindTable) (nodes : List replayed.Node) (phase : Phase) (n : ℕ) (out : is_above n n nodes ≡ false) (commit : Bool) where
   -- the items of a phase, in its order
   items_release : (items : List Item) (s : Scene) (old : List Member) → AreRanked (priority kinds) items → All (λ item. is_of_phase kinds phase item ≡ true) items
       → All (λ item. MayFollow nodes old (item_member kinds phase n item)) items
@@ -202,10 +271,7 @@ module _ (kinds : KindTable) (nodes : List Node) (phase : Phase) (n : ℕ) (out 
 
   pub ordered_release : (items : List Item) (s : Scene) (old : List Member) → AreFalling items → MayRelease nodes (place_of_phase phase) n old
       → Releases kinds nodes (not commit) (IsOwn (place_of_phase phase) n) old s (for_each step_done (releases_of commit n (release_order kinds phase items)) s)
-  ordered_release items s old falling may =
-      items_release (release_order kinds phase items) s old (order_ranked (is_of_phase kinds phase) (priority kinds) items falling)
-      (order_passes (is_of_phase kinds phase) (priority kinds) items)
-      (all_of (λ (i : Item). MayFollow nodes old (item_member kinds phase n i)) (λ i. may (item_member kinds phase n i) (refl, refl)) (release_order kinds phase items))
+  ordered_release items s old falling may = search (items_release, order_ranked, order_passes, all_of)
 
 -- The events of some of these locks, in their order.
 data Told (tell : Lock → What) : List Lock → List What → Type 0 where
@@ -232,7 +298,7 @@ told_all n (lock ∷ all) = told_more (told_all n all)
 abbrev pub lock_member : ℕ → Lock → Member
 lock_member n lock = ALock lock.object (mode_number lock.mode) n
 
-module _ (kinds : KindTable) (nodes : List Node) (aborts : Bool) (n : ℕ) (out : is_above n n nodes ≡ false) where
+module _ (kinds : KindTable) (nodes : List replayed.Node) (aborts : Bool) (n : ℕ) (out : is_above n n nodes ≡ false) where
   lock_goes : (x y : Lock) → comes_before x.object x.mode y.object y.mode ≡ true → may_precede nodes (lock_member n x) (lock_member n y) ≡ true
   lock_goes x y h = same_phase nodes (lock_member n x) (lock_member n y) refl out (inr h)
 
@@ -261,38 +327,7 @@ pub data AreLockSteps (n : ℕ) : List Step → Type 0 where
   locks_pass : (to : ℕ) → AreLockSteps n (PassesLocks n to ∷ [])
   all_go : AreLockSteps n (ReleasesAllLocks n ∷ [])
 
-keeps_without : (n : ℕ) → KeepsLock (locks.without n)
-keeps_without n = record { object = λ l. refl; mode = λ l. refl }
-
-passed_object : (b : Bool) (lock new : Lock) → new.object ≡ lock.object → (if b then lock else new).object ≡ lock.object
-passed_object true lock new h = refl
-passed_object false lock new h = h
-
-passed_mode : (b : Bool) (lock new : Lock) → new.mode ≡ lock.mode → (if b then lock else new).mode ≡ lock.mode
-passed_mode true lock new h = refl
-passed_mode false lock new h = h
-
-keeps_passed : (n to : ℕ) → KeepsLock (locks.passed_lock n to)
-keeps_passed n to = record {
-  object = λ l. passed_object (owner_count n l == 0) l _ refl;
-  mode = λ l. passed_mode (owner_count n l == 0) l _ refl;
-}
-
--- whatever the step
-pub step_stays : (x : Step) (s : Scene) → Stays s (step_done x s).scene
-step_stays (Said event) s = stays_same s
-step_stays (GivesBack item) s = (given_beside item s).stays
-step_stays (ReleasesLocks n) s = record {
-  owners = refl;
-  kinds = refl;
-  locks = λ h. IsInOrder-filter has_owner (map (locks.without n) s.session.locks) (IsInOrder-map (locks.without n) (keeps_without n) s.session.locks h);
-  levels = refl;
-  serial = refl;
-}
-step_stays (PassesLocks n to) s = record { owners = refl; kinds = refl; locks = λ h. IsInOrder-map (locks.passed_lock n to) (keeps_passed n to) s.session.locks h; levels = refl; serial = refl }
-step_stays (ReleasesAllLocks n) s = record { owners = refl; kinds = refl; locks = λ h. tt; levels = refl; serial = refl }
-
-module _ (kinds : KindTable) (nodes : List Node) (commit : Bool) (n : ℕ) (out : is_above n n nodes ≡ false) where
+module _ (kinds : KindTable) (nodes : List replayed.Node) (commit : Bool) (n : ℕ) (out : is_above n n nodes ≡ false) where
   -- the locks of an owner, in their order
   pub locks_release : {steps : List Step} → AreLockSteps n steps → (s : Scene) (old : List Member) → IsInOrder s.session.locks → MayRelease nodes 2 n old
       → Releases kinds nodes (not commit) (IsOwn 2 n) old s (for_each step_done steps s)
@@ -322,3 +357,96 @@ module _ (kinds : KindTable) (nodes : List Node) (commit : Bool) (n : ℕ) (out 
   own_release Locks owner h s old falling order may = locks_release h s old order may
   own_release BeforeLocks owner h s old falling order may = ordered_release kinds nodes BeforeLocks n out commit owner.items s old falling may
   own_release AfterLocks owner h s old falling order may = ordered_release kinds nodes AfterLocks n out commit owner.items s old falling may
+
+-- A phase of a release: each owner behind all below it.
+
+-- A member is of an earlier phase, or of this one and its owner isn't one of these, nor above one.
+abbrev pub IsClear : List replayed.Node → ℕ → (ℕ → Type 0) → Member → Type 0
+IsClear nodes place In m = (place_of m < place) ⊎ ((place_of m ≡ place) × ((w : ℕ) → In w → AreApart nodes (owner_of m) w))
+
+abbrev pub AreClear : List replayed.Node → ℕ → (ℕ → Type 0) → List Member → Type 0
+AreClear nodes place In members = All (IsClear nodes place In) members
+
+pub clear_weaker : (nodes : List replayed.Node) (place : ℕ) (In Out : ℕ → Type 0) (members : List Member) → ((w : ℕ) → Out w → In w) → AreClear nodes place In members → AreClear nodes place Out members
+clear_weaker nodes place In Out members f h = grind (arith, nat_tests)
+
+pub may_release : (nodes : List replayed.Node) (place n : ℕ) (members : List Member) → AreClear nodes place (λ w. w ≡ n) members → MayRelease nodes place n members
+may_release nodes place n members h = grind (arith, nat_tests, same_phase)
+
+-- Of a node, what is below it and what stands behind it: no owner is above one that is released later.
+pub record Splits (nodes : List replayed.Node) (n : ℕ) (below beside : OwnerTree) : Type 0 where
+  pub self : is_above n n nodes ≡ false
+  pub up : (x : ℕ) → has x below ≡ true → AreApart nodes x n
+  pub own : (w : ℕ) → has w beside ≡ true → AreApart nodes n w
+  pub across : (x w : ℕ) → has x below ≡ true → has w beside ≡ true → AreApart nodes x w
+
+abbrev pub AreWalked : List replayed.Node → OwnerTree → Type 0
+AreWalked nodes Empty = Unit {0}
+AreWalked nodes (Node n owner below beside) = Splits nodes n below beside × AreWalked nodes below × AreWalked nodes beside
+
+-- the items of an owner stand newest first
+abbrev pub Falls : Owner → Type 0
+Falls owner = AreFalling owner.items
+
+-- what is released of a forest in a phase of this place
+abbrev pub IsOf : ℕ → OwnerTree → Member → Type 0
+IsOf place t m = (place_of m ≡ place) × (has (owner_of m) t ≡ true)
+
+below_locks : (commit top : Bool) (n parent : ℕ) → AreLockSteps n (if top then [] else lock_step commit n parent ∷ [])
+below_locks commit true n parent = locks_stay
+below_locks true false n parent = locks_pass parent
+below_locks false false n parent = locks_go
+
+pub owner_locks : (top commit : Bool) (n : ℕ) (parent : Option ℕ) → AreLockSteps n (top_locks top commit n parent)
+owner_locks true commit n parent = all_go
+owner_locks false commit n None = locks_stay
+owner_locks false true n (Some parent) = locks_pass parent
+owner_locks false false n (Some parent) = locks_go
+
+module _ (kinds : KindTable) (nodes : List replayed.Node) (phase : Phase) (commit top : Bool) where
+  -- a node behind all below it, and then what stands behind it
+  node_clear : (n : ℕ) (owner : Owner) (below beside : OwnerTree) (new old : List Member) → Splits nodes n below beside → All (IsOf (place_of_phase phase) below) new
+      → AreClear nodes (place_of_phase phase) (λ w. has w (Node n owner below beside) ≡ true) old → AreClear nodes (place_of_phase phase) (λ w. w ≡ n) (new ++ old)
+  node_clear n owner below beside new old s are clear =
+      let p : ℕ = place_of_phase phase in
+      All-append (IsClear nodes p (λ w. w ≡ n)) new old
+      (All-weaker (IsOf p below) (IsClear nodes p (λ w. w ≡ n)) (λ m o. inr (o.0, λ w is. subst (AreApart nodes (owner_of m)) (sym is) (s.up (owner_of m) o.1))) new are)
+      (clear_weaker nodes p (λ w. has w (Node n owner below beside) ≡ true) (λ w. w ≡ n) old (λ w is. or_left (n == w) (has w below || has w beside) (eq-eqb n w (sym is))) clear)
+
+  beside_clear : (n : ℕ) (owner : Owner) (below beside : OwnerTree) (own new old : List Member) → Splits nodes n below beside → All (IsOwn (place_of_phase phase) n) own → All (IsOf (place_of_phase phase) below) new
+      → AreClear nodes (place_of_phase phase) (λ w. has w (Node n owner below beside) ≡ true) old → AreClear nodes (place_of_phase phase) (λ w. has w beside ≡ true) (own ++ (new ++ old))
+  beside_clear n owner below beside own new old s mine are clear =
+      let p : ℕ = place_of_phase phase in
+      All-append (IsClear nodes p (λ w. has w beside ≡ true)) own (new ++ old)
+      (All-weaker (IsOwn p n) (IsClear nodes p (λ w. has w beside ≡ true)) (λ m o. inr (o.0, λ w is. subst (λ (x : ℕ). AreApart nodes x w) (sym o.1) (s.own w is))) own mine)
+      (All-append (IsClear nodes p (λ w. has w beside ≡ true)) new old
+      (All-weaker (IsOf p below) (IsClear nodes p (λ w. has w beside ≡ true)) (λ m o. inr (o.0, λ w is. s.across (owner_of m) w o.1 is)) new are)
+      (clear_weaker nodes p (λ w. has w (Node n owner below beside) ≡ true) (λ w. has w beside ≡ true) old (λ w is. or_right (n == w) (has w below || has w beside) (or_right (has w below) (has w beside) is)) clear))
+
+  pub below_release : (parent : ℕ) (t : OwnerTree) (s : Scene) (old : List Member) → AreWalked nodes t → AllNodes Falls t → AreClear nodes (place_of_phase phase) (λ w. has w t ≡ true) old → IsInOrder s.session.locks
+      → Releases kinds nodes (not commit) (IsOf (place_of_phase phase) t) old s (for_each step_done (steps_below kinds phase commit top parent t) s)
+  below_release parent Empty s old walked falls clear order = releases_none kinds nodes (not commit) (IsOf (place_of_phase phase) Empty) old s
+  below_release parent (Node n owner below beside) s old walked falls clear order =
+      let p : ℕ = place_of_phase phase in
+      let whole : OwnerTree = Node n owner below beside in
+      let xs : List Step = steps_below kinds phase commit top n below in
+      let ys : List Step = own_steps kinds phase commit n owner (if top then [] else lock_step commit n parent ∷ []) in
+      let zs : List Step = steps_below kinds phase commit top parent beside in
+      let mid : Scene = (for_each step_done xs s).scene in
+      let end : Scene = (for_each step_done ys mid).scene in
+      let a : Releases kinds nodes (not commit) (IsOf p below) old s (for_each step_done xs s) =
+      below_release n below s old walked.1 falls.1
+      (clear_weaker nodes p (λ w. has w whole ≡ true) (λ w. has w below ≡ true) old (λ w is. or_right (n == w) (has w below || has w beside) (or_left (has w below) (has w beside) is)) clear) order in
+      let b : Releases kinds nodes (not commit) (IsOwn p n) (a.grows.new ++ old) mid (for_each step_done ys mid) =
+      own_release kinds nodes commit n walked.0.self phase owner (below_locks commit top n parent) mid (a.grows.new ++ old) falls.0 (a.stays.locks order)
+      (may_release nodes p n (a.grows.new ++ old) (node_clear n owner below beside a.grows.new old walked.0 a.grows.are clear)) in
+      let c : Releases kinds nodes (not commit) (IsOf p beside) (b.grows.new ++ (a.grows.new ++ old)) end (for_each step_done zs end) =
+      below_release parent beside end (b.grows.new ++ (a.grows.new ++ old)) walked.2 falls.2 (beside_clear n owner below beside b.grows.new a.grows.new old walked.0 b.grows.are a.grows.are clear)
+      (b.stays.locks (a.stays.locks order)) in
+      subst (λ (e : Ended). Releases kinds nodes (not commit) (IsOf p whole) old s e)
+      (sym (each_both step_done xs (ys ++ zs) s ∙ ap (λ (e : Ended). behind (for_each step_done xs s).events e) (each_both step_done ys zs mid)))
+      (releases_both kinds nodes (not commit)
+      (releases_weaker kinds nodes (not commit) {Q = IsOf p whole} (λ m o. (o.0, or_right (n == owner_of m) (has (owner_of m) below || has (owner_of m) beside) (or_left (has (owner_of m) below) (has (owner_of m) beside) o.1))) a)
+      (releases_both kinds nodes (not commit)
+      (releases_weaker kinds nodes (not commit) {Q = IsOf p whole} (λ m o. (o.0, or_left (n == owner_of m) (has (owner_of m) below || has (owner_of m) beside) (eq-eqb n (owner_of m) (sym o.1)))) b)
+      (releases_weaker kinds nodes (not commit) {Q = IsOf p whole} (λ m o. (o.0, or_right (n == owner_of m) (has (owner_of m) below || has (owner_of m) beside) (or_right (has (owner_of m) below) (has (owner_of m) beside) o.1))) c)))

@@ -1,28 +1,332 @@
--- What an element owes that neither makes nor ends a level, where a law is kept by what it is made of.
-use Rattle.std.proofs.Common.{◌≡◌, ℕ, Bool, true, false, codes, Option, Some, refl}
-use Rattle.std.specs.Option.{option_and_then}
-use Rattle.pgs_step.specs.declared.events.What.{What}
+-- Where a line stands between its elements. While the deepest level is aborted a line says nothing until it cleans that level up: an
+-- element is a check then, or a word at the line's end, or the cleanup.
+use Rattle.session_laws.proofs.Words.{◌≡◌, ℕ, zero, suc, ◌+◌, ◌-◌, ◌≤◌, Bool, true, false, if◌then◌else◌, List, [], ◌∷◌, ◌++◌, map, length, replicate, Option, Some, None, refl, sym, subst, inl, inr, arith, append_assoc, codes, le-ltb, ◌⊎◌, option_map_or, option_and_then, nat_tests}
+use Rattle.session_laws.proofs.Scenes.{Error, What, Command, LevelState, OpenPortal, SessionState, is_aborted, level_owner, Check, Element, LevelContext, NewContext, OfLevel, OwnerRole, Text, portal_named, context_named, Scene, Moment, AreOuter, Stands, line_elements, KindId, Phase, Mode, CtxKind, owner_gone, phase_released, portal_ended, at_kind, at_owner, at_portal, lock_given_back, snapshot_popped, context_made, new_context_made, new_owner_made, owner_made, plan_made, descriptor_given, item_taken, lock_taken, snapshot_pushed, does, TransactionCommand, Work, ContextCommand, ChunkCommand, ItemCommand, LockCommand, SnapshotCommand, PlanCommand, PortalCommand, TellCommand, Scan, after_turn, chunk_row, context_row, fetch_steps, item_row, lock_row, plan_row, portal_row, snapshot_row, tell_row, work_of, at_savepoint, begin, commit, committed_to, elements_of, ends_aborted, in_transaction, is_end, refused, rollback, rolled_back_to, save, savepoint, start, then_ok, transaction_of, unaborted}
+use Rattle.session_rules.specs.Works.{row_of}
+use Rattle.session_laws.proofs.Rules.{Acts, Follows, IsSpoken, Keeps, Law, Leaves, MoveLeaves, Owes, is_word, last, next, by_kind, by_order, by_owner, by_portal, by_portal_named, by_there, element_follows, fallible_at, fallible_so, moves_owed, unfailing_so, portal_ends}
+use Rattle.pgs_step.specs.declared.errors.Error.TheVariants as error
 use Rattle.pgs_step.specs.declared.events.What.TheVariants as what
-use Rattle.pgs_step.specs.declared.ids.KindId.{KindId}
-use Rattle.pgs_step.specs.declared.ids.Phase.{Phase}
-use Rattle.pgs_step.specs.declared.lock_modes.Mode.{Mode}
-use Rattle.any_ctx.specs.declared.any.CtxKind.{CtxKind}
-use Rattle.any_ctx.specs.declared.any.CtxKind.TheVariants as kind
-use Rattle.session_rules.specs.State.{level_owner}
-use Rattle.session_rules.specs.World.{Moment, Scene}
+use Rattle.pgs_command.specs.declared.commands.Command.TheVariants as command
+use Rattle.pgs_command.specs.declared.commands.TransactionCommand.TheVariants as transaction
+use Rattle.pgs_command.specs.declared.commands.Work.TheVariants as work
+use Rattle.pgs_command.specs.declared.commands.ContextCommand.TheVariants as context
+use Rattle.pgs_command.specs.declared.commands.ChunkCommand.TheVariants as chunk
+use Rattle.pgs_command.specs.declared.commands.ItemCommand.TheVariants as item
+use Rattle.pgs_command.specs.declared.commands.LockCommand.TheVariants as lock
+use Rattle.pgs_command.specs.declared.commands.SnapshotCommand.TheVariants as snapshot
+use Rattle.pgs_command.specs.declared.commands.PlanCommand.TheVariants as plan
+use Rattle.pgs_command.specs.declared.commands.PortalCommand.TheVariants as portal
+use Rattle.pgs_command.specs.declared.commands.TellCommand.TheVariants as tell
 use Rattle.session_rules.specs.Elements as e
-use Rattle.session_rules.specs.Elements.{Element, OfLevel, Text}
-use Rattle.session_rules.specs.Lookup.{context_named, portal_named}
-use Rattle.session_rules.specs.Releases.{owner_gone, phase_released}
-use Rattle.session_rules.specs.Portals.{portal_ended}
-use Rattle.session_rules.specs.Parts.{at_kind, at_owner, at_portal, lock_given_back, snapshot_popped}
-use Rattle.session_rules.specs.Making.{context_made, new_context_made, new_owner_made, owner_made, plan_made}
-use Rattle.session_rules.specs.Taking.{descriptor_given, item_taken, lock_taken, snapshot_pushed}
-use Rattle.session_rules.specs.Does.{does}
-use Rattle.session_rules.proofs.Leaves.{Acts, Follows, IsSpoken, Keeps, Law, Leaves, MoveLeaves, Owes, is_word, last, next}
-use Rattle.session_rules.proofs.Walk.{by_kind, by_order, by_owner, by_portal, by_portal_named, by_there, element_follows, fallible_at, fallible_so, moves_owed, unfailing_so}
-use Rattle.session_rules.proofs.WalkEnds.{portal_ends}
-use Rattle.session_laws.proofs.Hushed.{IsOwnContext, IsOwnOwner, IsOwnWork, IsSaid}
+use Rattle.any_ctx.specs.declared.any.CtxKind.TheVariants as kind
+
+-- where a line stands: in an active session or in none; behind a level that was pushed, whose context is made next; behind that, where
+-- its owner is made next; and where the deepest level is aborted
+pub data Stage : Type 0 where
+  Working : Stage
+  ContextNext : Stage
+  OwnerNext : Stage
+  Hushed : Stage
+
+-- what is made for a level
+abbrev pub IsOwnContext : NewContext → Type 0
+IsOwnContext LevelContext = ⊥
+IsOwnContext other = Unit {0}
+
+abbrev pub IsOwnOwner : OwnerRole → Type 0
+IsOwnOwner OfLevel = ⊥
+IsOwnOwner other = Unit {0}
+
+-- what elements say by themselves
+abbrev pub IsSaid : What → Type 0
+IsSaid (what.Fetched name rows) = Unit {0}
+IsSaid what.AlreadyInTransaction = Unit {0}
+IsSaid what.NotInTransaction = Unit {0}
+IsSaid what.Ok = Unit {0}
+IsSaid other = ⊥
+
+-- an element that neither makes nor ends a level, nor anything for one
+abbrev pub IsOwnWork : Element → Type 0
+IsOwnWork (e.Says event) = IsSaid event
+IsOwnWork (e.MakeLevel name implicit) = ⊥
+IsOwnWork (e.MakeContext new) = IsOwnContext new
+IsOwnWork (e.MakeOwner role) = IsOwnOwner role
+IsOwnWork e.LevelStands = ⊥
+IsOwnWork (e.InTurn name x) = IsOwnWork x
+IsOwnWork e.CommitTop = ⊥
+IsOwnWork e.Subcommit = ⊥
+IsOwnWork e.Abort = ⊥
+IsOwnWork e.Cleanup = ⊥
+IsOwnWork other = Unit {0}
+
+-- an element of an active session
+abbrev pub IsLively : Element → Type 0
+IsLively (e.Says event) = IsSaid event
+IsLively (e.MakeContext new) = IsOwnContext new
+IsLively (e.MakeOwner role) = IsOwnOwner role
+IsLively (e.InTurn name x) = IsOwnWork x
+IsLively e.Cleanup = ⊥
+IsLively other = Unit {0}
+
+-- an element of a session whose deepest level is aborted
+abbrev pub IsHushed : Element → Type 0
+IsHushed (e.Checks check) = Unit {0}
+IsHushed (e.Says event) = IsSaid event
+IsHushed e.Cleanup = Unit {0}
+IsHushed other = ⊥
+
+abbrev pub IsLevelContext : Element → Type 0
+IsLevelContext (e.MakeContext LevelContext) = Unit {0}
+IsLevelContext other = ⊥
+
+abbrev pub IsLevelOwner : Element → Type 0
+IsLevelOwner (e.MakeOwner OfLevel) = Unit {0}
+IsLevelOwner other = ⊥
+
+-- an element that may come where the line stands so
+abbrev pub IsDue : Stage → Element → Type 0
+IsDue Working x = IsLively x
+IsDue ContextNext x = IsLevelContext x
+IsDue OwnerNext x = IsLevelOwner x
+IsDue Hushed x = IsHushed x
+
+abbrev pub working_next : Element → Stage
+working_next (e.MakeLevel name implicit) = ContextNext
+working_next e.Abort = Hushed
+working_next other = Working
+
+abbrev pub hushed_next : Element → Stage
+hushed_next e.Cleanup = Working
+hushed_next other = Hushed
+
+-- where the line stands behind an element that was not refused
+abbrev pub stage_next : Stage → Element → Stage
+stage_next Working x = working_next x
+stage_next ContextNext x = OwnerNext
+stage_next OwnerNext x = Working
+stage_next Hushed x = hushed_next x
+
+-- a line doesn't end while a level is being made
+abbrev pub IsRest : Stage → Type 0
+IsRest ContextNext = ⊥
+IsRest OwnerNext = ⊥
+IsRest other = Unit {0}
+
+-- elements of which each may come where the line stands by then
+abbrev pub AreDue : Stage → List Element → Type 0
+AreDue stage [] = IsRest stage
+AreDue stage (x ∷ xs) = IsDue stage x × AreDue (stage_next stage x) xs
+
+-- where a line stands that begins with these levels
+abbrev pub stage_of : List LevelState → Stage
+stage_of levels = if is_aborted levels then Hushed else Working
+
+-- the levels above the deepest are active
+abbrev pub AreAbove : List LevelState → Type 0
+AreAbove [] = Unit {0}
+AreAbove (level ∷ levels) = AreOuter levels
+
+-- elements that neither make nor end levels
+abbrev pub AreWork : List Element → Type 0
+AreWork [] = Unit {0}
+AreWork (x ∷ xs) = IsOwnWork x × AreWork xs
+
+both_work : (xs ys : List Element) → AreWork xs → AreWork ys → AreWork (xs ++ ys)
+both_work [] ys h k = k
+both_work (x ∷ xs) ys h k = (h.0, both_work xs ys h.1 k)
+
+checks_work : (checks : List Check) → AreWork (map e.Checks checks)
+checks_work [] = tt
+checks_work (check ∷ checks) = (tt, checks_work checks)
+
+-- of a scan
+
+last_or_more : (b : Bool) (xs ys : List Element) → AreWork xs → AreWork ys → AreWork (elim b as (λ _. List Element) [ true ↦ xs | false ↦ ys ])
+last_or_more true xs ys h k = h
+last_or_more false xs ys h k = k
+
+fetch_work : (name : Text) (count : ℕ) (scan : Scan) (rows : ℕ) → AreWork (fetch_steps name count scan rows)
+fetch_work name zero scan rows = (tt, tt)
+fetch_work name (suc count) scan rows = grind (arith, nat_tests, fetch_work name count (after_turn scan), both_work, last_or_more)
+
+fetches_work : (name : Text) (count : ℕ) (o : Option OpenPortal) → AreWork (option_map_or (λ portal. fetch_steps name count portal.scan 0) o [])
+fetches_work name count None = tt
+fetches_work name count (Some portal) = fetch_work name count portal.scan 0
+
+-- of what is done within a transaction
+chunks_work : (c : ChunkCommand) → AreWork (chunk_row c).steps
+chunks_work (chunk.Free name) = (tt, tt)
+chunks_work other = (tt, tt)
+
+contexts_work : (c : ContextCommand) → AreWork (context_row c).steps
+contexts_work (context.Create name parent kind) = (tt, tt)
+contexts_work other = (tt, tt)
+
+items_work : (c : ItemCommand) → AreWork (item_row c).steps
+items_work (item.Pin buffer) = (tt, (tt, tt))
+items_work (item.Open file) = (tt, (tt, tt))
+items_work (item.Reference class key) = (tt, (tt, tt))
+items_work (item.Acquire kind key) = (tt, (tt, tt))
+items_work (item.Snapshot key) = (tt, (tt, tt))
+items_work other = (tt, tt)
+
+locks_work : (c : LockCommand) → AreWork (lock_row c).steps
+locks_work (lock.Lock object mode) = (tt, tt)
+locks_work other = (tt, tt)
+
+snapshots_work : (c : SnapshotCommand) → AreWork (snapshot_row c).steps
+snapshots_work snapshot.Pop = (tt, tt)
+snapshots_work other = (tt, tt)
+
+plans_work : (c : PlanCommand) → AreWork (plan_row c).steps
+plans_work (plan.Reference number) = (tt, (tt, tt))
+plans_work other = (tt, tt)
+
+portals_work : (c : PortalCommand) (portals : List OpenPortal) → AreWork (portal_row c portals).steps
+portals_work (portal.Open name object rows bad) portals = (tt, (tt, (tt, (tt, (tt, (tt, (tt, (tt, (tt, (tt, (tt, tt)))))))))))
+portals_work (portal.Fetch name count) portals = (tt, fetches_work name count (portal_named name portals))
+portals_work other portals = (tt, tt)
+
+tells_work : (c : TellCommand) → AreWork (tell_row c).steps
+tells_work tell.Report = (tt, tt)
+tells_work other = (tt, tt)
+
+steps_work : (w : Work) (portals : List OpenPortal) → AreWork (row_of w portals).steps
+steps_work work.Raise portals = tt
+steps_work (work.Contexts c) portals = contexts_work c
+steps_work (work.Chunks c) portals = chunks_work c
+steps_work (work.Items c) portals = items_work c
+steps_work (work.Locks c) portals = locks_work c
+steps_work (work.Snapshots c) portals = snapshots_work c
+steps_work (work.Plans c) portals = plans_work c
+steps_work (work.Portals c) portals = portals_work c portals
+steps_work (work.Tells c) portals = tells_work c
+
+work_is_work : (w : Work) (session : SessionState) → AreWork (work_of w session)
+work_is_work w s = both_work (map e.Checks (row_of w s.portals).checks) (row_of w s.portals).steps (checks_work (row_of w s.portals).checks) (steps_work w s.portals)
+
+-- such work may come in an active session, and leaves it active
+own_due : (x : Element) → IsOwnWork x → IsLively x × (working_next x ≡ Working)
+own_due (e.MakeLevel name implicit) h = elim h [ ]
+own_due (e.Says event) h = (h, refl)
+own_due (e.MakeContext new) h = (h, refl)
+own_due (e.MakeOwner role) h = (h, refl)
+own_due (e.InTurn name x) h = (h, refl)
+own_due e.Abort h = elim h [ ]
+own_due e.Cleanup h = elim h [ ]
+own_due other h = (tt, refl)
+
+work_due : (xs ys : List Element) → AreWork xs → AreDue Working ys → AreDue Working (xs ++ ys)
+work_due [] ys h k = k
+work_due (x ∷ xs) ys h k = grind (arith, nat_tests, work_due xs ys h.1 k, own_due)
+
+commits_due : (n : ℕ) (ys : List Element) → AreDue Working ys → AreDue Working (replicate n e.Subcommit ++ ys)
+commits_due zero ys k = k
+commits_due (suc n) ys k = (tt, commits_due n ys k)
+
+-- a refusal may come anywhere between two lines
+
+refused_alone : (b : Bool) (x : Error) → AreDue (if b then Hushed else Working) (refused x)
+refused_alone true x = (tt, tt)
+refused_alone false x = (tt, tt)
+
+-- levels that are rolled back, of which none is aborted
+rolled_outer : (n : ℕ) (levels : List LevelState) (ys : List Element) → AreOuter levels → AreDue Working ys → AreDue Working (rolled_back_to n levels ++ ys)
+rolled_outer n [] ys h k = k
+rolled_outer n (level ∷ levels) ys h k = grind (arith, nat_tests, rolled_outer n levels ys h.2 k)
+
+-- the deepest level and some above it
+rolled_due : (n : ℕ) (level : LevelState) (levels : List LevelState) (ys : List Element) → n ≤ length levels + 1 → AreOuter levels → AreDue Working ys
+    → AreDue (stage_of (level ∷ levels)) (rolled_back_to n (level ∷ levels) ++ ys)
+rolled_due n level levels ys l h k = grind (arith, nat_tests, le-ltb, rolled_outer)
+
+-- the level of a savepoint is one of these
+savepoint_within : (name : Text) (levels : List LevelState) (n : ℕ) → savepoint name levels ≡ Some n → n ≤ length levels
+savepoint_within name [] n is = absurd (cc is)
+savepoint_within name (level ∷ levels) n is = grind (arith, nat_tests, savepoint_within name levels n)
+
+-- what is done at a savepoint
+at_due : (name : Text) (levels : List LevelState) (go_on : ℕ → List Element)
+    → ((n : ℕ) → savepoint name levels ≡ Some n → AreDue (stage_of levels) (go_on n ++ (e.Says what.Ok ∷ [])))
+    → AreDue (stage_of levels) (at_savepoint name levels go_on ++ (e.Says what.Ok ∷ []))
+at_due name [] go_on h = (tt, (tt, tt))
+at_due name (level ∷ levels) go_on h = grind (arith, nat_tests)
+
+-- the ends of transactions, and back to a savepoint, in an aborted one too
+rollback_due : (levels : List LevelState) → AreAbove levels → AreDue (stage_of levels) (rollback levels ++ (e.Says what.Ok ∷ []))
+rollback_due [] h = (tt, (tt, tt))
+rollback_due (level ∷ levels) h = rolled_due 1 level levels (e.Says what.Ok ∷ []) (omega arith) h (tt, tt)
+
+commit_due : (levels : List LevelState) → AreAbove levels → AreDue (stage_of levels) (commit levels ++ (e.Says what.Ok ∷ []))
+commit_due [] h = (tt, (tt, tt))
+commit_due (level ∷ levels) h = go level.aborted refl
+  where
+    go : (b : Bool) → level.aborted ≡ b
+        → AreDue (if b then Hushed else Working) ((if b then rolled_back_to 1 (level ∷ levels) else committed_to 2 (level ∷ levels) ++ (e.CommitTop ∷ [])) ++ (e.Says what.Ok ∷ []))
+    go true is = subst (λ (b : Bool). AreDue (if b then Hushed else Working) (rolled_back_to 1 (level ∷ levels) ++ (e.Says what.Ok ∷ []))) is (rollback_due (level ∷ levels) h)
+    go false is = rw append_assoc (commits_due (length (level ∷ levels) + 1 - 2) _ (tt, (tt, tt)))
+
+back_due : (name : Text) (levels : List LevelState) → AreAbove levels
+    → AreDue (stage_of levels) (at_savepoint name levels (λ n. rolled_back_to n levels ++ start (Some name) false) ++ (e.Says what.Ok ∷ []))
+back_due name [] h = (tt, (tt, tt))
+back_due name (level ∷ levels) h = grind (arith, nat_tests, at_due, savepoint_within, append_assoc, rolled_due)
+
+-- the other commands on transactions, in an active session or in none
+begin_due : (levels : List LevelState) → AreDue Working (begin levels ++ (e.Says what.Ok ∷ []))
+begin_due [] = (tt, (tt, (tt, (tt, (tt, tt)))))
+begin_due (level ∷ levels) = (tt, (tt, tt))
+
+save_due : (name : Text) (levels : List LevelState) → AreDue Working (save name levels ++ (e.Says what.Ok ∷ []))
+save_due name [] = (tt, (tt, tt))
+save_due name (level ∷ levels) = (tt, (tt, (tt, (tt, (tt, tt)))))
+
+release_due : (name : Text) (levels : List LevelState) → is_aborted levels ≡ false → AreDue (stage_of levels) (at_savepoint name levels (λ n. committed_to n levels) ++ (e.Says what.Ok ∷ []))
+release_due name levels un = grind (arith, nat_tests, at_due, commits_due)
+
+-- a stage that is known
+active_due : (levels : List LevelState) (xs : List Element) → is_aborted levels ≡ false → AreDue Working xs → AreDue (stage_of levels) xs
+active_due levels xs un k = subst (λ (b : Bool). AreDue (if b then Hushed else Working) xs) (sym un) k
+
+transaction_due : (c : TransactionCommand) (levels : List LevelState) → AreAbove levels → ((is_aborted levels ≡ false) ⊎ (ends_aborted c ≡ true))
+    → AreDue (stage_of levels) (then_ok (transaction_of c levels))
+transaction_due transaction.Begin levels h (inl un) = active_due levels _ un (begin_due levels)
+transaction_due transaction.Begin levels h (inr an) = absurd (cc an)
+transaction_due transaction.Commit levels h either = commit_due levels h
+transaction_due transaction.Rollback levels h either = rollback_due levels h
+transaction_due (transaction.Savepoint name) levels h (inl un) = active_due levels _ un (save_due name levels)
+transaction_due (transaction.Savepoint name) levels h (inr an) = absurd (cc an)
+transaction_due (transaction.Release name) levels h (inl un) = release_due name levels un
+transaction_due (transaction.Release name) levels h (inr an) = absurd (cc an)
+transaction_due (transaction.RollbackTo name) levels h either = back_due name levels h
+
+in_transaction_due : (levels : List LevelState) (work : List Element) → AreWork work → AreDue Working (in_transaction levels work)
+in_transaction_due [] work h = (tt, (tt, (tt, (tt, work_due work _ h (tt, (tt, tt))))))
+in_transaction_due (level ∷ levels) work h = work_due work _ h (tt, tt)
+
+rest_of : (b : Bool) → IsRest (if b then Hushed else Working)
+rest_of true = tt
+rest_of false = tt
+
+unaborted_due : (c : Command) (session : SessionState) → AreAbove session.levels → ((is_aborted session.levels ≡ false) ⊎ (is_end c ≡ true)) → AreDue (stage_of session.levels) (unaborted c session)
+unaborted_due command.Nothing s h either = rest_of (is_aborted s.levels)
+unaborted_due (command.Transaction c) s h either = transaction_due c s.levels h either
+unaborted_due (command.Work w) s h (inl un) = active_due s.levels _ un (in_transaction_due s.levels (work_of w s) (work_is_work w s))
+unaborted_due (command.Work w) s h (inr an) = absurd (cc an)
+
+elements_due : (c : Command) (session : SessionState) → AreAbove session.levels → AreDue (stage_of session.levels) (elements_of c session)
+unfolding elements_of
+elements_due c s h = grind (arith, nat_tests, unaborted_due, refused_alone)
+
+-- Each element of a line may come where the line stands by then.
+pub line_due : (line : Option Command) (session : SessionState) → AreAbove session.levels → AreDue (stage_of session.levels) (line_elements line session)
+line_due None s h = refused_alone (is_aborted s.levels) error.SyntaxError
+line_due (Some c) s h = elements_due c s h
+
+pub above_of : (levels : List LevelState) (s : Scene) → Stands s → s.session.levels ≡ levels → AreAbove levels
+above_of [] s h is = tt
+above_of (level ∷ levels) s h is = grind (arith, nat_tests)
+
+-- What an element owes that neither makes nor ends a level, where a law is kept by what it is made of.
 
 pub record WorkLeaves (R : Law) : Type 0 where
   pub leaves : Leaves R

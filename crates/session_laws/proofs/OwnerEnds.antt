@@ -1,51 +1,169 @@
--- A law that asks of an owner that goes that it is there and holds nothing, and of one that moves where it goes: lines and exits keep it.
-use Rattle.std.proofs.Common.{◌≡◌, ℕ, ◌≤◌, Bool, true, false, not, List, [], ◌∷◌, length, Option, Some, None, refl, sym, ap, ◌∙◌, subst, arith}
-use Rattle.std.specs.Prelude.{◌==◌}
-use Rattle.std.specs.Option.{option_and_then}
-use Rattle.pgs_step.specs.declared.errors.Error.{Error}
-use Rattle.pgs_step.specs.declared.events.What.TheVariants as what
-use Rattle.pgs_step.specs.declared.ids.KindId.{KindId}
-use Rattle.pgs_step.specs.declared.ids.Phase.{Phase}
-use Rattle.pgs_step.specs.declared.ids.Phase.TheVariants.{BeforeLocks, Locks, AfterLocks}
-use Rattle.forest.specs.Forest.{has, AllNodes}
-use Rattle.forest.proofs.Trees.{Moves}
-use Rattle.owner_kinds.specs.KindShelf.{table_of}
-use Rattle.owner_kinds.specs.KindTable.{KindTable, IsSound as IsSoundTable}
-use Rattle.owner_core.specs.Owners.{OwnerTree, AllAt, HoldsNothing}
-use Rattle.owner_core.specs.Released.{released}
-use Rattle.owner_core.specs.Steps.{Step, release_steps}
-use Rattle.session_rules.specs.State.{LevelState, OpenPortal, abort_context, deepest_changed, depth, first_of, level_owner, owner_of, top_context}
-use Rattle.session_rules.specs.World.{Moment, Scene}
-use Rattle.session_rules.specs.Elements as e
-use Rattle.session_rules.specs.Elements.{Element, OfLevel, OfPortal, OwnerRole, Text}
-use Rattle.session_rules.specs.Lookup.{kind_named, owner_in, portal_named}
-use Rattle.session_rules.specs.Acts.{Ended, changes, context_gone, for_each, in_order, portal_gone, switched, where_so, where_there}
-use Rattle.session_rules.specs.Releases.{owner_gone, owner_moved, owner_released, phase_released, step_done}
-use Rattle.session_rules.specs.Portals.{executor_ended, is_ready, portal_aborted, portal_closed, portal_ended, portal_owner_ended, portal_passed}
-use Rattle.session_rules.specs.Ends.{aborted, cleaned_up, committed, empty_context_gone, level_context_gone, level_owner_gone, level_popped, level_released, level_rolled_back, stack_lowered, stack_popped, subcommitted, switched_up}
+-- What follows the release of an item, and the steps of a phase, leave of a session; and that they acquire and release no item besides.
+use Rattle.session_laws.proofs.Words.{◌≡◌, Bool, true, false, List, [], ◌∷◌, refl, ap, ◌∙◌, ℕ, ◌≤◌, length, Option, Some, None, sym, subst, inl, inr, not, arith, ◌==◌, has, AllNodes, Moves, map, nat_tests}
+use Rattle.session_laws.proofs.Scenes.{What, Item, table_of, OwnerTree, AllAt, HoldsNothing, Step, Said, GivesBack, ReleasesLocks, PassesLocks, ReleasesAllLocks, release_steps, Scene, Moment, for_each, Ended, where_so, where_there, changes, context_gone, in_order, portal_gone, switched, given_back, step_done, owner_moved, owner_gone, owner_released, phase_released, LevelState, OpenPortal, first_of, owner_of, abort_context, deepest_changed, depth, level_owner, top_context, has_failed, portal_aborted, portal_failed, portal_passed, portal_withdrawn, executor_ended, is_ready, portal_closed, portal_ended, portal_owner_ended, IsAttached, IsOwner, IsPortal, HasItems, IsLive, IsWorking, Stands, active_depth, Error, KindId, Phase, BeforeLocks, Locks, AfterLocks, KindTable, IsSound as IsSoundTable, released, Element, OfLevel, OfPortal, OwnerRole, Text, kind_named, owner_in, portal_named, aborted, cleaned_up, committed, empty_context_gone, level_context_gone, level_owner_gone, level_popped, level_released, level_rolled_back, stack_lowered, stack_popped, subcommitted, switched_up, at_kind, at_owner, item_taken, does, IsInOrder, has_owner, descriptor_left}
+use Rattle.session_laws.proofs.Rules.{Acts, Keeps, Law, AllKeep, Leaves, LevelLeaves, MakeLeaves, OwesEnds as OwesEndings, OwesMoves, last, next, AreSaid, said_both, said_none, Part, Sight, acts_of, children_go, gives_back, goes, of_kinds, of_levels, of_next_owner, of_next_serial, of_owners, by_either, by_each, by_order, fallible_at, levels_owed, makes_owed, portal_fails, portal_lowers, portal_returns, context_goes, empty_context_goes, executor_ends, level_context_goes, level_marks, level_pops, level_releases, owner_releases, portal_cleans, portal_closes, switches_up, begins, is_settled, off_begins, owner_when_active, resettled, settled, switched_off, aborted_leads, all_aborted, has_swept, Meets, said_one, of_locks, by_so}
+use Rattle.session_laws.proofs.Warnings.{is_aside}
+use Rattle.owner_kinds.proofs.Places.{table-closed}
+use Rattle.file_table.specs.Descriptors.{is_among}
+use Rattle.lock_local.proofs.ChangeLemmas.{keeps-passed, keeps-without}
+use Rattle.lock_local.proofs.OrderLemmas.{IsInOrder-filter, IsInOrder-map}
 use Rattle.session_rules.specs.Ending.{Ending, gone_levels}
-use Rattle.session_rules.specs.Parts.{at_kind, at_owner}
-use Rattle.session_rules.specs.Standing.{HasItems, IsLive, IsWorking, Stands, active_depth}
-use Rattle.session_rules.specs.Taking.{item_taken}
-use Rattle.session_rules.specs.Does.{does}
 use Rattle.session_rules.proofs.Ending.{Leads, with_parts}
-use Rattle.session_rules.proofs.EndsStand.{begins, is_settled, off_begins, owner_when_active, resettled, settled, switched_off}
-use Rattle.session_rules.proofs.Failing.{aborted_leads, all_aborted}
+use Rattle.session_rules.proofs.Passing.{above_owner, above_there, all_passed, passed_leads}
+use Rattle.session_rules.proofs.Replacing.{first_of_rest, all_closed}
 use Rattle.session_rules.proofs.ItemsStand.{owner_there}
-use Rattle.session_rules.proofs.Leaves.{Acts, AllKeep, Keeps, Law, Leaves, LevelLeaves, MakeLeaves, OwesEnds as OwesEndings, OwesMoves, last, next}
 use Rattle.session_rules.proofs.LevelsKept.{left_nothing, no_value}
-use Rattle.session_rules.proofs.Passing.{all_passed, passed_leads}
 use Rattle.session_rules.proofs.PortalEnds.{executor_beside, owner_in as portal_owner_there}
 use Rattle.session_rules.proofs.PortalWorks.{Beside}
 use Rattle.session_rules.proofs.Releasing.{HasSwept, released_swept}
-use Rattle.session_rules.proofs.Replacing.{all_closed}
-use Rattle.session_rules.proofs.Swept.{has_swept}
-use Rattle.session_rules.proofs.TurnStands.{Meets}
-use Rattle.session_rules.proofs.Walk.{by_each, by_order, fallible_at, levels_owed, makes_owed}
-use Rattle.session_rules.proofs.WalkEnds.{context_goes, empty_context_goes, executor_ends, level_context_goes, level_marks, level_pops, level_releases, owner_releases, portal_cleans, portal_closes, switches_up}
-use Rattle.session_laws.proofs.ReaderLaws.{OwesEnds, OwesTurns}
-use Rattle.session_laws.proofs.PortalMoves.{aborted_reads, each_reads, passed_reads}
-use Rattle.session_laws.proofs.StepsRest.{Quiet, Stays, StaysBut, quiet_acts, steps_stay}
+use Rattle.session_laws.proofs.Lives.{OwesEnds, OwesTurns}
+use Rattle.pgs_step.specs.declared.events.What.TheVariants as what
+use Rattle.session_rules.specs.Elements as e
+use Rattle.lock_local.specs.Changes as locks
+
+-- The owners are these then, levels, numbers and what never changes of kinds are as they were, and locks stand in order where they did.
+pub record StaysBut (now : OwnerTree) (s t : Scene) : Type 0 where
+  pub owners : t.session.owners ≡ now
+  pub next_owner : t.session.next_owner ≡ s.session.next_owner
+  pub next_serial : t.session.next_serial ≡ s.session.next_serial
+  pub levels : t.session.levels ≡ s.session.levels
+  pub kinds : table_of t.around.kinds ≡ table_of s.around.kinds
+  pub locks : IsInOrder s.session.locks → IsInOrder t.session.locks
+
+-- the owners are as they were, too
+abbrev pub Stays : Scene → Scene → Type 0
+Stays s t = StaysBut s.session.owners s t
+
+pub stays : (s : Scene) → Stays s s
+stays s = record { owners = refl; next_owner = refl; next_serial = refl; levels = refl; kinds = refl; locks = λ h. h }
+
+pub stays_both : {s t u : Scene} → Stays s t → Stays t u → Stays s u
+stays_both a b = grind (arith, nat_tests)
+
+-- besides, nothing is said but what stands beside a release
+pub record Quiet (s t : Scene) (events : List What) : Type 0 where
+  pub stays : Stays s t
+  pub said : AreSaid is_aside events
+
+abbrev sees_rest : Part → Bool
+sees_rest of_owners = true
+sees_rest of_next_owner = true
+sees_rest of_next_serial = true
+sees_rest of_levels = true
+sees_rest of_kinds = true
+sees_rest of_locks = true
+sees_rest other = false
+
+sight : Sight sees_rest is_aside Quiet
+sight = record {
+  both = λ h k. record { stays = stays_both h.stays k.stays; said = said_both h.said k.said };
+  aside = λ s t same said. record {
+    stays = record {
+      owners = same.so of_owners refl;
+      next_owner = same.so of_next_owner refl;
+      next_serial = same.so of_next_serial refl;
+      levels = same.so of_levels refl;
+      kinds = ap table_of (same.so of_kinds refl);
+      locks = λ h. subst IsInOrder (sym (same.so of_locks refl)) h;
+    };
+    said = said;
+  };
+}
+
+-- acts that change contexts, portals and plans alone
+pub quiet_acts : Acts Quiet
+quiet_acts = acts_of sees_rest is_aside Quiet sight refl refl (goes sees_rest is_aside Quiet sight refl refl refl (λ word n. refl) (λ n. refl)) (children_go sees_rest is_aside Quiet sight refl refl refl (λ word n. refl) (λ n. refl))
+
+closed_quiet : (file : ℕ) (s : Scene) → Quiet s (descriptor_left file s).scene (descriptor_left file s).events
+closed_quiet file s = (by_so Quiet quiet_acts (is_among file s.session.recent) _ (record { so = λ z. record { stays = record { owners = refl; next_owner = refl; next_serial = refl; levels = refl; kinds = refl; locks = λ h. h }; said = said_one (what.DescriptorClosed file) refl } })).so s
+
+pub given_quiet : (item : Item) → Keeps Quiet (given_back item)
+given_quiet item =
+    gives_back sees_rest is_aside Quiet sight refl refl quiet_acts.gone quiet_acts.children (λ file. record { so = closed_quiet file })
+    (λ place key. record { so = λ s. record { stays = record { owners = refl; next_owner = refl; next_serial = refl; levels = refl; kinds = table-closed s.around.kinds place key; locks = λ h. h }; said = said_none } }) item
+
+-- steps of a release leave owners to the phase
+pub step_stays : (step : Step) (s : Scene) → Stays s (step_done step s).scene
+step_stays (Said event) s = stays s
+step_stays (GivesBack item) s = ((given_quiet item).so s).stays
+step_stays (ReleasesLocks owner) s = record {
+  owners = refl;
+  next_owner = refl;
+  next_serial = refl;
+  levels = refl;
+  kinds = refl;
+  locks = λ h. IsInOrder-filter has_owner (map (locks.without owner) s.session.locks) (IsInOrder-map (locks.without owner) (keeps-without owner) s.session.locks h);
+}
+step_stays (PassesLocks from to) s = record { owners = refl; next_owner = refl; next_serial = refl; levels = refl; kinds = refl; locks = IsInOrder-map (locks.passed_lock from to) (keeps-passed from to) s.session.locks }
+step_stays (ReleasesAllLocks top) s = record { owners = refl; next_owner = refl; next_serial = refl; levels = refl; kinds = refl; locks = λ h. tt }
+
+pub steps_stay : (steps : List Step) (s : Scene) → Stays s (for_each step_done steps s).scene
+steps_stay [] s = stays s
+steps_stay (step ∷ steps) s = stays_both (step_stays step s) (steps_stay steps (step_done step s).scene)
+
+-- What the ends of levels make of portals, where a law asks of an owner that moves that it may.
+
+module _ (R : Law) (a : Acts R) (moved : (n p : ℕ) (s : Scene) → Moves n p s.session.owners → R s (owner_moved n p s).scene (owner_moved n p s).events) where
+  -- an owner moves, where there are two and where it may
+  passes : (b : Bool) (own above : Option ℕ) (s : Scene) → ((o q : ℕ) → own ≡ Some o → above ≡ Some q → Moves o q s.session.owners)
+      → R s (where_so b (where_there own (λ owner. where_there above (owner_moved owner))) s).scene (where_so b (where_there own (λ owner. where_there above (owner_moved owner))) s).events
+  passes false own above s may = a.none s
+  passes true None above s may = a.none s
+  passes true (Some o) None s may = a.none s
+  passes true (Some o) (Some q) s may = moved o q s (may o q refl refl)
+
+  -- acts for each portal
+  pub each_reads : (level : LevelState) (levels done : List LevelState) (act : OpenPortal → Scene → Ended)
+      → ((p : OpenPortal) (front back : List OpenPortal) (s : Scene) → Ending level levels done front (p ∷ back) s → Leads level levels done back s (act p s).scene)
+      → ((p : OpenPortal) (front back : List OpenPortal) (s : Scene) → Ending level levels done front (p ∷ back) s → R s (act p s).scene (act p s).events)
+      → (ps front : List OpenPortal) (s : Scene) → Ending level levels done front ps s → R s (for_each act ps s).scene (for_each act ps s).events
+  each_reads level levels done act leads reads [] front s k = a.none s
+  each_reads level levels done act leads reads (p ∷ ps) front s k =
+      let first : Leads level levels done ps s (act p s).scene = leads p front ps s k in
+      let z : Scene = with_parts first.goes.parts s in
+      a.both (reads p front ps s k)
+      (subst (λ (y : Scene). R y (for_each act ps y).scene (for_each act ps y).events) (sym first.goes.is) (each_reads level levels done act leads reads ps first.front z first.goes.ending))
+
+  -- a portal passes to the level above
+  pub passed_reads : (level : LevelState) (levels : List LevelState) → 1 ≤ length levels → (p : OpenPortal) (front back : List OpenPortal) (s : Scene) → Ending level levels levels front (p ∷ back) s
+      → R s (portal_passed (length (level ∷ levels)) (owner_of (first_of levels)) p s).scene (portal_passed (length (level ∷ levels)) (owner_of (first_of levels)) p s).events
+  passed_reads level levels some p front back s k =
+      let i : IsPortal p (level ∷ levels) s.session.contexts s.session.owners s.session.current = first_of_rest level levels levels p front back s k in
+      a.both
+      (passes (p.created == length (level ∷ levels)) p.owner (owner_of (first_of levels)) s
+      (λ o q owned up.
+      let at : IsAttached o p.created (level ∷ levels) s.session.owners = i.owner o owned in
+      record {
+        node = at.there;
+        parent = above_there level levels some s.session.contexts s.session.owners q k.all.1 up;
+        other = λ z. at.other (inr (subst (λ (j : ℕ). IsOwner j levels) z (above_owner level levels some q up)));
+        apart = ap (has q) at.lone;
+      }))
+      (a.both ((portal_lowers R a (length (level ∷ levels)) p).so _) (a.none _))
+
+  -- a portal fails or is withdrawn
+  withdrawn_reads : (level : LevelState) (levels : List LevelState) (p : OpenPortal) (front back : List OpenPortal) (s : Scene) → Ending level levels (gone_levels level levels) front (p ∷ back) s
+      → R s (portal_withdrawn (length (level ∷ levels)) level.owner p s).scene (portal_withdrawn (length (level ∷ levels)) level.owner p s).events
+  withdrawn_reads level levels p front back s k =
+      let i : IsPortal p (level ∷ levels) s.session.contexts s.session.owners s.session.current = first_of_rest level levels (gone_levels level levels) p front back s k in
+      a.both
+      (passes (has_failed p.state) p.owner level.owner s
+      (λ o lo owned is.
+      let at : IsAttached o p.created (level ∷ levels) s.session.owners = i.owner o owned in
+      record { node = at.there; parent = (k.all.0.owner lo is).there; other = λ z. at.other (inl (is ∙ ap (λ (j : ℕ). Some j) z)); apart = ap (has lo) at.lone }))
+      (a.both ((portal_returns R a (length (level ∷ levels)) p).so _) (a.none _))
+
+  pub aborted_reads : (level : LevelState) (levels : List LevelState) (p : OpenPortal) (front back : List OpenPortal) (s : Scene) → Ending level levels (gone_levels level levels) front (p ∷ back) s
+      → R s (portal_aborted (length (level ∷ levels)) level.owner p s).scene (portal_aborted (length (level ∷ levels)) level.owner p s).events
+  aborted_reads level levels p front back s k =
+      let n : ℕ = length (level ∷ levels) in
+      by_either R a (p.created == n) (portal_failed p s) (where_so (p.active == n) (portal_withdrawn n level.owner p) s) ((portal_fails R a p).so s) (active (p.active == n))
+    where
+      active : (b : Bool) → R s (where_so b (portal_withdrawn (length (level ∷ levels)) level.owner p) s).scene (where_so b (portal_withdrawn (length (level ∷ levels)) level.owner p) s).events
+      active false = a.none s
+      active true = withdrawn_reads level levels p front back s k
+
+-- A law that asks of an owner that goes that it is there and holds nothing, and of one that moves where it goes: lines and exits keep it.
 
 -- Kinds are sound, and each item is of a known one.
 pub record Known (s : Scene) : Type 0 where
@@ -64,7 +182,7 @@ phase_stays commit top n phase s =
     let table : KindTable = table_of s.around.kinds in
     let steps : List Step = release_steps table phase commit top n s.session.owners in
     let stay : Stays s (for_each step_done steps s).scene = steps_stay steps s in
-    record { owners = ap (released table phase n) stay.owners; next_owner = stay.next_owner; next_serial = stay.next_serial; levels = stay.levels; kinds = stay.kinds }
+    record { owners = ap (released table phase n) stay.owners; next_owner = stay.next_owner; next_serial = stay.next_serial; levels = stay.levels; kinds = stay.kinds; locks = stay.locks }
 
 -- what a release leaves: the owner and all below it went through the three phases
 record HasReleased (p : ℕ) (s t : Scene) : Type 0 where
@@ -130,9 +248,7 @@ level_leaves commit top s k there = go (level_owner s.session) refl
         subst (λ (m : ℕ). MayLeave m t) one (release_leaving commit top p s k (there p e))
 
 same_leaves : (s t : Scene) → t.session.owners ≡ s.session.owners → level_owner t.session ≡ level_owner s.session → MayEndLevel s → MayEndLevel t
-same_leaves s t owners same h n e =
-    let k : MayLeave n s = h n (sym same ∙ e) in
-    record { there = ap (has n) owners ∙ k.there; idle = subst (AllAt HoldsNothing n) (sym owners) k.idle }
+same_leaves s t owners same h n e = grind (arith, nat_tests)
 
 -- What such a law owes.
 pub record OwnerEnds (R : Law) : Type 0 where
@@ -146,11 +262,7 @@ pub record OwnerEnds (R : Law) : Type 0 where
 -- an owner that takes an item is there
 role_there : (role : OwnerRole) (s : Scene) → Stands s → IsWorking s.session.levels → (n : ℕ) → owner_in role s.session ≡ Some n → has n s.session.owners ≡ true
 role_there OfLevel s h working n e = owner_there s.session.levels s.session.contexts s.session.owners n h.levels e
-role_there (OfPortal name) s h working n e = go (portal_named name s.session.portals) refl
-  where
-    go : (o : Option OpenPortal) → portal_named name s.session.portals ≡ o → has n s.session.owners ≡ true
-    go None is = absurd (no_value (owner_in (OfPortal name) s.session) n (ap (option_and_then (λ (p : OpenPortal). p.owner)) is) e)
-    go (Some p) is = portal_owner_there name p s h working is n (sym (ap (option_and_then (λ (p : OpenPortal). p.owner)) is) ∙ e)
+role_there (OfPortal name) s h working n e = grind (arith, nat_tests, no_value, portal_owner_there)
 
 module _ (R : Law) (h : OwnerEnds R) where
   abbrev v : LevelLeaves R
@@ -162,13 +274,16 @@ module _ (R : Law) (h : OwnerEnds R) where
   abbrev a : Acts R
   a = l.acts
 
+  -- an act on what may be there
+  if_there : {A : Type 0} (o : Option A) (act : A → Scene → Ended) (s : Scene) → ((x : A) → o ≡ Some x → R s (act x s).scene (act x s).events) → R s (where_there o act s).scene (where_there o act s).events
+  if_there None act s reads = a.none s
+  if_there (Some x) act s reads = reads x refl
+
   -- a portal ends
   owner_ends : (o : Option ℕ) (s : Scene) → Known s → ((n : ℕ) → o ≡ Some n → has n s.session.owners ≡ true)
       → R s (where_there o (λ owner. in_order (owner_released true false owner ∷ owner_gone owner ∷ [])) s).scene (where_there o (λ owner. in_order (owner_released true false owner ∷ owner_gone owner ∷ [])) s).events
-  owner_ends None s k there = a.none s
-  owner_ends (Some n) s k there =
-      let z : Scene = (owner_released true false n s).scene in
-      a.both ((owner_releases R a h.phase true false n).so s) (a.both (h.gone n z (release_leaving true false n s k (there n refl))) (a.none _))
+  owner_ends o s k there =
+      if_there o _ s (λ n is. a.both ((owner_releases R a h.phase true false n).so s) (a.both (h.gone n (owner_released true false n s).scene (release_leaving true false n s k (there n is))) (a.none _)))
 
   portal_ends : (name : Text) (p : OpenPortal) (s : Scene) → Stands s → IsWorking s.session.levels → portal_named name s.session.portals ≡ Some p → R s (portal_ended p s).scene (portal_ended p s).events
   portal_ends name p s k working named = a.both (go (is_ready p.state)) ((by_order R a (next (context_goes R a p.context) (next (a.portal_goes p.name) last))).so _)
@@ -182,32 +297,19 @@ module _ (R : Law) (h : OwnerEnds R) where
           (a.both (owner_ends p.owner z (known_stands z b.works.stands) (λ n is. portal_owner_there name p z b.works.stands (subst IsWorking (sym b.works.levels) working) (ap (portal_named name) b.portals ∙ named) n is)) (a.none _))
 
   end_portal : (s : Scene) → Stands s → IsWorking s.session.levels → (name : Text) → R s (where_there (portal_named name s.session.portals) portal_ended s).scene (where_there (portal_named name s.session.portals) portal_ended s).events
-  end_portal s k working name = go (portal_named name s.session.portals) refl
-    where
-      go : (o : Option OpenPortal) → portal_named name s.session.portals ≡ o → R s (where_there o portal_ended s).scene (where_there o portal_ended s).events
-      go None is = a.none s
-      go (Some p) is = portal_ends name p s k working is
+  end_portal s k working name = grind (arith, nat_tests, portal_ends)
 
   -- an item is taken
   role_takes : (role : OwnerRole) (kind : KindId) (key : ℕ) (s : Scene) → Stands s → IsWorking s.session.levels → R s (at_owner role (λ o. item_taken o kind key) s).scene (at_owner role (λ o. item_taken o kind key) s).events
-  role_takes role kind key s k working = go (owner_in role s.session) refl
-    where
-      go : (o : Option ℕ) → owner_in role s.session ≡ o → R s (where_there o (λ n. item_taken n kind key) s).scene (where_there o (λ n. item_taken n kind key) s).events
-      go None e = a.none s
-      go (Some n) e = h.taken n kind key s (role_there role s k working n e)
+  role_takes role kind key s k working = grind (arith, nat_tests, role_there)
 
   kind_takes : (o : Option KindId) (key : ℕ) (s : Scene) → Stands s → IsWorking s.session.levels
       → R s (where_there o (λ kind. at_owner OfLevel (λ n. item_taken n kind key)) s).scene (where_there o (λ kind. at_owner OfLevel (λ n. item_taken n kind key)) s).events
-  kind_takes None key s k working = a.none s
-  kind_takes (Some kind) key s k working = role_takes OfLevel kind key s k working
+  kind_takes o key s k working = if_there o (λ kind. at_owner OfLevel (λ n. item_taken n kind key)) s (λ kind is. role_takes OfLevel kind key s k working)
 
   -- the deepest level's owner goes
   owner_goes : (s : Scene) → MayEndLevel s → R s (level_owner_gone s).scene (level_owner_gone s).events
-  owner_goes s may = go (level_owner s.session) refl
-    where
-      go : (o : Option ℕ) → level_owner s.session ≡ o → R s (where_there o owner_gone s).scene (where_there o owner_gone s).events
-      go None e = a.none s
-      go (Some n) e = h.gone n s (may n e)
+  owner_goes s may = grind (arith, nat_tests)
 
   -- the release of the deepest level and what comes behind it
   released_reads : (commit top : Bool) (stack : Scene → Ended) (acts : List (Scene → Ended)) → Keeps R stack → ((s : Scene) → (stack s).scene.session.owners ≡ s.session.owners) → ((s : Scene) → (stack s).scene.session.levels ≡ s.session.levels)
@@ -293,9 +395,7 @@ module _ (R : Law) (h : OwnerEnds R) where
 
   -- where a scene with these levels stands
   in_settled : (P : Scene → Type 0) (level : LevelState) (levels : List LevelState) (s : Scene) → s.session.levels ≡ level ∷ levels → Stands s → ((z : Scene) → Stands (settled (level ∷ levels) z) → P (settled (level ∷ levels) z)) → P s
-  in_settled P level levels s is k all =
-      let same : s ≡ settled (level ∷ levels) s = is_settled s k ∙ ap (λ (ls : List LevelState). settled ls s) is in
-      subst P (sym same) (all s (subst Stands same k))
+  in_settled P level levels s is k all = grind (arith, nat_tests, settled, is_settled)
 
   all_ends : OwesEnds R
   all_ends = record {
@@ -331,9 +431,4 @@ module _ (R : Law) (h : OwnerEnds R) where
 
   -- So it has all that it owes for lines and exits.
   pub owes_where : ((error : Error) (s : Scene) → R s s (what.Error error ∷ [])) → ((w : Option ℕ) (x : Element) (m : Moment) → Meets x m.scene → OwesMoves R w x m) → OwesTurns R
-  owes_where error moves = record {
-    leaves = l;
-    error = error;
-    owed = λ w x m meets. levels_owed R v w x m (ends_owed_where w x m meets (moves w x m meets));
-    ends = all_ends;
-  }
+  owes_where error moves = grind (arith, nat_tests, levels_owed, ends_owed_where, all_ends)

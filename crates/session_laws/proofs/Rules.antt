@@ -1,0 +1,16 @@
+-- Lemmas on readers of events, and on what sessions do, that most proofs of this crate take.
+pub use Rattle.lifetime_laws.specs.Reading.{Reader, allows_all, events_of, is_one_of, seen_after}
+pub use Rattle.lifetime_laws.specs.Balance.{BalancesFrom, Covers, count, covers, left}
+pub use Rattle.lifetime_laws.proofs.Readings.{allows_all-append, events_of-append, events_of-other, events_of-own, seen_after-append}
+pub use Rattle.session_rules.proofs.Leaves.{Acts, AllKeep, AreSpoken, EndLeaves, Follows, IsRun, IsSpoken, Keeps, Law, Leaves, LevelLeaves, Lowers, MakeLeaves, MoveLeaves, Owes, OwesEnds, OwesMakes, OwesMoves, is_level_word, is_word, last, next, runs_anyhow}
+pub use Rattle.session_rules.proofs.Said.{AreSaid, said_all_locks, said_alone, said_both, said_gone, said_lock_passes, said_lock_releases, said_map, said_more, said_none, said_one, said_pops, said_report, said_weaker}
+pub use Rattle.session_rules.proofs.Sight.{ContextLeaves, FileLeaves, KeyLeaves, Part, Sight, StackLeaves, Words, acts_of, children_go, gives_back, goes, hook_waits_so, item_comes, item_goes, leaves_of, level_leaves_of, locks_one, makes_context, moves_context, no_part, of_contexts, of_descriptors, of_kinds, of_levels, of_locks, of_next_context, of_next_owner, of_next_serial, of_owners, of_plans, of_portals, of_recent, of_shelf, of_snapshots, owner_goes, owner_makes, owner_moves, phase_so, places, plans_one, pushes, releases, says, taken_so, takes, unlocks, unseen_contexts, unseen_files, unseen_keys, unseen_locks, unseen_owners, unseen_stack}
+pub use Rattle.session_rules.proofs.Walk.{by_each, by_either, by_kind, by_order, by_owner, by_portal, by_portal_named, by_so, by_there, context_is_made, element_follows, fallible_at, fallible_so, levels_owed, makes_owed, moves_owed, owner_is_made, run_follows, unfailing_so}
+pub use Rattle.session_rules.proofs.WalkEnds.{aborts, all_owed, behind_commit, cleans_up, context_goes, empty_context_goes, ends_owed, executor_ends, exit_follows, level_context_goes, level_marks, level_pops, level_releases, owner_releases, portal_aborts, portal_cleans, portal_closes, portal_ends, portal_fails, portal_lowers, portal_passes, portal_returns, recovers, rolls_back, switches_up}
+pub use Rattle.session_rules.proofs.Spoken.{line_spoken}
+pub use Rattle.session_rules.proofs.EndsStand.{aborted_stands, at_settled, begins, behind_rollback, exited_left, exited_stands, is_left, is_settled, off_begins, owner_when_active, resettled, rolled_stands, settled, switched_off}
+pub use Rattle.session_rules.proofs.TurnStands.{Meets, Runs, command_leads, line_runs, refused_leads, turn_stands}
+pub use Rattle.session_rules.proofs.ReleaseSteps.{AreReleaseSteps, IsReleaseStep, ItemGoes, LockLeaves, OwnerLeaves, is_release, item_releases, no_step, phase_keeps, phase_release, then_step, warned_step}
+pub use Rattle.session_rules.proofs.Swept.{all_swept, has_swept}
+pub use Rattle.session_rules.proofs.Forests.{at_children, at_emptied, at_left, at_put, at_put_other, children_put, emptied_absent, has_emptied, has_left, has_put_other, once_left, parent_left, parent_put, parent_put_other, times_emptied}
+pub use Rattle.session_rules.proofs.Failing.{aborted_leads, all_aborted}
