@@ -186,36 +186,6 @@ module _ (setting : Setting) (bytes : List ℕ) (errors : ℕ) (written written'
       one_of_two true = inr (inl refl)
       one_of_two false = inl refl
 
-  -- there was no memory for run k
-  pub swept_stopped : (k : ℕ) → k < runs_in setting (lines_of bytes) → Stands k setting (lines_of bytes) errors written written' shelf kinds s t → (shelf' : ShelfState) (kinds' : List Kind) (u : Space) → IsUnplayed shelf shelf' kinds kinds' t u
-      → (sink' : ℕ) → sink' ≡ sink → Sweeps setting (record { status = 5; call = 0; errors = errors; lines = 0 }) before (outside left' source written' sink' shelf' kinds') s u
-  swept_stopped k within there shelf' kinds' u none sink' same = record {
-    whole = λ h. absurd (no_other 5 (omega arith) h);
-    unwritten = λ h. absurd (omega (arith, h));
-    wanted = λ h some. absurd (omega (arith, some));
-    stopped = λ h zero. record {
-      bytes = bytes;
-      runs = k;
-      script = inl (read, within);
-      text = there.text;
-      leaves = rw (none.hooks, none.kinds_are) there.leaves;
-      lawful = there.lawful;
-    };
-    unswept = λ h. absurd (neither 5 (inr (omega arith, omega arith)) h);
-    overlong = λ h. absurd (omega (arith, h));
-    lines = refl;
-    call = λ h. refl;
-    source_fault = λ h. absurd (omega (arith, h));
-    source_grew = λ h. refl;
-    sink_fault = λ h. absurd (omega (arith, h));
-    sink_grew = λ h. same;
-    statuses = inr (inr (inr (inr (inl refl))));
-    given_back = none.given_back;
-    accounts_are = none.accounts_are ∙ there.accounts_are;
-    kinds_kept = rw none.kinds_are there.kinds_kept;
-    shared_out = λ h. absurd (omega (arith, h refl));
-  }
-
   -- run k was played
   module _ (k : ℕ) (within : k < runs_in setting (lines_of bytes)) (there : Stands k setting (lines_of bytes) errors written written' shelf kinds s t) (shelf' : ShelfState) (kinds' : List Kind) (u : Space) (ran : Ran)
       (played : RunsOnce (setting_for_run k setting shelf kinds) (lines_of bytes) ran shelf' kinds' t u) where
@@ -292,69 +262,27 @@ module _ (setting : Setting) (bytes : List ℕ) (errors : ℕ) (written written'
           shared_out = λ h not_fault not_long. shared k setting (lines_of bytes) errors written written' shelf shelf' kinds kinds' s t u ran there played;
         }
 
--- Nothing was run: there was no memory for the script, or the source failed, or had a byte too many.
-module _ (setting : Setting) (written : Option (List ℕ)) (s : Space) (left left' : Option (List ℕ)) (source source' sink : ℕ) (empty : (account : ℕ) → held s account ≡ 0) where
-  pub not_read : Sweeps setting (record { status = 5; call = 0; errors = 0; lines = 0 }) (outside left source written sink setting.shelf setting.kinds) (outside left source written sink setting.shelf setting.kinds) s s
-  not_read =
-      let none = stands_none setting (lines_of []) written s empty in
-      record {
-        whole = λ h. absurd (no_other 5 (omega arith) h);
-        unwritten = λ h. absurd (omega (arith, h));
-        wanted = λ h some. absurd (omega (arith, some));
-        stopped = λ h zero. record { bytes = []; runs = 0; script = inr (refl, refl); text = none.text; leaves = none.leaves; lawful = none.lawful };
-        unswept = λ h. absurd (neither 5 (inr (omega arith, omega arith)) h);
-        overlong = λ h. absurd (omega (arith, h));
-        lines = refl;
-        call = λ h. refl;
-        source_fault = λ h. absurd (omega (arith, h));
-        source_grew = λ h. refl;
-        sink_fault = λ h. absurd (omega (arith, h));
-        sink_grew = λ h. refl;
-        statuses = inr (inr (inr (inr (inl refl))));
-        given_back = empty;
-        accounts_are = refl;
-        kinds_kept = none.kinds_kept;
-        shared_out = λ h. absurd (omega (arith, h refl));
-      }
-
-  pub faulted : HasRisen source source' → Sweeps setting (record { status = 3; call = 0; errors = 0; lines = 0 }) (outside left source written sink setting.shelf setting.kinds) (outside left' source' written sink setting.shelf setting.kinds) s s
-  faulted risen = record {
-    whole = λ h. absurd (no_other 3 (omega arith) h);
-    unwritten = λ h. absurd (omega (arith, h));
-    wanted = λ h. absurd (omega (arith, h));
-    stopped = λ h. absurd (omega (arith, h));
-    unswept = λ h. record { unwritten = refl; errors = refl; hooks = refl; kinds = refl };
-    overlong = λ h. absurd (omega (arith, h));
-    lines = refl;
-    call = λ h. refl;
-    source_fault = λ h. risen;
-    source_grew = λ h. absurd (h refl);
-    sink_fault = λ h. absurd (omega (arith, h));
-    sink_grew = λ h. refl;
-    statuses = inr (inr (inl refl));
-    given_back = empty;
-    accounts_are = refl;
-    kinds_kept = record { table = refl; limits = refl; keys = λ kind key. refl };
-    shared_out = λ h not_fault. absurd (not_fault refl);
-  }
-
-  pub too_long : GivesMore left left' → source' ≡ source → Sweeps setting (record { status = 6; call = 0; errors = 0; lines = 0 }) (outside left source written sink setting.shelf setting.kinds) (outside left' source' written sink setting.shelf setting.kinds) s s
-  too_long more same = record {
-    whole = λ h. absurd (no_other 6 (omega arith) h);
-    unwritten = λ h. absurd (omega (arith, h));
-    wanted = λ h. absurd (omega (arith, h));
-    stopped = λ h. absurd (omega (arith, h));
-    unswept = λ h. record { unwritten = refl; errors = refl; hooks = refl; kinds = refl };
-    overlong = λ h. record { bytes = more.bytes; over = more.over; given = more.given; full = more.full };
-    lines = refl;
-    call = λ h. refl;
-    source_fault = λ h. absurd (omega (arith, h));
-    source_grew = λ h. same;
-    sink_fault = λ h. absurd (omega (arith, h));
-    sink_grew = λ h. refl;
-    statuses = inr (inr (inr (inr (inr refl))));
-    given_back = empty;
-    accounts_are = refl;
-    kinds_kept = record { table = refl; limits = refl; keys = λ kind key. refl };
-    shared_out = λ h not_fault not_long. absurd (not_long refl);
-  }
+-- there was no memory for the script
+pub not_read : (setting : Setting) (written : Option (List ℕ)) (s : Space) (left : Option (List ℕ)) (source sink : ℕ) → ((account : ℕ) → held s account ≡ 0)
+    → Sweeps setting (record { status = 5; call = 0; errors = 0; lines = 0 }) (outside left source written sink setting.shelf setting.kinds) (outside left source written sink setting.shelf setting.kinds) s s
+not_read setting written s left source sink empty =
+    let none = stands_none setting (lines_of []) written s empty in
+    record {
+      whole = λ h. absurd (no_other 5 (omega arith) h);
+      unwritten = λ h. absurd (omega (arith, h));
+      wanted = λ h some. absurd (omega (arith, some));
+      stopped = λ h zero. record { bytes = []; runs = 0; script = inr (refl, refl); text = none.text; leaves = none.leaves; lawful = none.lawful };
+      unswept = λ h. absurd (neither 5 (inr (omega arith, omega arith)) h);
+      overlong = λ h. absurd (omega (arith, h));
+      lines = refl;
+      call = λ h. refl;
+      source_fault = λ h. absurd (omega (arith, h));
+      source_grew = λ h. refl;
+      sink_fault = λ h. absurd (omega (arith, h));
+      sink_grew = λ h. refl;
+      statuses = inr (inr (inr (inr (inl refl))));
+      given_back = empty;
+      accounts_are = refl;
+      kinds_kept = none.kinds_kept;
+      shared_out = λ h. absurd (omega (arith, h refl));
+    }

@@ -109,7 +109,14 @@ fn sweep_script<K: Sink, H: ResetHook, X: ExtKind>(
         last = last_call(fail, last, ran.calls);
         fail += 1;
     }
-    ended((errors > 0) as u8, 0, errors)
+    ended(whole_status(errors), 0, errors)
+}
+
+/// The status of a sweep that was told whole.
+fn whole_status(errors: u64) -> u8
+    ensures { result ≡ (if nat_lt 0 errors then 1 else 0) }
+{
+    (errors > 0) as u8
 }
 
 /// The last call that fails, where a run tells how many calls there are: the first one does.

@@ -8,8 +8,7 @@ use Rattle.pgs_world.proofs.sweeping.sweep.Goals as goal
 -- there was no memory for the script
 pub returns-in_default : goal.returns-in_default
 returns-in_default g c =
-    not_read (setting_for c.args.options.now c.args.shelf.now c.args.kinds.now) (g.K.Sink.written c.args.out.now) c.args.space.now (g.S.Source.left c.args.src.now) (g.S.Source.left c.args.src.now)
-    (g.S.Source.faults c.args.src.now) (g.S.Source.faults c.args.src.now) (g.K.Sink.faults c.args.out.now) c.requires.empty
+    not_read (setting_for c.args.options.now c.args.shelf.now c.args.kinds.now) (g.K.Sink.written c.args.out.now) c.args.space.now (g.S.Source.left c.args.src.now) (g.S.Source.faults c.args.src.now) (g.K.Sink.faults c.args.out.now) c.requires.empty
 
 pub returns-in-Ok-read_script : goal.returns-in-Ok-read_script
 returns-in-Ok-read_script g c =
