@@ -581,7 +581,7 @@ fn each_call_of_a_script_fails_in_turn(rt: HostRuntime) -> Result<(), Fail> {
             lines: 0
         }
     );
-    assert_eq!(rt; played.written.as_slice(), told);
+    assert_eq!(rt; played.written.as_slice(), told.as_slice());
     assert_eq!(rt; played.held, 0);
     Ok(())
 }
@@ -601,6 +601,32 @@ fn a_script_that_is_too_long_for_a_sweep(rt: HostRuntime) -> Result<(), Fail> {
     let script = script_of(rt.alloc(), b"", b"\n", 65_537)?;
     let played = play(rt.alloc(), &["--sweep"], &script, 4096, 0, 0)?;
     assert_eq!(rt; (played.outcome.status, played.outcome.lines), (6, 0));
+    assert!(rt; played.written.is_empty());
+    Ok(())
+}
+
+/// The second line can't be written: the first one stands, and the errors of both runs count.
+#[test]
+fn a_second_line_of_a_sweep_that_is_not_written(rt: HostRuntime) -> Result<(), Fail> {
+    let script = b"begin\npin 7\nsavepoint s\nlock 5 ShareLock\nalloc a 100\nrelease s\ncommit\n";
+    let played = play(rt.alloc(), &["--sweep"], script, 5, 0, 2)?;
+    assert_eq!(rt;
+        played.outcome,
+        Outcome {
+            status: 4,
+            call: 0,
+            errors: 3,
+            lines: 0
+        }
+    );
+    assert_eq!(rt; played.written.as_slice(), b"calls 10 errors 0\n".as_slice());
+    Ok(())
+}
+
+#[test]
+fn a_second_read_of_a_sweep_that_fails(rt: HostRuntime) -> Result<(), Fail> {
+    let played = play(rt.alloc(), &["--sweep"], b"begin\ncommit\n", 5, 2, 0)?;
+    assert_eq!(rt; (played.outcome.status, played.outcome.errors), (3, 0));
     assert!(rt; played.written.is_empty());
     Ok(())
 }
