@@ -619,7 +619,10 @@ fn a_second_line_of_a_sweep_that_is_not_written(rt: HostRuntime) -> Result<(), F
             lines: 0
         }
     );
-    assert_eq!(rt; played.written.as_slice(), b"calls 10 errors 0\n".as_slice());
+    assert_eq!(rt;
+        played.written.as_slice(),
+        b"calls 10 errors 0\n".as_slice()
+    );
     Ok(())
 }
 
@@ -628,5 +631,21 @@ fn a_second_read_of_a_sweep_that_fails(rt: HostRuntime) -> Result<(), Fail> {
     let played = play(rt.alloc(), &["--sweep"], b"begin\ncommit\n", 5, 2, 0)?;
     assert_eq!(rt; (played.outcome.status, played.outcome.errors), (3, 0));
     assert!(rt; played.written.is_empty());
+    Ok(())
+}
+
+/// The newline of `begin` comes with the first piece of seven bytes, and that of the second line, byte 29, with the fifth.
+#[test]
+fn a_read_that_fails_behind_some_pieces(rt: HostRuntime) -> Result<(), Fail> {
+    let script =
+        b"begin\nlock 9 AccessShareLock\nportal p 40 30 3\nsavepoint s\nfetch p 5\nrollback to s\nrollback\n";
+    for (call, lines) in [(1, 0), (2, 1), (3, 1), (4, 1), (5, 1), (6, 2)] {
+        let played = play(rt.alloc(), &[], script, 7, call, 0)?;
+        assert_eq!(rt;
+            (played.outcome.status, played.outcome.lines),
+            (3, lines),
+            "read {call}"
+        );
+    }
     Ok(())
 }
