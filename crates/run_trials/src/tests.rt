@@ -414,8 +414,7 @@ fn each_write_fails_in_turn(rt: HostRuntime) -> Result<(), Fail> {
     Ok(())
 }
 
-/// All events come from one read. They are handed on where fewer than 512 of 8,192 bytes are left, which comes
-/// first at the `ok` of pin 215.
+/// A read gives 512 bytes, which have 85 whole lines. All that they say is handed on before the next read.
 #[test]
 fn a_first_write_that_fails_behind_many_lines(rt: HostRuntime) -> Result<(), Fail> {
     let script = script_of(rt.alloc(), b"begin\n", b"pin 7\n", 400)?;
@@ -426,7 +425,7 @@ fn a_first_write_that_fails_behind_many_lines(rt: HostRuntime) -> Result<(), Fai
             status: 4,
             call: 0,
             errors: 0,
-            lines: 216
+            lines: 85
         }
     );
     assert!(rt; played.written.is_empty());
