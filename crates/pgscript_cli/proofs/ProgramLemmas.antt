@@ -10,7 +10,7 @@ unfolding held
 none_held s none account = rw none refl
 
 -- a space of which nothing is known but that it holds nothing
-the_space : Space
+abbrev the_space : Space
 the_space = record { regions = []; taken = []; limit = 0 }
 
 pub nothing_played : (words : List (List ℕ)) (left written : Option (List ℕ)) (source_faults sink_faults : ℕ)
