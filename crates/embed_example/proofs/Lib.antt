@@ -1,1 +1,2 @@
 mod Echo
+mod Below

@@ -2,5 +2,7 @@
 #![tactic(auto)]
 
 mod one_context;
+mod owners;
 
 pub use one_context::{carried, carry};
+pub use owners::{Opened, open, release_phases, scene};
