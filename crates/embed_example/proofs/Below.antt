@@ -1,9 +1,9 @@
 -- What an owner and those below it hold is among what all owners hold.
-use Rattle.std.proofs.Common.{◌≡◌, ℕ, ◌+◌, ◌≤◌, true, false, Some, None, refl, inl, inr, arith}
+use Rattle.std.proofs.Common.{◌≡◌, ℕ, ◌≤◌, true, false, Some, None, refl, inl, inr, arith}
 use Rattle.std.specs.Prelude.{◌==◌, ◌||◌}
 use Rattle.std.proofs.lemmas.Bool.{cases_Bool, or_parts}
 use Rattle.pgs_step.specs.declared.ids.KindId.{KindId}
-use Rattle.forest.specs.Forest.{Forest, Empty, Node, has, at}
+use Rattle.forest.specs.Forest.{Empty, Node, has, at}
 use Rattle.owner_core.specs.Owners.{Owner, OwnerTree, held, subtree_of}
 
 at_absent : (n : ℕ) (t : OwnerTree) → has n t ≡ false → at n t ≡ None

@@ -1,6 +1,7 @@
 //! Owners that hold keys of a program's own kinds, released in the three phases.
-ghost use Rattle.std.specs.Prelude.{◌≡◌, ◌↔◌, ℕ, ◌+◌, ◌^◌, ◌<◌, ◌≤◌, true, None, IfOk, OnOk};
+ghost use Rattle.std.specs.Prelude.{◌≡◌, ◌↔◌, ℕ, ◌+◌, ◌^◌, ◌<◌, ◌≤◌, true, [], ◌∷◌, None, IfOk, OnOk};
 ghost use Rattle.pgs_step.specs.declared.ids.KindId.{KindId as Kind};
+ghost use Rattle.pgs_step.specs.declared.events.What.{What};
 ghost use Rattle.pgs_step.specs.EventList.{KeepsMore};
 ghost use Rattle.forest.specs.Forest.{Empty, parent_of};
 ghost use Rattle.owner_kinds.specs.KindShelf.{table_of, times_held, one_at};
@@ -8,12 +9,14 @@ ghost use Rattle.owner_kinds.specs.KindTable.{IsExtension};
 ghost use Rattle.owner_core.specs.Owners.{owners_of, IsLive, AllAt, HoldsNothing, held, remembered};
 ghost use Rattle.owner_core.specs.Phases.{HasKinds, all_released};
 ghost use Rattle.embed_example.specs.Spoken.{all_spoken};
-ghost use Rattle.embed_example.specs.Filled.{two_kinds, filled};
+ghost use Rattle.embed_example.specs.Filled.{scene_kinds, filled, fill_said, scene_said};
 
 use owner_core::{OwnerError, Owners, Release, whole_release};
 use owner_kinds::{CountedKind, KindShelf};
 use pgs_step::{Emit, EventList, Item, KindId, Name, OwnerId, Phase, What};
 use std::alloc::Global;
+#[cfg(test)]
+use std::test::Fail;
 
 /// The keys that a program has open, by their kinds. It has no locks.
 #[derive(Drop)]
@@ -76,6 +79,7 @@ pub fn release_phases(
     ensures nothing { AllAt HoldsNothing owner.number (owners_of owners.new) }
     ensures owners { owners_of owners.new ≡ all_released (table_of table.old.kinds) owner.number (owners_of owners.old) }
     ensures places { owners.new.places ≡ owners.old.places }
+    ensures counted { (kind : Kind) (key : ℕ) → times_held table.new.kinds kind key + held kind key (owners_of owners.old) ≡ times_held table.old.kinds kind key + held kind key (owners_of owners.new) }
     ensures said { KeepsMore out.old (all_spoken (table_of table.old.kinds) top owner.number (owners_of owners.old)) out.new }
 {
     whole_release();
@@ -104,6 +108,7 @@ pub fn open(
     ensures next_serial { OnOk result (owners.new.next_serial ≡ owners.old.next_serial + 1) }
     ensures kinds { table_of table.new.kinds ≡ table_of table.old.kinds }
     ensures times { OnOk result ((other : Kind) (q : ℕ) → times_held table.new.kinds other q ≡ times_held table.old.kinds other q + one_at kind key other q) }
+    ensures said { OnOk result (KeepsMore out.old (What.Acquire (record { kind = kind; key = key; serial = owners.old.next_serial }) owner.number ∷ []) out.new) }
 {
     owners.enlarge(owner)?;
     let Ok(()) = table.kinds.open(kind, key) else {
@@ -117,9 +122,11 @@ const CONNECTION: KindId = KindId(16);
 
 const FILE: KindId = KindId(17);
 
-// The two kinds of the scene, of which nothing is open.
+const CURSOR: KindId = KindId(18);
+
+// The kinds of the scene, of which nothing is open.
 fn new_table(alloc: Global) -> Result<Opened, OwnerError>
-    ensures { IfOk result (λ table. table.kinds ≡ two_kinds) }
+    ensures { IfOk result (λ table. table.kinds ≡ scene_kinds) }
 {
     let Some(connection) = Name::new(b"connection") else {
         return Err(OwnerError::Memory);
@@ -127,35 +134,42 @@ fn new_table(alloc: Global) -> Result<Opened, OwnerError>
     let Some(file) = Name::new(b"file") else {
         return Err(OwnerError::Memory);
     };
+    let Some(cursor) = Name::new(b"cursor") else {
+        return Err(OwnerError::Memory);
+    };
     let mut kinds = Vec::new(alloc);
     kinds.push(CountedKind::new(alloc, connection, Phase::BeforeLocks, 100, 8))?;
     kinds.push(CountedKind::new(alloc, file, Phase::AfterLocks, 700, 8))?;
+    kinds.push(CountedKind::new(alloc, cursor, Phase::BeforeLocks, 50, 8))?;
     Ok(Opened {
         kinds: KindShelf::new(alloc, kinds)?,
     })
 }
 
-// An owner with a connection, and one below it with a file and a connection.
+// An owner with a connection, and one below it with a file, a cursor and a newer connection.
 fn fill(owners: &mut Owners, table: &mut Opened, out: &mut EventList) -> Result<OwnerId, OwnerError>
     requires new { owners.old ≡ record { rooms = Empty; places = Empty; next_owner = 1; next_serial = 1 } }
-    requires kinds { table.old.kinds ≡ two_kinds }
+    requires kinds { table.old.kinds ≡ scene_kinds }
     ensures live { IfOk result (IsLive owners.new) }
     ensures number { IfOk result (λ top. top.number ≡ 1) }
     ensures owners { OnOk result (owners_of owners.new ≡ filled) }
-    ensures kinds { table_of table.new.kinds ≡ table_of two_kinds }
+    ensures kinds { table_of table.new.kinds ≡ table_of scene_kinds }
     ensures counted { OnOk result ((kind : Kind) (key : ℕ) → held kind key filled ≤ times_held table.new.kinds kind key) }
+    ensures said { OnOk result (KeepsMore out.old fill_said out.new) }
 {
     let top = owners.create(None, out)?;
     let child = owners.create(Some(top), out)?;
     open(owners, top, CONNECTION, 1, table, out)?;
     open(owners, child, FILE, 2, table, out)?;
-    open(owners, child, CONNECTION, 3, table, out)?;
+    open(owners, child, CURSOR, 3, table, out)?;
+    open(owners, child, CONNECTION, 4, table, out)?;
     Ok(top)
 }
 
 /// Fills an owner and one below it, releases them and discards them. How many owners live then is the answer.
 pub fn scene(alloc: Global, out: &mut EventList) -> Result<u64, OwnerError>
-    ensures { IfOk result (λ count. count ≡ 0) }
+    ensures count { IfOk result (λ count. count ≡ 0) }
+    ensures said { OnOk result (KeepsMore out.old scene_said out.new) }
 {
     let mut table = new_table(alloc)?;
     let mut owners = Owners::new(alloc);
@@ -163,4 +177,34 @@ pub fn scene(alloc: Global, out: &mut EventList) -> Result<u64, OwnerError>
     release_phases(&mut owners, top, true, &mut table, out);
     owners.discard(top, out);
     Ok(owners.count())
+}
+
+#[cfg(test)]
+fn item(kind: KindId, key: u32) -> Item {
+    Item {
+        kind,
+        key,
+        serial: u64::from(key),
+    }
+}
+
+#[test]
+fn owners_release_in_order(rt: HostRuntime) -> Result<(), Fail> {
+    let mut out = EventList::new(rt.alloc(), 20)?;
+    assert_eq!(rt; scene(rt.alloc(), &mut out)?, 0);
+    let released = [
+        (item(CURSOR, 3), 2),
+        (item(CONNECTION, 4), 2),
+        (item(CONNECTION, 1), 1),
+        (item(FILE, 2), 2),
+    ];
+    for (place, (item, owner)) in released.into_iter().enumerate() {
+        let said = out.events().get(6 + 2 * place).copied();
+        assert_eq!(rt; said, Some(What::Release { item, owner }));
+        let closed = out.events().get(7 + 2 * place).copied();
+        assert_eq!(rt; closed, Some(What::DescriptorClosed(item.key)));
+    }
+    let gone = [What::OwnerGone(2), What::OwnerGone(1)];
+    assert_eq!(rt; out.events().get(14..), Some(gone.as_slice()));
+    Ok(())
 }

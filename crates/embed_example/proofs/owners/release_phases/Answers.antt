@@ -1,5 +1,5 @@
-use Rattle.std.proofs.Common.{◌≡◌, ◌+◌, ◌≤◌, arith}
-use Rattle.owner_core.specs.Owners.{owners_of, held}
+use Rattle.std.proofs.Common.{arith}
+use Rattle.owner_core.specs.Owners.{owners_of}
 use Rattle.embed_example.proofs.Below.{held_below}
 use Rattle.embed_example.proofs.owners.release_phases.Goals as goal
 
