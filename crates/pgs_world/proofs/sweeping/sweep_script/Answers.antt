@@ -23,7 +23,7 @@ overflow_add-errors g c =
     omega (
       arith,
       few_more c.loop-fail.fail (setting_for c.args.options.now c.args.shelf.now c.args.kinds.now) (lines_of c.args.script.now) c.loop-fail.errors (g.K.Sink.written c.args.out.now) (g.K.Sink.written c.loop-fail.out) c.loop-fail.shelf c.run_once.new.shelf c.loop-fail.kinds c.run_once.new.kinds c.args.space.now c.loop-fail.space c.run_once.new.space c.in-Some.ran c.loop-fail.invariant.stands
-      c.in-Some.ensures.ran (omega (arith, few_lines_of c.args.script.now, c.requires.short)) (omega (arith, c.loop-fail-test.true, c.loop-fail.invariant.last, last_few c.loop-fail.fail (setting_for c.args.options.now c.args.shelf.now c.args.kinds.now) (lines_of c.args.script.now))),
+          c.in-Some.ensures.ran (omega (arith, few_lines_of c.args.script.now, c.requires.short)) (omega (arith, c.loop-fail-test.true, c.loop-fail.invariant.last, last_few c.loop-fail.fail (setting_for c.args.options.now c.args.shelf.now c.args.kinds.now) (lines_of c.args.script.now))),
     )
 
 -- the run met a want of memory
@@ -47,11 +47,11 @@ returns-then-not-tell g c left left' faults read =
 pub loop-fail-preserved : goal.loop-fail-preserved
 loop-fail-preserved g c = record {
   stands = stands_more c.loop-fail.fail (setting_for c.args.options.now c.args.shelf.now c.args.kinds.now) (lines_of c.args.script.now) c.loop-fail.errors (g.K.Sink.written c.args.out.now) (g.K.Sink.written c.loop-fail.out) c.loop-fail.shelf c.run_once.new.shelf c.loop-fail.kinds c.run_once.new.kinds c.args.space.now c.loop-fail.space c.run_once.new.space
-    c.in-Some.ran c.loop-fail.invariant.stands c.in-Some.ensures.ran
+      c.in-Some.ran c.loop-fail.invariant.stands c.in-Some.ensures.ran
       c.if-ran.false (g.K.Sink.written c.tell.new.out) (c.tell.ensures.written c.if-not-tell.false);
   last = last_next c.loop-fail.fail c.loop-fail.last c.in-Some.ran.calls c.last_call-last.result (setting_for c.args.options.now c.args.shelf.now c.args.kinds.now) (lines_of c.args.script.now) c.loop-fail.invariant.last
       (calls_told c.loop-fail.fail (setting_for c.args.options.now c.args.shelf.now c.args.kinds.now) (lines_of c.args.script.now) c.loop-fail.errors (g.K.Sink.written c.args.out.now) (g.K.Sink.written c.loop-fail.out) c.loop-fail.shelf c.run_once.new.shelf c.loop-fail.kinds c.run_once.new.kinds c.args.space.now c.loop-fail.space c.run_once.new.space
-    c.in-Some.ran c.loop-fail.invariant.stands c.in-Some.ensures.ran
+      c.in-Some.ran c.loop-fail.invariant.stands c.in-Some.ensures.ran
       c.if-ran.false)
       c.last_call-last.ensures;
   within = omega (arith, is_run c.loop-fail.fail (setting_for c.args.options.now c.args.shelf.now c.args.kinds.now) (lines_of c.args.script.now) (omega (arith, c.loop-fail-test.true, c.loop-fail.invariant.last)));
