@@ -118,11 +118,11 @@ pub fn open(
     Ok(())
 }
 
-const CONNECTION: KindId = KindId(16);
+const CONNECTION: KindId = KindId(KindId::FIRST_EXTENSION);
 
-const FILE: KindId = KindId(17);
+const FILE: KindId = KindId(KindId::FIRST_EXTENSION + 1);
 
-const CURSOR: KindId = KindId(18);
+const CURSOR: KindId = KindId(KindId::FIRST_EXTENSION + 2);
 
 // The kinds of the scene, of which nothing is open.
 fn new_table(alloc: Global) -> Result<Opened, OwnerError>
