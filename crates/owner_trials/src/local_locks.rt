@@ -126,6 +126,15 @@ fn another_session_conflicts(rt: HostRuntime) -> Result<(), Fail> {
         Err(refused)
     );
     assert_eq!(rt; out.events().len(), 2);
+    Ok(())
+}
+
+#[test]
+fn a_released_lock_is_free_for_another_session(rt: HostRuntime) -> Result<(), Fail> {
+    let mut shared = SharedLocks::new(rt.alloc());
+    let mut first = LockTable::new(rt.alloc(), 1);
+    let mut second = LockTable::new(rt.alloc(), 2);
+    let mut out = EventList::new(rt.alloc(), 10)?;
     first.acquire(&mut shared, ONE, 5, EXCLUSIVE, &mut out)?;
     first.release_all(&mut shared, ONE, &mut out);
     second.acquire(&mut shared, ONE, 5, EXCLUSIVE, &mut out)?;
