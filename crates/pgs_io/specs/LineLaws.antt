@@ -80,6 +80,27 @@ few_given true bytes lines pending g = omega (arith, ap length g.0, lines_of-few
 pub HasFed-few : (limit : ℕ) (start now : Option (List ℕ)) (feed : Feeding) (lines : List (List ℕ)) → HasFed limit start now feed lines → length lines ≤ limit
 HasFed-few limit start now feed lines h = omega (arith, few_given feed.source_ended (take limit h.taken) lines feed.pending h.given, length-take limit h.taken)
 
+-- the lines of a text, each with its newline, have no fewer bytes than the text
+pub lines_of-long : (bytes : List ℕ) → length bytes ≤ length (text_of (lines_of bytes))
+lines_of-long [] = omega arith
+lines_of-long (b ∷ bs) = omega (arith, one_more (b == newline) (lines_of bs), lines_of-long bs)
+  where
+    one_more : (ends : Bool) (lines : List (List ℕ)) → length (text_of lines) + 1 ≤ length (text_of (if ends then [] ∷ lines else onto_first b lines))
+    one_more true lines = omega arith
+    one_more false [] = omega arith
+    one_more false (line ∷ lines) = omega arith
+
+-- what was taken besides the lines is pending, but for the byte past the limit
+pub HasFed-ahead : (limit : ℕ) (start now : Option (List ℕ)) (feed : Feeding) (lines : List (List ℕ)) → (h : HasFed limit start now feed lines) → length h.taken ≤ length (text_of lines) + length feed.pending + 1
+HasFed-ahead limit start now feed lines h = by_end feed.source_ended h.given (λ e. h.at_end e)
+  where
+    by_end : (b : Bool) → AreGiven b (take limit h.taken) lines feed.pending → (b ≡ true → IsAtEnd now × (0 < feed.room)) → length h.taken ≤ length (text_of lines) + length feed.pending + 1
+    by_end false g end = omega (arith, h.counted, ap length g.0, length-append (text_of lines) feed.pending, length-take limit h.taken)
+    by_end true g end =
+        let at = end refl in
+        let whole : take limit h.taken ≡ h.taken = take_all limit h.taken (omega (arith, h.counted, at.1)) in
+        omega (arith, lines_of-long h.taken, ap (λ (ls : List (List ℕ)). length (text_of ls)) (ap lines_of (sym whole) ∙ g.0))
+
 -- the lines are the first ones of what was taken
 pub HasFed-first : (limit : ℕ) (start now : Option (List ℕ)) (feed : Feeding) (lines : List (List ℕ)) → (h : HasFed limit start now feed lines) → AreFirst limit h.taken now lines
 HasFed-first limit start now feed lines h = by_end feed.source_ended h.given (λ e. h.at_end e)

@@ -5,6 +5,7 @@ ghost use Rattle.pgs_io.specs.Lines.{HasNoNewline};
 ghost use Rattle.pgs_io.specs.Feeding.{HasFed, GivesLine, MeetsEnd, MeetsFault, MeetsLimit, BeginWithLine};
 ghost use Rattle.pgs_io.specs.FedAnswers.{IfLine, OnEnd, OnFault, OnTooLong, OnNoFault, is_last};
 ghost use Rattle.pgs_io.specs.FeedParts.{TakesPart, Fills, FillsNoFault};
+ghost use Rattle.pgs_io.specs.declared.feeding.TheConstants.{MOST_READ};
 
 use crate::Failed;
 use crate::finding::first_of;
@@ -15,7 +16,7 @@ use std::marker::Model;
 const NEWLINE: u8 = b'\n';
 
 /// The most bytes that one read asks for.
-const CHUNK: usize = 512;
+pub const MOST_READ: usize = 512;
 
 /// What `Feed::line` met.
 #[derive(Clone, Copy, PartialEq, Eq, Debug)]
@@ -37,7 +38,7 @@ pub enum Fed {
 /// before each read of the source, ask `buffered` first, and flush and call `line` where that has none.
 #[derive(Drop)]
 pub struct Feed {
-    chunk: [u8; CHUNK],
+    chunk: [u8; MOST_READ],
     start: usize,
     end: usize,
     /// How many bytes may still be taken, the one past the limit among them.
@@ -64,9 +65,10 @@ impl Feed {
         requires most { limit ≤ 2 ^ 24 }
         ensures starts { (left : Option (List ℕ)) → HasFed limit left left result [] }
         ensures ended { result.ended ≡ false }
+        ensures few { length result.pending ≤ MOST_READ }
     {
         Feed {
-            chunk: [0; CHUNK],
+            chunk: [0; MOST_READ],
             start: 0,
             end: 0,
             room: limit + 1,
@@ -91,6 +93,7 @@ impl Feed {
         requires { BeginWithLine count self.old.pending }
         ensures line { (left : Option (List ℕ)) → GivesLine left left self.old self.new (take count self.old.pending) false }
         ensures ended { self.new.ended ≡ self.old.ended }
+        ensures few { length self.new.pending ≤ MOST_READ }
     {
         let newline = self.start + count;
         self.start = newline + 1;
@@ -106,6 +109,7 @@ impl Feed {
         ensures at_fault { OnFault result (MeetsFault (S.left src.old) (S.left src.new) self.old) }
         ensures too_long { OnTooLong result (MeetsLimit (S.left src.old) (S.left src.new) self.old) }
         ensures ended { self.new.ended ≡ is_last result }
+        ensures few { length self.new.pending ≤ MOST_READ }
         ensures unread { self.old.source_ended ≡ true → src.new ≡ src.old }
         ensures no_fault { OnNoFault result (S.faults src.new ≡ S.faults src.old) }
         ensures fault { OnFault result (HasRisen (S.faults src.old) (S.faults src.new)) }
@@ -141,7 +145,8 @@ impl Feed {
 
     /// Appends the pending bytes up to the newline to `buf`, or all of them where there is none.
     fn take_part(&mut self, buf: &mut LineBuf) -> Part
-        ensures { TakesPart self.old self.new buf.old buf.new result.ended result.cut }
+        ensures part { TakesPart self.old self.new buf.old buf.new result.ended result.cut }
+        ensures few { length self.new.pending ≤ MOST_READ }
     {
         let pending = &self.chunk[self.start..self.end];
         match first_of(pending, NEWLINE) {
@@ -180,7 +185,7 @@ impl Feed {
         if self.room == 0 {
             return Filled::TooLong;
         }
-        let most = CHUNK.min(self.room as usize);
+        let most = MOST_READ.min(self.room as usize);
         self.start = 0;
         self.end = 0;
         match src.read(&mut self.chunk[..most]) {

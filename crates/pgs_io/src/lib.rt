@@ -9,7 +9,7 @@ mod sources;
 mod splitting;
 mod words;
 
-pub use feeding::{Fed, Feed};
+pub use feeding::{Fed, Feed, MOST_READ};
 pub use lines::LineBuf;
 pub use sinks::{MemSink, Sink, StdSink, put_all};
 pub use sources::{MemSource, Source, StdSource};

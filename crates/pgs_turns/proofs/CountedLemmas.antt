@@ -1,8 +1,7 @@
 -- The lines of a script that are performed one after the other, while a counter counts their events; and what it has counted in the end.
-use Rattle.std.proofs.Common.{◌≡◌, ℕ, zero, suc, ◌+◌, ◌-◌, ◌^◌, ◌<◌, ◌≤◌, min, Bool, false, List, [], ◌∷◌, ◌++◌, length, take, Option, Some, refl, sym, ◌∙◌, ap, subst, arith}
+use Rattle.std.proofs.Common.{◌≡◌, ℕ, zero, suc, ◌+◌, ◌^◌, ◌<◌, ◌≤◌, Bool, false, List, [], ◌∷◌, ◌++◌, length, take, Option, Some, sym, ◌∙◌, ap, subst, arith}
 use Rattle.std.specs.Prelude.{slice_get}
 use Rattle.pgs_command.specs.Lines.{read_line}
-use Rattle.pgs_step.specs.declared.events.Event.{Event}
 use Rattle.session_rules.specs.Transcript.{errors_in}
 use Rattle.pgs_turns.specs.declared.counter.Counter.{Counter}
 use Rattle.pgs_turns.specs.Counting.{TakesEvents, TakesEvents-both}

@@ -1,5 +1,5 @@
 -- What a run leaves of a script of which it performed the first lines.
-use Rattle.std.proofs.Common.{◌≡◌, ℕ, ◌≤◌, true, false, List, ◌++◌, length, take, drop, Some, None, refl, sym, ◌∙◌, ap, subst, arith}
+use Rattle.std.proofs.Common.{◌≡◌, ℕ, true, false, List, ◌++◌, length, take, drop, Some, None, refl, sym, ◌∙◌, ap, subst, arith}
 use Rattle.std.proofs.lemmas.List.{take-append-drop, take_all}
 use Rattle.session_rules.specs.Transcript.{Course, errors_in}
 use Rattle.pgs_turns.specs.Courses.{IsOver}

@@ -1,6 +1,5 @@
 -- What lines and the ends of all sessions behind them leave.
-use Rattle.std.proofs.Common.{◌≡◌, ℕ, ◌+◌, ◌<◌, Bool, true, false, List, [], ◌∷◌, ◌++◌, length, Option, Some, None, refl, sym, ◌∙◌, ap, subst, arith}
-use Rattle.addr_space.specs.Space.{taken}
+use Rattle.std.proofs.Common.{◌≡◌, ℕ, ◌+◌, Bool, true, false, List, [], ◌∷◌, ◌++◌, length, Option, Some, None, refl, sym, ◌∙◌, ap, subst, arith}
 use Rattle.pgs_step.specs.declared.events.Event.{Event}
 use Rattle.session_rules.specs.Ends.{exited}
 use Rattle.session_rules.specs.State.{SessionState}
@@ -8,8 +7,8 @@ use Rattle.session_rules.specs.Transcript.{Course, after_exit, ended, exits, tra
 use Rattle.session_rules.specs.World.{World, around, opened}
 use Rattle.session_commands.specs.Answers.{Fits}
 use Rattle.session_commands.specs.declared.calls.Calls.{Calls}
-use Rattle.pgs_turns.specs.Transcript.{Setting, course_of, kinds_after, shelf_after, transcript, EndsAt}
-use Rattle.pgs_turns.specs.World.{HaveDescriptors, IsOpening, Run, setting_of, world_in}
+use Rattle.pgs_turns.specs.Transcript.{Setting, course_of, kinds_after, shelf_after, transcript}
+use Rattle.pgs_turns.specs.World.{IsOpening, Run, setting_of, world_in}
 use Rattle.pgs_turns.specs.Hooks.{HooksAreTold, TellHooks}
 use Rattle.pgs_turns.specs.Turns.{AllExit}
 use Rattle.pgs_turns.specs.Courses.{CourseAt, HasPerformed, IsOver}

@@ -1,5 +1,5 @@
 -- The sessions of a run, when one of them changes.
-use Rattle.std.proofs.Common.{◌≡◌, ◌≢◌, true, false, ◌^◌, ℕ, zero, suc, ◌+◌, ◌-◌, ◌<◌, ◌≤◌, ◌⊎◌, inl, inr, List, [], ◌∷◌, length, map, Some, refl, sym, ap, ◌∙◌, subst, arith}
+use Rattle.std.proofs.Common.{◌≡◌, ◌≢◌, true, false, ℕ, zero, suc, ◌+◌, ◌-◌, ◌<◌, ◌≤◌, ◌⊎◌, inl, inr, List, [], ◌∷◌, length, map, Some, refl, sym, ap, ◌∙◌, subst, arith}
 use Rattle.std.specs.Prelude.{All, slice_get, slice_index, slice_set, replicate}
 use Rattle.std.proofs.lemmas.List.Elements.{All-nil}
 use Rattle.std.specs.Option.{option_map}
@@ -33,7 +33,7 @@ use Rattle.session_core.specs.Lines.{IsBetweenLines}
 use Rattle.session_commands.specs.Performed.{scene_in}
 use Rattle.session_core.proofs.Opened.{opened_lines}
 pub use Rattle.session_core.proofs.Opened.{none_held}
-use Rattle.pgs_turns.specs.World.{AreStanding, HaveDescriptors, HooksFit, IsHeld, IsOpening, KindsFit, LocksFit, PinsFit, Run, SameRun, all_waiting, held_by_all, one_of, options_in, sessions_in, world_in}
+use Rattle.pgs_turns.specs.World.{AreStanding, HaveDescriptors, HooksFit, IsHeld, IsOpening, KindsFit, LocksFit, PinsFit, Run, SameRun, held_by_all, one_of, options_in, sessions_in, world_in}
 use Rattle.pgs_turns.specs.Turns.{AreOpened}
 use Rattle.pgs_turns.proofs.HookLemmas.{hooks_behind, hooks_of_one}
 use Rattle.pgs_turns.proofs.ToldHooks.{none_wait}

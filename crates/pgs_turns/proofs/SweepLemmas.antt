@@ -1,6 +1,6 @@
 -- The runs of a sweep, one behind the other.
-use Rattle.std.proofs.Common.{◌≡◌, ℕ, zero, suc, ◌+◌, ◌-◌, ◌*◌, ◌^◌, ◌≤◌, min, true, false, List, [], ◌∷◌, ◌++◌, length, Option, Some, None, refl, sym, ◌∙◌, ap, subst, arith, append_assoc, append-nil}
-use Rattle.std.specs.Prelude.{◌==◌, codes, nat_lt, if◌then◌else◌}
+use Rattle.std.proofs.Common.{◌≡◌, ℕ, zero, suc, ◌+◌, ◌*◌, ◌≤◌, min, true, false, List, ◌++◌, length, Some, None, refl, sym, ◌∙◌, ap, subst, arith, append_assoc, append-nil}
+use Rattle.std.specs.Prelude.{◌==◌, nat_lt, if◌then◌else◌}
 use Rattle.std.proofs.lemmas.Bool.Decides.{nat_tests}
 use Rattle.std.proofs.lemmas.List.{map-append}
 use Rattle.std.proofs.lemmas.List.Sorted.{sum_by-IsPermutation}
@@ -10,8 +10,8 @@ use Rattle.reset_callbacks.specs.Hook.{Hook}
 use Rattle.reset_callbacks.specs.ShelfState.{ShelfState, held, renewed}
 use Rattle.reset_callbacks.proofs.ShelfSteps.{renewed-permutes}
 use Rattle.session_rules.specs.HookCounts.{callbacks_of, runs_of}
-use Rattle.session_rules.specs.Modes.{failing_runs, most_failing, swept, told_of_run, whole_run}
-use Rattle.session_rules.specs.Transcript.{course_by, ended, errors_in, transcript_by}
+use Rattle.session_rules.specs.Modes.{failing_runs, most_failing, swept, whole_run}
+use Rattle.session_rules.specs.Transcript.{ended, errors_in, transcript_by}
 use Rattle.session_rules.proofs.HookSums.{callbacks_both}
 use Rattle.pgs_turns.specs.EventLaws.{errors_in-append}
 use Rattle.pgs_turns.specs.Hooks.{HooksAreTold, said_by_all}

@@ -21,7 +21,7 @@ use Rattle.pgs_turns.specs.Script.{said_in}
 use Rattle.pgs_turns.specs.Transcript.{Setting, course_of}
 use Rattle.pgs_turns.specs.World.{HaveDescriptors, Run}
 use Rattle.pgs_turns.specs.Turns.{TakesTurn}
-use Rattle.pgs_turns.specs.Courses.{CoursesAre, TakesBut, TakesInAll, TakesLines, asked_of}
+use Rattle.pgs_turns.specs.Courses.{CoursesAre, TakesBut, TakesInAll, TakesLines}
 use Rattle.pgs_turns.proofs.CourseLemmas.{fits_later}
 
 -- no line

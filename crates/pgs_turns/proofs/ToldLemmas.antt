@@ -1,26 +1,19 @@
 -- What is told of a run that is over.
-use Rattle.std.proofs.Common.{◌≡◌, ℕ, zero, suc, ◌∷◌, ◌+◌, ◌-◌, ◌*◌, ◌^◌, ◌<◌, ◌≤◌, min, Bool, true, false, not, List, [], ◌++◌, length, take, Option, Some, None, refl, sym, ◌∙◌, ap, subst, arith}
+use Rattle.std.proofs.Common.{◌≡◌, ℕ, zero, suc, ◌∷◌, ◌*◌, ◌^◌, ◌<◌, ◌≤◌, min, Bool, true, false, not, List, [], length, take, Option, None, refl, sym, ◌∙◌, ap, subst, arith}
 use Rattle.std.proofs.lemmas.List.{take_all}
 use Rattle.std.specs.Io.KnownBytes.{append_known}
-use Rattle.session_rules.specs.Modes.{made_script, summary}
-use Rattle.session_rules.specs.Transcript.{Course, course_by, ended, errors_in, transcript_by}
+use Rattle.session_rules.specs.Modes.{generated, made_script, most_counted, numbers, summary, whole_run}
+use Rattle.session_rules.specs.Transcript.{Course, ended, errors_in, transcript_by}
 use Rattle.pgs_turns.specs.Turns.{Fits}
 use Rattle.pgs_turns.specs.Courses.{IsOver}
-use Rattle.pgs_turns.specs.Transcript.{Setting, course_of, transcript}
+use Rattle.pgs_turns.specs.Transcript.{course_of, transcript}
 use Rattle.pgs_turns.specs.World.{Run, setting_of}
 use Rattle.pgs_turns.proofs.CountedLemmas.{counted_over}
 use Rattle.pgs_turns.proofs.OverLemmas.{fits_none}
 use Rattle.pgs_turns.specs.declared.counter.Counter.{Counter}
 use Rattle.pgs_turns.specs.Counting.{TakesEvents}
 use Rattle.pgs_turns.specs.Generating.{IsFront, Tells, text_for}
-use Rattle.pgs_turns.specs.Summary.{generated_by, numbers, told}
 use Rattle.pgs_turns.proofs.MadeLemmas.{made_length}
-
--- where the events are fewer than 2^64, the rules' summary is told
-pub told_whole : (course : Course) → length course.events < 2 ^ 64 → told course ≡ summary course
-told_whole course few =
-    let all : min (length course.events) (2 ^ 64 - 1) ≡ length course.events = omega (arith, few) in
-    ap (λ (events : ℕ). numbers course.performed events (errors_in course.events) course.world.calls) all
 
 -- not all of the script has more lines than were made
 pub few_lines : (n k : ℕ) → k ≤ 13 * n → length (take k (made_script n)) ≡ k
@@ -48,18 +41,18 @@ module _ (descriptors : ℕ) (first last : Run) (rounds k : ℕ) (wanted : Bool)
 
   -- its numbers are those of the run, where no line met a want of memory
   pub numbers_told : wanted ≡ false → k ≡ 13 * rounds → numbers k counter.events counter.errors last.calls.count ≡ text_for rounds (setting_of descriptors first)
-  unfolding generated_by transcript transcript_by course_of
+  unfolding generated whole_run transcript transcript_by course_of
   numbers_told goes whole =
       let f : Fits wanted last.calls.count None = fits_none wanted last.calls.count goes in
       let lines : take k (made_script rounds) ≡ made_script rounds = all_lines rounds k whole in
       let course : Course = ended (course_of (setting_of descriptors first) None (take k (made_script rounds))) in
-      let events : counter.events ≡ min (length course.events) (2 ^ 64 - 1) = omega (arith, (over.emits None f).counted, no_events, fits) in
+      let events : counter.events ≡ min (length course.events) most_counted = omega (arith, (over.emits None f).counted, no_events, fits) in
       let performed : k ≡ course.performed = sym (over.performed None f ∙ few_lines rounds k within) in
       ap (λ (n : ℕ). numbers n counter.events counter.errors last.calls.count) performed
       ∙ ap (λ (n : ℕ). numbers course.performed n counter.errors last.calls.count) events
-      ∙ ap (λ (n : ℕ). numbers course.performed (min (length course.events) (2 ^ 64 - 1)) n last.calls.count) (counts.emits None f)
-      ∙ ap (λ (n : ℕ). numbers course.performed (min (length course.events) (2 ^ 64 - 1)) (errors_in course.events) n) (sym (over.calls None f))
-      ∙ ap (λ (all : List (List ℕ)). told (ended (course_of (setting_of descriptors first) None all))) lines
+      ∙ ap (λ (n : ℕ). numbers course.performed (min (length course.events) most_counted) n last.calls.count) (counts.emits None f)
+      ∙ ap (λ (n : ℕ). numbers course.performed (min (length course.events) most_counted) (errors_in course.events) n) (sym (over.calls None f))
+      ∙ ap (λ (all : List (List ℕ)). summary (ended (course_of (setting_of descriptors first) None all))) lines
 
   apart : (b : Bool) → b ≡ true → b ≡ false → ⊥
   apart true h k = cc k

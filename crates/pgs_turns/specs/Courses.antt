@@ -1,6 +1,6 @@
 -- What lines lead to in a run, and what the ends of all sessions make of it.
-use Rattle.std.specs.Prelude.{◌≡◌, ℕ, ◌+◌, ◌*◌, ◌<◌, Bool, true, false, List, length, nat_lt, if◌then◌else◌, Option, Some, None}
-use Rattle.addr_space.specs.Space.{Space, accounts, held, risen, taken}
+use Rattle.std.specs.Prelude.{◌≡◌, ℕ, ◌+◌, ◌*◌, ◌<◌, Bool, true, false, List, length, nat_lt, if◌then◌else◌, Option, None}
+use Rattle.addr_space.specs.Space.{Space, held, risen, taken}
 use Rattle.pgs_step.specs.declared.events.Event.{Event}
 use Rattle.session_rules.specs.Asked.{asked_by, asked_in_all}
 use Rattle.session_rules.specs.Transcript.{Course, ended}

@@ -1,14 +1,12 @@
 -- What the run of the script that is made did.
 use Rattle.std.specs.Prelude.{◌≡◌, ℕ, ◌*◌, ◌<◌, ◌≤◌, true, false, List, ◌++◌, length, take, Option}
 use Rattle.std.specs.Io.KnownBytes.{append_known}
-use Rattle.session_rules.specs.Modes.{made_script}
+use Rattle.session_rules.specs.Modes.{generated, made_script}
 use Rattle.session_rules.specs.Transcript.{errors_in}
 use Rattle.pgs_turns.specs.Courses.{IsOver}
-use Rattle.pgs_command.specs.Lines.{read_line}
 use Rattle.pgs_turns.specs.Transcript.{Setting}
 use Rattle.pgs_turns.specs.World.{Run, setting_of}
 use Rattle.pgs_turns.specs.declared.generating.Generated.{Generated}
-use Rattle.pgs_turns.specs.Summary.{generated_by}
 
 -- a front of the text was written, and not all of it
 pub record IsFront (text : List ℕ) (written written' : Option (List ℕ)) : Type 0 where
@@ -20,7 +18,7 @@ pub record IsFront (text : List ℕ) (written written' : Option (List ℕ)) : Ty
 
 -- what is told of so many rounds in a run that is set up so
 abbrev pub text_for : ℕ → Setting → List ℕ
-text_for rounds setting = generated_by read_line rounds setting.options setting.kinds setting.shelf
+text_for rounds setting = generated rounds setting.options setting.kinds setting.shelf
 
 -- The run of so many rounds is over. Where no line met a want of memory all lines were performed, and what is told of them was written, or a
 -- front of it; where one did, nothing was written.

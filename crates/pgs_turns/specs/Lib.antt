@@ -6,7 +6,6 @@ pub mod Hooks
 pub mod Turns
 pub mod Courses
 pub mod Counting
-pub mod Summary
 pub mod Made
 pub mod Generating
 pub mod Sweeping

@@ -2,12 +2,11 @@
 ghost use Rattle.std.specs.Prelude.{◌≡◌, ◌*◌, ◌≤◌, true, false, ℕ, length, take};
 ghost use Rattle.std.specs.Io.KnownBytes.{append_known};
 ghost use Rattle.pgs_io.specs.Faults.{HasRisen};
-ghost use Rattle.session_rules.specs.Modes.{made_script};
+ghost use Rattle.session_rules.specs.Modes.{made_script, numbers};
 ghost use Rattle.pgs_turns.specs.World.{run_of, AreStanding, HaveDescriptors, IsOpening};
 ghost use Rattle.pgs_turns.specs.Courses.{HasPerformed};
 ghost use Rattle.pgs_turns.specs.Counting.{TakesEvents};
 ghost use Rattle.pgs_turns.specs.Generating.{IsFront, Tells};
-ghost use Rattle.pgs_turns.specs.Summary.{numbers};
 
 use crate::counter::Counter;
 use crate::made_lines::{LINES, made_command};

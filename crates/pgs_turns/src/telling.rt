@@ -1,7 +1,7 @@
 //! What is told of a run of the script that is made, and of one of a sweep.
 ghost use Rattle.std.specs.Prelude.{◌≡◌, ◌==◌, ◌++◌, ◌+◌, ◌≤◌, codes, decimal, if◌then◌else◌};
 ghost use Rattle.arrayvec.specs.ArrayVec.{array_vec_len};
-ghost use Rattle.pgs_turns.specs.Summary.{numbers};
+ghost use Rattle.session_rules.specs.Modes.{numbers};
 ghost use Rattle.pgs_turns.specs.Sweeping.{run_numbers};
 
 use crate::pieces::{put, put_counted};

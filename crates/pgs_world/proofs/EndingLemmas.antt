@@ -1,16 +1,17 @@
 -- The outcome of a script, from how its reading ended and what was printed.
-use Rattle.std.proofs.Common.{◌≡◌, ◌≢◌, ℕ, ◌+◌, ◌^◌, ◌<◌, ◌≤◌, Bool, true, false, List, [], ◌∷◌, ◌++◌, length, take, Option, Some, None, ◌⊎◌, inl, inr, refl, sym, ◌∙◌, ap, subst, arith, append-nil, length-append}
+use Rattle.std.proofs.Common.{◌≡◌, ◌≢◌, ℕ, ◌+◌, ◌-◌, ◌^◌, ◌<◌, ◌≤◌, Bool, true, false, List, [], ◌∷◌, ◌++◌, length, take, Option, Some, None, ◌⊎◌, inl, inr, refl, sym, ◌∙◌, ap, subst, arith, append-nil, append_assoc, length-append}
 use Rattle.std.specs.Prelude.{nat_lt, ◌==◌, if◌then◌else◌, ◌↔◌}
 use Rattle.std.proofs.lemmas.Bool.Decides.{nat_tests}
 use Rattle.std.proofs.Math.Seq.{take-append_seam}
 use Rattle.std.proofs.lemmas.List.{take_all}
 use Rattle.std.specs.Io.KnownBytes.{append_known, IsAtEnd}
 use Rattle.pgs_io.specs.Faults.{HasRisen}
-use Rattle.pgs_io.specs.Lines.{lines_of, ended_lines, onto_first, onto_ended, newline}
+use Rattle.pgs_io.specs.Lines.{lines_of, ended_lines, onto_first, onto_ended, newline, text_of}
+use Rattle.pgs_io.specs.LineLaws.{lines_of-long}
 use Rattle.pgs_step.specs.declared.events.Event.{Event}
 use Rattle.owner_kinds.specs.Kind.{Kind}
 use Rattle.reset_callbacks.specs.ShelfState.{ShelfState}
-use Rattle.session_rules.specs.Transcript.{Course, errors_in, text_of_transcript}
+use Rattle.session_rules.specs.Transcript.{Course, ended, errors_in, text_of_transcript, transcript_by}
 use Rattle.pgs_turns.specs.Turns.{Fits}
 use Rattle.pgs_turns.specs.Transcript.{Setting, course_of, kinds_after, names_of, shelf_after, text_in, transcript, EndsAt}
 use Rattle.pgs_turns.specs.Hooks.{HooksAreTold}
@@ -19,8 +20,10 @@ use Rattle.pgs_turns.proofs.CourseLemmas.{course_of-stopped}
 use Rattle.pgs_turns.proofs.OverLemmas.{fit_of, kinds-stopped, shelf-stopped, transcript-stopped}
 use Rattle.pgs_world.specs.declared.performing.End.{End}
 use Rattle.pgs_world.specs.declared.performing.End.TheVariants as end
+use Rattle.pgs_world.specs.declared.printer.TheConstants.{GATHERED}
 use Rattle.pgs_world.specs.Printing.{Gathering, Shows, Moves, GoesOn, FailsWithin}
-use Rattle.pgs_world.specs.Outcome.{most_bytes, HasGiven, AreWhole, refused_call, IsWhole, IsWanted, IsCutOff, IsTooLong, IsUnwritten}
+use Rattle.pgs_world.specs.PrintingLaws.{hands_more, text-append}
+use Rattle.pgs_world.specs.Outcome.{most_bytes, HasGiven, AreWhole, IsLittleMore, refused_call, IsWhole, IsWanted, IsCutOff, IsTooLong, IsUnwritten}
 use Rattle.pgs_world.specs.Ending.{IsPlayed, outcome_of, status_of}
 use Rattle.pgs_world.specs.Loop.{EndIs, AreFront, is_wanted, OnSourceFault, OnNoSourceFault, OnUnwritten}
 use Rattle.pgs_world.specs.Plays.{Outside, Performed}
@@ -29,7 +32,6 @@ use Rattle.pgs_world.specs.Plays.{Outside, Performed}
 pub record Printed (names : List (List ℕ)) (written written' : Option (List ℕ)) (faults faults' errors : ℕ) (failed : Bool) (events : List Event) : Type 0 where
   pub text : failed ≡ false → written' ≡ append_known written (text_of_transcript names events)
   pub no_fault : failed ≡ false → faults' ≡ faults
-  pub front : failed ≡ true → (front rest : List ℕ) × (front ++ rest ≡ text_of_transcript names events) × (written' ≡ append_known written front) × (0 < length rest)
   pub risen : failed ≡ true → HasRisen faults faults'
   pub errors_are : errors ≡ errors_in events
 
@@ -56,9 +58,6 @@ printed_all old new events p empty going none emptied small few =
           m.hands.taken ∙ ap (append_known old.written)
           (sym (append-nil m.hands.handed) ∙ ap (λ (z : List ℕ). m.hands.handed ++ z) (sym (emptied f)) ∙ m.hands.parts ∙ ap (λ (z : List ℕ). z ++ texts) empty);
       no_fault = λ f. (moves_on old.failed new.failed old new texts going f moves).no_fault;
-      front = λ f.
-          let m = moves_failed old.failed new.failed old new texts going f moves in
-          (m.hands.handed, m.rest, m.hands.parts ∙ ap (λ (z : List ℕ). z ++ texts) empty, m.hands.taken, m.some);
       risen = λ f. (moves_failed old.failed new.failed old new texts going f moves).risen;
       errors_are = omega (arith, p.errors, none, small, few);
     }
@@ -68,6 +67,50 @@ pub printed_told : {K : Type 0} (names names' : List (List ℕ)) (written : K �
     → names ≡ names' → a' ≡ a → b ≡ b' → errors ≡ errors' → failed ≡ failed' → Printed names' (written a') (written b') (faults a') (faults b') errors' failed' events
     → Printed names (written a) (written b) (faults a) (faults b) errors failed events
 printed_told names names' written faults a a' b b' errors errors' failed failed' events n e f h k p = rw (n, ← e, f, h, k) p
+
+-- A sink that failed has a front of the transcript. The lines but the last, or all of them, were performed before that: of what they said it lacks
+-- no more than is gathered.
+pub record Late (setting : Setting) (w : Option ℕ) (lines : List (List ℕ)) (written written' : Option (List ℕ)) : Type 0 where
+  pub front : List ℕ
+  pub rest : List ℕ
+  pub some : 0 < length rest
+  pub parts : front ++ rest ≡ text_in setting (transcript setting w lines)
+  pub taken : written' ≡ append_known written front
+  pub earlier : List (List ℕ)
+  pub last : List (List ℕ)
+  pub one : length last ≤ 1
+  pub lines_are : lines ≡ earlier ++ last
+  pub in_time : length (text_in setting (course_of setting w earlier).events) ≤ length front + GATHERED
+
+-- a transcript is what lines said, and what the ends of all sessions say
+pub transcript_is : (setting : Setting) (w : Option ℕ) (lines : List (List ℕ)) (before since exits : List Event) → (course_of setting w lines).events ≡ before ++ since
+    → (ended (course_of setting w lines)).events ≡ (course_of setting w lines).events ++ exits → transcript setting w lines ≡ before ++ (since ++ exits)
+unfolding transcript transcript_by course_of
+transcript_is setting w lines before since exits e h = h ∙ ap (λ (z : List Event). z ++ exits) e ∙ append_assoc before since exits
+
+-- a printer whose sink failed behind these events
+pub late_front : (old between new : Gathering) (before since : List Event) → Shows old before between → Shows between since new → old.gathered ≡ [] → old.failed ≡ false
+    → between.failed ≡ false → length between.gathered ≤ GATHERED → new.failed ≡ true
+    → (front rest : List ℕ) × (0 < length rest) × (front ++ rest ≡ text_of_transcript old.names (before ++ since)) × (new.written ≡ append_known old.written front) × (length (text_of_transcript old.names before) ≤ length front + GATHERED)
+late_front old between new before since p q empty going still few fails =
+    let went = moves_on old.failed between.failed old between (text_of_transcript old.names before) going still p.bytes in
+    let failed = moves_failed between.failed new.failed between new (text_of_transcript between.names since) still fails q.bytes in
+    let hands = hands_more old between new (text_of_transcript old.names before) (text_of_transcript between.names since) failed.rest went.hands failed.hands in
+    let texts : text_of_transcript old.names before ++ text_of_transcript between.names since ≡ text_of_transcript old.names (before ++ since) =
+    ap (λ (names : List (List ℕ)). text_of_transcript old.names before ++ text_of_transcript names since) p.names ∙ sym (text-append old.names before since) in (
+      hands.handed,
+      failed.rest,
+      failed.some,
+      hands.parts ∙ ap (λ (z : List ℕ). z ++ (text_of_transcript old.names before ++ text_of_transcript between.names since)) empty ∙ texts,
+      hands.taken,
+      omega (
+        arith,
+        few,
+        ap length (went.hands.parts ∙ ap (λ (z : List ℕ). z ++ text_of_transcript old.names before) empty),
+        length-append went.hands.handed between.gathered,
+        length-append went.hands.handed failed.hands.handed,
+      ),
+    )
 
 -- the lines whose newline stands in a text are the first lines of the text, whatever follows it
 pub ended_front : (bytes behind : List ℕ) → (more : List (List ℕ)) × (lines_of (bytes ++ behind) ≡ ended_lines bytes ++ more)
@@ -125,6 +168,7 @@ pub record Facts (setting : Setting) (e : End) (n calls errors : ℕ) (failed : 
   pub stopped : is_wanted e ≡ true → EndsAt setting calls lines n
   pub called : is_wanted e ≡ true → 0 < calls
   pub silent : OnUnwritten e (failed ≡ true)
+  pub late : failed ≡ true → (w : Option ℕ) → Fits (is_wanted e) calls w → Late setting w lines written written'
 
 -- the lines are the first of those of the bytes that were given
 pub record Front (lines : List (List ℕ)) (left left' : Option (List ℕ)) : Type 0 where
@@ -134,13 +178,14 @@ pub record Front (lines : List (List ℕ)) (left left' : Option (List ℕ)) : Ty
   pub whole : AreWhole (length lines) given left'
   pub more : List (List ℕ)
   pub front : lines_of given ≡ lines ++ more
+  pub ahead : IsLittleMore lines given ⊎ (lines ≡ ended_lines (take most_bytes given))
 
 -- the first bytes are those in front of the others
 first_bytes : (n : ℕ) (bytes over : List ℕ) → length bytes ≡ n → take n (bytes ++ over) ≡ bytes
 first_bytes n bytes over full = ap (λ (k : ℕ). take k (bytes ++ over)) (sym full) ∙ take-append_seam bytes over
 
 of_front : (bytes : List ℕ) (lines : List (List ℕ)) (left left' : Option (List ℕ)) → AreFront bytes lines left left' → Front lines left left'
-of_front bytes lines left left' h = record { given = bytes; given_is = h.given; short = h.first.short; whole = h.first.whole; more = h.first.more; front = h.first.front }
+of_front bytes lines left left' h = record { given = bytes; given_is = h.given; short = h.first.short; whole = h.first.whole; more = h.first.more; front = h.first.front; ahead = inl h.ahead }
 
 pub front_of : (e : End) (bytes : List ℕ) (lines : List (List ℕ)) (left left' : Option (List ℕ)) → EndIs e bytes lines left left' → Front lines left left'
 front_of end.Whole bytes lines left left' h = record {
@@ -150,6 +195,7 @@ front_of end.Whole bytes lines left left' h = record {
   whole = inr (h.2, h.1);
   more = [];
   front = sym h.3 ∙ sym (append-nil lines);
+  ahead = inl (omega (arith, lines_of-long bytes, ap (λ (z : List (List ℕ)). length (text_of z)) h.3));
 }
 front_of end.Wanted bytes lines left left' h = of_front bytes lines left left' h
 front_of end.Unwritten bytes lines left left' h = of_front bytes lines left left' h
@@ -162,6 +208,7 @@ front_of end.SourceFault bytes lines left left' h =
       whole = inl (rw (take_all most_bytes bytes h.1) (omega (arith, ap length h.2)));
       more = f.0;
       front = ap lines_of (sym (append-nil bytes)) ∙ f.1 ∙ ap (λ (z : List (List ℕ)). z ++ f.0) (sym h.2);
+      ahead = inr (h.2 ∙ ap ended_lines (sym (take_all most_bytes bytes h.1)));
     }
 front_of end.TooLong bytes lines left left' h =
     let f = ended_front bytes (h.0 ∷ []) in
@@ -172,6 +219,7 @@ front_of end.TooLong bytes lines left left' h =
       whole = inl (rw (first_bytes most_bytes bytes (h.0 ∷ []) h.2) (omega (arith, ap length h.3)));
       more = f.0;
       front = f.1 ∙ ap (λ (z : List (List ℕ)). z ++ f.0) (sym h.3);
+      ahead = inr (h.3 ∙ ap ended_lines (sym (first_bytes most_bytes bytes (h.0 ∷ []) h.2)));
     }
 
 pub first_lines : (n : ℕ) (lines more all : List (List ℕ)) → n ≡ length lines → all ≡ lines ++ more → take n all ≡ lines
@@ -242,6 +290,7 @@ module _ (setting : Setting) (n calls errors : ℕ) (left left' written written'
         given = f.how.given;
         short = f.how.first.short;
         whole_lines = rw f.count f.how.first.whole;
+        ahead = subst (λ (z : List (List ℕ)). IsLittleMore z f.bytes) (sym (first_lines n f.lines f.how.first.more (lines_of f.bytes) f.count f.how.first.front)) f.how.ahead;
         defined = record { wanted = ap (λ (c : Course). c.wanted) course ∙ at.wanted; line_is = ap (λ (c : Course). c.performed) course ∙ at.line_is };
         text = told.text refl;
         leaves = left_as (Some calls) (f.lines ++ f.how.first.more) (lines_of f.bytes) (sym f.how.first.front) (left_stopped setting calls f.lines f.how.first.more errors shelf' kinds' at.wanted (f.leaves (Some calls) refl));
@@ -302,20 +351,26 @@ module _ (setting : Setting) (n calls errors : ℕ) (left left' written written'
   unwritten_at e f =
       let front = front_of e f.bytes f.lines left left' f.how in
       let w : Option ℕ = refused_call (outcome_of (record { end = e; lines = n }) calls true errors).call in
-      let told : Printed (names_of setting.kinds) written written' faults faults' errors true (transcript setting w f.lines) = f.printed w (fits_of e f) in
+      let late = f.late refl w (fits_of e f) in
       let same : take n (lines_of front.given) ≡ f.lines = first_lines n f.lines front.more (lines_of front.given) f.count front.front in
-      let part = told.front refl in
+      let earlier : take (n - length late.last) (lines_of front.given) ≡ late.earlier =
+      first_lines (n - length late.last) late.earlier (late.last ++ front.more) (lines_of front.given) (omega (arith, f.count, ap length late.lines_are, length-append late.earlier late.last))
+      (front.front ∙ ap (λ (z : List (List ℕ)). z ++ front.more) late.lines_are ∙ append_assoc late.earlier late.last front.more) in
       record {
         bytes = front.given;
         given = front.given_is;
         short = front.short;
         whole_lines = rw f.count front.whole;
+        ahead = subst (λ (z : List (List ℕ)). IsLittleMore z front.given ⊎ (z ≡ ended_lines (take most_bytes front.given))) (sym same) front.ahead;
         read = omega (arith, f.count, ap length front.front, length-append f.lines front.more);
-        front = part.0;
-        rest = part.1;
-        some = part.4;
-        parts = part.2 ∙ ap (λ (z : List (List ℕ)). text_in setting (transcript setting w z)) (sym same);
-        taken = part.3;
+        front = late.front;
+        rest = late.rest;
+        some = late.some;
+        parts = late.parts ∙ ap (λ (z : List (List ℕ)). text_in setting (transcript setting w z)) (sym same);
+        taken = late.taken;
+        last = length late.last;
+        one = late.one;
+        in_time = subst (λ (z : List (List ℕ)). length (text_in setting (course_of setting w z).events) ≤ length late.front + GATHERED) (sym earlier) late.in_time;
         defined = λ h. subst (λ (z : List (List ℕ)). EndsAt setting (outcome_of (record { end = e; lines = n }) calls true errors).call z n) (sym same) (stopped_of e f f.lines (f.stopped (is_wanted_of e h)) h);
         leaves = left_as w f.lines (take n (lines_of front.given)) (sym same) (f.leaves w (fits_of e f));
       }

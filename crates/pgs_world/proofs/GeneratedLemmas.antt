@@ -3,7 +3,7 @@ use Rattle.std.proofs.Common.{◌≡◌, ◌≢◌, ℕ, zero, suc, ◌*◌, ◌
 use Rattle.std.specs.Prelude.{nat_lt, if◌then◌else◌}
 use Rattle.pgs_io.specs.Faults.{HasRisen}
 use Rattle.pgs_step.specs.declared.events.Event.{Event}
-use Rattle.session_rules.specs.Modes.{made_script, summary}
+use Rattle.session_rules.specs.Modes.{made_script}
 use Rattle.session_rules.specs.Transcript.{Course, course_by, ended, errors_in, transcript_by}
 use Rattle.pgs_turns.specs.Turns.{Fits}
 use Rattle.pgs_turns.specs.Courses.{IsOver, TakesLines}
@@ -13,8 +13,7 @@ use Rattle.pgs_turns.specs.World.{Run, setting_of}
 use Rattle.pgs_turns.proofs.CourseLemmas.{course_of-stopped}
 use Rattle.pgs_turns.proofs.OverLemmas.{kinds-stopped, shelf-stopped, transcript-stopped}
 use Rattle.pgs_turns.specs.Generating.{Tells, text_for}
-use Rattle.pgs_turns.specs.Summary.{generated_by}
-use Rattle.pgs_turns.proofs.ToldLemmas.{all_lines, few_lines, told_whole}
+use Rattle.pgs_turns.proofs.ToldLemmas.{all_lines, few_lines}
 use Rattle.pgs_world.specs.declared.program.Outcome.{Outcome}
 use Rattle.pgs_world.specs.Ending.{generated_outcome, generated_status}
 use Rattle.pgs_turns.specs.Sweeping.{LeavesRun}
@@ -27,10 +26,6 @@ rest_of : {A : Type 0} (k : ℕ) (xs : List A) → (more : List A) × (take k xs
 rest_of zero xs = (xs, refl)
 rest_of (suc k) [] = ([], refl)
 rest_of {A = A} (suc k) (x ∷ xs) = let r = rest_of k xs in (r.0, ap (λ (ys : List A). x ∷ ys) r.1)
-
-summed : (setting : Setting) (rounds : ℕ) → length (transcript setting None (made_script rounds)) < 2 ^ 64 → text_for rounds setting ≡ summary (ended (course_of setting None (made_script rounds)))
-unfolding generated_by transcript transcript_by course_of
-summed setting rounds few = told_whole (ended (course_of setting None (made_script rounds))) few
 
 made_by_errors : (errors : ℕ) → IsMade (if nat_lt 0 errors then 1 else 0)
 made_by_errors errors = by_test (nat_lt 0 errors)
@@ -80,7 +75,6 @@ module _ (descriptors : ℕ) (first last : Run) (rounds lines errors : ℕ) (w w
       whole = λ h. record {
         lines = t.whole refl;
         text = t.text refl refl;
-        summed = summed setting rounds;
         told = whole_told false t;
         status = status_one errors (errors_in (transcript setting None (made_script rounds))) (whole_told false t).errors_are;
       };

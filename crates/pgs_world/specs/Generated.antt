@@ -4,10 +4,10 @@ use Rattle.std.specs.Io.KnownBytes.{append_known}
 use Rattle.owner_kinds.specs.Kind.{Kind}
 use Rattle.pgs_io.specs.Faults.{HasRisen}
 use Rattle.reset_callbacks.specs.ShelfState.{ShelfState}
-use Rattle.session_rules.specs.Modes.{made_script, summary}
-use Rattle.session_rules.specs.Transcript.{ended, errors_in}
+use Rattle.session_rules.specs.Modes.{made_script}
+use Rattle.session_rules.specs.Transcript.{errors_in}
 use Rattle.pgs_turns.specs.Hooks.{HooksAreTold}
-use Rattle.pgs_turns.specs.Transcript.{Setting, course_of, kinds_after, shelf_after, transcript, EndsAt}
+use Rattle.pgs_turns.specs.Transcript.{Setting, kinds_after, shelf_after, transcript, EndsAt}
 use Rattle.pgs_turns.specs.Generating.{IsFront, text_for}
 use Rattle.pgs_turns.specs.Sweeping.{LeavesRun}
 use Rattle.pgs_world.specs.declared.program.Outcome.{Outcome}
@@ -16,12 +16,10 @@ use Rattle.pgs_world.specs.declared.program.Outcome.{Outcome}
 abbrev pub IsTranscript : ℕ → Option ℕ → Setting → Outcome → ShelfState → List Kind → Type 0
 IsTranscript rounds w setting outcome shelf' kinds' = LeavesRun w setting (made_script rounds) outcome.errors shelf' kinds'
 
--- Status 0 or 1: all lines of so many rounds were performed, and the line that tells of them was written. It is the rules' summary, unless
--- there were 2^64 events or more.
+-- Status 0 or 1: all lines of so many rounds were performed, and the line that tells of them was written.
 pub record IsGenerated (rounds : ℕ) (setting : Setting) (outcome : Outcome) (written written' : Option (List ℕ)) (shelf' : ShelfState) (kinds' : List Kind) : Type 0 where
   pub lines : outcome.lines ≡ 13 * rounds
   pub text : written' ≡ append_known written (text_for rounds setting)
-  pub summed : length (transcript setting None (made_script rounds)) < 2 ^ 64 → text_for rounds setting ≡ summary (ended (course_of setting None (made_script rounds)))
   pub told : IsTranscript rounds None setting outcome shelf' kinds'
   pub status : (outcome.status ≡ 1) ↔ (0 < errors_in (transcript setting None (made_script rounds)))
 

@@ -1,7 +1,8 @@
 -- What a run did, by its status.
-use Rattle.std.specs.Prelude.{◌≡◌, ℕ, ◌+◌, ◌^◌, ◌<◌, ◌≤◌, ◌↔◌, ◌⊎◌, List, [], ◌∷◌, ◌++◌, length, take, codes, Option, Some, None, true, false, ◌==◌, if◌then◌else◌}
+use Rattle.std.specs.Prelude.{◌≡◌, ℕ, ◌+◌, ◌-◌, ◌^◌, ◌<◌, ◌≤◌, ◌↔◌, ◌⊎◌, List, [], ◌∷◌, ◌++◌, length, take, codes, Option, Some, None, true, false, ◌==◌, if◌then◌else◌}
 use Rattle.std.specs.Io.KnownBytes.{prepend_known, append_known, IsAtEnd}
-use Rattle.pgs_io.specs.Lines.{lines_of, ended_lines}
+use Rattle.pgs_io.specs.declared.feeding.TheConstants.{MOST_READ}
+use Rattle.pgs_io.specs.Lines.{lines_of, ended_lines, text_of}
 use Rattle.pgs_world.specs.declared.program.Outcome.{Outcome}
 use Rattle.owner_kinds.specs.Kind.{Kind}
 use Rattle.reset_callbacks.specs.ShelfState.{ShelfState}
@@ -12,7 +13,8 @@ use Rattle.session_rules.specs.Transcript.{errors_in}
 use Rattle.pgs_turns.specs.Courses.{TakesInAll, TakesLines}
 use Rattle.pgs_turns.specs.Generating.{IsFront}
 use Rattle.pgs_turns.specs.Sweeping.{LeavesRun}
-use Rattle.pgs_turns.specs.Transcript.{Setting, transcript, kinds_after, shelf_after, text_in, EndsAt}
+use Rattle.pgs_turns.specs.Transcript.{Setting, course_of, transcript, kinds_after, shelf_after, text_in, EndsAt}
+use Rattle.pgs_world.specs.declared.printer.TheConstants.{GATHERED}
 
 -- what words ask for, the hooks that are on the shelf, and the extension kinds
 abbrev pub setting_for : Options → ShelfState → List Kind → Setting
@@ -93,12 +95,17 @@ pub record TakesSoFar (setting : Setting) (performed : ℕ) (left left' : Option
 abbrev pub AreWhole : ℕ → List ℕ → Option (List ℕ) → Type 0
 AreWhole lines bytes left = (lines ≤ length (ended_lines (take most_bytes bytes))) ⊎ ((length bytes ≤ most_bytes) × IsAtEnd left)
 
+-- What was read behind these lines is no more than one read gives, and the byte past the most of a script.
+abbrev pub IsLittleMore : List (List ℕ) → List ℕ → Type 0
+IsLittleMore lines bytes = length bytes ≤ length (text_of lines) + MOST_READ + 1
+
 -- Status 5 with a call: the transcript in which that call was refused, recovered from and followed by the ends of all sessions.
 pub record IsWanted (setting : Setting) (outcome : Outcome) (left left' written written' : Option (List ℕ)) (shelf' : ShelfState) (kinds' : List Kind) : Type 0 where
   pub bytes : List ℕ
   pub given : HasGiven bytes left left'
   pub short : length bytes ≤ most_bytes + 1
   pub whole_lines : AreWhole outcome.lines bytes left'
+  pub ahead : IsLittleMore (take outcome.lines (lines_of bytes)) bytes
   pub defined : EndsAt setting outcome.call (lines_of bytes) outcome.lines
   pub text : HasWritten setting (Some outcome.call) (lines_of bytes) written written'
   pub leaves : LeavesRun (Some outcome.call) setting (lines_of bytes) outcome.errors shelf' kinds'
@@ -126,18 +133,24 @@ pub record IsTooLong (setting : Setting) (outcome : Outcome) (left left' written
 abbrev pub refused_call : ℕ → Option ℕ
 refused_call call = if call == 0 then None else Some call
 
--- Status 4: the sink failed, and a front of the transcript of the lines that were performed was written.
+-- Status 4: the sink failed, and a front of the transcript of the lines that were performed was written. No line was performed behind a write
+-- that failed: but for the last line, perhaps, all that the lines said is in that front or was gathered to be written. Nothing more was read, unless
+-- all lines whose newline was read were performed.
 pub record IsUnwritten (setting : Setting) (outcome : Outcome) (left left' written written' : Option (List ℕ)) (shelf' : ShelfState) (kinds' : List Kind) : Type 0 where
   pub bytes : List ℕ
   pub given : HasGiven bytes left left'
   pub short : length bytes ≤ most_bytes + 1
   pub whole_lines : AreWhole outcome.lines bytes left'
+  pub ahead : IsLittleMore (take outcome.lines (lines_of bytes)) bytes ⊎ (take outcome.lines (lines_of bytes) ≡ ended_lines (take most_bytes bytes))
   pub read : outcome.lines ≤ length (lines_of bytes)
   pub front : List ℕ
   pub rest : List ℕ
   pub some : 0 < length rest
   pub parts : front ++ rest ≡ text_in setting (transcript setting (refused_call outcome.call) (take outcome.lines (lines_of bytes)))
   pub taken : written' ≡ append_known written front
+  pub last : ℕ
+  pub one : last ≤ 1
+  pub in_time : length (text_in setting (course_of setting (refused_call outcome.call) (take (outcome.lines - last) (lines_of bytes))).events) ≤ length front + GATHERED
   pub defined : 0 < outcome.call → EndsAt setting outcome.call (take outcome.lines (lines_of bytes)) outcome.lines
   pub leaves : LeavesRun (refused_call outcome.call) setting (take outcome.lines (lines_of bytes)) outcome.errors shelf' kinds'
 

@@ -26,7 +26,7 @@ texts_of-append names session (x ∷ xs) ys =
 pub texts_of-one : (names : List (List ℕ)) (session : ℕ) (what : What) → texts_of names session (what ∷ []) ≡ text_of names (record { session = session; what = what })
 texts_of-one names session what = append-nil (text_of names (record { session = session; what = what }))
 
-pub hands_more : (a b c : Gathering) (xs ys rest : List ℕ) → HandsOn a b xs b.gathered → HandsOn b c ys rest → HandsOn a c (xs ++ ys) rest
+abbrev pub hands_more : (a b c : Gathering) (xs ys rest : List ℕ) → HandsOn a b xs b.gathered → HandsOn b c ys rest → HandsOn a c (xs ++ ys) rest
 hands_more a b c xs ys rest p q = record {
   handed = p.handed ++ q.handed;
   parts = append_assoc p.handed q.handed rest ∙ ap (λ (z : List ℕ). p.handed ++ z) q.parts ∙ sym (append_assoc p.handed b.gathered ys)

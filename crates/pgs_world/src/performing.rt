@@ -1,11 +1,12 @@
 //! Reads a script line by line, and performs each line.
-ghost use Rattle.std.specs.Prelude.{◌≡◌, ℕ, List, [], true, false, IfSome, IfOk, IfErr, OnOk};
+ghost use Rattle.std.specs.Prelude.{◌≡◌, ◌≤◌, ℕ, List, [], length, true, false, IfSome, IfNone, IfOk, IfErr, OnOk};
+ghost use Rattle.pgs_io.specs.declared.feeding.TheConstants.{MOST_READ};
 ghost use Rattle.pgs_io.specs.Faults.{HasRisen};
 ghost use Rattle.pgs_io.specs.Lines.{IsKept};
 ghost use Rattle.pgs_io.specs.Feeding.{GivesLine};
 ghost use Rattle.pgs_command.specs.Lines.{read_line};
 ghost use Rattle.pgs_turns.specs.Script.{said_in};
-ghost use Rattle.pgs_world.specs.PrinterView.{ShowsEvents, TakesEvents};
+ghost use Rattle.pgs_world.specs.PrinterView.{IsGoing, ShowsEvents, ShowsInTime, TakesEvents};
 ghost use Rattle.pgs_turns.specs.World.{run_of, AreStanding, HaveDescriptors, IsOpening};
 ghost use Rattle.pgs_turns.specs.Turns.{HaveRoom, TakesTurn};
 ghost use Rattle.pgs_world.specs.Loop.{Performs, Meets, is_wanted_in, IsLineEnd, OnSourceFault, OnNoSourceFault, OnUnwritten};
@@ -50,7 +51,9 @@ pub(crate) fn perform_lines<S: Source, K: Sink, H: ResetHook, X: ExtKind>(
 ) -> Ended
     requires opening { IsOpening (run_of sessions.old shared.old) }
     requires standing { AreStanding 0 (run_of sessions.old shared.old) }
-    ensures performs { (descriptors : ℕ) → HaveDescriptors descriptors (run_of sessions.old shared.old) → Performs descriptors (run_of sessions.old shared.old) result (S.left src.old) (S.left src.new) (run_of sessions.new shared.new) (λ xs. ShowsEvents K.written K.faults printer.old xs printer.new) }
+    requires going { IsGoing printer.old }
+    ensures performs { (descriptors : ℕ) → HaveDescriptors descriptors (run_of sessions.old shared.old) → Performs descriptors (run_of sessions.old shared.old) result (S.left src.old) (S.left src.new) (run_of sessions.new shared.new)
+        (λ xs. ShowsEvents K.written K.faults printer.old xs printer.new) (λ xs ys. ShowsInTime K.written K.faults printer.old xs ys printer.new) }
     ensures standing { AreStanding 0 (run_of sessions.new shared.new) }
     ensures fault { OnSourceFault result.end (HasRisen (S.faults src.old) (S.faults src.new)) }
     ensures no_fault { OnNoSourceFault result.end (S.faults src.new ≡ S.faults src.old) }
@@ -94,12 +97,14 @@ fn next_line<S: Source, K: Sink>(
     requires { feed.old.ended ≡ false }
     ensures line { IfOk result (λ long. GivesLine (S.left src.old) (S.left src.new) feed.old feed.new buf.new long) }
     ensures goes_on { OnOk result (feed.new.ended ≡ false) }
+    ensures few { OnOk result (length feed.new.pending ≤ MOST_READ) }
     ensures same { OnOk result (S.faults src.new ≡ S.faults src.old) }
     ensures end { IfErr result (λ end. Meets end (S.left src.old) (S.left src.new) feed.old) }
     ensures fault { IfErr result (λ end. OnSourceFault end (HasRisen (S.faults src.old) (S.faults src.new))) }
     ensures no_fault { IfErr result (λ end. OnNoSourceFault end (S.faults src.new ≡ S.faults src.old)) }
     ensures unwritten { IfErr result (λ end. OnUnwritten end (printer.new.failed ≡ true)) }
     ensures printed { TakesEvents K.written K.faults printer.old [] printer.new }
+    ensures going { OnOk result (IsGoing printer.new) }
 {
     printer.flush();
     if printer.has_failed() {
@@ -123,10 +128,12 @@ fn perform_line<K: Sink, H: ResetHook, X: ExtKind>(
 ) -> Option<End>
     requires standing { AreStanding 0 (run_of sessions.old shared.old) }
     requires room { HaveRoom (run_of sessions.old shared.old) }
+    requires going { IsGoing printer.old }
     ensures turn { (line : List ℕ) → IsKept line kept.now long
         → TakesTurn (said_in (read_line line)) (run_of sessions.old shared.old) (run_of sessions.new shared.new) (λ xs. ShowsEvents K.written K.faults printer.old xs printer.new) (is_wanted_in result) }
     ensures standing { AreStanding 0 (run_of sessions.new shared.new) }
     ensures end { IfSome result (λ end. IsLineEnd end printer.new.failed) }
+    ensures going { IfNone result (IsGoing printer.new) }
 {
     if is_comment(kept) && !long && !sessions.is_empty() {
         return None;
@@ -145,10 +152,12 @@ fn perform_said<K: Sink, H: ResetHook, X: ExtKind>(
 ) -> Option<End>
     requires standing { AreStanding 0 (run_of sessions.old shared.old) }
     requires room { HaveRoom (run_of sessions.old shared.old) }
+    requires going { IsGoing printer.old }
     ensures turn { (line : List ℕ) → IsKept line kept.now long
         → TakesTurn (said_in (read_line line)) (run_of sessions.old shared.old) (run_of sessions.new shared.new) (λ xs. ShowsEvents K.written K.faults printer.old xs printer.new) (is_wanted_in result) }
     ensures standing { AreStanding 0 (run_of sessions.new shared.new) }
     ensures end { IfSome result (λ end. IsLineEnd end printer.new.failed) }
+    ensures going { IfNone result (IsGoing printer.new) }
 {
     let mut said = Said::unread();
     read_line(kept, long, &mut said);

@@ -58,8 +58,10 @@ impl<'a, K: Sink> Printer<'a, K> {
 
     /// Whether a write has failed.
     pub(crate) fn has_failed(&self) -> bool
-        ensures { result ≡ self.now.failed }
+        ensures failed { result ≡ self.now.failed }
+        ensures few { array_vec_len self.now.gathered ≤ GATHERED }
     {
+        prove!(self.gathered.len() <= GATHERED);
         self.failed
     }
 

@@ -3,13 +3,10 @@ ghost use Rattle.std.specs.Prelude.{◌≡◌, ◌≤◌, [], vec_capacity, OnOk
 ghost use Rattle.pgs_world.specs.Sweep.{IsRead};
 ghost use Rattle.pgs_world.specs.SweepSteps.{IsUnread};
 
-use pgs_io::Source;
+use pgs_io::{MOST_READ, Source};
 
 /// The most bytes that a script has which is swept.
 pub(crate) const MOST_SWEPT: usize = 1 << 16;
-
-/// The most bytes that one read asks for.
-const CHUNK: usize = 512;
 
 /// Why a script was not read whole.
 #[derive(Clone, Copy, PartialEq, Eq)]
@@ -28,9 +25,9 @@ pub(crate) fn read_script<S: Source>(src: &mut S, script: &mut Vec<u8>) -> Resul
     ensures no_fault { OnOk result (S.faults src.new ≡ S.faults src.old) }
     ensures unread { IfErr result (λ why. IsUnread why (S.left src.old) (S.left src.new) (S.faults src.old) (S.faults src.new)) }
 {
-    let mut chunk = [0; CHUNK];
+    let mut chunk = [0; MOST_READ];
     loop {
-        let most = (MOST_SWEPT + 1 - script.len()).min(CHUNK);
+        let most = (MOST_SWEPT + 1 - script.len()).min(MOST_READ);
         let Ok(count) = src.read(&mut chunk[..most]) else {
             return Err(Unread::Fault);
         };

@@ -1,5 +1,5 @@
 -- What is told of whole runs in place of their transcripts: of a script that is made, and of one with each call failing in turn.
-use Rattle.std.specs.Prelude.{ℕ, zero, suc, ◌+◌, ◌*◌, ◌%◌, ◌==◌, min, if◌then◌else◌, List, [], ◌∷◌, ◌++◌, length, codes, decimal, None}
+use Rattle.std.specs.Prelude.{ℕ, zero, suc, ◌+◌, ◌-◌, ◌*◌, ◌^◌, ◌%◌, ◌==◌, min, if◌then◌else◌, List, [], ◌∷◌, ◌++◌, length, codes, decimal, None}
 use Rattle.pgs_command.specs.Lines.{read_line}
 use Rattle.owner_kinds.specs.Kind.{Kind}
 use Rattle.reset_callbacks.specs.ShelfState.{ShelfState, renewed}
@@ -34,11 +34,18 @@ made_script (suc n) = made_script n ++ made_lines (n + 1)
 unfoldable pub whole_run : ℕ → Options → List Kind → ShelfState → List (List ℕ) → Course
 whole_run fail options kinds shelf lines = ended (course_by read_line None (record options { fail = fail }) kinds shelf lines)
 
+-- the count of events stays at this number once it would pass it
+abbrev pub most_counted : ℕ
+most_counted = 2 ^ 64 - 1
+
+-- how many lines were performed, and how many events, ERROR events and fallible calls there were
+abbrev pub numbers : ℕ → ℕ → ℕ → ℕ → List ℕ
+numbers lines events errors calls =
+    codes "generated " ++ (decimal lines ++ (codes " lines, " ++ (decimal events ++ (codes " events, " ++ (decimal errors ++ (codes " errors, " ++ (decimal calls ++ codes " calls\n")))))))
+
 -- what is told of the script that is made
 abbrev pub summary : Course → List ℕ
-summary course =
-    codes "generated " ++ (decimal course.performed ++ (codes " lines, " ++ (decimal (length course.events)
-    ++ (codes " events, " ++ (decimal (errors_in course.events) ++ (codes " errors, " ++ (decimal course.world.calls ++ codes " calls\n")))))))
+summary course = numbers course.performed (min (length course.events) most_counted) (errors_in course.events) course.world.calls
 
 unfoldable pub generated : ℕ → Options → List Kind → ShelfState → List ℕ
 generated n options kinds shelf = summary (whole_run options.fail options kinds shelf (made_script n))

@@ -1,4 +1,4 @@
-use Rattle.std.proofs.Common.{◌≡◌, ◌≤◌, ◌^◌, length, take, ap, arith, length-take}
+use Rattle.std.proofs.Common.{◌≤◌, ◌^◌, length, take, ap, arith, length-take}
 use Rattle.pgs_io.specs.Lines.{lines_of}
 use Rattle.pgs_turns.specs.World.{run_of}
 use Rattle.pgs_turns.specs.declared.counter.Counter.{Counter}

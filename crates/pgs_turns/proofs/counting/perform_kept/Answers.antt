@@ -1,4 +1,4 @@
-use Rattle.std.proofs.Common.{◌≡◌, refl, subst}
+use Rattle.std.proofs.Common.{refl, subst}
 use Rattle.pgs_turns.specs.Counting.{TakesEvents}
 use Rattle.pgs_turns.specs.declared.lines.Said.{Said}
 use Rattle.pgs_turns.specs.Turns.{TakesTurn}

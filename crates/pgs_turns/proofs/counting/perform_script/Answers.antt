@@ -1,4 +1,4 @@
-use Rattle.std.proofs.Common.{◌≡◌, ◌≤◌, ◌+◌, ◌^◌, ℕ, false, length, take, refl, ◌∙◌, arith, length-take}
+use Rattle.std.proofs.Common.{◌≤◌, ◌^◌, false, length, take, refl, ◌∙◌, arith, length-take}
 use Rattle.std.proofs.lemmas.Bool.Decides.{nat_tests}
 use Rattle.pgs_io.specs.Lines.{lines_of}
 use Rattle.pgs_turns.specs.World.{run_of}

@@ -1,4 +1,4 @@
-use Rattle.std.proofs.Common.{◌≡◌, ℕ, false, take}
+use Rattle.std.proofs.Common.{ℕ, false, take}
 use Rattle.session_rules.specs.Modes.{made_script}
 use Rattle.pgs_turns.specs.World.{run_of, AreStanding, HaveDescriptors}
 use Rattle.pgs_turns.specs.Courses.{HasPerformed}

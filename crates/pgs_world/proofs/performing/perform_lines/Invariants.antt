@@ -1,10 +1,10 @@
 use Rattle.std.proofs.Common.{◌≡◌, ◌+◌, ℕ, List, length, false}
-use Rattle.pgs_world.specs.PrinterView.{ShowsEvents}
+use Rattle.pgs_world.specs.PrinterView.{IsGoing, ShowsEvents}
 use Rattle.pgs_turns.specs.World.{run_of, AreStanding, HaveDescriptors}
 use Rattle.pgs_world.specs.Loop.{Stands}
 use Rattle.pgs_world.proofs.performing.perform_lines.Given as goal
 
--- the lines so far were performed, the sessions stand, the source has not failed, and the feed goes on
+-- the lines so far were performed, the sessions stand, the source has not failed, the feed goes on, and no write has failed
 abbrev pub invariant-loop-line : goal.invariant-loop-line
 invariant-loop-line g l =
     (lines : List (List ℕ))
@@ -13,6 +13,7 @@ invariant-loop-line g l =
     × (g.S.Source.faults l.src ≡ g.S.Source.faults l.initial.src)
     × AreStanding 0 (run_of l.sessions l.shared)
     × (l.feed.ended ≡ false)
+    × IsGoing l.printer
 
 -- the bytes that may still be given
 abbrev pub decreases-loop-line : goal.decreases-loop-line

@@ -1,20 +1,22 @@
-use Rattle.std.proofs.Common.{◌≡◌, ℕ, ◌^◌, ◌<◌, List, length, Option, Some, sym, ◌∙◌, ap, subst, arith, ◌⊎◌}
+use Rattle.std.proofs.Common.{◌≡◌, ℕ, ◌+◌, ◌^◌, ◌<◌, ◌≤◌, true, List, ◌++◌, length, Option, Some, sym, ◌∙◌, ap, subst, arith, ◌⊎◌}
+use Rattle.std.specs.Io.KnownBytes.{append_known}
 use Rattle.pgs_step.specs.declared.events.Event.{Event}
-use Rattle.session_rules.specs.Transcript.{errors_in}
+use Rattle.session_rules.specs.Transcript.{errors_in, text_of_transcript}
 use Rattle.pgs_turns.specs.Turns.{Fits}
-use Rattle.pgs_turns.specs.Transcript.{Setting, course_of, EndsAt, names_of, transcript}
+use Rattle.pgs_turns.specs.Transcript.{Setting, course_of, EndsAt, names_of, text_in, transcript}
 use Rattle.pgs_turns.specs.Courses.{IsOver}
 use Rattle.pgs_turns.specs.World.{HaveDescriptors, Run, run_of, setting_of}
 use Rattle.pgs_turns.proofs.ErrorLemmas.{few_errors}
 use Rattle.pgs_turns.proofs.OverLemmas.{fit_of, run_over}
 use Rattle.pgs_world.specs.Loop.{Performs, is_wanted}
 use Rattle.pgs_world.specs.Plays.{Ends, outside}
-use Rattle.pgs_world.specs.PrinterView.{ShowsEvents, seen}
+use Rattle.pgs_world.specs.PrinterView.{ShowsEvents, ShowsInTime, seen}
 use Rattle.pgs_world.specs.PrinterLaws.{ShowsEvents-both, ShowsEvents-flush}
 use Rattle.pgs_world.specs.Ending.{outcome_of}
+use Rattle.pgs_world.specs.declared.printer.TheConstants.{GATHERED}
 use Rattle.pgs_world.specs.declared.program.Outcome.{Outcome}
 use Rattle.pgs_world.proofs.CountLemmas.{taken_all, taken_given}
-use Rattle.pgs_world.proofs.EndingLemmas.{Facts, Printed, called_of, ended_whole, met_none, performed_by, printed_all, printed_told, stays_failed, unwritten_leads}
+use Rattle.pgs_world.proofs.EndingLemmas.{Facts, Late, Printed, called_of, ended_whole, late_front, met_none, performed_by, printed_all, printed_told, stays_failed, transcript_is, unwritten_leads}
 use Rattle.pgs_world.proofs.program.play_started.Goals as goal
 use Rattle.pgs_world.proofs.program.play_started.Given.{Over}
 
@@ -34,6 +36,7 @@ module _ (g : Over) (c : goal.After-made_outcome g) (descriptors : ℕ) (has : H
 
   performs : Performs descriptors first c.perform_lines-ended.result (g.S.Source.left c.args.src.now) (g.S.Source.left c.perform_lines-ended.new.src) behind
       (λ xs. ShowsEvents g.K.Sink.written g.K.Sink.faults c.new-printer.result xs c.perform_lines-ended.new.printer)
+      (λ xs ys. ShowsInTime g.K.Sink.written g.K.Sink.faults c.new-printer.result xs ys c.perform_lines-ended.new.printer)
   performs = c.perform_lines-ended.ensures.performs descriptors has
 
   over : IsOver descriptors first last (λ xs. ShowsEvents g.K.Sink.written g.K.Sink.faults c.new-printer.result xs c.flush.new.self) performs.lines (is_wanted c.perform_lines-ended.result.end)
@@ -56,9 +59,36 @@ module _ (g : Over) (c : goal.After-made_outcome g) (descriptors : ℕ) (has : H
       let few : errors_in (transcript setting w performs.lines) < 2 ^ 64 = omega (arith, few_errors setting w performs.lines, performs.count) in
       let small : c.flush.new.self.errors < 2 ^ 64 = omega (arith, c.errors.ensures) in
       printed_told (names_of setting.kinds) c.new-printer.result.names.now g.K.Sink.written g.K.Sink.faults c.args.out.now c.new-printer.result.sink.now c.out-1.given.0 c.flush.new.self.sink.now c.errors.result c.flush.new.self.errors c.has_failed.result c.flush.new.self.failed (transcript setting w performs.lines)
-      (sym (c.new-printer.ensures.names ∙ c.requires.names)) c.new-printer.ensures.sink same c.errors.ensures c.has_failed.ensures
+      (sym (c.new-printer.ensures.names ∙ c.requires.names)) c.new-printer.ensures.sink same c.errors.ensures c.has_failed.ensures.failed
       (printed_all (seen g.K.Sink.written g.K.Sink.faults c.new-printer.result) (seen g.K.Sink.written g.K.Sink.faults c.flush.new.self) (transcript setting w performs.lines) (over.emits w f).shows
       c.new-printer.ensures.gathered c.new-printer.ensures.failed c.new-printer.ensures.errors c.flush.ensures.emptied small few)
+
+  -- what a sink that failed has
+  late : c.has_failed.result ≡ true → (w : Option ℕ) → Fits (is_wanted c.perform_lines-ended.result.end) last.calls.count w
+      → Late setting w performs.lines (g.K.Sink.written c.args.out.now) (g.K.Sink.written c.out-1.given.0)
+  late fails w f =
+      let there : Fits (is_wanted c.perform_lines-ended.result.end) behind.calls.count w = subst (λ (n : ℕ). Fits (is_wanted c.perform_lines-ended.result.end) n w) (ap (λ calls. calls.count) c.exit_all.ensures.exits.calls) f in
+      let ends = performs.ends_in_time w there in
+      let left = c.exit_all.ensures.exits.leads descriptors performs.performed.has (course_of setting w performs.lines) (performs.performed.courses w there).world_is in
+      let before : List Event = (course_of setting w ends.earlier).events in
+      let since = ShowsEvents-flush g.K.Sink.written g.K.Sink.faults ends.shown.between c.exit_all.new.out c.flush.new.self (ends.since ++ left.0)
+      (ShowsEvents-both g.K.Sink.written g.K.Sink.faults ends.shown.between c.perform_lines-ended.new.printer c.exit_all.new.out ends.since left.0 ends.shown.since_shown left.2) c.flush.ensures.bytes in
+      let front = late_front (seen g.K.Sink.written g.K.Sink.faults c.new-printer.result) (seen g.K.Sink.written g.K.Sink.faults ends.shown.between) (seen g.K.Sink.written g.K.Sink.faults c.flush.new.self)
+      before (ends.since ++ left.0) ends.shown.before_shown.shows since.shows c.new-printer.ensures.gathered c.new-printer.ensures.failed ends.shown.going.going ends.shown.going.few (sym c.has_failed.ensures.failed ∙ fails) in
+      let names : c.new-printer.result.names.now ≡ names_of setting.kinds = c.new-printer.ensures.names ∙ c.requires.names in
+      record {
+        front = front.0;
+        rest = front.1;
+        some = front.2;
+        parts = front.3 ∙ ap (λ (names : List (List ℕ)). text_of_transcript names (before ++ (ends.since ++ left.0))) names
+            ∙ ap (text_in setting) (sym (transcript_is setting w performs.lines before ends.since left.0 ends.events left.1));
+        taken = ap g.K.Sink.written same ∙ front.4 ∙ ap (λ k. append_known (g.K.Sink.written k) front.0) c.new-printer.ensures.sink;
+        earlier = ends.earlier;
+        last = ends.last;
+        one = ends.one;
+        lines_are = ends.lines_are;
+        in_time = subst (λ (names : List (List ℕ)). length (text_of_transcript names before) ≤ length front.0 + GATHERED) names front.5;
+      }
 
   -- what the ends of the sessions showed
   ends_shown : (xs : List Event) × ShowsEvents g.K.Sink.written g.K.Sink.faults c.perform_lines-ended.new.printer xs c.exit_all.new.out
@@ -80,8 +110,9 @@ module _ (g : Over) (c : goal.After-made_outcome g) (descriptors : ℕ) (has : H
     stopped = λ h. subst (λ (n : ℕ). EndsAt setting last.calls.count performs.lines n) (sym performs.count) (over.stopped h);
     called = over.called;
     silent = unwritten_leads c.perform_lines-ended.result.end _ _
-        (λ h. c.has_failed.ensures ∙ stays_failed _ _ _ _ _ (stays_failed _ _ _ _ _ h ends_shown.1.shows.bytes) c.flush.ensures.bytes.moves)
+        (λ h. c.has_failed.ensures.failed ∙ stays_failed _ _ _ _ _ (stays_failed _ _ _ _ _ h ends_shown.1.shows.bytes) c.flush.ensures.bytes.moves)
         c.perform_lines-ended.ensures.unwritten;
+    late = late;
   }
 
 pub returns : goal.returns

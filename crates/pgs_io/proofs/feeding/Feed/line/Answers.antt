@@ -21,14 +21,14 @@ loop-long-init g c = record { begun = Begun-start _ _ _ c.clear.ensures; no_faul
 
 pub returns-then-part-clause-line : goal.returns-then-part-clause-line
 returns-then-part-clause-line g c =
-    Begun-ended _ _ _ _ _ _ _ _ _ c.loop-long.invariant.begun (rw c.if-part.true at c.take_part-part.ensures)
+    Begun-ended _ _ _ _ _ _ _ _ _ c.loop-long.invariant.begun (rw c.if-part.true at c.take_part-part.ensures.part)
 
 pub returns-then-part-clause-ended : goal.returns-then-part-clause-ended
-returns-then-part-clause-ended g c = ended_of c.take_part-part.ensures.same ∙ c.loop-long.invariant.ended
+returns-then-part-clause-ended g c = ended_of c.take_part-part.ensures.part.same ∙ c.loop-long.invariant.ended
 
 pub loop-long-preserved : goal.loop-long-preserved
 loop-long-preserved g c =
-    let part = rw c.if-part.false at c.take_part-part.ensures in
+    let part = rw c.if-part.false at c.take_part-part.ensures.part in
     let more = c.in-Bytes.ensures.cases in
     record {
       begun = Begun-filled _ _ _ _ _ _ _ _ (Begun-part _ _ _ _ _ _ _ _ _ c.loop-long.invariant.begun part) part.pending.1 more;
@@ -39,29 +39,29 @@ loop-long-preserved g c =
 
 pub returns-in-End-clause-end : goal.returns-in-End-clause-end
 returns-in-End-clause-end g c =
-    let part = rw c.if-part.false at c.take_part-part.ensures in
+    let part = rw c.if-part.false at c.take_part-part.ensures.part in
     let met = c.in-End.ensures.cases in
     Begun-end _ _ _ _ _ _ _ (Begun-part _ _ _ _ _ _ _ _ _ c.loop-long.invariant.begun part) part.pending.1 met.0 met.2
     (is_zero _ _ (ap length c.as_slice.ensures.bytes) (sym c.if-is_empty.ensures))
 
 pub returns-in-End-2-clause-line : goal.returns-in-End-2-clause-line
 returns-in-End-2-clause-line g c =
-    let part = rw c.if-part.false at c.take_part-part.ensures in
+    let part = rw c.if-part.false at c.take_part-part.ensures.part in
     let met = c.in-End-2.ensures.cases in
     Begun-last _ _ _ _ _ _ _ (Begun-part _ _ _ _ _ _ _ _ _ c.loop-long.invariant.begun part) part.pending.1 met.0 _ met.1 met.2
     (not_zero _ _ (ap length c.as_slice.ensures.bytes) (sym c.if-is_empty.ensures))
 
 pub returns-in-End-2-clause-ended : goal.returns-in-End-2-clause-ended
-returns-in-End-2-clause-ended g c = c.in-End-2.ensures.ended ∙ ended_of c.take_part-part.ensures.same ∙ c.loop-long.invariant.ended
+returns-in-End-2-clause-ended g c = c.in-End-2.ensures.ended ∙ ended_of c.take_part-part.ensures.part.same ∙ c.loop-long.invariant.ended
 
 pub returns-in-Fault-clause-at_fault : goal.returns-in-Fault-clause-at_fault
 returns-in-Fault-clause-at_fault g c =
-    let part = rw c.if-part.false at c.take_part-part.ensures in
+    let part = rw c.if-part.false at c.take_part-part.ensures.part in
     let met = c.in-Fault.ensures.cases in
     Begun-fault _ _ _ _ _ _ _ (Begun-part _ _ _ _ _ _ _ _ _ c.loop-long.invariant.begun part) part.pending.1 met.0 met.2 met.3
 
 pub returns-in-TooLong-clause-too_long : goal.returns-in-TooLong-clause-too_long
 returns-in-TooLong-clause-too_long g c =
-    let part = rw c.if-part.false at c.take_part-part.ensures in
+    let part = rw c.if-part.false at c.take_part-part.ensures.part in
     let met = c.in-TooLong.ensures.cases in
     Begun-limit _ _ _ _ _ _ _ (Begun-part _ _ _ _ _ _ _ _ _ c.loop-long.invariant.begun part) part.pending.1 met.0 met.2 met.3

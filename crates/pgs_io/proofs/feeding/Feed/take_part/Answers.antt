@@ -4,8 +4,8 @@ use Rattle.pgs_io.specs.Lines.{newline}
 use Rattle.pgs_io.proofs.feeding.Feed.take_part.Goals as goal
 
 -- the part before the newline goes to the buffer, and what is behind it stays
-pub returns-in-Some : goal.returns-in-Some
-returns-in-Some c =
+pub returns-in-Some-clause-part : goal.returns-in-Some-clause-part
+returns-in-Some-clause-part c =
     let inside = c.self.inside in
     let pending = slice_range inside.chunk inside.start inside.end in
     let part = take c.in-Some.at pending in
