@@ -6,7 +6,6 @@ mod hex_bytes;
 mod kinds;
 mod lines;
 mod picks;
-mod rows;
 mod values;
 mod words;
 

@@ -4,8 +4,7 @@ ghost use Rattle.pgs_io.specs.Lines.{IsKept};
 ghost use Rattle.pgs_command.specs.Lines.{prefix_of, session_of, text_of, is_comment, short_command, said, read_line};
 ghost use Rattle.pgs_command.specs.Ranges.{IsSession, IsInRange};
 
-use crate::commands::Command;
-use crate::rows::read_command;
+use crate::commands::{Command, read_command};
 
 /// A line of a script.
 #[derive(Debug, Drop, PartialEq, Eq)]

@@ -4,7 +4,7 @@ use Rattle.pgs_command.specs.Words.{words_in, words_of}
 use Rattle.pgs_command.specs.Ranges.{IsInRange}
 use Rattle.pgs_command.proofs.RangeLemmas.{command_of-in_range}
 use Rattle.pgs_command.proofs.TableLemmas.{command_of-table}
-use Rattle.pgs_command.proofs.rows.read_command.Goals as goal
+use Rattle.pgs_command.proofs.commands.read_command.Goals as goal
 
 pub returns-clause-value : goal.returns-clause-value
 returns-clause-value c =

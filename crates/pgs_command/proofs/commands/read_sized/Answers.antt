@@ -1,7 +1,7 @@
 use Rattle.std.proofs.Common.{refl}
 use Rattle.pgs_command.specs.Table.{transaction_rows, item_rows, context_rows, chunk_rows, lock_rows, snapshot_rows, plan_rows, portal_rows, tell_rows}
 use Rattle.pgs_command.proofs.TableLemmas.{past, within, nowhere, of_whole}
-use Rattle.pgs_command.proofs.rows.read_sized.Goals as goal
+use Rattle.pgs_command.proofs.commands.read_sized.Goals as goal
 
 pub returns-then-read_transaction : goal.returns-then-read_transaction
 returns-then-read_transaction g c = of_whole _ _ _ _ c.requires (within transaction_rows _ _ _ _ c.if-read_transaction.ensures.found (c.if-read_transaction.ensures.written refl))
