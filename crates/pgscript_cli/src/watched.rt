@@ -19,7 +19,9 @@ pub struct Watched<'a, K: Sink, R> {
 
 impl<'a, K: Sink, R: Clock + Eprint> Watched<'a, K, R> {
     /// A sink before this one. Where nobody `watches` it tells nothing.
-    pub fn new(sink: K, watches: bool, rt: &'a R) -> Watched<'a, K, R> {
+    pub fn new(sink: K, watches: bool, rt: &'a R) -> Watched<'a, K, R>
+        ensures { result.sink ≡ sink }
+    {
         let told = if watches { Instant::now(rt).ok() } else { None };
         Watched {
             sink,
