@@ -2,6 +2,8 @@
 #![tactic(auto)]
 
 #[cfg(test)]
+mod aligned;
+#[cfg(test)]
 mod any_kinds;
 #[cfg(test)]
 mod blocks;
