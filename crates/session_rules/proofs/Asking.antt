@@ -1,10 +1,7 @@
 -- What elements ask together, and a script with a line more.
 use Rattle.session_rules.proofs.Base.{◌≡◌, ◌≢◌, ℕ, ◌+◌, ◌==◌, Bool, true, false, if◌then◌else◌, List, [], ◌∷◌, ◌++◌, Option, Some, None, refl, sym, ap, arith, zero-add, nat_tests}
 use Rattle.session_rules.proofs.Below.{Error, Kind, ShelfState, Command}
-use Rattle.session_rules.proofs.Rules.{SessionState, Element, does, does_all}
-use Rattle.session_rules.specs.World.{Options, Moment, moment}
-use Rattle.session_rules.specs.Transcript.{Course, Reading, after_line, course_by, goes_on}
-use Rattle.session_rules.specs.Asked.{asked, asked_all, asked_by, asked_by_command, asked_by_line, asked_by_read, asked_by_turn, asked_in_all, asked_on, asks_in, then_asked, where_done}
+use Rattle.session_rules.proofs.Rules.{SessionState, Element, does, does_all, Options, Moment, moment, Course, Reading, after_line, course_by, goes_on, asked, asked_all, asked_by, asked_by_command, asked_by_line, asked_by_read, asked_by_turn, asked_in_all, asked_on, asks_in, then_asked, where_done}
 
 -- what an element asks, by how it was answered
 pub asked_so : (w : Option ℕ) (x : Element) (m : Moment) (r : Option Error) → (does w x m).refusal ≡ r → asked w x m ≡ where_done r (asks_in x m.scene)

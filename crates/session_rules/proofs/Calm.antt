@@ -1,9 +1,7 @@
 -- How many ERROR events there are: a line says at most one, and the end of a session none.
 use Rattle.session_rules.proofs.Base.{◌≡◌, ℕ, ◌+◌, ◌≤◌, Bool, true, false, not, cond, List, [], ◌∷◌, ◌++◌, count_by, Option, Some, None, refl, ◌∙◌, ap, arith, sum_by-append, sum_by-cons}
 use Rattle.session_rules.proofs.Below.{Error, What, Command}
-use Rattle.session_rules.proofs.Rules.{is_aborted, top_context, Moment, Scene, Ended, context_gone, for_each, in_order, switched, where_so, Done, does_all, exited, given_up, level_rolled_back, recovered}
-use Rattle.pgs_step.specs.declared.events.What.TheVariants as what
-use Rattle.session_rules.specs.Transcript.{is_error, line_elements, turn, turn_of}
+use Rattle.session_rules.proofs.Rules.{is_aborted, top_context, Moment, Scene, Ended, context_gone, for_each, in_order, switched, where_so, Done, does_all, exited, given_up, level_rolled_back, recovered, is_error, line_elements, turn, turn_of}
 use Rattle.session_rules.proofs.Ordinary.{elements_ordinary, gone_ordinary, is_ordinary, recovery_ordinary, rollback_ordinary}
 use Rattle.session_rules.proofs.Said.{AreSaid, said_more, said_none}
 use Rattle.session_rules.proofs.Spoken.{line_spoken}
@@ -12,7 +10,7 @@ errors_of_both : (xs ys : List What) → count_by is_error (xs ++ ys) ≡ count_
 errors_of_both xs ys = sum_by-append (λ x. cond (is_error x) 1 0) xs ys
 
 no_error : (event : What) → is_ordinary event ≡ true → is_error event ≡ false
-no_error (what.Error error) h = absurd (cc h)
+no_error (What.Error error) h = absurd (cc h)
 no_error other h = refl
 
 no_errors : {events : List What} → AreSaid is_ordinary events → count_by is_error events ≡ 0
@@ -23,7 +21,7 @@ no_errors (said_more {event = event} {events = events} h hs) =
 -- a recovery says the one ERROR event
 recovered_errors : (error : Error) (scene : Scene) → count_by is_error (recovered error scene).events ≡ 1
 unfolding recovered
-recovered_errors error scene = errors_of_both (what.Error error ∷ []) (in_order (where_so (not (is_aborted scene.session.levels)) (given_up scene.session.levels) ∷ []) scene).events ∙ omega (arith, no_errors (recovery_ordinary scene))
+recovered_errors error scene = errors_of_both (What.Error error ∷ []) (in_order (where_so (not (is_aborted scene.session.levels)) (given_up scene.session.levels) ∷ []) scene).events ∙ omega (arith, no_errors (recovery_ordinary scene))
 
 -- a line
 turn_of_errors : (done : Done) (refusal : Option Error) → AreSaid is_ordinary done.events → count_by is_error (turn_of done refusal).events ≤ 1
@@ -43,5 +41,5 @@ unfolding exited
 exited_errors scene =
     let rolled : Ended = for_each level_rolled_back scene.session.levels scene in
     let gone : List What = (context_gone top_context (switched top_context rolled.scene).scene).events in
-    errors_of_both rolled.events (gone ++ (what.Exit ∷ []))
-    ∙ omega (arith, no_errors (rollback_ordinary scene), errors_of_both gone (what.Exit ∷ []), no_errors (gone_ordinary top_context (switched top_context rolled.scene).scene))
+    errors_of_both rolled.events (gone ++ (What.Exit ∷ []))
+    ∙ omega (arith, no_errors (rollback_ordinary scene), errors_of_both gone (What.Exit ∷ []), no_errors (gone_ordinary top_context (switched top_context rolled.scene).scene))

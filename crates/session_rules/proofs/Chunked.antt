@@ -1,10 +1,7 @@
 -- Calls on chunks change one context, and leave its hooks and whose it is.
 use Rattle.session_rules.proofs.Base.{◌≡◌, ℕ, Option, Some, None, List, refl, Result, Ok, Err, option_map_or}
-use Rattle.session_rules.proofs.Below.{changed, Context, Contexts, Found, found}
-use Rattle.chunk_header.specs.declared.CtxError.{CtxError}
-use Rattle.chunk_header.specs.Answers.{Taken, Resized}
-use Rattle.any_ctx.specs.Ledgers.{Ledger, Place, give}
-use Rattle.context_rules.specs.Chunks.{allocated, freed, freed_in, from_ok, refitted, resized, resized_in, served, with_changed, with_chunk, with_size, without, written, written_over}
+use Rattle.session_rules.proofs.Below.{changed, Context, Contexts, Found, found, CtxError, Taken, Resized, Ledger, Place, give, allocated, freed, freed_in, from_ok, refitted, resized, resized_in, served, with_changed, with_chunk, with_size, written, written_over}
+use Rattle.context_rules.specs.Chunks.{without}
 
 pub record LeavesHooks (f : Context → Context) : Type 0 where
   pub hooks : (c : Context) → (f c).hooks ≡ c.hooks

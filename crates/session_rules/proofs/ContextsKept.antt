@@ -1,9 +1,8 @@
 -- What the calls on contexts keep of them.
 use Rattle.session_rules.proofs.Base.{◌≡◌, ◌≢◌, ℕ, ◌+◌, ◌≤◌, ◌<◌, Bool, true, false, Option, Some, None, List, refl, sym, ap, ◌∙◌, inl, inr, arith, ◌==◌, option_map_or, cases_eq, both_ways, false_from_ne_true, or_parts, nat_tests}
 use Rattle.session_rules.proofs.Below.{Empty, has, times, Once, at, children, parent_of, is_above, removed, changed, moved, with_children, times_some, has_some, at_some, has_of_removed, Moves, once_put, once_changed, times_moved, has_changed, above_by_parent, above_none, at_moved, parent_changed, at_changed, at_changed_other, CtxKind, Context, Contexts, new_context, is_protected, is_empty, created, reparented, emptied, is_within}
-use Rattle.session_rules.proofs.Rules.{abort_context, top_context, IsFresh, IsOfSession, AreContexts}
+use Rattle.session_rules.proofs.Rules.{abort_context, top_context, IsFresh, IsOfSession, AreContexts, AreGuarded}
 use Rattle.context_rules.specs.Ends as ends
-use Rattle.session_rules.specs.Guarded.{AreGuarded}
 use Rattle.session_rules.proofs.Forests.{parent_left, at_left, once_left, times_emptied, once_emptied, at_emptied, parent_emptied, has_put_other, at_put_other, parent_put_other, at_put, children_put, parent_put}
 use Rattle.session_rules.proofs.Guarded.{all_removed, all_emptied, all_put, all_changed, all_moved, guarded_removed, guarded_emptied, guarded_put, guarded_put_own, guarded_changed, guarded_moved, own_apart, own_has, rooted_removed, rooted_emptied, rooted_put, rooted_changed, rooted_moved, top_own, top_parent, all_gone}
 

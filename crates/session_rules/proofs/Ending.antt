@@ -1,9 +1,7 @@
 -- A session of which the deepest level ends, on its way through the portals.
 use Rattle.session_rules.proofs.Base.{◌≡◌, All, ◌≢◌, ℕ, ◌+◌, find, true, false, Option, Some, None, List, [], ◌∷◌, ◌++◌, refl, sym, ap, ◌∙◌, subst, inl, inr, arith, if◌then◌else◌, option_map_or, cases_eq, cases_Bool, All-head, All-tail, All-weaker, nat_tests}
-use Rattle.session_rules.proofs.Below.{Empty, Once, has, at, children, parent_of, changed, removed, at_some, at_absent, has_changed, at_changed, at_changed_other, parent_changed, children_changed, Item, KindId, ShelfState, Contexts, is_protected, gone, handed_in, Kind, KindTable, IsSoundTable, table_of, is_of, without_newest, Owner, OwnerTree, forgotten, has_begun, IsSound, once_of, sound_forgotten, Lock}
+use Rattle.session_rules.proofs.Below.{Empty, Once, has, at, children, parent_of, changed, removed, at_some, at_absent, has_changed, at_changed, at_changed_other, parent_changed, children_changed, Item, KindId, ShelfState, Contexts, is_protected, gone, handed_in, Kind, KindTable, IsSoundTable, table_of, is_of, without_newest, Owner, OwnerTree, forgotten, has_begun, IsSound, once_of, sound_forgotten, Lock, What, All-without}
 use Rattle.session_rules.proofs.Rules.{LevelState, OpenPortal, StandingPlan, cache_context, plan_reference, portals_context, Scene, newest, portals_but, Ended, changes, context_gone, for_each, in_order, portal_gone, say, where_there, given_back, item_released, AreContexts, AreLevels, ArePlans, HasItems, IsItem, IsPlace, IsPortal, IsRow, referred, AreEnding, Ending, IsDone, IsLoose}
-use Rattle.pgs_step.specs.declared.events.What.TheVariants as what
-use Rattle.owner_items.proofs.Order.{All-without}
 use Rattle.session_rules.proofs.Kept.{all_changed, IsSame, contexts_level_gone, off_outside, same_removed, hooks_ended, parts_gone, held_forgotten, levels_stay, lone_changed, lone_left, levels_apart, plans_moved, but_one, different_without, others_back, others_front, owner_split, IsRowOf, attached_by, off_levels, off_rows, place_same, place_spared, row_left, row_of, Fits, Settles, besides_of, item_settles}
 
 -- what an end changes on this way
@@ -103,7 +101,7 @@ module _ (level : LevelState) (levels done : List LevelState) where
   item_goes o kind key front back s there h = go (newest o kind key s.session) refl
     where
       go : (i : Option Item) → newest o kind key s.session ≡ i
-          → Goes level levels done front back s (where_there i (λ item. in_order (changes (λ session. record session { owners = forgotten o kind key session.owners }) ∷ say (what.Release item o) ∷ given_back item ∷ [])) s).scene
+          → Goes level levels done front back s (where_there i (λ item. in_order (changes (λ session. record session { owners = forgotten o kind key session.owners }) ∷ say (What.Release item o) ∷ given_back item ∷ [])) s).scene
       go None e = goes_nothing level levels done front back s h
       go (Some item) e =
           let x : OwnerTree = s.session.owners in

@@ -1,9 +1,7 @@
 -- The ends of levels and of sessions lead from a session that stands to one that stands.
 use Rattle.session_rules.proofs.Base.{◌≡◌, ◌≢◌, ℕ, ◌<◌, ◌≤◌, ◌-◌, Bool, true, false, Option, Some, None, List, [], ◌∷◌, refl, sym, ap, ◌∙◌, subst, inl, inr, arith, ◌==◌, ◌+◌, ◌⊎◌, not, unwrap_or, length, map, All, All-nil, All-append, All-head, All-weaker, cases_Bool, eq-eqb, eqb-false, both_ways, nat_tests}
 use Rattle.session_rules.proofs.Below.{Forest, Empty, Node, has, Once, children, removed, AllNodes, above_by_parent, Error, ShelfState, Contexts, is_empty, is_protected, gone, handed_in, KindTable, IsSoundTable, table_of, OwnerTree, AllAt, HoldsNothing, IsSound, once_of, Active, kept_below, lowered}
-use Rattle.session_rules.proofs.Rules.{LevelState, OpenPortal, abort_context, context_of, first_of, deepest_changed, owner_of, plan_reference, portals_context, top_context, Scene, Ended, changes, context_gone, for_each, in_order, switched, where_so, where_there, portal_aborted, portal_closed, portal_passed, owner_released, AreEnding, Ending, IsAway, IsDone, gone_levels}
-use Rattle.session_rules.specs.Ends.{aborted, cleaned_up, committed, empty_context_gone, exited, given_up, level_context_gone, level_owner_gone, level_popped, level_released, level_rolled_back, recovered, stack_lowered, stack_popped, subcommitted, switched_up}
-use Rattle.session_rules.specs.Standing.{IsActive, IsDeepest, AreContexts, AreHooks, AreLevels, AreOpen, AreDifferent, AreOwners, AreOuter, ArePlans, ArePortals, AreStacked, FitLevels, HasExited, HasItems, IsAtRest, IsAttached, IsDead, IsLevel, IsLive, IsOfPortal, IsOwner, IsPlace, IsPortal, IsMade, IsOpen, Stands, StandsBetweenLines, active_depth, owner_at, referred}
+use Rattle.session_rules.proofs.Rules.{LevelState, OpenPortal, abort_context, context_of, first_of, deepest_changed, owner_of, plan_reference, portals_context, top_context, Scene, Ended, changes, context_gone, for_each, in_order, switched, where_so, where_there, portal_aborted, portal_closed, portal_passed, owner_released, AreEnding, Ending, IsAway, IsDone, gone_levels, aborted, cleaned_up, committed, empty_context_gone, exited, given_up, level_context_gone, level_owner_gone, level_popped, level_released, level_rolled_back, recovered, stack_lowered, stack_popped, subcommitted, switched_up, IsActive, IsDeepest, AreContexts, AreHooks, AreLevels, AreOpen, AreDifferent, AreOwners, AreOuter, ArePlans, ArePortals, AreStacked, FitLevels, HasExited, HasItems, IsAtRest, IsAttached, IsDead, IsLevel, IsLive, IsOfPortal, IsOwner, IsPlace, IsPortal, IsMade, IsOpen, Stands, StandsBetweenLines, active_depth, owner_at, referred}
 use Rattle.session_rules.proofs.Kept.{has_left, parent_left, IsSame, contexts_level_gone, nothing_left, off_outside, protected_has, same_removed, stay_same, top_protected, hooks_ended, parts_gone, removed_swept, held_removed, Tables, still_sound, swept_by, tabled, with_owners, Besides, Fits, HasSettled, Spares, besides_of, release_settles, spares_same, with_besides, depth_small, depth_still, none_stacked, stacked_above, stacked_below, stacked_lowered, stacked_within, HasLeft, IsStill, is_there, left_nothing, left_still, levels_stay, one_value, outer_contexts, outer_owners, owners_aborted, owners_end, owners_without, without_owner, lone_left, lone_swept, IsRowOf, attached_by, off_levels, off_rows, place_level, place_own, place_same, place_spared, row_left, row_of, all_rest_aborted, all_rest_outside, rests_becomes, rests_but, above_apart, cached_left, levels_apart, own_other, plan_outside, plans_counted, plans_current, plans_moved}
 use Rattle.session_rules.proofs.Ending.{Leads, Parts, with_parts}
 use Rattle.session_rules.proofs.Replacing.{all_closed, all_swept_away, swept_away}

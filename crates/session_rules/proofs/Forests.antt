@@ -1,8 +1,6 @@
 -- Where a node stands in a forest in which others go or come: what is apart from them keeps its data and its parent.
 use Rattle.session_rules.proofs.Base.{◌≡◌, ◌≢◌, ℕ, ◌+◌, true, false, Some, refl, sym, ap, ◌∙◌, inl, inr, arith, ◌==◌, cases_Bool, ne_eqb, both_ways, nat_tests}
-use Rattle.session_rules.proofs.Below.{Forest, Empty, Node, has, times, Once, at, children, is_root, parent_of, put, removed, with_children, subtree, changed, sum_of, children_absent}
-use Rattle.forest.proofs.Trees.{Apart, apart_of, times_none, times_some, has_none, has_some, at_absent, at_some, has_at, put_absent, removed_absent, has_children, times_removed, changed_absent}
-use Rattle.forest.proofs.Neighbours.{root_absent}
+use Rattle.session_rules.proofs.Below.{Forest, Empty, Node, has, times, Once, at, children, is_root, parent_of, put, removed, with_children, subtree, changed, sum_of, children_absent, Apart, apart_of, times_none, times_some, has_none, has_some, at_absent, at_some, has_at, put_absent, removed_absent, has_children, times_removed, changed_absent, root_absent}
 
 module _ {A : Type 0} where
   other : (k m : ℕ) (t : Forest A) → has m t ≡ true → has k t ≡ false → (k == m) ≡ false

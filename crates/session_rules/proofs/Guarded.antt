@@ -1,9 +1,7 @@
 -- What guarded forests with one root keep, and what stays in them where an unprotected node goes.
 use Rattle.session_rules.proofs.Base.{◌≡◌, ◌≢◌, ℕ, Bool, true, false, Some, None, refl, sym, ◌∙◌, inl, inr, option_map_or, cases_Bool, eq-eqb, ne_eqb, both_ways, false_from_ne_true, arith}
-use Rattle.session_rules.proofs.Below.{Apart, apart_of, at_absent, at_some, has_at, put_absent, children_absent}
-use Rattle.forest.specs.Forest.{Forest, Empty, Node, has, Once, at, children, is_root, parent_of, put, removed, changed, moved, with_children, AllNodes}
-use Rattle.forest.proofs.Neighbours.{parent_root}
-use Rattle.session_rules.specs.Guarded.{AreGuarded, IsRooted}
+use Rattle.session_rules.proofs.Below.{Apart, apart_of, at_absent, at_some, has_at, put_absent, children_absent, Forest, Empty, Node, has, Once, at, children, is_root, parent_of, put, removed, changed, moved, with_children, AllNodes, parent_root}
+use Rattle.session_rules.proofs.Rules.{AreGuarded, IsRooted}
 use Rattle.session_rules.proofs.Forests.{at_children}
 
 module _ {A : Type 0} (P : A → Type 0) where

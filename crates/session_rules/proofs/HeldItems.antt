@@ -1,15 +1,7 @@
 -- How often owners hold a kind and key, behind each change of them, and what a phase of a release gives back of it.
-use Rattle.session_rules.proofs.Base.{◌≡◌, ℕ, ◌+◌, find, Bool, true, false, Option, Some, None, List, [], ◌∷◌, ◌++◌, refl, ap, arith, inl, inr, ◌==◌, ◌||◌, if◌then◌else◌, cases_Bool, or_parts, nat_tests}
-use Rattle.session_rules.proofs.Below.{Item, KindId, Phase, BeforeLocks, Locks, AfterLocks, Empty, Node, Once, has, at, children, moved, parent_of, put, removed, AllNodes, all_changed, swept, Apart, Moves, apart_of, at_some, at_absent, removed_absent, KindTable, release_order, Step, GivesBack, lock_step, own_steps, release_steps, releases_of, steps_below, top_locks}
-use Rattle.std.proofs.lemmas.Grind.{common_steps}
-use Rattle.owner_items.specs.ItemList.{is_of, uses}
-use Rattle.owner_items.proofs.Uses.{count-without}
-use Rattle.owner_core.specs.Owners.{Owner, OwnerTree, AllAt, HoldsNothing, created, forgotten, held, remembered}
-use Rattle.owner_core.specs.Released.{left_of, own_released, released}
-use Rattle.owner_core.specs.Sound.{total}
-use Rattle.owner_core.proofs.ItemLemmas.{uses_phase}
-use Rattle.owner_core.proofs.Releasing.{held_changed}
-use Rattle.owner_core.proofs.Sounds.{total_moved, total_removed}
+use Rattle.session_rules.proofs.Base.{◌≡◌, ℕ, ◌+◌, find, Bool, true, false, Option, Some, None, List, [], ◌∷◌, ◌++◌, refl, ap, arith, inl, inr, ◌==◌, ◌||◌, if◌then◌else◌, cases_Bool, or_parts, nat_tests, common_steps}
+use Rattle.session_rules.proofs.Below.{Item, KindId, Phase, BeforeLocks, Locks, AfterLocks, Empty, Node, Once, has, at, children, moved, parent_of, put, removed, AllNodes, all_changed, swept, Apart, Moves, apart_of, at_some, at_absent, removed_absent, KindTable, release_order, Step, GivesBack, lock_step, own_steps, release_steps, releases_of, steps_below, top_locks, is_of, uses, count-without, Owner, OwnerTree, AllAt, HoldsNothing, forgotten, remembered, left_of, own_released, released, total, uses_phase, held_changed, total_moved, total_removed}
+use Rattle.owner_core.specs.Owners.{created, held}
 
 module _ (kind : KindId) (key : ℕ) where
   used : Owner → ℕ

@@ -1,11 +1,8 @@
 -- What became of a scene's hooks is counted: where contexts end, come and move, where a hook is registered, and where nothing becomes of them.
 use Rattle.session_rules.proofs.Base.{◌≡◌, ℕ, ◌+◌, ◌<◌, Bool, true, false, cond, if◌then◌else◌, Some, List, [], ◌∷◌, ◌++◌, length, map, drop, refl, sym, ap, ◌∙◌, inl, inr, arith, ◌≤◌, ◌==◌, sum_by, cases_Bool, eq-eqb, both_ways, false_from_ne_true, or_parts, sum_by-append, sum_by-cons, nat_tests}
 use Rattle.session_rules.proofs.Below.{What, Empty, has, times, Once, at, changed, is_above, moved, put, with_children, Moves, at_some, has_changed, has_of_removed, has_some, once_changed, once_put, put_absent, times_moved, times_some, sum_moved, Hook, ran, ShelfState, held, taken, Context, Contexts, is_child, placed_under, move_events, cleared, cleared_alone, emptied, gone, handed_in, waiting, is_within}
-use Rattle.session_rules.proofs.Rules.{first_of, Scene, context_moved, hook_waits}
-use Rattle.pgs_step.specs.declared.events.What.TheVariants as what
+use Rattle.session_rules.proofs.Rules.{first_of, Scene, context_moved, hook_waits, Ended, behind, children_gone, context_cleared, context_cleared_alone, context_gone, HookCount, HooksCounted, CountsHooks, runs_of}
 use Rattle.context_rules.specs.Ends as ends
-use Rattle.session_rules.specs.Acts.{Ended, behind, children_gone, context_cleared, context_cleared_alone, context_gone}
-use Rattle.session_rules.specs.HookCounts.{HookCount, HooksCounted, CountsHooks, runs_of}
 use Rattle.session_rules.proofs.Forests.{has_put_other, once_emptied, once_left, times_emptied, sum_changed, sum_put, sum_same}
 use Rattle.session_rules.proofs.HookSums.{Parts, Runs, callbacks_both, hooks_ran, more_runs, none_run, of_context, parts_alone, parts_children, parts_cleared, parts_gone, registered_both, runs_ran, sum_waiting}
 use Rattle.session_rules.proofs.ContextsKept.{by_alone}
@@ -158,7 +155,7 @@ counted_put p n c t x k none h = counted_kept t (put p n c Empty t) x h (λ g. w
 -- a context moves
 still_moves : (b : Bool) (n p : ℕ) → Runs [] (move_events b n p)
 still_moves true n p = none_run
-still_moves false n p = more_runs (what.Move n p) refl none_run
+still_moves false n p = more_runs (What.Move n p) refl none_run
 
 pub counted_moved : (n p : ℕ) (s : Scene) → IsNumbered s → has n s.session.contexts ≡ true → has p s.session.contexts ≡ true → is_within n p s.session.contexts ≡ false
     → Counted s (context_moved n p s)
@@ -191,7 +188,7 @@ one_waits g n f hook c t o there more =
     omega (arith, sum_waiting g, sum_changed (of_context g) n f c t o there, ap (sum_by g) more, sum_by-cons g hook c.hooks)
 
 waits_count : (n : ℕ) (f : Context → Context) (hook : Hook) (c : Context) (t : Contexts) (x : ShelfState) (fresh : List Hook) → Once t → at n t ≡ Some c → (f c).hooks ≡ hook ∷ c.hooks → x.fresh ≡ hook ∷ fresh
-    → HookCount (waiting t ++ held x) (waiting t ++ x.spent) (waiting (changed n f t) ++ (drop 1 x.fresh ++ x.spent)) (waiting (changed n f t) ++ x.spent) (what.Hook hook.word n ∷ [])
+    → HookCount (waiting t ++ held x) (waiting t ++ x.spent) (waiting (changed n f t) ++ (drop 1 x.fresh ++ x.spent)) (waiting (changed n f t) ++ x.spent) (What.Hook hook.word n ∷ [])
 waits_count n f hook c t x fresh o there more is =
     let u : Contexts = changed n f t in
     let sums : (g : Hook → ℕ) → sum_by g (waiting u) ≡ sum_by g (waiting t) + g hook = λ g. one_waits g n f hook c t o there more in
@@ -210,7 +207,7 @@ waits_count n f hook c t x fresh o there more is =
     }
 
 pub counted_waits : (n : ℕ) (f : Context → Context) (hook : Hook) (c : Context) (t : Contexts) (x : ShelfState) (fresh : List Hook) → Once t → at n t ≡ Some c → (f c).hooks ≡ hook ∷ c.hooks → x.fresh ≡ hook ∷ fresh
-    → HooksCounted t x (changed n f t) (taken x) (what.Hook hook.word n ∷ [])
+    → HooksCounted t x (changed n f t) (taken x) (What.Hook hook.word n ∷ [])
 counted_waits n f hook c t x fresh o there more is = record {
   counts = waits_count n f hook c t x fresh o there more is;
   out = λ _. omega (arith, one_waits (λ _. 1) n f hook c t o there more, ones (waiting t), ones (waiting (changed n f t)));

@@ -1,9 +1,7 @@
 -- Hooks that wait are counted, and so are those of the shelf.
 use Rattle.session_rules.proofs.Base.{◌≡◌, ◌≢◌, ℕ, ◌+◌, ◌≤◌, List, [], ◌∷◌, ◌++◌, Some, cond, refl, arith, ◌==◌, if◌then◌else◌, All-nil, All-head, All-tail, eq-eqb, ne_eqb, sum_by-cons, nat_tests}
-use Rattle.session_rules.proofs.Below.{What, Empty, Once, at, put, changed, moved, Moves, sum_moved, ShelfState, held, taken, Context, Contexts, reparented, Ended, waiting, handed_in}
-use Rattle.session_rules.proofs.Rules.{first_of, AreHooks}
-use Rattle.reset_callbacks.specs.Hook.{Hook, Lacks, AreDistinct}
-use Rattle.session_rules.specs.HookCounts.{HooksCounted, hooks_of}
+use Rattle.session_rules.proofs.Below.{What, Empty, Once, at, put, changed, moved, Moves, sum_moved, ShelfState, held, taken, Context, Contexts, reparented, Ended, waiting, handed_in, Hook, Lacks, AreDistinct}
+use Rattle.session_rules.proofs.Rules.{first_of, AreHooks, HooksCounted, hooks_of}
 use Rattle.session_rules.proofs.ContextsKept.{by_reparented}
 use Rattle.session_rules.proofs.HookSums.{Parts, none_run, of_context, sum_waiting}
 use Rattle.session_rules.proofs.HookSteps.{counted_ended, counted_kept, counted_waits, first_fresh, waiting_changed, waiting_put}

@@ -1,9 +1,7 @@
 -- A call that is refused for want of memory changes nothing of what was done before it.
 use Rattle.session_rules.proofs.Base.{◌≡◌, ℕ, ◌+◌, ◌≤◌, false, List, [], ◌∷◌, ◌++◌, Option, Some, None, refl, ◌∙◌, ap, subst, arith, nat_tests}
 use Rattle.session_rules.proofs.Below.{Error, Command}
-use Rattle.session_rules.proofs.Rules.{Scene, Moment, Element, Text, Ended, failure, does, does_all, failing_turn, then_done, turn, turn_of, line_elements}
-use Rattle.session_rules.specs.Elements as e
-use Rattle.session_rules.specs.Calls.{Done, IsLater, is_call, fallible, unless_refused, refused_call}
+use Rattle.session_rules.proofs.Rules.{Scene, Moment, Element, Text, Ended, failure, does, does_all, failing_turn, then_done, turn, turn_of, line_elements, Done, IsLater, is_call, fallible, unless_refused, refused_call}
 
 -- a later call is none of those that were made
 later_is_no_call : (w : Option ℕ) (call : ℕ) → IsLater call w → is_call w call ≡ false
@@ -42,42 +40,42 @@ turn_calls name done (Some error) = refl
 -- No element makes the count of calls fall.
 pub does_counts : (w : Option ℕ) (element : Element) (moment : Moment) → moment.calls ≤ (does w element moment).moment.calls
 unfolding does
-does_counts w (e.Checks a) moment = refused_counts (failure a moment.scene) moment _
-does_counts w (e.MakeLevel a b) moment = fallible_counts w moment _ _
-does_counts w (e.MakeContext a) moment = fallible_counts w moment _ _
-does_counts w (e.MakeOwner a) moment = fallible_counts w moment _ _
-does_counts w (e.Enlarge a) moment = fallible_counts w moment _ _
-does_counts w (e.Take a b c) moment = fallible_counts w moment _ _
-does_counts w (e.TakeNamed a b) moment = fallible_counts w moment _ _
-does_counts w (e.TakeLock a b c) moment = fallible_counts w moment _ _
-does_counts w (e.Alloc a b c d) moment = fallible_counts w moment _ _
-does_counts w (e.Realloc a b) moment = fallible_counts w moment _ _
-does_counts w (e.Register a) moment = fallible_counts w moment _ _
-does_counts w (e.Touch a) moment = fallible_counts w moment _ _
-does_counts w (e.PushSnapshot a) moment = fallible_counts w moment _ _
-does_counts w (e.MakePlan a) moment = fallible_counts w moment _ _
-does_counts w (e.MakePortal a b c d) moment = fallible_counts w moment _ _
-does_counts w (e.InTurn a b) moment = omega (arith, does_counts w b moment, turn_calls a (does w b moment) (does w b moment).refusal)
+does_counts w (Element.Checks a) moment = refused_counts (failure a moment.scene) moment _
+does_counts w (Element.MakeLevel a b) moment = fallible_counts w moment _ _
+does_counts w (Element.MakeContext a) moment = fallible_counts w moment _ _
+does_counts w (Element.MakeOwner a) moment = fallible_counts w moment _ _
+does_counts w (Element.Enlarge a) moment = fallible_counts w moment _ _
+does_counts w (Element.Take a b c) moment = fallible_counts w moment _ _
+does_counts w (Element.TakeNamed a b) moment = fallible_counts w moment _ _
+does_counts w (Element.TakeLock a b c) moment = fallible_counts w moment _ _
+does_counts w (Element.Alloc a b c d) moment = fallible_counts w moment _ _
+does_counts w (Element.Realloc a b) moment = fallible_counts w moment _ _
+does_counts w (Element.Register a) moment = fallible_counts w moment _ _
+does_counts w (Element.Touch a) moment = fallible_counts w moment _ _
+does_counts w (Element.PushSnapshot a) moment = fallible_counts w moment _ _
+does_counts w (Element.MakePlan a) moment = fallible_counts w moment _ _
+does_counts w (Element.MakePortal a b c d) moment = fallible_counts w moment _ _
+does_counts w (Element.InTurn a b) moment = omega (arith, does_counts w b moment, turn_calls a (does w b moment) (does w b moment).refusal)
 does_counts w other moment = omega arith
 
 -- Where the call that is refused comes later, an element does what it does where none is.
 pub does_later : (w : Option ℕ) (element : Element) (moment : Moment) → IsLater (does None element moment).moment.calls w → does w element moment ≡ does None element moment
 unfolding does
-does_later w (e.MakeLevel a b) moment l = fallible_later w moment _ _ l
-does_later w (e.MakeContext a) moment l = fallible_later w moment _ _ l
-does_later w (e.MakeOwner a) moment l = fallible_later w moment _ _ l
-does_later w (e.Enlarge a) moment l = fallible_later w moment _ _ l
-does_later w (e.Take a b c) moment l = fallible_later w moment _ _ l
-does_later w (e.TakeNamed a b) moment l = fallible_later w moment _ _ l
-does_later w (e.TakeLock a b c) moment l = fallible_later w moment _ _ l
-does_later w (e.Alloc a b c d) moment l = fallible_later w moment _ _ l
-does_later w (e.Realloc a b) moment l = fallible_later w moment _ _ l
-does_later w (e.Register a) moment l = fallible_later w moment _ _ l
-does_later w (e.Touch a) moment l = fallible_later w moment _ _ l
-does_later w (e.PushSnapshot a) moment l = fallible_later w moment _ _ l
-does_later w (e.MakePlan a) moment l = fallible_later w moment _ _ l
-does_later w (e.MakePortal a b c d) moment l = fallible_later w moment _ _ l
-does_later w (e.InTurn a b) moment l =
+does_later w (Element.MakeLevel a b) moment l = fallible_later w moment _ _ l
+does_later w (Element.MakeContext a) moment l = fallible_later w moment _ _ l
+does_later w (Element.MakeOwner a) moment l = fallible_later w moment _ _ l
+does_later w (Element.Enlarge a) moment l = fallible_later w moment _ _ l
+does_later w (Element.Take a b c) moment l = fallible_later w moment _ _ l
+does_later w (Element.TakeNamed a b) moment l = fallible_later w moment _ _ l
+does_later w (Element.TakeLock a b c) moment l = fallible_later w moment _ _ l
+does_later w (Element.Alloc a b c d) moment l = fallible_later w moment _ _ l
+does_later w (Element.Realloc a b) moment l = fallible_later w moment _ _ l
+does_later w (Element.Register a) moment l = fallible_later w moment _ _ l
+does_later w (Element.Touch a) moment l = fallible_later w moment _ _ l
+does_later w (Element.PushSnapshot a) moment l = fallible_later w moment _ _ l
+does_later w (Element.MakePlan a) moment l = fallible_later w moment _ _ l
+does_later w (Element.MakePortal a b c d) moment l = fallible_later w moment _ _ l
+does_later w (Element.InTurn a b) moment l =
     ap (λ (done : Done). failing_turn a done done.refusal)
     (does_later w b moment (subst (λ (n : ℕ). IsLater n w) (turn_calls a (does None b moment) (does None b moment).refusal) l))
 does_later w other moment l = refl

@@ -1,18 +1,7 @@
 -- What the sessions of a run have locked is what all of them together hold: a session sees of it what the others hold, in order.
-use Rattle.session_rules.proofs.Base.{◌≡◌, ◌≢◌, ℕ, zero, suc, ◌+◌, ◌≤◌, Bool, true, false, ◌&&◌, ◌||◌, cond, nat_eq, nat_lt, List, [], ◌∷◌, ◌++◌, length, map, Some, inl, inr, refl, ap, sym, subst, ◌∙◌, arith, All, slice_get, ◌⊎◌, flat_map, nat_tests}
-use Rattle.session_rules.proofs.Below.{Mode}
-use Rattle.session_rules.proofs.Rules.{SessionState}
-use Rattle.std.proofs.lemmas.Bool.{true≢false, eqb-true, eq-eqb, cases_Bool, cases_eq}
-use Rattle.std.proofs.lemmas.List.Elements.{All-nil, All-head, All-tail, All-weaker, All-append, All-map}
-use Rattle.std.proofs.lemmas.List.Folds.{list_any-append, list_any_none}
-use Rattle.pgs_step.specs.Mode.{mode_number}
-use Rattle.lock_shared.specs.declared.shared_locks.Holding.{Holding}
-use Rattle.lock_shared.specs.Holdings.{is_holding, holds}
-use Rattle.lock_shared.specs.Ranked.{IsRanked, beside, ranks_before}
-use Rattle.lock_shared.proofs.HoldingLemmas.{holding_parts}
-use Rattle.lock_shared.proofs.BesideLemmas.{beside_unique}
-use Rattle.lock_local.specs.Locks.{Lock, AreLocks, IsInOrder, comes_before, has_owner, is_held, is_lock}
-use Rattle.session_rules.specs.World.{holdings, others}
+use Rattle.session_rules.proofs.Base.{◌≡◌, ◌≢◌, ℕ, zero, suc, ◌+◌, ◌≤◌, Bool, true, false, ◌&&◌, ◌||◌, cond, nat_eq, nat_lt, List, [], ◌∷◌, ◌++◌, length, map, Some, inl, inr, refl, ap, sym, subst, ◌∙◌, arith, All, slice_get, ◌⊎◌, flat_map, nat_tests, true≢false, eqb-true, eq-eqb, cases_Bool, cases_eq, All-nil, All-head, All-tail, All-weaker, All-append, All-map, list_any-append, list_any_none}
+use Rattle.session_rules.proofs.Below.{Mode, mode_number, Holding, is_holding, holds, IsRanked, beside, ranks_before, holding_parts, beside_unique, Lock, AreLocks, IsInOrder, comes_before, has_owner, is_held, is_lock}
+use Rattle.session_rules.proofs.Rules.{SessionState, holdings, others}
 
 -- a lock as a session of this number holds it
 abbrev held_as : ℕ → Lock → Holding

@@ -11,12 +11,6 @@ module _ {A : Type 0} where
   pub not_in : (p n : ℕ) (t : Forest A) → Once t → has p t ≡ false → has p (children n t) ≡ false
   not_in p n t o h = false_from_ne_true (has p (children n t)) (λ u. both_ways (has p t) h (has_children p n t o u))
 
-  pub own_apart : (n : ℕ) (t : Forest A) → Once t → has n (children n t) ≡ false
-  own_apart n t o = elim (cases_Bool (has n t)) [
-    | inl h ↦ first_child_other n t o h
-    | inr h ↦ outside n n t h
-  ]
-
   -- a node goes that is neither the one nor above it
   pub children_left : (p n : ℕ) (t : Forest A) → Once t → p ≢ n → has p (children n t) ≡ false → children p (removed n t) ≡ removed n (children p t)
   children_left p n Empty o ne u = refl

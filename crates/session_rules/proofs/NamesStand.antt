@@ -1,20 +1,11 @@
 -- The steps on contexts of a name lead from a session that stands to one that stands.
-use Rattle.session_rules.proofs.Base.{◌≡◌, ◌≢◌, ◌⊎◌, ℕ, ◌+◌, Bool, true, false, Option, Some, None, List, [], ◌∷◌, ◌++◌, refl, sym, ap, ◌∙◌, subst, inl, inr, arith, ◌==◌, reverse, if◌then◌else◌, codes, option_map, option_and_then, eq-eqb, both_ways, or_parts, nat_tests}
-use Rattle.session_rules.proofs.Below.{Empty, Node, Once, children, has, is_above, moved, removed, with_children, Moves, apart_of, at_absent, at_some, has_changed, Hook, taken, CtxKind, Context, Contexts, created, is_protected, new_context, reparented, OwnerTree, is_text, Apart}
-use Rattle.session_rules.proofs.Rules.{LevelState, SessionState, cache_context, context_of, first_of, last_of, level_context, top_context, Scene, Moment, Text, context_named, context_made, new_context_made, at_context, context_moved, hook_registered, hook_waits, does, AreContexts, AreHooks, AreLevels, IsPlace, IsRow, IsWorking, Stands, referred}
-use Rattle.std.proofs.lemmas.List.{reverse-append}
+use Rattle.session_rules.proofs.Base.{◌≡◌, ◌≢◌, ◌⊎◌, ℕ, ◌+◌, Bool, true, false, Option, Some, None, List, [], ◌∷◌, ◌++◌, refl, sym, ap, ◌∙◌, subst, inl, inr, arith, ◌==◌, reverse, if◌then◌else◌, codes, option_map, option_and_then, eq-eqb, both_ways, or_parts, nat_tests, reverse-append}
+use Rattle.session_rules.proofs.Below.{Empty, Node, Once, children, has, is_above, moved, removed, with_children, Moves, apart_of, at_absent, at_some, has_changed, Hook, taken, CtxKind, Context, Contexts, created, is_protected, new_context, reparented, OwnerTree, is_text, Apart, registered, delete_refusal, is_within, reset_refusal, set_parent_refusal, TreeError, Protected, InUse, Cycle}
+use Rattle.session_rules.proofs.Rules.{LevelState, SessionState, cache_context, context_of, first_of, last_of, level_context, top_context, Scene, Moment, Text, context_named, context_made, new_context_made, at_context, context_moved, hook_registered, hook_waits, does, AreContexts, AreHooks, AreLevels, IsPlace, IsRow, IsWorking, Stands, referred, Check, Element, NewContext, Ended, of_contexts, children_gone, context_cleared, context_cleared_alone, context_gone, switched, where_there, failure, refusal_at, tree_error}
+use Rattle.session_rules.proofs.Kept.{has_emptied, has_left, once_left, hooks_ended, hooks_put, hooks_taken, hooks_reparented, parts_alone, parts_children, parts_cleared, parts_gone, IsContext, no_value, one_value, lone_changed, lone_emptied, lone_left, lone_moved, lone_put, IsCached, levels_other, own_other, plans_current, place_current, place_level, place_own, place_same, portals_moved, row_changed, row_emptied, row_free, row_left, row_put, Stay, apart, contexts_alone, contexts_changed, contexts_children_gone, contexts_created, contexts_gone, contexts_reparented, has_alone, has_created, has_reparented, moves_by, protected_has, same_removed, stay_alone, stay_changed, stay_children_gone, stay_created, stay_gone, stay_on, stay_reparented, stay_same, top_protected, by_alone, by_reparented}
 use Rattle.context_rules.specs.Contexts as rules
-use Rattle.context_rules.specs.Chunks.{registered}
 use Rattle.context_rules.specs.Ends as ends
-use Rattle.context_rules.specs.Refusals.{delete_refusal, is_within, reset_refusal, set_parent_refusal}
 use Rattle.context_rules.specs.Refusals as refusals
-use Rattle.context_rules.specs.declared.errors.TreeError.{TreeError}
-use Rattle.context_rules.specs.declared.errors.TreeError.TheVariants.{Protected, InUse, Cycle}
-use Rattle.session_rules.specs.Elements as element
-use Rattle.session_rules.specs.Acts.{Ended, of_contexts, children_gone, context_cleared, context_cleared_alone, context_gone, switched, where_there}
-use Rattle.session_rules.specs.Checks.{failure, refusal_at, tree_error}
-use Rattle.session_rules.proofs.Kept.{has_emptied, has_left, once_left, hooks_ended, hooks_put, hooks_taken, hooks_reparented, parts_alone, parts_children, parts_cleared, parts_gone, IsContext, no_value, one_value, lone_changed, lone_emptied, lone_left, lone_moved, lone_put, IsCached, levels_other, own_other, plans_current, place_current, place_level, place_own, place_same, portals_moved, row_changed, row_emptied, row_free, row_left, row_put}
-use Rattle.session_rules.proofs.ContextsKept.{Stay, apart, contexts_alone, contexts_changed, contexts_children_gone, contexts_created, contexts_gone, contexts_reparented, has_alone, has_created, has_reparented, moves_by, protected_has, same_removed, stay_alone, stay_changed, stay_children_gone, stay_created, stay_gone, stay_on, stay_reparented, stay_same, top_protected, by_alone, by_reparented}
 use Rattle.session_rules.proofs.StepsStand.{Works, contexts_step, fallible_keeps, nothing_works, still_planned, still_portals, beside_by}
 
 -- the context of the first level of a list that is put together
@@ -216,7 +207,7 @@ waits_step s n hook h working there first =
 
 -- Each element on contexts of a name, behind its checks.
 module _ (w : Option ℕ) (moment : Moment) (h : Stands moment.scene) (working : IsWorking moment.scene.session.levels) where
-  pub switch_works : (name : Text) → Works moment.scene (does w (element.Switch name) moment).moment.scene
+  pub switch_works : (name : Text) → Works moment.scene (does w (Element.Switch name) moment).moment.scene
   unfolding does
   switch_works name =
       at_name (Works moment.scene) (context_named name moment.scene.session) switched moment.scene (nothing_works moment.scene h)
@@ -227,7 +218,7 @@ module _ (w : Option ℕ) (moment : Moment) (h : Stands moment.scene) (working :
       (portals_moved moment.scene.session.portals moment.scene.session.levels moment.scene.session.contexts moment.scene.session.contexts moment.scene.session.owners moment.scene.session.current n
       (λ m expr k. named_place name moment.scene n h e m expr k) h.portals))).works)
 
-  pub delete_works : (name : Text) → failure (element.MayDelete name) moment.scene ≡ None → Works moment.scene (does w (element.Delete name) moment).moment.scene
+  pub delete_works : (name : Text) → failure (Check.MayDelete name) moment.scene ≡ None → Works moment.scene (does w (Element.Delete name) moment).moment.scene
   unfolding does
   delete_works name ok =
       at_name (Works moment.scene) (context_named name moment.scene.session) context_gone moment.scene (nothing_works moment.scene h)
@@ -236,7 +227,7 @@ module _ (w : Option ℕ) (moment : Moment) (h : Stands moment.scene) (working :
       (checked name moment.scene.session (λ m. delete_refusal m moment.scene.session.current moment.scene.session.contexts) n e ok) in
       record { stands = gone_step moment.scene n h working b.0 b.1; levels = refl; at_rest = λ r. r })
 
-  pub delete_children_works : (name : Text) → failure (element.MayReset name) moment.scene ≡ None → Works moment.scene (does w (element.DeleteChildren name) moment).moment.scene
+  pub delete_children_works : (name : Text) → failure (Check.MayReset name) moment.scene ≡ None → Works moment.scene (does w (Element.DeleteChildren name) moment).moment.scene
   unfolding does
   delete_children_works name ok =
       at_name (Works moment.scene) (context_named name moment.scene.session) children_gone moment.scene (nothing_works moment.scene h)
@@ -245,7 +236,7 @@ module _ (w : Option ℕ) (moment : Moment) (h : Stands moment.scene) (working :
       (checked name moment.scene.session (λ m. reset_refusal m moment.scene.session.current moment.scene.session.contexts) n e ok) in
       record { stands = children_step moment.scene n h working b.0 b.1; levels = refl; at_rest = λ r. r })
 
-  pub reset_works : (name : Text) → failure (element.MayReset name) moment.scene ≡ None → Works moment.scene (does w (element.Reset name) moment).moment.scene
+  pub reset_works : (name : Text) → failure (Check.MayReset name) moment.scene ≡ None → Works moment.scene (does w (Element.Reset name) moment).moment.scene
   unfolding does
   reset_works name ok =
       at_name (Works moment.scene) (context_named name moment.scene.session) context_cleared moment.scene (nothing_works moment.scene h)
@@ -254,13 +245,13 @@ module _ (w : Option ℕ) (moment : Moment) (h : Stands moment.scene) (working :
       (checked name moment.scene.session (λ m. reset_refusal m moment.scene.session.current moment.scene.session.contexts) n e ok) in
       record { stands = cleared_step moment.scene n h working b.0 b.1; levels = refl; at_rest = λ r. r })
 
-  pub reset_only_works : (name : Text) → Works moment.scene (does w (element.ResetOnly name) moment).moment.scene
+  pub reset_only_works : (name : Text) → Works moment.scene (does w (Element.ResetOnly name) moment).moment.scene
   unfolding does
   reset_only_works name =
       at_name (Works moment.scene) (context_named name moment.scene.session) context_cleared_alone moment.scene (nothing_works moment.scene h)
       (λ n e. record { stands = alone_step moment.scene n h working; levels = refl; at_rest = λ r. r })
 
-  pub reparent_works : (name parent : Text) → failure (element.MayMove name parent) moment.scene ≡ None → Works moment.scene (does w (element.Reparent name parent) moment).moment.scene
+  pub reparent_works : (name parent : Text) → failure (Check.MayMove name parent) moment.scene ≡ None → Works moment.scene (does w (Element.Reparent name parent) moment).moment.scene
   unfolding does
   reparent_works name parent ok =
       at_name (Works moment.scene) (context_named name moment.scene.session) (λ n. at_context parent (context_moved n)) moment.scene (nothing_works moment.scene h)
@@ -272,10 +263,10 @@ module _ (w : Option ℕ) (moment : Moment) (h : Stands moment.scene) (working :
       let b = both_none (is_protected n moment.scene.session.contexts) (is_within n p moment.scene.session.contexts) Protected Cycle may in
       record { stands = moved_step moment.scene n p h working (named_there name moment.scene n h e) (named_there parent moment.scene p h q) b.0 b.1 (named_other parent moment.scene p h q) (named_place parent moment.scene p h q); levels = refl; at_rest = λ r. r }))
 
-  pub make_script_context_works : (name parent : Text) (kind : CtxKind) → Works moment.scene (does w (element.MakeContext (element.ScriptContext name parent kind)) moment).moment.scene
+  pub make_script_context_works : (name parent : Text) (kind : CtxKind) → Works moment.scene (does w (Element.MakeContext (NewContext.ScriptContext name parent kind)) moment).moment.scene
   unfolding does
   make_script_context_works name parent kind =
-      fallible_keeps (Works moment.scene) w moment _ (new_context_made (element.ScriptContext name parent kind)) (nothing_works moment.scene h)
+      fallible_keeps (Works moment.scene) w moment _ (new_context_made (NewContext.ScriptContext name parent kind)) (nothing_works moment.scene h)
       (λ _. at_name (Works moment.scene) (context_named parent moment.scene.session) (λ p. context_made p name false kind) moment.scene (nothing_works moment.scene h)
       (λ p e.
       let t : Contexts = moment.scene.session.contexts in
@@ -298,7 +289,7 @@ module _ (w : Option ℕ) (moment : Moment) (h : Stands moment.scene) (working :
         at_rest = λ r. r;
       }))
 
-  pub register_works : (name : Text) → Works moment.scene (does w (element.Register name) moment).moment.scene
+  pub register_works : (name : Text) → Works moment.scene (does w (Element.Register name) moment).moment.scene
   unfolding does
   register_works name =
       fallible_keeps (Works moment.scene) w moment _ (hook_registered name) (nothing_works moment.scene h)

@@ -1,13 +1,11 @@
 -- Portals pass to the level above where the deepest one is merged into it.
 use Rattle.session_rules.proofs.Base.{◌≡◌, ◌≢◌, ◌⊎◌, ℕ, ◌+◌, ◌-◌, ◌≤◌, Bool, true, false, Option, Some, None, List, [], ◌∷◌, ◌++◌, length, refl, sym, ap, ◌∙◌, subst, inl, inr, arith, ◌==◌, option_map_or, cases_eq, cases_Bool, eq-eqb, eqb-true, eqb-false, ne_eqb, nat_tests}
-use Rattle.session_rules.proofs.Below.{Once, has, moved, Moves, Contexts, table_of, Owner, OwnerTree, once_of, sound_moved, Forest, Empty, Node, times, at, children, parent_of, put, removed, at_moved}
+use Rattle.session_rules.proofs.Below.{Once, has, moved, Moves, Contexts, table_of, Owner, OwnerTree, once_of, sound_moved, Forest, Empty, Node, times, at, children, parent_of, put, removed, at_moved, at_some, children_absent, has_none, has_some, parent_stays, removed_has, times_moved, times_none, times_some, children_in, once_children}
 use Rattle.session_rules.proofs.Rules.{LevelState, OpenPortal, first_of, owner_of, plan_reference, Scene, portal_changed, for_each, in_order, portal_becomes, where_so, where_there, owner_moved, portal_passed, AreLevels, AreOuter, ArePlans, HasItems, IsAtRest, IsAtWork, IsAttached, IsDead, IsLive, IsOwner, IsPortal, owner_at, referred, AreEnding, Ending, IsLoose}
-use Rattle.portal_store.specs.Portal.{lowered}
 use Rattle.session_rules.proofs.Kept.{all_moved, stay_same, held_moved, is_there, levels_stay, no_value, one_value, depth_outer, depth_small, depth_still, plans_counted, Changes, changed_one, owner_beside, owner_here, owner_split, attached_by, children_put, has_left, has_put_other, once_left, parent_left, parent_put, parent_put_other, children_left, lone_moved}
+use Rattle.portal_store.specs.Portal.{lowered}
 use Rattle.session_rules.proofs.Ending.{Leads, each_goes, parts_of, with_parts}
 use Rattle.session_rules.proofs.Replacing.{IsBeside, first_of_rest, replaced, replaced_leads, kept_owners}
-use Rattle.forest.proofs.Trees.{at_some, children_absent, has_none, has_some, parent_stays, removed_has, times_moved, times_none, times_some}
-use Rattle.forest.proofs.Walks.{children_in, once_children}
 
 module _ {A : Type 0} where
   same_has : (m : ℕ) (t u : Forest A) → times m u ≡ times m t → has m u ≡ has m t

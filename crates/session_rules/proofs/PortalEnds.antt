@@ -1,10 +1,7 @@
 -- A portal ends within its level: a session that stands leads to one that stands, where portals are at rest.
 use Rattle.session_rules.proofs.Base.{◌≡◌, ◌≢◌, ℕ, Bool, true, false, Option, Some, None, List, [], ◌∷◌, ◌++◌, refl, sym, ap, ◌∙◌, subst, inl, inr, All, option_map_or, All-append, All-cons, All-head, All-tail, All-weaker}
 use Rattle.session_rules.proofs.Below.{Once, has, children, removed, has_of_removed, left_apart, KindId, Contexts, gone, KindTable, IsSoundTable, table_of, Owner, OwnerTree, has_begun, once_of, sound_removed}
-use Rattle.session_rules.proofs.Rules.{LevelState, OpenPortal, buffer_pin, relcache_reference, snapshot_reference, Scene, Moment, does, portal_changed, portal_named, portals_but, Text, context_gone, in_order, portal_gone, where_so, where_there, item_released, owner_gone, owner_released}
-use Rattle.session_rules.specs.Elements as element
-use Rattle.session_rules.specs.Portals.{executor_ended, is_ready, portal_ended, portal_owner_ended}
-use Rattle.session_rules.specs.Standing.{AreContexts, AreLevels, AreOwners, ArePortals, HasItems, IsAtRest, IsAttached, IsLive, IsOfPortal, IsOwner, IsPlace, IsPlan, IsPortal, IsWorking, Stands, referred}
+use Rattle.session_rules.proofs.Rules.{LevelState, OpenPortal, buffer_pin, relcache_reference, snapshot_reference, Scene, Moment, does, portal_changed, portal_named, portals_but, Text, context_gone, in_order, portal_gone, where_so, where_there, item_released, owner_gone, owner_released, Element, executor_ended, is_ready, portal_ended, portal_owner_ended, AreContexts, AreLevels, AreOwners, ArePortals, HasItems, IsAtRest, IsAttached, IsLive, IsOfPortal, IsOwner, IsPlace, IsPlan, IsPortal, IsWorking, Stands, referred}
 use Rattle.session_rules.proofs.Kept.{at_left, has_left, parent_left, all_removed, contexts_level_gone, hooks_ended, parts_gone, begun_has, levels_stay, no_value, one_value, Fits, HasSettled, besides_of, release_settles, with_besides, swept_by, with_owners, removed_swept, lone_left, all_back, all_front, but_one, different_changed, different_without, others_back, others_front, owner_beside, owner_split, rests_becomes, rests_but, attached_by, place_spared, levels_apart, plans_counted}
 use Rattle.session_rules.proofs.EndsStand.{left_count}
 use Rattle.session_rules.proofs.Ending.{Beside, below_place, beside_removed, levels_beside, places_beside, plans_beside}
@@ -274,7 +271,7 @@ portal_ended_works s name p h working e rests = by_state (is_ready p.state) refl
     by_state true q = by_owner (executor_ended p s).scene (executor_beside name p s h working e) p.owner refl
 
 -- The element, where portals are at rest.
-pub end_portal_works : (w : Option ℕ) (moment : Moment) → Stands moment.scene → IsWorking moment.scene.session.levels → All IsAtRest moment.scene.session.portals → (name : Text) → Works moment.scene (does w (element.EndPortal name) moment).moment.scene
+pub end_portal_works : (w : Option ℕ) (moment : Moment) → Stands moment.scene → IsWorking moment.scene.session.levels → All IsAtRest moment.scene.session.portals → (name : Text) → Works moment.scene (does w (Element.EndPortal name) moment).moment.scene
 unfolding does
 end_portal_works w moment h working at_rest name = go (portal_named name moment.scene.session.portals) refl
   where

@@ -1,7 +1,7 @@
 -- What lists of portals keep where one of them changes or goes.
 use Rattle.session_rules.proofs.Base.{◌≡◌, ◌≢◌, ◌⊎◌, ℕ, false, Some, List, [], ◌∷◌, ◌++◌, refl, sym, ap, ◌∙◌, inl, inr, All, false_from_ne_true, All-nil, All-cons, All-head, All-tail, All-weaker, Bool, true, arith, if◌then◌else◌, both_ways, cases_Bool, nat_tests}
-use Rattle.session_rules.proofs.Rules.{OpenPortal, portal_changed, portals_but, AreDifferent, AreOther, IsOfPortal, LevelState, Text, IsAtRest, IsDead, IsLive, IsPortal}
 use Rattle.session_rules.proofs.Below.{is_text, is_text-means, is_text-same, Contexts, OwnerTree}
+use Rattle.session_rules.proofs.Rules.{OpenPortal, portal_changed, portals_but, AreDifferent, AreOther, IsOfPortal, LevelState, Text, IsAtRest, IsDead, IsLive, IsPortal}
 use Rattle.session_rules.proofs.PlansKept.{all_replaced, all_without}
 use Rattle.session_rules.proofs.Stacked.{depth_still}
 

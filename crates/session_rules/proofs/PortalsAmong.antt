@@ -1,9 +1,7 @@
 -- The contexts and owners of portals among those of levels, and what portals keep where others change.
 use Rattle.session_rules.proofs.Base.{◌≡◌, ◌≢◌, ℕ, ◌≤◌, ◌<◌, true, false, Option, Some, None, List, [], ◌∷◌, refl, sym, ap, ◌∙◌, subst, inl, arith, All, option_map_or, both_ways, eq-eqb, All-weaker, nat_tests}
-use Rattle.session_rules.proofs.Below.{Empty, Node, Once, has, at, children, parent_of, put, removed, changed, with_children, Context, Contexts, is_protected, OwnerTree}
+use Rattle.session_rules.proofs.Below.{Empty, Node, Once, has, at, children, parent_of, put, removed, changed, with_children, Context, Contexts, is_protected, OwnerTree, at_children, children_changed, children_in, parent_in}
 use Rattle.session_rules.proofs.Rules.{LevelState, OpenPortal, StandingPlan, abort_context, cache_context, first_of, portals_context, top_context, level_parent, AreContexts, AreLevels, AreOuter, ArePortals, IsAttached, IsOwner, IsPlace, IsPlan, IsPortal, IsRow, owner_at}
-use Rattle.forest.proofs.Moved.{at_children}
-use Rattle.forest.proofs.Walks.{children_changed, children_in, parent_in}
 use Rattle.session_rules.proofs.Guarded.{top_parent}
 use Rattle.session_rules.proofs.ContextsKept.{IsSame, own}
 use Rattle.session_rules.proofs.LevelsKept.{IsContext, no_value}

@@ -1,14 +1,10 @@
 -- The steps of a portal lead from a session that stands to one that stands.
 use Rattle.session_rules.proofs.Base.{◌≡◌, ◌≢◌, ◌⊎◌, ℕ, ◌+◌, ◌≤◌, ◌<◌, true, false, Option, Some, None, List, [], ◌∷◌, ◌++◌, length, refl, sym, ap, ◌∙◌, subst, inl, inr, arith, ◌==◌, ◌||◌, All, codes, option_map_or, option_and_then, cases_eq, cases_Bool, both_ways, eq-eqb, or_parts, All-nil, All-cons, All-head, All-tail, All-append, All-weaker, nat_tests}
-use Rattle.session_rules.proofs.Below.{Forest, Empty, Node, Once, at, has, children, parent_of, put, size, Apart, apart_of, Contexts, created, is_protected, new_context, table_of, Owner, OwnerTree, has_begun, once_of, fresh, sound_created, new_scan, Scan, is_text, is_text-means, is_text-same}
-use Rattle.session_rules.proofs.Rules.{LevelState, OpenPortal, cache_context, first_of, level_owner, plan_reference, portals_context, Scene, OfPortal, PortalContext, Text, portal_changed, portal_named, in_order, portal_becomes, context_made, new_context_made, new_owner_made, owner_made, portal_made}
-use Rattle.portal_store.specs.declared.portal.PortalState.TheVariants as portal
-use Rattle.any_ctx.specs.declared.any.CtxKind.TheVariants as kind
+use Rattle.session_rules.proofs.Below.{Forest, Empty, Node, Once, at, has, children, parent_of, put, size, Apart, apart_of, Contexts, created, is_protected, new_context, table_of, Owner, OwnerTree, has_begun, once_of, fresh, sound_created, new_scan, Scan, is_text, is_text-means, is_text-same, PortalState, CtxKind}
+use Rattle.session_rules.proofs.Rules.{LevelState, OpenPortal, cache_context, first_of, level_owner, plan_reference, portals_context, Scene, OfPortal, PortalContext, Text, portal_changed, portal_named, in_order, portal_becomes, context_made, new_context_made, new_owner_made, owner_made, portal_made, WasReleased, AreContexts, AreDifferent, AreHooks, AreLevels, AreOther, AreOwners, ArePlans, ArePortals, IsAtRest, IsAtWork, IsAttached, IsDead, IsLive, IsOfPortal, IsOwner, IsPlace, IsPortal, IsWorking, Stands, active_depth, owner_at, referred}
+use Rattle.session_rules.proofs.Kept.{children_put, has_put_other, Stay, contexts_created, has_created, is_unused, new_parent, new_protected, protected_has, stay_created, stay_same, held_created, hooks_put, levels_stay, no_value, one_value, lone_put, plans_counted, Changes, all_back, all_front, changed_one, different_new, different_changed, different_owned, others_back, others_front, owner_beside, owner_here, owner_split, IsRowOf, attached_by, own_rows, place_same, row_of, row_put, depth_small, depth_working}
 use Rattle.owner_core.specs.Owners as owners
 use Rattle.session_rules.proofs.ItemsStand.{owner_there}
-use Rattle.portal_store.specs.declared.portal.PortalState.{PortalState}
-use Rattle.session_rules.specs.Standing.{WasReleased, AreContexts, AreDifferent, AreHooks, AreLevels, AreOther, AreOwners, ArePlans, ArePortals, IsAtRest, IsAtWork, IsAttached, IsDead, IsLive, IsOfPortal, IsOwner, IsPlace, IsPortal, IsWorking, Stands, active_depth, owner_at, referred}
-use Rattle.session_rules.proofs.Kept.{children_put, has_put_other, Stay, contexts_created, has_created, is_unused, new_parent, new_protected, protected_has, stay_created, stay_same, held_created, hooks_put, levels_stay, no_value, one_value, lone_put, plans_counted, Changes, all_back, all_front, changed_one, different_new, different_changed, different_owned, others_back, others_front, owner_beside, owner_here, owner_split, IsRowOf, attached_by, own_rows, place_same, row_of, row_put, depth_small, depth_working}
 use Rattle.session_rules.proofs.StepsStand.{IsNewOwner, fit_working, new_owner_is, not_released, still_planned}
 
 -- the portal of a name among the others
@@ -122,13 +118,13 @@ module _ (s : Scene) (h : Stands s) (working : IsWorking s.session.levels) (name
       let q : OpenPortal = f p in
       let guarded : is_protected portals_context t ≡ true = (h.contexts.own portals_context (omega arith) (omega arith)).protected in
       let there : has portals_context t ≡ true = protected_has portals_context t guarded in
-      let u : Contexts = created portals_context next title kind.Small true t in
-      let stay : Stay t u = stay_created t next h.contexts portals_context title kind.Small true in
+      let u : Contexts = created portals_context next title CtxKind.Small true t in
+      let stay : Stay t u = stay_created t next h.contexts portals_context title CtxKind.Small true in
       let newer : (m : ℕ) → has m t ≡ true → m ≢ next = λ m have z. omega (arith, z, h.contexts.below m have) in
       let i = this_portal in
       let off : (m : ℕ) (expr : Option ℕ) → IsPlace m expr t cur → IsPlace m expr u cur = λ m expr k.
       place_same m expr t u cur (stay m k.protected)
-      (row_put t h.contexts.once m expr cur k portals_context next (new_context title kind.Small true) Empty (λ z. omega (arith, z, k.own)) (newer m (protected_has m t k.protected)) refl
+      (row_put t h.contexts.once m expr cur k portals_context next (new_context title CtxKind.Small true) Empty (λ z. omega (arith, z, k.own)) (newer m (protected_has m t k.protected)) refl
       (λ e f z.
       let r : IsRowOf e m t = row_of e m t cur h.contexts.once (subst (λ (o : Option ℕ). IsPlace m o t cur) f k) in
       own_rows t next h.contexts portals_context (omega arith) (omega arith) e m k.own r.parent (sym z))) k in
@@ -136,10 +132,10 @@ module _ (s : Scene) (h : Stands s) (working : IsWorking s.session.levels) (name
       record { place = λ m e. off m r.expr (k.place m e); made = k.made; owner = k.owner; stage = k.stage } in
       let own : IsPortal q s.session.levels u s.session.owners cur = record {
         place = λ m e. subst (λ (j : ℕ). IsPlace j p.expr u cur) (one_value (Some next) next m refl e) (subst (λ (o : Option ℕ). IsPlace next o u cur) (sym (i.made none)) (record {
-          protected = new_protected t next h.contexts portals_context title kind.Small there;
-          parent = new_parent t next h.contexts portals_context title kind.Small true there;
+          protected = new_protected t next h.contexts portals_context title CtxKind.Small there;
+          parent = new_parent t next h.contexts portals_context title CtxKind.Small true there;
           own = h.contexts.room;
-          row = children_put portals_context next (new_context title kind.Small true) Empty t h.contexts.once there (is_unused t next h.contexts);
+          row = children_put portals_context next (new_context title CtxKind.Small true) Empty t h.contexts.once there (is_unused t next h.contexts);
           other = newer cur h.current;
           apart = λ z. absurd (cc z);
         }));
@@ -149,10 +145,10 @@ module _ (s : Scene) (h : Stands s) (working : IsWorking s.session.levels) (name
       } in
       let fresh_context : (r : OpenPortal) → IsPortal r s.session.levels t s.session.owners cur → (m : ℕ) → r.context ≡ Some m → m ≢ next = λ r k m e. newer m (protected_has m t (k.place m e).protected) in
       portal_step s p q n.front n.back u (next + 1) s.session.owners s.session.next_owner h working n.is
-      (contexts_created t next h.contexts portals_context title kind.Small true there (λ _. guarded)) stay
-      (has_created t next h.contexts cur portals_context title kind.Small true h.current)
-      (hooks_put portals_context next (new_context title kind.Small true) t s.around.shelf h.contexts.once refl h.hooks)
-      (still_planned s u h stay (λ m k. lone_put m portals_context next (new_context title kind.Small true) Empty t (λ z. omega (arith, z, k.own)) (newer m (protected_has m t k.protected)) refl k.lone))
+      (contexts_created t next h.contexts portals_context title CtxKind.Small true there (λ _. guarded)) stay
+      (has_created t next h.contexts cur portals_context title CtxKind.Small true h.current)
+      (hooks_put portals_context next (new_context title CtxKind.Small true) t s.around.shelf h.contexts.once refl h.hooks)
+      (still_planned s u h stay (λ m k. lone_put m portals_context next (new_context title CtxKind.Small true) Empty t (λ z. omega (arith, z, k.own)) (newer m (protected_has m t k.protected)) refl k.lone))
       (levels_stay s.session.levels t u s.session.owners s.session.owners (λ m j prot. stay m prot) (λ m j w. record { there = w; parent = refl }) h.levels)
       (same_owners q (λ k e. e))
       (different_new p q n.front n.back next refl (λ k e. e) (λ m e. one_value (Some next) m next e refl)
@@ -250,7 +246,7 @@ module _ (s : Scene) (h : Stands s) (working : IsWorking s.session.levels) (name
       subst (λ (o : Option ℕ). Stands (in_order (owner_made o ∷ portal_becomes name f ∷ []) s).scene) (sym is_lo) result
 
   -- It gets the context of one row.
-  pub row_portal : (c : ℕ) → p.context ≡ Some c → p.expr ≡ None → Stands (in_order (context_made c (codes "ExprContext") true kind.Small ∷ portal_becomes name (λ r. record r { expr = Some s.session.next_context }) ∷ []) s).scene
+  pub row_portal : (c : ℕ) → p.context ≡ Some c → p.expr ≡ None → Stands (in_order (context_made c (codes "ExprContext") true CtxKind.Small ∷ portal_becomes name (λ r. record r { expr = Some s.session.next_context }) ∷ []) s).scene
   row_portal c at_c none =
       let t : Contexts = s.session.contexts in
       let next : ℕ = s.session.next_context in
@@ -263,8 +259,8 @@ module _ (s : Scene) (h : Stands s) (working : IsWorking s.session.levels) (name
       let i = this_portal s h working name p n in
       let place : IsPlace c None t cur = subst (λ (o : Option ℕ). IsPlace c o t cur) none (i.place c at_c) in
       let there : has c t ≡ true = protected_has c t place.protected in
-      let u : Contexts = created c next title kind.Small true t in
-      let stay : Stay t u = stay_created t next h.contexts c title kind.Small true in
+      let u : Contexts = created c next title CtxKind.Small true t in
+      let stay : Stay t u = stay_created t next h.contexts c title CtxKind.Small true in
       let newer : (m : ℕ) → has m t ≡ true → m ≢ next = λ m have z. omega (arith, z, h.contexts.below m have) in
       let was : ArePortals (n.front ++ (p ∷ n.back)) ls t x cur = split_portals s h working name p n in
       let others : (r : OpenPortal) → IsPortal r ls t x cur → AreOther r p ⊎ AreOther p r → IsPortal r ls u x cur = λ r k o. record {
@@ -272,7 +268,7 @@ module _ (s : Scene) (h : Stands s) (working : IsWorking s.session.levels) (name
             let pl : IsPlace m r.expr t cur = k.place m e in
             let ne : m ≢ c = λ z. elim o [ inl d ↦ d.context m (at_c ∙ ap Some (sym z)) e | inr d ↦ d.context m e (at_c ∙ ap Some (sym z)) ] in
             place_same m r.expr t u cur (stay m pl.protected)
-            (row_put t h.contexts.once m r.expr cur pl c next (new_context title kind.Small true) Empty ne (newer m (protected_has m t pl.protected)) refl
+            (row_put t h.contexts.once m r.expr cur pl c next (new_context title CtxKind.Small true) Empty ne (newer m (protected_has m t pl.protected)) refl
             (λ v g z.
             let w : IsRowOf v m t = row_of v m t cur h.contexts.once (subst (λ (j : Option ℕ). IsPlace m j t cur) g pl) in
             let same : m ≡ portals_context = let e2 : Some m ≡ Some portals_context = sym w.parent ∙ ap (λ (j : ℕ). parent_of j t) z ∙ place.parent in cc e2 in
@@ -286,7 +282,7 @@ module _ (s : Scene) (h : Stands s) (working : IsWorking s.session.levels) (name
           protected = (stay c place.protected).protected;
           parent = (stay c place.protected).parent ∙ place.parent;
           own = place.own;
-          row = (new_context title kind.Small true, put_here c next (new_context title kind.Small true) t h.contexts.once there (is_unused t next h.contexts) ∙ ap (Node next (new_context title kind.Small true) Empty) place.row, refl);
+          row = (new_context title CtxKind.Small true, put_here c next (new_context title CtxKind.Small true) t h.contexts.once there (is_unused t next h.contexts) ∙ ap (Node next (new_context title CtxKind.Small true) Empty) place.row, refl);
           other = place.other;
           apart = λ z. newer cur h.current (sym (one_value (Some next) next cur refl z));
         });
@@ -295,10 +291,10 @@ module _ (s : Scene) (h : Stands s) (working : IsWorking s.session.levels) (name
         stage = inl (let l : IsLive p ls = this_live s h working name p n in record { some = l.some; within = l.within; active = l.active; line = l.line });
       } in
       portal_step s p q n.front n.back u (next + 1) x s.session.next_owner h working n.is
-      (contexts_created t next h.contexts c title kind.Small true there (λ _. place.protected)) stay
-      (has_created t next h.contexts cur c title kind.Small true h.current)
-      (hooks_put c next (new_context title kind.Small true) t s.around.shelf h.contexts.once refl h.hooks)
-      (still_planned s u h stay (λ m k. lone_put m c next (new_context title kind.Small true) Empty t
+      (contexts_created t next h.contexts c title CtxKind.Small true there (λ _. place.protected)) stay
+      (has_created t next h.contexts cur c title CtxKind.Small true h.current)
+      (hooks_put c next (new_context title CtxKind.Small true) t s.around.shelf h.contexts.once refl h.hooks)
+      (still_planned s u h stay (λ m k. lone_put m c next (new_context title CtxKind.Small true) Empty t
       (λ z. let e2 : Some cache_context ≡ Some portals_context = sym k.parent ∙ ap (λ (j : ℕ). parent_of j t) z ∙ place.parent in let e3 : cache_context ≡ portals_context = cc e2 in absurd (omega (arith, e3)))
       (newer m (protected_has m t k.protected)) refl k.lone))
       (levels_stay ls t u x x (λ m j prot. stay m prot) (λ m j w. record { there = w; parent = refl }) h.levels)
@@ -338,7 +334,7 @@ new_names name (q ∷ qs) e p named c o = elim (cases_Bool (is_text q.name name)
 pub made_portal : (s : Scene) (name : Text) (object rows : ℕ) (bad : Option ℕ) → Stands s → IsWorking s.session.levels → portal_named name s.session.portals ≡ None → Stands (portal_made name object rows bad s).scene
 made_portal s name object rows bad h working free =
     let d = depth_here s.session.levels working in
-    let p : OpenPortal = record { name = name; context = None; expr = None; owner = None; scan = new_scan object rows bad; created = length s.session.levels; active = length s.session.levels; state = portal.New } in
+    let p : OpenPortal = record { name = name; context = None; expr = None; owner = None; scan = new_scan object rows bad; created = length s.session.levels; active = length s.session.levels; state = PortalState.New } in
     let own : IsPortal p s.session.levels s.session.contexts s.session.owners s.session.current = record {
       place = λ n e. absurd (cc e);
       made = λ _. refl;

@@ -1,13 +1,7 @@
 -- What a release leaves: the owners without their items, and of all else only what tables count.
-use Rattle.session_rules.proofs.Base.{◌≡◌, ◌≢◌, ℕ, ◌<◌, ◌≤◌, Bool, true, false, Option, List, [], ◌∷◌, length, slice_get, All, refl, sym, ap, ◌∙◌, subst, inl, inr, arith, zero, suc, ◌-◌, not, filter, unwrap_or, if◌then◌else◌, option_map}
-use Rattle.session_rules.proofs.Below.{Item, Phase, BeforeLocks, Locks, AfterLocks, swept, Kind, table_of, Owner, OwnerTree, HoldsNothing, own_released, released, IsSound, sound_released, Lock}
+use Rattle.session_rules.proofs.Base.{◌≡◌, ◌≢◌, ℕ, ◌<◌, ◌≤◌, Bool, true, false, Option, List, [], ◌∷◌, length, slice_get, All, refl, sym, ap, ◌∙◌, subst, inl, inr, arith, zero, suc, ◌-◌, not, filter, unwrap_or, if◌then◌else◌, option_map, cases_Bool, le-ltb, lt-ltb, ne_eqb, All-nil, All-head, All-tail, All-filter}
+use Rattle.session_rules.proofs.Below.{Item, Phase, BeforeLocks, Locks, AfterLocks, swept, Kind, table_of, Owner, OwnerTree, HoldsNothing, own_released, released, IsSound, sound_released, Lock, KindTable, built_in_rows, row_of, IsSoundTable, IsPlace, KindRow, is_of_phase, is_phase}
 use Rattle.session_rules.proofs.Rules.{Scene, HasItems, IsItem}
-use Rattle.std.proofs.lemmas.Bool.{cases_Bool, le-ltb, lt-ltb, ne_eqb}
-use Rattle.std.proofs.lemmas.List.Elements.{All-nil, All-head, All-tail, All-filter}
-use Rattle.owner_kinds.specs.KindTable.{KindTable, built_in_rows, row_of, IsSound as IsSoundTable}
-use Rattle.owner_kinds.specs.Place.{IsPlace}
-use Rattle.owner_kinds.specs.declared.kind_row.KindRow.{KindRow}
-use Rattle.owner_items.specs.Next.{is_of_phase, is_phase}
 use Rattle.session_rules.proofs.Swept.{both_swept}
 
 -- what tables count besides owners
@@ -27,12 +21,6 @@ tables_of scene = record { locks = scene.session.locks; recent = scene.session.r
 
 abbrev pub with_owners : OwnerTree → Scene → Scene
 with_owners owners scene = record scene { session = record scene.session { owners = owners } }
-
--- one phase, by the kinds of the scene
-record HasPhase (kinds : KindTable) (owner : ℕ) (phase : Phase) (s t : Scene) : Type 0 where
-  tables : Tables
-  same : table_of tables.kinds ≡ table_of s.around.kinds
-  is : t ≡ with_owners (released kinds phase owner s.session.owners) (tabled tables s)
 
 -- what the three phases leave of an owner
 abbrev pub swept_by : KindTable → Owner → Owner

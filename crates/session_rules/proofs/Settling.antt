@@ -1,11 +1,8 @@
 -- What a release leaves of plans, contexts and tables: each plan counts the references that owners still hold, and one that has to go
 -- is gone with its context.
 use Rattle.session_rules.proofs.Base.{◌≡◌, ◌≢◌, ℕ, ◌+◌, ◌-◌, ◌≤◌, ◌<◌, Bool, true, false, Option, Some, None, List, [], ◌∷◌, ◌++◌, refl, sym, ap, ◌∙◌, subst, arith, ◌==◌, ◌&&◌, nat_lt, if◌then◌else◌, All, option_map_or, eq-eqb, eqb-true, eqb-false, ne_eqb, nat_tests}
-use Rattle.session_rules.proofs.Below.{Item, Phase, BeforeLocks, Locks, AfterLocks, Once, has, children, parent_of, removed, ShelfState, Contexts, is_protected, gone, handed_in, KindTable, table_of, is_of, OwnerTree, released, IsSound, Step, Said, GivesBack, ReleasesLocks, PassesLocks, ReleasesAllLocks, release_steps, once_of, sound_released, Lock, is_among, without, removed_absent}
+use Rattle.session_rules.proofs.Below.{Item, Phase, BeforeLocks, Locks, AfterLocks, Once, has, children, parent_of, removed, ShelfState, Contexts, is_protected, gone, handed_in, KindTable, table_of, is_of, OwnerTree, released, IsSound, Step, Said, GivesBack, ReleasesLocks, PassesLocks, ReleasesAllLocks, release_steps, once_of, sound_released, Lock, is_among, without, removed_absent, What, Kind, changed_at, closed, table-closed}
 use Rattle.session_rules.proofs.Rules.{StandingPlan, abort_context, cache_context, plan_reference, Scene, plan_at, plan_changed, plans_but, Ended, for_each, where_so, where_there, NoOne, ThePlans, TheDescriptors, TheKind, given_back, left_to, owner_released, phase_released, plan_becomes, plan_left, plan_settled, plan_stays, step_done, AreContexts, AreHooks, ArePlans, IsPlan, referred, references_of}
-use Rattle.pgs_step.specs.declared.events.What.TheVariants as what
-use Rattle.owner_kinds.specs.Kind.{Kind, changed_at, closed}
-use Rattle.owner_kinds.proofs.Places.{table-closed}
 use Rattle.lock_local.specs.Changes as locks
 use Rattle.session_rules.proofs.ContextsKept.{IsSame, contexts_level_gone, off_outside, same_removed}
 use Rattle.session_rules.proofs.Lone.{children_left}
@@ -217,7 +214,7 @@ module _ (s : Scene) (d : ℕ → ℕ) (h : Fits s.session.next_context s.sessio
     where
       go : (b : Bool) → Settles d s (where_so b (λ scene. record {
         scene = record scene { session = record scene.session { recent = without key scene.session.recent } };
-        events = what.DescriptorClosed key ∷ [];
+        events = What.DescriptorClosed key ∷ [];
       }) s).scene
       go true = settles_tables s.session.locks (without key s.session.recent) s.around.kinds refl
       go false = settles_nothing

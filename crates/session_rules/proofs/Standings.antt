@@ -1,8 +1,7 @@
 -- What callers take from a session that stands.
 use Rattle.session_rules.proofs.Base.{◌≡◌, ℕ, ◌≤◌, true, false, List, [], ◌∷◌, All, ap, ◌∙◌, inl, inr, arith, cases_eq, both_ways, false_from_ne_true, All-nil, All-cons, All-head, All-tail, nat_tests}
-use Rattle.session_rules.proofs.Below.{Empty, Node, has, AllNodes, Item, table_of, OwnerTree, has_begun}
+use Rattle.session_rules.proofs.Below.{Empty, Node, has, AllNodes, Item, table_of, OwnerTree, has_begun, IsKind, KindTable}
 use Rattle.session_rules.proofs.Rules.{LevelState, SessionState, abort_context, top_context, Around, Scene, AreHooks, HasItems, IsItem, Stands, StandsBetweenLines}
-use Rattle.owner_kinds.specs.KindTable.{IsKind, KindTable}
 use Rattle.session_rules.proofs.Kept.{protected_has, top_protected}
 use Rattle.session_rules.proofs.EndsStand.{settled}
 

@@ -1,25 +1,12 @@
 -- The steps of commands lead from a session that stands to one that stands.
-use Rattle.session_rules.proofs.Base.{◌≡◌, ◌≢◌, ℕ, ◌+◌, ◌<◌, ◌≤◌, ◌⊎◌, ◌++◌, length, Bool, true, false, Option, Some, None, List, [], ◌∷◌, refl, sym, ap, ◌∙◌, subst, inl, inr, arith, ◌==◌, All, if◌then◌else◌, Result, Ok, Err, option_map_or, All-nil, All-weaker, nat_tests}
-use Rattle.session_rules.proofs.Below.{Empty, has, Once, at, children, parent_of, put, changed, size, AllNodes, has_at, times_some, has_changed, Error, Active, ShelfState, taken, KindTable, IsSoundTable, table_of, once_of, fresh, sound_created}
-use Rattle.session_rules.proofs.Rules.{LevelState, OpenPortal, StandingPlan, deepest_changed, first_of, owner_of, plan_reference, top_context, Scene, Moment, LevelContext, OfLevel, Text, memory_in, aborted, cleaned_up, committed, subcommitted, does, Ended, changes, in_order, nothing, say, switched, where_there, chunk_resized, memory_taken, snapshot_pushed, level_stands, fallible, is_call, refused_call}
-use Rattle.std.proofs.lemmas.Bool.{cases_eq, eq-eqb, ne_eqb, both_ways}
-use Rattle.forest.proofs.Neighbours.{parent_absent}
-use Rattle.chunk_header.specs.declared.CtxError.{CtxError}
-use Rattle.chunk_header.specs.Answers.{Taken}
-use Rattle.any_ctx.specs.Ledgers.{Ledger, Place}
-use Rattle.any_ctx.specs.declared.any.CtxKind.TheVariants as kind
-use Rattle.context_rules.specs.Contexts as rules
-use Rattle.context_rules.specs.Contexts.{Chunk, Context, Contexts, Found, created, found, is_protected, new_context}
-use Rattle.context_rules.specs.Chunks.{allocated, freed, from_ok, resized, served, with_chunk, without, written, zeros}
-use Rattle.owner_core.specs.Owners.{Owner, OwnerTree, has_begun, items_of}
-use Rattle.owner_core.specs.Owners as owners
-use Rattle.owner_core.specs.Sound.{IsSound}
-use Rattle.session_rules.specs.Elements as element
-use Rattle.session_rules.specs.Making.{held, left, level_context_name, level_made, level_parent, limit, new_context_made, new_owner_made}
-use Rattle.session_rules.specs.Standing.{IsLevel, IsOfPortal, AreContexts, AreHooks, AreLevels, AreOuter, AreOwners, ArePlans, ArePortals, AreStacked, FitLevels, HasItems, IsActive, IsAtRest, IsContextOf, IsDead, IsDeepest, IsFresh, IsItem, IsLive, IsMade, IsOpen, IsOwner, IsOwnerOf, IsPlace, IsPlan, IsPortal, IsReleased, IsRow, IsWorking, Stands, WasReleased, active_depth, owner_at, referred}
+use Rattle.session_rules.proofs.Base.{◌≡◌, ◌≢◌, ℕ, ◌+◌, ◌<◌, ◌≤◌, ◌⊎◌, ◌++◌, length, Bool, true, false, Option, Some, None, List, [], ◌∷◌, refl, sym, ap, ◌∙◌, subst, inl, inr, arith, ◌==◌, All, if◌then◌else◌, Result, Ok, Err, option_map_or, All-nil, All-weaker, nat_tests, cases_eq, eq-eqb, ne_eqb, both_ways}
+use Rattle.session_rules.proofs.Below.{Empty, has, Once, at, children, parent_of, put, changed, size, AllNodes, has_at, times_some, has_changed, Error, Active, ShelfState, taken, KindTable, IsSoundTable, table_of, once_of, fresh, sound_created, parent_absent, CtxError, Taken, Ledger, Place, CtxKind, Chunk, Context, Contexts, Found, created, found, is_protected, new_context, allocated, freed, from_ok, resized, served, with_chunk, written, zeros, Owner, OwnerTree, has_begun, items_of, IsSound}
+use Rattle.session_rules.proofs.Rules.{LevelState, OpenPortal, StandingPlan, deepest_changed, first_of, owner_of, plan_reference, top_context, Scene, Moment, LevelContext, OfLevel, Text, memory_in, aborted, cleaned_up, committed, subcommitted, does, Ended, changes, in_order, nothing, say, switched, where_there, chunk_resized, memory_taken, snapshot_pushed, level_stands, fallible, is_call, refused_call, Element, held, left, level_context_name, level_made, level_parent, limit, new_context_made, new_owner_made, IsLevel, IsOfPortal, AreContexts, AreHooks, AreLevels, AreOuter, AreOwners, ArePlans, ArePortals, AreStacked, FitLevels, HasItems, IsActive, IsAtRest, IsContextOf, IsDead, IsDeepest, IsFresh, IsItem, IsLive, IsMade, IsOpen, IsOwner, IsOwnerOf, IsPlace, IsPlan, IsPortal, IsReleased, IsRow, IsWorking, Stands, WasReleased, active_depth, owner_at, referred, MemoryRole}
 use Rattle.session_rules.proofs.Kept.{at_put, at_put_other, children_put, has_put_other, parent_put, parent_put_other, all_put, Stay, contexts_changed, contexts_created, has_created, new_empty, new_parent, new_protected, protected_has, stay_changed, stay_created, stay_same, top_protected, hooks_changed, hooks_put, depth_small, depth_working, stacked_pushed, stacked_taken, stacked_within, lone_changed, lone_put, held_created, Besides, Fits, Spares, besides_of, with_besides, IsCached, levels_apart, levels_other, parent_apart, plans_counted, plans_current, plans_moved, IsRowOf, attached_by, off_parent, place_level, place_same, place_spared, portals_by, portals_moved, row_changed, row_of, row_parent_off, row_put, is_there, levels_stay, no_value, one_value}
+use Rattle.context_rules.specs.Contexts as rules
+use Rattle.context_rules.specs.Chunks.{without}
+use Rattle.owner_core.specs.Owners as owners
 use Rattle.session_rules.proofs.EndsStand.{Leaves, deepest_active, aborted_stands, cleaned_up_stands, committed_stands, is_settled, settled, subcommitted_leaves}
-use Rattle.session_rules.specs.Elements.{MemoryRole}
 
 -- a refused call changes nothing but the count
 pub not_refused : (a b : Bool) (x y : Error) (own : Option Error) → (if a then Some x else (if b then Some y else own)) ≡ None → own ≡ None
@@ -238,19 +225,19 @@ level_context_stands level levels s starting none h =
     let outer : AreOuter levels = h.fit.1 in
     let guarded : is_protected p t ≡ true = parent_protected levels t x next c h.levels.1 outer in
     let there : has p t ≡ true = protected_has p t guarded in
-    let u : Contexts = created p next name kind.Default true t in
-    let stay : Stay t u = stay_created t next c p name kind.Default true in
+    let u : Contexts = created p next name CtxKind.Default true t in
+    let stay : Stay t u = stay_created t next c p name CtxKind.Default true in
     let rest : AreLevels levels u x =
     levels_stay levels t u x x (λ m i prot. stay m prot) (λ m i there. record { there = there; parent = refl }) h.levels.1 in
     record {
-      contexts = contexts_created t next c p name kind.Default true there (λ _. guarded);
-      current = has_created t next c s.session.current p name kind.Default true h.current;
-      hooks = hooks_put p next (new_context name kind.Default true) t s.around.shelf c.once refl h.hooks;
+      contexts = contexts_created t next c p name CtxKind.Default true there (λ _. guarded);
+      current = has_created t next c s.session.current p name CtxKind.Default true h.current;
+      hooks = hooks_put p next (new_context name CtxKind.Default true) t s.around.shelf c.once refl h.hooks;
       levels = (
         record {
           context = λ n e. subst (λ (m : ℕ). IsContextOf m levels u) (one_value (Some next) next n refl e) (record {
-            protected = new_protected t next c p name kind.Default there;
-            parent = new_parent t next c p name kind.Default true there;
+            protected = new_protected t next c p name CtxKind.Default there;
+            parent = new_parent t next c p name CtxKind.Default true there;
             newer = c.below p there;
             own = c.room;
           });
@@ -262,7 +249,7 @@ level_context_stands level levels s starting none h =
       fit = (
         record {
           made = λ e. absurd (both_ways level.starting e starting);
-          empty = λ n _ e. subst (λ (m : ℕ). rules.is_empty m u ≡ true) (one_value (Some next) next n refl e) (new_empty t next c p name kind.Default true there);
+          empty = λ n _ e. subst (λ (m : ℕ). rules.is_empty m u ≡ true) (one_value (Some next) next n refl e) (new_empty t next c p name CtxKind.Default true there);
           alone = h.fit.0.alone;
           idle = h.fit.0.idle;
           released = h.fit.0.released;
@@ -284,7 +271,7 @@ level_context_stands level levels s starting none h =
       portals = portals_by s.session.portals (level ∷ levels) (record level { context = Some next } ∷ levels) t u x x s.session.current s.session.current
           (λ q i. same_portal level (record level { context = Some next }) levels t u x s.session.current s.session.current q refl (λ l. record { some = l.some; within = l.within; active = l.active; line = l.line }) refl
           (λ n expr k. place_same n expr t u s.session.current (stay n k.protected)
-          (row_put t c.once n expr s.session.current k p next (new_context name kind.Default true) Empty
+          (row_put t c.once n expr s.session.current k p next (new_context name CtxKind.Default true) Empty
           (λ z. off_parent levels t x h.levels.1 outer n k.parent k.own (sym z)) (λ z. omega (arith, z, c.below n (protected_has n t k.protected))) refl
           (λ e q z.
           let r : IsRowOf e n t = row_of e n t s.session.current c.once (subst (λ (o : Option ℕ). IsPlace n o t s.session.current) q k) in
@@ -292,7 +279,7 @@ level_context_stands level levels s starting none h =
       plans = plans_moved s.session.plans t u s.session.current (referred x)
           (λ m k. (
             stay m k.protected,
-            lone_put m p next (new_context name kind.Default true) Empty t (λ z. parent_apart levels t x h.levels.1 outer m k (sym z)) (λ z. omega (arith, z, c.below m (protected_has m t k.protected))) refl k.lone,
+            lone_put m p next (new_context name CtxKind.Default true) Empty t (λ z. parent_apart levels t x h.levels.1 outer m k (sym z)) (λ z. omega (arith, z, c.below m (protected_has m t k.protected))) refl k.lone,
           )) h.plans;
       snapshots = h.snapshots;
     }
@@ -493,63 +480,63 @@ below_limit most n e = grind (arith, nat_tests)
 
 -- Each element, whatever call is refused.
 module _ (w : Option ℕ) (moment : Moment) (h : Stands moment.scene) where
-  pub commit_stands : (level : LevelState) → moment.scene.session.levels ≡ level ∷ [] → Leaves [] (does w element.CommitTop moment).moment.scene
+  pub commit_stands : (level : LevelState) → moment.scene.session.levels ≡ level ∷ [] → Leaves [] (does w Element.CommitTop moment).moment.scene
   unfolding does
   commit_stands level is =
       settled_as (λ (z : Scene). Leaves [] (committed z).scene) moment.scene (level ∷ []) h is (λ k. committed_stands level moment.scene k)
 
-  pub merge_stands : (level : LevelState) (levels : List LevelState) → moment.scene.session.levels ≡ level ∷ levels → 1 ≤ length levels → All IsAtRest moment.scene.session.portals → Leaves levels (does w element.Subcommit moment).moment.scene
+  pub merge_stands : (level : LevelState) (levels : List LevelState) → moment.scene.session.levels ≡ level ∷ levels → 1 ≤ length levels → All IsAtRest moment.scene.session.portals → Leaves levels (does w Element.Subcommit moment).moment.scene
   unfolding does
   merge_stands level levels is some at_rest =
       settled_as (λ (z : Scene). Leaves levels (subcommitted z).scene) moment.scene (level ∷ levels) h is (λ k. subcommitted_leaves level levels moment.scene some at_rest k)
 
   pub abort_stands : (level : LevelState) (levels : List LevelState) → moment.scene.session.levels ≡ level ∷ levels → level.aborted ≡ false → IsOpen level
-      → Leaves (record level { aborted = true } ∷ levels) (does w element.Abort moment).moment.scene
+      → Leaves (record level { aborted = true } ∷ levels) (does w Element.Abort moment).moment.scene
   unfolding does
   abort_stands level levels is active open_level =
       settled_as (λ (z : Scene). Leaves (record level { aborted = true } ∷ levels) (aborted z).scene) moment.scene (level ∷ levels) h is (λ k. aborted_stands level levels moment.scene active open_level k)
 
-  pub cleanup_stands : (level : LevelState) (levels : List LevelState) → moment.scene.session.levels ≡ level ∷ levels → level.aborted ≡ true → Leaves levels (does w element.Cleanup moment).moment.scene
+  pub cleanup_stands : (level : LevelState) (levels : List LevelState) → moment.scene.session.levels ≡ level ∷ levels → level.aborted ≡ true → Leaves levels (does w Element.Cleanup moment).moment.scene
   unfolding does
   cleanup_stands level levels is gone =
       settled_as (λ (z : Scene). Leaves levels (cleaned_up z).scene) moment.scene (level ∷ levels) h is (λ k. cleaned_up_stands level levels moment.scene gone k)
 
-  pub enlarge_works : Works moment.scene (does w (element.Enlarge OfLevel) moment).moment.scene
+  pub enlarge_works : Works moment.scene (does w (Element.Enlarge OfLevel) moment).moment.scene
   unfolding does
   enlarge_works = fallible_keeps (Works moment.scene) w moment None nothing (nothing_works moment.scene h) (λ _. nothing_works moment.scene h)
 
-  pub pop_works : Works moment.scene (does w element.PopSnapshot moment).moment.scene
+  pub pop_works : Works moment.scene (does w Element.PopSnapshot moment).moment.scene
   unfolding does
   pop_works = grind (arith, nat_tests, in_order, say, nothing_works moment.scene h, stack_works moment.scene, stacked_taken)
 
   -- in an active level
   module _ (working : IsWorking moment.scene.session.levels) where
-    pub push_works : (snapshot : ℕ) → Works moment.scene (does w (element.PushSnapshot snapshot) moment).moment.scene
+    pub push_works : (snapshot : ℕ) → Works moment.scene (does w (Element.PushSnapshot snapshot) moment).moment.scene
     unfolding does
     push_works snapshot =
         fallible_keeps (Works moment.scene) w moment None (snapshot_pushed snapshot) (nothing_works moment.scene h)
         (λ _. stack_works moment.scene (moment.scene.session.snapshots ++ (record { snapshot = snapshot; level = length moment.scene.session.levels } ∷ [])) h
         (push_stacked moment.scene.session.levels snapshot moment.scene.session.snapshots working h.snapshots))
 
-    pub free_works : (name : Text) → Works moment.scene (does w (element.FreeChunk name) moment).moment.scene
+    pub free_works : (name : Text) → Works moment.scene (does w (Element.FreeChunk name) moment).moment.scene
     unfolding does
     free_works name =
         (beside_by moment.scene _ refl refl (kept_step moment.scene h working (freed name moment.scene.session.contexts) (keeps_freed moment.scene.session.contexts moment.scene.session.next_context name h.contexts))).works
 
-    pub put_works : (name : Text) (from : ℕ) (bytes : List ℕ) → Works moment.scene (does w (element.Put name from bytes) moment).moment.scene
+    pub put_works : (name : Text) (from : ℕ) (bytes : List ℕ) → Works moment.scene (does w (Element.Put name from bytes) moment).moment.scene
     unfolding does
     put_works name from bytes =
         (beside_by moment.scene _ refl refl (kept_step moment.scene h working (written name from bytes moment.scene.session.contexts)
         (keeps_written moment.scene.session.contexts moment.scene.session.next_context name from bytes h.contexts))).works
 
-    pub realloc_works : (name : Text) (bytes : ℕ) → Works moment.scene (does w (element.Realloc name bytes) moment).moment.scene
+    pub realloc_works : (name : Text) (bytes : ℕ) → Works moment.scene (does w (Element.Realloc name bytes) moment).moment.scene
     unfolding does
     realloc_works name bytes =
         fallible_keeps (Works moment.scene) w moment _ (chunk_resized name bytes) (nothing_works moment.scene h)
         (λ _. (beside_by moment.scene _ refl refl (kept_step moment.scene h working (resized (held moment.scene.session) moment.scene.around.space name bytes moment.scene.session.contexts)
         (keeps_resized moment.scene.session.contexts moment.scene.session.next_context (held moment.scene.session) moment.scene.around.space name bytes h.contexts))).works)
 
-    pub alloc_beside : (role : MemoryRole) (name : Option Text) (bytes : ℕ) (zeroed : Bool) → Beside moment.scene (does w (element.Alloc role name bytes zeroed) moment).moment.scene
+    pub alloc_beside : (role : MemoryRole) (name : Option Text) (bytes : ℕ) (zeroed : Bool) → Beside moment.scene (does w (Element.Alloc role name bytes zeroed) moment).moment.scene
     unfolding does
     alloc_beside role name bytes zeroed =
         fallible_keeps (Beside moment.scene) w moment _ (λ scene. where_there (memory_in role scene.session) (memory_taken name bytes zeroed) scene) (nothing_beside moment.scene h) (λ _. memory (memory_in role moment.scene.session))
