@@ -1,5 +1,5 @@
 -- A law that speaks of contexts and hooks alone: what it owes for contexts gives it all leaves.
-use Rattle.session_rules.proofs.Base.{◌≡◌, ℕ, Bool, true, false, refl}
+use Rattle.session_rules.proofs.Base.{◌≡◌, ℕ, Bool, true, false, refl, arith, nat_tests}
 use Rattle.session_rules.proofs.Below.{What, CtxKind}
 use Rattle.session_rules.proofs.Rules.{Text, context_made}
 use Rattle.session_rules.proofs.Leaves.{EndLeaves, Keeps, Law, MakeLeaves, is_level_word, is_word}
@@ -36,11 +36,7 @@ word_apart What.Exit h = absurd (cc h)
 word_apart other h = refl
 
 level_apart : (event : What) → is_level_word event ≡ true → is_apart event ≡ true
-level_apart (What.BeginLevel level) h = refl
-level_apart (What.CommitLevel level) h = refl
-level_apart (What.AbortLevel level) h = refl
-level_apart (What.CleanupLevel level) h = refl
-level_apart other h = absurd (cc h)
+level_apart other h = grind (arith, nat_tests)
 
 -- what such a law owes
 pub record ContextLaw (R : Law) : Type 0 where

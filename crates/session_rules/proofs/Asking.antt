@@ -24,10 +24,7 @@ asked_both w (x ∷ xs) ys m = grind (arith, nat_tests, asked_both w xs ys (does
 asked_more : (reads : Reading) (w : Option ℕ) (n : ℕ) (lines : List (List ℕ)) (line : List ℕ) (course : Course)
     → asked_on reads w n (lines ++ line ∷ []) course ≡ asked_on reads w n lines course + asked_by_line reads w n line (goes_on reads w lines course)
 asked_more reads w n [] line course = omega arith
-asked_more reads w n (first ∷ lines) line course =
-    let rest : asked_on reads w n (lines ++ line ∷ []) (after_line reads w first course)
-    ≡ asked_on reads w n lines (after_line reads w first course) + asked_by_line reads w n line (goes_on reads w lines (after_line reads w first course)) = asked_more reads w n lines line (after_line reads w first course) in
-    omega (arith, rest)
+asked_more reads w n (first ∷ lines) line course = grind (arith, nat_tests, asked_more reads w n lines line (after_line reads w first course))
 
 pub asked_by_more : (reads : Reading) (w : Option ℕ) (options : Options) (kinds : List Kind) (shelf : ShelfState) (lines : List (List ℕ)) (line : List ℕ) (n : ℕ)
     → asked_by reads w options kinds shelf (lines ++ line ∷ []) n
@@ -38,9 +35,7 @@ asked_by_more reads w options kinds shelf lines line n = asked_more reads w n li
 -- a line of a session that the run has asks what its turn asks
 pub own_line : (w : Option ℕ) (course : Course) (number : ℕ) (command : Option Command) (session : SessionState)
     → asked_by_command w number course number command (Some session) ≡ asked_by_turn w command (moment number session course.world)
-own_line w course number command session =
-    let same : (number == number) ≡ true = grind (arith, nat_tests) in
-    ap (λ (b : Bool). if b then asked_by_turn w command (moment number session course.world) else 0) same
+own_line w course number command session = grind (arith, nat_tests)
 
 -- and for other sessions nothing
 pub other_line : (w : Option ℕ) (n : ℕ) (course : Course) (number : ℕ) (command : Option Command) (session : Option SessionState) → number ≢ n → asked_by_command w n course number command session ≡ 0

@@ -1,6 +1,5 @@
 -- The words and lemmas of the crates below that these proofs take.
 pub use Rattle.any_ctx.specs.Ledgers.{Ledger, Place, give}
-unfoldable pub use Rattle.any_ctx.specs.SetLedger.{stats}
 pub use Rattle.any_ctx.specs.declared.any.CtxKind.{CtxKind}
 pub use Rattle.chunk_header.specs.Answers.{Taken, Resized}
 unfoldable pub use Rattle.chunk_header.specs.Growth.{up8, granted, grown, doubled}
@@ -24,9 +23,9 @@ pub use Rattle.file_table.specs.Files.{Files, given_events, loser, touch_events}
 pub use Rattle.forest.proofs.Mapped.{parent_changed, at_changed, at_changed_other}
 pub use Rattle.forest.proofs.Moved.{above_by_parent, above_none, at_moved, below_parent, sum_moved, sum_of, at_children}
 pub use Rattle.forest.proofs.Neighbours.{root_absent, parent_root, parent_absent}
-pub use Rattle.forest.proofs.Trees.{times_some, has_some, at_some, has_of_removed, Moves, once_put, once_changed, times_moved, has_changed, at_absent, first_child_other, Apart, apart_of, Here, Below, Beside, where_is, has_at, put_absent, children_absent, removed_absent, left_apart, has_children, times_none, has_none, times_removed, changed_absent, parent_stays, removed_has}
+pub use Rattle.forest.proofs.Trees.{times_some, has_some, at_some, has_of_removed, Moves, once_put, once_changed, times_moved, has_changed, at_absent, first_child_other, Apart, apart_of, has_at, put_absent, children_absent, removed_absent, left_apart, has_children, times_none, has_none, times_removed, changed_absent, parent_stays, removed_has}
 pub use Rattle.forest.proofs.Walks.{children_changed, children_in, once_children, parent_in}
-pub use Rattle.forest.specs.Forest.{changed, Empty, has, times, Once, at, children, parent_of, is_above, removed, moved, with_children, Forest, Node, AllNodes, is_root, put, either, subtree, size}
+pub use Rattle.forest.specs.Forest.{changed, Empty, has, times, Once, at, children, parent_of, is_above, removed, moved, with_children, Forest, Node, AllNodes, is_root, put, subtree, size}
 pub use Rattle.forest.specs.Walk.{all_changed, swept, order_at}
 pub use Rattle.lock_local.specs.Changes.{acquired}
 pub use Rattle.lock_local.specs.Locks.{Lock, AreLocks, IsInOrder, comes_before, has_owner, is_held, is_lock, owner_count}

@@ -1,5 +1,5 @@
 -- What the calls on contexts keep of them.
-use Rattle.session_rules.proofs.Base.{◌≡◌, ◌≢◌, ℕ, ◌+◌, ◌≤◌, ◌<◌, Bool, true, false, Option, Some, None, List, refl, sym, ap, ◌∙◌, inl, inr, arith, ◌==◌, option_map_or, cases_eq, both_ways, false_from_ne_true, or_parts, nat_tests}
+use Rattle.session_rules.proofs.Base.{◌≡◌, ◌≢◌, ℕ, ◌+◌, ◌≤◌, ◌<◌, Bool, true, false, Option, Some, List, refl, sym, ap, ◌∙◌, inl, inr, arith, ◌==◌, option_map_or, cases_eq, both_ways, false_from_ne_true, or_parts, nat_tests}
 use Rattle.session_rules.proofs.Below.{Empty, has, times, Once, at, children, parent_of, is_above, removed, changed, moved, with_children, times_some, has_some, at_some, has_of_removed, Moves, once_put, once_changed, times_moved, has_changed, above_by_parent, above_none, at_moved, parent_changed, at_changed, at_changed_other, CtxKind, Context, Contexts, new_context, is_protected, is_empty, created, reparented, emptied, is_within}
 use Rattle.session_rules.proofs.Rules.{abort_context, top_context, IsFresh, IsOfSession, AreContexts, AreGuarded}
 use Rattle.context_rules.specs.Ends as ends
@@ -23,10 +23,7 @@ pub stay_same : (t : Contexts) → Stay t t
 stay_same t m prot = record { protected = prot; parent = refl }
 
 pub stay_on : (t u v : Contexts) → Stay t u → Stay u v → Stay t v
-stay_on t u v a b m prot =
-    let x : IsSame m t u = a m prot in
-    let y : IsSame m u v = b m x.protected in
-    record { protected = y.protected; parent = y.parent ∙ x.parent }
+stay_on t u v a b m prot = grind (arith, nat_tests)
 
 -- the session's own contexts do
 pub own_stay : (t u : Contexts) → ((m : ℕ) → 1 < m → m ≤ abort_context → IsOfSession m t) → Stay t u → (m : ℕ) → 1 < m → m ≤ abort_context → IsOfSession m u
@@ -41,15 +38,7 @@ protected_has m t prot = own_has own m t prot
 
 -- what holds of contexts, and of them with one emptied, holds where that is reset alone
 pub by_alone : (P : Contexts → Type 0) (n : ℕ) (t : Contexts) → P t → P (changed n emptied t) → P (ends.cleared_alone n t).contexts
-by_alone P n t same reset = go (at n t)
-  where
-    by_use : (c : Context) (b : Bool) → c.used ≡ b → P (ends.reset_of n t c).contexts
-    by_use c true e = rw e reset
-    by_use c false e = rw e same
-
-    go : (o : Option Context) → P (option_map_or (ends.reset_of n t) o (ends.unchanged t)).contexts
-    go None = same
-    go (Some c) = by_use c c.used refl
+by_alone x0 n t same reset = grind (arith, nat_tests)
 
 -- so with one moved
 pub by_reparented : (P : Contexts → Type 0) (n p : ℕ) (t : Contexts) → P t → P (moved n p t) → P (reparented n p t)
@@ -102,9 +91,7 @@ module _ (t : Contexts) (next : ℕ) (h : AreContexts t next) where
   stay_gone n free m prot = same_removed m n (apart m n free prot) prot
 
   pub contexts_gone : (n : ℕ) → is_protected n t ≡ false → AreContexts (removed n t) next
-  contexts_gone n free =
-      contexts_removed n (λ e. both_ways (is_protected n t) free (ap (λ (x : ℕ). is_protected x t) e ∙ top_protected))
-      (λ m l b. apart m n free (h.own m l b).protected)
+  contexts_gone n free = grind (arith, nat_tests, contexts_removed n, both_ways, top_protected, apart)
 
   -- the context of a level goes
   pub contexts_level_gone : (n : ℕ) → abort_context < n → AreContexts (removed n t) next

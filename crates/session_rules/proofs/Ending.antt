@@ -52,12 +52,7 @@ module _ (level : LevelState) (levels done : List LevelState) where
   -- one act and then another
   pub then_goes : (act : Scene → Ended) (a b c d : List OpenPortal) (s t : Scene) (one : Goes level levels done a b s t) → Goes level levels done c d (with_parts one.parts s) (act (with_parts one.parts s)).scene
       → Goes level levels done c d s (act t).scene
-  then_goes act a b c d s t one two = record {
-    parts = two.parts;
-    same = two.same ∙ one.same;
-    is = ap (λ (z : Scene). (act z).scene) one.is ∙ two.is;
-    ending = two.ending;
-  }
+  then_goes act a b c d s t one two = grind (arith, nat_tests)
 
   -- an act for each portal
   pub each_goes : (act : OpenPortal → Scene → Ended) → ((p : OpenPortal) (front back : List OpenPortal) (s : Scene) → Ending level levels done front (p ∷ back) s → Leads level levels done back s (act p s).scene)
@@ -84,11 +79,7 @@ begun_changed m n f x same =
     ]
 
 pub loose_changed : (level : LevelState) (m n : ℕ) (f : Owner → Owner) (x : OwnerTree) → IsLoose level m x → IsLoose level m (changed n f x)
-loose_changed level m n f x l = record {
-  owner = l.owner;
-  is = l.is;
-  within = elim l.within [ inl e ↦ inl e | inr u ↦ inr (ap (has m) (children_changed l.owner n f x) ∙ has_changed m n f (children l.owner x) ∙ u) ];
-}
+loose_changed level m n f x l = grind (arith, nat_tests, children_changed l.owner n f x, has_changed m n f (children l.owner x))
 
 pub ending_changed : (kinds : KindTable) (level : LevelState) (levels : List LevelState) (portals : List OpenPortal) (x : OwnerTree) (a b n : ℕ) (f : Owner → Owner) → ((o : Owner) → (f o).begun ≡ o.begun) → ((o : Owner) → HasItems kinds o → HasItems kinds (f o))
     → IsSound (changed n f x) a b → AreEnding kinds x a b level levels portals → AreEnding kinds (changed n f x) a b level levels portals

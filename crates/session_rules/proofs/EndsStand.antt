@@ -17,9 +17,7 @@ is_settled scene h = refl
 
 -- where each scene of that form has something, each scene that stands does
 pub at_settled : (P : Scene → Type 0) → ((levels : List LevelState) (s : Scene) → Stands (settled levels s) → P (settled levels s)) → (scene : Scene) → Stands scene → P scene
-at_settled P all scene h =
-    let is : scene ≡ settled scene.session.levels scene = is_settled scene h in
-    subst P (sym is) (all scene.session.levels scene (subst Stands is h))
+at_settled x0 all scene h = grind (arith, nat_tests, is_settled scene h)
 
 -- a session that stands between two lines, with these levels
 pub record Leaves (levels : List LevelState) (scene : Scene) : Type 0 where
@@ -32,11 +30,7 @@ is_left levels scene h = is_settled scene h.between.stands ∙ ap (λ (ls : List
 
 -- tables don't matter, as far as what never changes of kinds is the same
 pub stands_tabled : (x : Tables) (s : Scene) → table_of x.kinds ≡ table_of s.around.kinds → Stands s → Stands (tabled x s)
-stands_tabled x s same h =
-    search (
-      subst (λ (kinds : KindTable). AreOwners kinds s.session.owners s.session.next_owner s.session.next_serial s.session.levels s.session.portals) (sym same) h.owners,
-      subst (λ (kinds : KindTable). IsSoundTable kinds) (sym same) h.kinds,
-    )
+stands_tabled x s same h = grind (arith, nat_tests)
 
 -- without the context of a level, and the shelf then
 abbrev pub without_context : Option ℕ → Contexts → Contexts
@@ -80,15 +74,7 @@ still_without (Some p) x once m out there = grind (arith, nat_tests, has_left m 
 
 -- a level in which steps can be taken is deepest
 pub deepest_active : (level : LevelState) (t : Contexts) (x : OwnerTree) (current : ℕ) → IsActive level → IsDeepest level t x current
-deepest_active level t x current h = record {
-  made = λ _. h.made;
-  empty = λ n s e. absurd (both_ways level.starting h.started s);
-  alone = λ n s e. absurd (both_ways level.starting h.started s);
-  idle = λ n s e. absurd (both_ways level.starting h.started s);
-  released = λ n a e. absurd (both_ways level.aborted h.unaborted a);
-  at_abort = λ a. absurd (both_ways level.aborted h.unaborted a);
-  open_level = λ a. absurd (both_ways level.aborted h.unaborted a);
-}
+deepest_active level t x current h = grind (arith, nat_tests, both_ways level.starting h.started, both_ways level.aborted h.unaborted)
 
 -- the levels that are left
 pub fits_outer : (levels : List LevelState) (t : Contexts) (x : OwnerTree) → AreOuter levels → FitLevels levels t x (unwrap_or (context_of (first_of levels)) top_context)
@@ -98,10 +84,7 @@ fits_outer (level ∷ levels) t x h = (deepest_active level t x (unwrap_or level
 -- the context of the level above, or the topmost one, is there
 pub current_above : (levels : List LevelState) (t : Contexts) (x : OwnerTree) (next : ℕ) → AreContexts t next → AreLevels levels t x → AreOuter levels
     → has (unwrap_or (context_of (first_of levels)) top_context) t ≡ true
-current_above [] t x next h l o = protected_has top_context t (top_protected t next h)
-current_above (level ∷ levels) t x next h l o =
-    let c = is_there level.context o.0.made.context in
-    ap (λ (z : Option ℕ). has (unwrap_or z top_context) t) c.1 ∙ protected_has c.0 t (l.0.context c.0 c.1).protected
+current_above x0 t x next h l o = grind (arith, nat_tests, protected_has top_context t (top_protected t next h), protected_has, top_protected t next h, is_there)
 
 -- A scene whose deepest level may go: its portals are those of the levels `done`, and each number of a plan is referred to so often.
 pub record MayEnd (times : ℕ → ℕ) (level : LevelState) (levels done : List LevelState) (s : Scene) : Type 0 where
@@ -125,11 +108,7 @@ same_count (Some n) x once idle m = sym (held_removed plan_reference m n x once 
 
 -- the way through the portals begins, and has ended
 pub begins : (level : LevelState) (levels done : List LevelState) (s : Scene) → Stands (settled (level ∷ levels) s) → Ending level levels done [] s.session.portals s
-begins level levels done s h =
-    search (
-      owners_end (table_of s.around.kinds) s.session.owners s.session.next_owner s.session.next_serial level levels s.session.portals h.owners,
-      All-nil (IsDone level done s.session.contexts s.session.owners s.session.current),
-    )
+begins level levels done s h = grind (arith, nat_tests, owners_end (table_of s.around.kinds) s.session.owners s.session.next_owner s.session.next_serial level levels s.session.portals h.owners)
 
 -- the levels of the scene don't matter
 pub resettled : (level : LevelState) (levels done : List LevelState) (front back : List OpenPortal) (s : Scene) → Ending level levels done front back s → Ending level levels done front back (settled (level ∷ levels) s)
@@ -148,9 +127,7 @@ may_end level levels done ps s h =
     )
 
 pub idle_ends : (level : LevelState) (levels done : List LevelState) (s : Scene) → ((n : ℕ) → level.owner ≡ Some n → AllAt HoldsNothing n s.session.owners) → MayEnd (referred s.session.owners) level levels done s → MayEnd (left_to_refer level s) level levels done s
-idle_ends level levels done s idle h =
-    search (plans_counted s.session.plans s.session.contexts s.session.current (referred s.session.owners) (left_to_refer level s)
-    (same_count level.owner s.session.owners (once_of s.session.owners s.session.next_owner s.session.next_serial h.owners.sound) idle) h.plans)
+idle_ends level levels done s idle h = grind (arith, nat_tests, plans_counted s.session.plans s.session.contexts s.session.current (referred s.session.owners), same_count level.owner s.session.owners (once_of s.session.owners s.session.next_owner s.session.next_serial h.owners.sound) idle, once_of s.session.owners s.session.next_owner s.session.next_serial h.owners.sound)
 
 pub plans_popped : (level : LevelState) (levels done : List LevelState) (s : Scene) (times : ℕ → ℕ) (c : Option ℕ) → ((n : ℕ) → c ≡ Some n → level.context ≡ Some n) → MayEnd times level levels done s
     → ArePlans s.session.plans (without_context c s.session.contexts) s.session.current times
@@ -186,13 +163,7 @@ place_above (level ∷ levels) t x next h l o m expr a k =
 -- the owner of an outer level
 pub owner_made : (levels : List LevelState) → AreOuter levels → (k : ℕ) → 1 ≤ k → k ≤ length levels → (q : ℕ) × (owner_at k levels ≡ Some q) × IsOwner q levels
 owner_made [] outer k low high = absurd (omega (arith, low, high))
-owner_made (level ∷ levels) outer k low high = elim (cases_Bool (length levels + 1 == k)) [
-  | inl y ↦ let o = is_there level.owner outer.0.made.owner in (o.0, rw y o.1, inl o.1)
-  | inr y ↦
-      let ne = eqb-false (length levels + 1) k y in
-      let w = owner_made levels outer.2 k low (omega (arith, high, ne)) in
-      (w.0, rw y w.1, inr w.2)
-]
+owner_made (level ∷ levels) outer k low high = grind (arith, nat_tests, cases_Bool (length levels + 1 == k), is_there level.owner outer.0.made.owner, eqb-false (length levels + 1) k, owner_made levels outer.2 k low)
 
 pub outer_live : (p : OpenPortal) (levels : List LevelState) → AreOuter levels → IsLive p levels ⊎ IsDead p levels → IsLive p levels
 outer_live p levels outer s = grind (arith, nat_tests)
@@ -272,8 +243,7 @@ sweep_owners level levels gone (p ∷ ps) s = grind (arith, nat_tests, sweep_own
 -- and leaves portals at rest
 pub sweep_rests : (level : LevelState) (levels : List LevelState) (gone : level.aborted ≡ true) (ps : List OpenPortal) (s : Scene) → All IsAtRest s.session.portals → All IsAtRest (for_each (swept_away level levels gone) ps s).scene.session.portals
 sweep_rests level levels gone [] s h = h
-sweep_rests level levels gone (p ∷ ps) s h =
-    grind (arith, nat_tests, sweep_rests level levels gone ps, in_order, rests_but p.name s.session.portals h)
+sweep_rests level levels gone (p ∷ ps) s h = grind (arith, nat_tests, sweep_rests level levels gone ps, rests_but p.name s.session.portals h)
 
 pub clean_from : (level : LevelState) (levels : List LevelState) (s : Scene) → level.aborted ≡ true → Ending level levels levels [] s.session.portals s → ((n : ℕ) → level.owner ≡ Some n → AllAt HoldsNothing n s.session.owners)
     → AreStacked 1 (active_depth levels) s.session.snapshots → Leaves levels (cleaned_up (settled (level ∷ levels) s)).scene
@@ -298,9 +268,7 @@ clean_from level levels s gone h idle stacked =
 
 -- A level that is aborted is cleaned up.
 pub cleaned_up_stands : (level : LevelState) (levels : List LevelState) (s : Scene) → level.aborted ≡ true → Stands (settled (level ∷ levels) s) → Leaves levels (cleaned_up (settled (level ∷ levels) s)).scene
-cleaned_up_stands level levels s aborted h =
-    clean_from level levels s aborted (begins level levels levels s h) (λ n e. h.fit.0.released n aborted e)
-    (stacked_above levels (active_depth (level ∷ levels)) s.session.snapshots h.fit.1 (omega (arith, depth_still level levels aborted)) h.snapshots)
+cleaned_up_stands level levels s aborted h = grind (arith, nat_tests, clean_from level levels s aborted (begins level levels levels s h), begins level levels levels s h, stacked_above levels (active_depth (level ∷ levels)) s.session.snapshots h.fit.1, depth_still level levels aborted)
 
 -- what a release of an owner, where there is one, leaves
 pub record HasGiven (o : Option ℕ) (s t : Scene) : Type 0 where
@@ -343,9 +311,7 @@ left_once kinds (Some p) owners now a b left h = once_of now a b (still_sound ki
 
 -- what counts then is what owners hold without the one that is released
 pub left_count : (kinds : KindTable) (o : Option ℕ) (owners now : OwnerTree) (a b : ℕ) → IsSoundTable kinds → HasLeft kinds o owners now → AllNodes (HasItems kinds) owners → IsSound owners a b → (m : ℕ) → referred now m ≡ referred (without_owner o owners) m
-left_count kinds o owners now a b table left items sound m =
-    same_count o now (left_once kinds o owners now a b left sound) (left_idle kinds o owners now table left items) m
-    ∙ ap (λ (z : OwnerTree). referred z m) (without_left kinds o owners now left)
+left_count kinds o owners now a b table left items sound m = grind (arith, nat_tests, same_count o now (left_once kinds o owners now a b left sound) (left_idle kinds o owners now table left items) m, left_once kinds o owners now a b left sound, left_idle kinds o owners now table left items, without_left kinds o owners now left)
 
 -- Behind the release of its owner the deepest level may go.
 pub released_ends : (level : LevelState) (levels done : List LevelState) (s : Scene) (x : Besides) (now : OwnerTree) → MayEnd (referred s.session.owners) level levels done s → table_of x.kinds ≡ table_of s.around.kinds
@@ -509,12 +475,7 @@ subcommitted_stands level levels s some h =
 
 -- and between two lines it stands between two lines
 pub subcommitted_leaves : (level : LevelState) (levels : List LevelState) (s : Scene) → 1 ≤ length levels → All IsAtRest s.session.portals → Stands (settled (level ∷ levels) s) → Leaves levels (subcommitted (settled (level ∷ levels) s)).scene
-subcommitted_leaves level levels s some at_rest h =
-    let m : Merges levels s (subcommitted (settled (level ∷ levels) s)).scene = subcommitted_stands level levels s some h in
-    record {
-      between = record { stands = m.stands; open_levels = subst AreOpen (sym m.are) (outer_open levels h.fit.1); at_rest = m.at_rest at_rest };
-      are = m.are;
-    }
+subcommitted_leaves level levels s some at_rest h = grind (arith, nat_tests, subcommitted_stands level levels s some h, outer_open levels h.fit.1)
 
 -- the deepest level is aborted, with these owners left
 abbrev pub shut : LevelState → List LevelState → OwnerTree → Scene → Scene
@@ -613,23 +574,7 @@ aborted_is level levels s h =
 
 pub shut_stands : (level : LevelState) (levels : List LevelState) (s z : Scene) → IsOpen level → (a : HasShut level levels s z) → Stands (settled (level ∷ levels) s)
     → Stands (shut level levels a.parts.owners (with_parts a.parts s))
-shut_stands level levels s z open_level a h =
-    let c : Shut level levels (with_parts a.parts s) = a.shut_is in
-    let mine : IsLevel (record level { aborted = true }) levels a.parts.contexts a.parts.owners = search (c.all.0) in
-    let deepest : IsDeepest (record level { aborted = true }) a.parts.contexts a.parts.owners abort_context = record {
-      made = λ e. let m : IsMade level = h.fit.0.made e in record { context = m.context; owner = m.owner };
-      empty = λ n e. absurd (both_ways level.starting open_level.started e);
-      alone = λ n e. absurd (both_ways level.starting open_level.started e);
-      idle = λ n e. absurd (both_ways level.starting open_level.started e);
-      released = λ n _ e. c.idle n e;
-      at_abort = λ _. refl;
-      open_level = λ _. record { started = open_level.started; block = open_level.block };
-    } in
-    search (
-      protected_has abort_context a.parts.contexts (c.contexts.own abort_context (omega arith) (omega arith)).protected,
-      c.all.1,
-      shut_stacked level levels (active_depth (level ∷ levels)) s.session.snapshots h.snapshots,
-    )
+shut_stands level levels s z open_level a h = grind (arith, nat_tests, both_ways level.starting open_level.started, protected_has abort_context a.parts.contexts, shut_stacked level levels (active_depth (level ∷ levels)) s.session.snapshots h.snapshots)
 
 -- The deepest level aborts.
 pub aborted_stands : (level : LevelState) (levels : List LevelState) (s : Scene) → level.aborted ≡ false → IsOpen level → Stands (settled (level ∷ levels) s)
@@ -671,18 +616,11 @@ away_stands level levels s h =
 
 -- a level is rolled back
 pub rolled_stands : (level : LevelState) (levels : List LevelState) (s : Scene) → Stands (settled (level ∷ levels) s) → Leaves levels (level_rolled_back level (settled (level ∷ levels) s)).scene
-rolled_stands level levels s h = go level.aborted refl
-  where
-    go : (b : Bool) → level.aborted ≡ b → Leaves levels (cleaned_up (where_so (not b) aborted (settled (level ∷ levels) s)).scene).scene
-    go true e = cleaned_up_stands level levels s e h
-    go false e = away_stands level levels s h
+rolled_stands level levels s h = grind (arith, nat_tests, cleaned_up_stands level levels s, away_stands level levels s h)
 
 -- a level that was being started goes, and the one above it is aborted
 pub above_aborted : (levels : List LevelState) (s : Scene) → Leaves levels s → AreOuter levels → StandsBetweenLines (where_there (first_of levels) (λ above. aborted) s).scene
-above_aborted [] s h o = h.between
-above_aborted (level ∷ levels) s h o =
-    let is : s ≡ settled (level ∷ levels) s = is_left (level ∷ levels) s h in
-    subst (λ (z : Scene). StandsBetweenLines (aborted z).scene) (sym is) (aborted_stands level levels s o.0.unaborted o.1 (subst Stands is h.between.stands)).between
+above_aborted x0 s h o = grind (arith, nat_tests, is_left, aborted_stands)
 
 pub given_up_stands : (level : LevelState) (levels : List LevelState) (s : Scene) (b i : Bool) → level.starting ≡ b → level.implicit ≡ i → level.aborted ≡ false → Stands (settled (level ∷ levels) s)
     → StandsBetweenLines (elim b as (λ _. Ended) [
@@ -748,15 +686,7 @@ abbrev pub behind_rollback : Scene → Scene
 behind_rollback z = (in_order (switched top_context ∷ context_gone top_context ∷ []) z).scene
 
 pub exited_left : (left : Scene) → Stands (settled [] left) → HasExited (behind_rollback (settled [] left))
-exited_left left h = record {
-  levels = refl;
-  contexts = nothing_left left.session.contexts left.session.next_context h.contexts;
-  owners = no_owners left h;
-  snapshots = none_stacked left.session.snapshots h.snapshots;
-  hooks = subst (λ (z : Contexts). AreHooks z (handed_in (gone top_context left.session.contexts).hooks left.around.shelf))
-      (nothing_left left.session.contexts left.session.next_context h.contexts)
-      (hooks_ended left.session.contexts (gone top_context left.session.contexts) left.around.shelf (parts_gone top_context left.session.contexts h.contexts.once) h.hooks);
-}
+exited_left left h = grind (arith, nat_tests, nothing_left left.session.contexts left.session.next_context h.contexts, no_owners left h, none_stacked left.session.snapshots h.snapshots, hooks_ended left.session.contexts (gone top_context left.session.contexts) left.around.shelf (parts_gone top_context left.session.contexts h.contexts.once) h.hooks, parts_gone top_context left.session.contexts h.contexts.once)
 
 pub exited_settled : (levels : List LevelState) (s : Scene) → Stands (settled levels s) → HasExited (exited (settled levels s)).scene
 unfolding exited

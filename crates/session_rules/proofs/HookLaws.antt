@@ -1,7 +1,7 @@
 -- Each line counts hooks: each has run as often more as callbacks of its word are said, and as many leave the fresh ones as are said to be registered.
-use Rattle.session_rules.proofs.Base.{◌≡◌, ℕ, Bool, true, false, not, Option, Some, None, List, [], ◌∷◌, refl, codes}
-use Rattle.session_rules.proofs.Below.{Error, What, CtxKind, changed, Context, new_context, Command, Work, ContextCommand, stats}
-use Rattle.session_rules.proofs.Rules.{is_aborted, Moment, Scene, Element, Text, in_order, where_so, context_made, Done, does_all, exited, given_up, recovered, line_elements, turn, turn_of, Stands, StandsBetweenLines, CountsHooks, opening, elements_of, does, Turn, all_hooks, callbacks_of, hooks_of, registered_of, runs_of, used_hooks}
+use Rattle.session_rules.proofs.Base.{◌≡◌, ℕ, Bool, true, false, not, Option, Some, None, List, [], ◌∷◌, refl, arith, nat_tests}
+use Rattle.session_rules.proofs.Below.{Error, What, CtxKind, changed, Context, new_context, Command}
+use Rattle.session_rules.proofs.Rules.{is_aborted, Moment, Scene, Element, Text, in_order, where_so, context_made, Done, does_all, exited, given_up, recovered, line_elements, turn, turn_of, Stands, StandsBetweenLines, CountsHooks}
 use Rattle.session_rules.proofs.Kept.{Runs, is_of_hooks, more_runs, none_run}
 use Rattle.session_rules.proofs.HookSteps.{Counted, IsNumbered, counted_alone, counted_both, counted_children, counted_cleared, counted_gone, counted_hook, counted_kept, counted_moved, counted_on, counted_put, counted_same, numbered_changed, numbered_put, waiting_changed}
 use Rattle.session_rules.proofs.Chunked.{LeavesHooks}
@@ -15,16 +15,13 @@ use Rattle.session_rules.proofs.Sight.{ContextLeaves, of_contexts, of_next_conte
 use Rattle.session_rules.proofs.Aside.{ContextLaw, context_ends, context_makes, is_apart}
 use Rattle.session_rules.proofs.Spoken.{IsUsualLine, line_spoken}
 use Rattle.session_rules.proofs.TurnStands.{Meets, line_runs}
-use Rattle.any_ctx.specs.SetLedger.{created}
 
 -- The law: where each context's number stands once and is below the next one, that is so behind, and the hooks are counted.
 pub record KeepsCount (s t : Scene) (events : List What) : Type 0 where
   pub counts : IsNumbered s → Counted s (record { scene = t; events = events })
 
 not_of_hooks : (event : What) → is_apart event ≡ true → is_of_hooks event ≡ false
-not_of_hooks (What.Callback word context) h = absurd (cc h)
-not_of_hooks (What.Hook word context) h = absurd (cc h)
-not_of_hooks other h = refl
+not_of_hooks other h = grind (arith, nat_tests)
 
 apart_runs : {events : List What} → AreSaid is_apart events → Runs [] events
 apart_runs said_none = none_run
@@ -32,12 +29,7 @@ apart_runs (said_more {event = event} h hs) = more_runs event (not_of_hooks even
 
 -- a call on chunks
 chunk_counts : (s : Scene) (n : ℕ) (f : Context → Context) → LeavesHooks f → KeepsCount s (record s { session = record s.session { contexts = changed n f s.session.contexts } }) []
-chunk_counts s n f h = record {
-  counts = λ k. record {
-    numbered = numbered_changed n f s.session.contexts s.session.next_context k;
-    hooks = counted_kept s.session.contexts (changed n f s.session.contexts) s.around.shelf none_run (λ g. waiting_changed g n f s.session.contexts h.hooks);
-  };
-}
+chunk_counts s n f h = grind (arith, nat_tests, numbered_changed n f s.session.contexts s.session.next_context, counted_kept s.session.contexts (changed n f s.session.contexts) s.around.shelf none_run, none_run, waiting_changed)
 
 made_counts : (parent : ℕ) (name : Text) (protected : Bool) (kind : CtxKind) (s : Scene) → KeepsCount s (context_made parent name protected kind s).scene (context_made parent name protected kind s).events
 made_counts parent name protected kind s =

@@ -1,5 +1,5 @@
 -- What became of a scene's hooks is counted: where contexts end, come and move, where a hook is registered, and where nothing becomes of them.
-use Rattle.session_rules.proofs.Base.{◌≡◌, ℕ, ◌+◌, ◌<◌, Bool, true, false, cond, if◌then◌else◌, Some, List, [], ◌∷◌, ◌++◌, length, map, drop, refl, sym, ap, ◌∙◌, inl, inr, arith, ◌≤◌, ◌==◌, sum_by, cases_Bool, eq-eqb, both_ways, false_from_ne_true, or_parts, sum_by-append, sum_by-cons, nat_tests}
+use Rattle.session_rules.proofs.Base.{◌≡◌, ℕ, ◌+◌, ◌<◌, Bool, true, false, cond, if◌then◌else◌, Some, List, [], ◌∷◌, ◌++◌, length, map, drop, refl, sym, ap, ◌∙◌, arith, ◌≤◌, ◌==◌, sum_by, cases_Bool, eq-eqb, both_ways, false_from_ne_true, or_parts, sum_by-append, sum_by-cons, nat_tests}
 use Rattle.session_rules.proofs.Below.{What, Empty, has, times, Once, at, changed, is_above, moved, put, with_children, Moves, at_some, has_changed, has_of_removed, has_some, once_changed, once_put, put_absent, times_moved, times_some, sum_moved, Hook, ran, ShelfState, held, taken, Context, Contexts, is_child, placed_under, move_events, cleared, cleared_alone, emptied, gone, handed_in, waiting, is_within}
 use Rattle.session_rules.proofs.Rules.{first_of, Scene, context_moved, hook_waits, Ended, behind, children_gone, context_cleared, context_cleared_alone, context_gone, HookCount, HooksCounted, CountsHooks, runs_of}
 use Rattle.context_rules.specs.Ends as ends
@@ -74,10 +74,7 @@ ones [] = refl
 ones (hook ∷ hooks) = omega (arith, sum_by-cons (λ (_ : Hook). 1) hook hooks, ones hooks)
 
 pub counted_ended : (t : Contexts) (x : ShelfState) (e : ends.Ended) → Parts t e → HooksCounted t x e.contexts (handed_in e.hooks x) e.events
-counted_ended t x e h = record {
-  counts = ended_count t x e h;
-  out = λ fit. omega (arith, fit, h.sums (λ _. 1), ones (waiting t), ones (waiting e.contexts), ones e.hooks);
-}
+counted_ended t x e h = grind (arith, nat_tests, ended_count t x e h, ones (waiting t), ones (waiting e.contexts), ones e.hooks)
 
 -- numbers of contexts
 numbered_gone : (n : ℕ) (t : Contexts) (next : ℕ) → AreNumbered t next → AreNumbered (gone n t).contexts next
@@ -94,10 +91,7 @@ numbered_alone n t next k = by_alone (λ u. AreNumbered u next) n t k (numbered_
 
 -- contexts that go or are reset
 pub counted_gone : (n : ℕ) (s : Scene) → IsNumbered s → Counted s (context_gone n s)
-counted_gone n s k = record {
-  numbered = numbered_gone n s.session.contexts s.session.next_context k;
-  hooks = counted_ended s.session.contexts s.around.shelf (gone n s.session.contexts) (parts_gone n s.session.contexts k.once);
-}
+counted_gone n s k = grind (arith, nat_tests, numbered_gone n s.session.contexts s.session.next_context k, counted_ended s.session.contexts s.around.shelf (gone n s.session.contexts) (parts_gone n s.session.contexts k.once), parts_gone n s.session.contexts k.once)
 
 pub counted_children : (n : ℕ) (s : Scene) → IsNumbered s → Counted s (children_gone n s)
 counted_children n s k = record {
@@ -106,16 +100,10 @@ counted_children n s k = record {
 }
 
 pub counted_alone : (n : ℕ) (s : Scene) → IsNumbered s → Counted s (context_cleared_alone n s)
-counted_alone n s k = record {
-  numbered = numbered_alone n s.session.contexts s.session.next_context k;
-  hooks = counted_ended s.session.contexts s.around.shelf (cleared_alone n s.session.contexts) (parts_alone n s.session.contexts k.once);
-}
+counted_alone n s k = grind (arith, nat_tests, numbered_alone n s.session.contexts s.session.next_context k, counted_ended s.session.contexts s.around.shelf (cleared_alone n s.session.contexts) (parts_alone n s.session.contexts k.once), parts_alone n s.session.contexts k.once)
 
 pub counted_cleared : (n : ℕ) (s : Scene) → IsNumbered s → Counted s (context_cleared n s)
-counted_cleared n s k = record {
-  numbered = numbered_alone n (with_children n Empty s.session.contexts) s.session.next_context (numbered_children n s.session.contexts s.session.next_context k);
-  hooks = counted_ended s.session.contexts s.around.shelf (cleared n s.session.contexts) (parts_cleared n s.session.contexts k.once);
-}
+counted_cleared n s k = grind (arith, nat_tests, numbered_alone n (with_children n Empty s.session.contexts) s.session.next_context (numbered_children n s.session.contexts s.session.next_context k), numbered_children n s.session.contexts s.session.next_context k, counted_ended s.session.contexts s.around.shelf (cleared n s.session.contexts) (parts_cleared n s.session.contexts k.once), parts_cleared n s.session.contexts k.once)
 
 -- contexts that hold the hooks that they held
 kept_count : (t u : Contexts) (x : ShelfState) {events : List What} → Runs [] events → ((g : Hook → ℕ) → sum_by g (waiting u) ≡ sum_by g (waiting t))
@@ -141,10 +129,7 @@ waiting_changed g n f t same =
 
 -- a context is made
 pub waiting_put : (g : Hook → ℕ) (p n : ℕ) (c : Context) (t : Contexts) → Once t → c.hooks ≡ [] → sum_by g (waiting (put p n c Empty t)) ≡ sum_by g (waiting t)
-waiting_put g p n c t o none = elim (cases_Bool (has p t)) [
-  | inl y ↦ omega (arith, sum_waiting g, sum_put (of_context g) p n c Empty t o y, ap (sum_by g) none)
-  | inr y ↦ rw (put_absent p n c Empty t y) refl
-]
+waiting_put g p n c t o none = grind (arith, nat_tests, cases_Bool (has p t), sum_waiting g, sum_put (of_context g) p n c Empty t o, put_absent p n c Empty t)
 
 pub numbered_put : (p n : ℕ) (c : Context) (t : Contexts) → AreNumbered t n → AreNumbered (put p n c Empty t) (n + 1)
 numbered_put p n c t k = grind (arith, nat_tests, once_put p n c t k.once, false_from_ne_true (has n t), has_put_other, put_absent p n c Empty t)
@@ -208,10 +193,7 @@ waits_count n f hook c t x fresh o there more is =
 
 pub counted_waits : (n : ℕ) (f : Context → Context) (hook : Hook) (c : Context) (t : Contexts) (x : ShelfState) (fresh : List Hook) → Once t → at n t ≡ Some c → (f c).hooks ≡ hook ∷ c.hooks → x.fresh ≡ hook ∷ fresh
     → HooksCounted t x (changed n f t) (taken x) (What.Hook hook.word n ∷ [])
-counted_waits n f hook c t x fresh o there more is = record {
-  counts = waits_count n f hook c t x fresh o there more is;
-  out = λ _. omega (arith, one_waits (λ _. 1) n f hook c t o there more, ones (waiting t), ones (waiting (changed n f t)));
-}
+counted_waits n f hook c t x fresh o there more is = grind (arith, nat_tests, waits_count n f hook c t x fresh o there more is, one_waits, ones (waiting t), ones (waiting (changed n f t)))
 
 -- the first of the fresh ones
 pub first_fresh : (xs : List Hook) (hook : Hook) → first_of xs ≡ Some hook → (ys : List Hook) × (xs ≡ hook ∷ ys)

@@ -91,24 +91,17 @@ module _ (g : Hook → ℕ) where
 
   pub sum_waiting : (t : Contexts) → sum_by g (waiting t) ≡ sum_of of_context t
   sum_waiting Empty = refl
-  sum_waiting (Node n c below beside) =
-      omega (arith, sum_by-append g, sum_waiting below, sum_waiting beside)
+  sum_waiting (Node n c below beside) = grind (arith, nat_tests, sum_by-append, sum_waiting below, sum_waiting beside)
 
 pub record Parts (t : Contexts) (e : Ended) : Type 0 where
   pub said : Runs e.hooks e.events
   pub sums : (g : Hook → ℕ) → sum_by g (waiting e.contexts) + sum_by g e.hooks ≡ sum_by g (waiting t)
 
 pub parts_gone : (n : ℕ) (t : Contexts) → Once t → Parts t (gone n t)
-parts_gone n t o = record {
-  said = gone_run (subtree n t);
-  sums = λ g. omega (arith, sum_left (of_context g) n t o, sum_waiting g t, sum_waiting g (subtree n t), sum_waiting g (gone n t).contexts);
-}
+parts_gone n t o = grind (arith, nat_tests, gone_run (subtree n t), sum_left, sum_waiting)
 
 pub parts_children : (n : ℕ) (t : Contexts) → Once t → Parts t (ends.children_gone n t)
-parts_children n t o = record {
-  said = gone_run (children n t);
-  sums = λ g. omega (arith, sum_emptied (of_context g) n t o, sum_waiting g t, sum_waiting g (children n t), sum_waiting g (with_children n Empty t));
-}
+parts_children n t o = grind (arith, nat_tests, gone_run (children n t), sum_emptied, sum_waiting)
 
 parts_nothing : (t : Contexts) → Parts t (ends.unchanged t)
 parts_nothing t = record { said = none_run; sums = λ g. omega arith }
@@ -134,10 +127,7 @@ parts_alone n t o = go (at n t) refl
     go (Some c) e = by_use c c.used e refl
 
 parts_both : (t : Contexts) (a b : Ended) → Parts t a → Parts a.contexts b → Parts t (ends.and_then a b)
-parts_both t a b x y = record {
-  said = both_run x.said y.said;
-  sums = λ g. omega (arith, x.sums g, y.sums g, sum_by-append g a.hooks b.hooks);
-}
+parts_both t a b x y = grind (arith, nat_tests, both_run x.said y.said, sum_by-append)
 
 pub parts_cleared : (n : ℕ) (t : Contexts) → Once t → Parts t (cleared n t)
 parts_cleared n t o =

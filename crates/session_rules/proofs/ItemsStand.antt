@@ -1,7 +1,7 @@
 -- The steps by which the deepest level's owner takes an item and gives one back lead from a session that stands to one that stands.
 use Rattle.session_rules.proofs.Base.{◌≡◌, ◌≢◌, ℕ, ◌+◌, ◌-◌, ◌<◌, ◌≤◌, ◌++◌, find, length, Bool, true, Option, Some, None, List, [], ◌∷◌, refl, sym, ap, ◌∙◌, subst, inl, inr, arith, ◌==◌, if◌then◌else◌, option_map_or, option_and_then, eq-eqb, ne_eqb, nat_tests, All-cons, All-weaker, false, All, codes, is_none, not, length-map, All-nil, All-head, All-tail, All-push}
 use Rattle.session_rules.proofs.Below.{Once, has, changed, at_some, has_changed, parent_changed, Item, KindId, Mode, Contexts, table_of, is_of, without_newest, Owner, OwnerTree, forgotten, remembered, IsSound, Empty, Error, created, is_protected, new_context, What, ReferenceClass, Relcache, class_kind, Kind, changed_at, opened, KindTable, IsExtension, row, IsSoundTable, table-opened, All-without, once_of, sound_forgotten, sound_remembered, acquired, CtxKind}
-use Rattle.session_rules.proofs.Rules.{LevelState, StandingPlan, buffer_pin, file_kind, first_of, level_owner, plan_reference, snapshot_reference, Scene, Moment, OfLevel, Text, changes, in_order, say, where_there, Keeper, NoOne, TheKind, given_back, item_released, keeper_of, descriptor_given, item_taken, lock_taken, remembers, taken_by, at_kind, at_owner, lock_given_back, does, AreLevels, AreOwners, ArePlans, HasItems, IsItem, IsPlan, IsWorking, Stands, references_of, referred, cache_context, plan_at, unless, plan_becomes, plan_made, AreApart, Differ, IsPlace, Element, kind_from, kind_named, newest, plan_changed, owner_in, OwnerRole}
+use Rattle.session_rules.proofs.Rules.{LevelState, StandingPlan, buffer_pin, file_kind, first_of, level_owner, plan_reference, snapshot_reference, Scene, Moment, OfLevel, Text, changes, in_order, say, where_there, Keeper, NoOne, TheKind, given_back, keeper_of, descriptor_given, item_taken, lock_taken, remembers, taken_by, at_kind, at_owner, does, AreLevels, AreOwners, ArePlans, HasItems, IsItem, IsPlan, IsWorking, Stands, references_of, referred, cache_context, plan_at, unless, plan_becomes, plan_made, AreApart, Differ, IsPlace, Element, kind_from, kind_named, newest, plan_changed, owner_in, OwnerRole}
 use Rattle.session_rules.proofs.Kept.{all_changed, levels_stay, no_value, held_forgotten, held_remembered, Split, all_replaced, changed_is, counted_at, plans_replaced, split, IsOther, levels_apart, plans_counted, attached_by, place_spared, portals_by, IsRowOf, own_rows, row_of, row_put, lone_changed, lone_put, Besides, Fits, IsApart, Settles, Spares, besides_of, item_settles, spares_same, with_besides, becomes, Tables, tabled, tables_of, children_put, Stay, contexts_created, has_created, is_unused, new_parent, new_protected, protected_has, stay_created, hooks_put}
 use Rattle.lock_local.specs.Changes as locks
 use Rattle.session_rules.proofs.Ending.{begun_changed}
@@ -222,9 +222,7 @@ module _ (w : Option ℕ) (moment : Moment) (h : Stands moment.scene) (working :
   -- a file gets a descriptor
   pub touch_works : (file : ℕ) → Works moment.scene (does w (Element.Touch file) moment).moment.scene
   unfolding does
-  touch_works file =
-      fallible_keeps (Works moment.scene) w moment _ (descriptor_given file) (nothing_works moment.scene h)
-      (λ _. record { stands = stands_tabled (tables_of (descriptor_given file moment.scene).scene) moment.scene refl h; levels = refl; at_rest = λ r. r })
+  touch_works file = grind (arith, nat_tests, fallible_keeps, nothing_works, stands_tabled)
 
   -- the owner takes a file
   pub file_works : (file : ℕ) → Works moment.scene (does w (Element.Take OfLevel file_kind file) moment).moment.scene
@@ -237,9 +235,7 @@ module _ (w : Option ℕ) (moment : Moment) (h : Stands moment.scene) (working :
 
   pub give_back_works : (kind : KindId) (key : ℕ) → Works moment.scene (does w (Element.GiveBack kind key) moment).moment.scene
   unfolding does
-  give_back_works kind key =
-      at_name (Works moment.scene) (level_owner moment.scene.session) (λ owner. item_released owner kind key) moment.scene (nothing_works moment.scene h)
-      (λ n e. give_step moment.scene n kind key h working (there n e) (newest n kind key moment.scene.session) refl)
+  give_back_works kind key = grind (arith, nat_tests, at_name, nothing_works, give_step, there)
 
   -- the owner takes an item of an extension kind
   pub extension_works : (kind : KindId) (key n : ℕ) → IsExtension (table_of moment.scene.around.kinds) kind → level_owner moment.scene.session ≡ Some n
@@ -266,17 +262,12 @@ module _ (w : Option ℕ) (moment : Moment) (h : Stands moment.scene) (working :
   -- it gives its newest item of an extension kind back
   pub give_back_named_works : (name : Text) (key : ℕ) → Works moment.scene (does w (Element.GiveBackNamed name key) moment).moment.scene
   unfolding does
-  give_back_named_works name key =
-      at_name (Works moment.scene) (kind_named name moment.scene.around.kinds) (λ kind. at_owner OfLevel (λ owner. item_released owner kind key)) moment.scene (nothing_works moment.scene h)
-      (λ kind named. at_name (Works moment.scene) (level_owner moment.scene.session) (λ owner. item_released owner kind key) moment.scene (nothing_works moment.scene h)
-      (λ n e. give_step moment.scene n kind key h working (there n e) (newest n kind key moment.scene.session) refl))
+  give_back_named_works name key = grind (arith, nat_tests, at_name, nothing_works, give_step, there)
 
   -- the owner gives a lock back
   pub unlock_works : (object : ℕ) (mode : Mode) → Works moment.scene (does w (Element.Unlock object mode) moment).moment.scene
   unfolding does
-  unlock_works object mode =
-      at_name (Works moment.scene) (level_owner moment.scene.session) (lock_given_back object mode) moment.scene (nothing_works moment.scene h)
-      (λ n e. record { stands = stands_tabled (record (tables_of moment.scene) { locks = locks.given_back n object mode moment.scene.session.locks }) moment.scene refl h; levels = refl; at_rest = λ r. r })
+  unlock_works object mode = grind (arith, nat_tests, at_name, nothing_works, stands_tabled)
 
 -- a plan more
 pub pushed_apart : (plans : List StandingPlan) (new : StandingPlan) → All (λ plan. Differ plan new) plans → AreApart plans → AreApart (plans ++ (new ∷ []))
@@ -367,8 +358,4 @@ module _ (w : Option ℕ) (moment : Moment) (h : Stands moment.scene) (working :
 
   pub drop_plan_works : (n : ℕ) → Works moment.scene (does w (Element.DropPlan n) moment).moment.scene
   unfolding does
-  drop_plan_works n = go (plan_at n moment.scene.session.plans) refl
-    where
-      go : (o : Option StandingPlan) → plan_at n moment.scene.session.plans ≡ o → Works moment.scene (where_there o (λ p. plan_becomes (record p { discarded = true })) moment.scene).scene
-      go None e = nothing_works moment.scene h
-      go (Some p) e = dropped_step moment.scene n p h working e
+  drop_plan_works n = grind (arith, nat_tests, nothing_works, dropped_step)

@@ -1,5 +1,5 @@
 -- A call that is refused for want of memory changes nothing of what was done before it.
-use Rattle.session_rules.proofs.Base.{◌≡◌, ℕ, ◌+◌, ◌≤◌, false, List, [], ◌∷◌, ◌++◌, Option, Some, None, refl, ◌∙◌, ap, subst, arith, nat_tests}
+use Rattle.session_rules.proofs.Base.{◌≡◌, ℕ, ◌+◌, ◌≤◌, false, List, [], ◌∷◌, ◌++◌, Option, Some, None, refl, ap, subst, arith, nat_tests}
 use Rattle.session_rules.proofs.Below.{Error, Command}
 use Rattle.session_rules.proofs.Rules.{Scene, Moment, Element, Text, Ended, failure, does, does_all, failing_turn, then_done, turn, turn_of, line_elements, Done, IsLater, is_call, fallible, unless_refused, refused_call}
 
@@ -75,9 +75,7 @@ does_later w (Element.Touch a) moment l = fallible_later w moment _ _ l
 does_later w (Element.PushSnapshot a) moment l = fallible_later w moment _ _ l
 does_later w (Element.MakePlan a) moment l = fallible_later w moment _ _ l
 does_later w (Element.MakePortal a b c d) moment l = fallible_later w moment _ _ l
-does_later w (Element.InTurn a b) moment l =
-    ap (λ (done : Done). failing_turn a done done.refusal)
-    (does_later w b moment (subst (λ (n : ℕ). IsLater n w) (turn_calls a (does None b moment) (does None b moment).refusal) l))
+does_later w (Element.InTurn a b) moment l = grind (arith, nat_tests, does_later w b moment, turn_calls a (does None b moment) (does None b moment).refusal)
 does_later w other moment l = refl
 
 -- The calls do not fall over several elements either.
@@ -89,8 +87,7 @@ then_counts calls done (Some error) rest h goes = h
 pub does_all_counts : (w : Option ℕ) (elements : List Element) (moment : Moment) → moment.calls ≤ (does_all w elements moment).moment.calls
 unfolding does_all
 does_all_counts w [] moment = omega arith
-does_all_counts w (element ∷ elements) moment =
-    then_counts moment.calls (does w element moment) (does w element moment).refusal (does_all w elements) (does_counts w element moment) (does_all_counts w elements)
+does_all_counts w (element ∷ elements) moment = grind (arith, nat_tests, then_counts moment.calls (does w element moment) (does w element moment).refusal (does_all w elements) (does_counts w element moment), does_counts w element moment, does_all_counts w elements)
 
 then_calls : (done : Done) (refusal : Option Error) (rest : Moment → Done) → ((moment : Moment) → moment.calls ≤ (rest moment).moment.calls)
     → done.moment.calls ≤ (then_done done refusal rest).moment.calls
@@ -108,13 +105,7 @@ pub does_all_later : (w : Option ℕ) (elements : List Element) (moment : Moment
     → does_all w elements moment ≡ does_all None elements moment
 unfolding does_all
 does_all_later w [] moment l = refl
-does_all_later w (element ∷ elements) moment l =
-    let first : does w element moment ≡ does None element moment
-    = does_later w element moment
-    (later_than_less w (does None element moment).moment.calls _ l
-    (then_calls (does None element moment) (does None element moment).refusal (does_all None elements) (does_all_counts None elements))) in
-    ap (λ (done : Done). then_done done done.refusal (does_all w elements)) first
-    ∙ then_later w (does None element moment) (does None element moment).refusal (does_all None elements) (does_all w elements) l (does_all_later w elements)
+does_all_later w (element ∷ elements) moment l = grind (arith, nat_tests, does_later w element moment, later_than_less w (does None element moment).moment.calls, then_calls (does None element moment) (does None element moment).refusal (does_all None elements) (does_all_counts None elements), does_all_counts None elements, then_later w (does None element moment) (does None element moment).refusal (does_all None elements) (does_all w elements) l, does_all_later w elements)
 
 -- A recovery makes no call.
 turn_of_calls : (done : Done) (refusal : Option Error) → (turn_of done refusal).moment.calls ≡ done.moment.calls
@@ -125,7 +116,4 @@ turn_of_calls done (Some error) = refl
 pub turn_later : (w : Option ℕ) (command : Option Command) (moment : Moment) → IsLater (turn None command moment).moment.calls w
     → turn w command moment ≡ turn None command moment
 unfolding turn
-turn_later w command moment l =
-    let all : Done = does_all None (line_elements command moment.scene.session) moment in
-    ap (λ (done : Done). turn_of done done.refusal)
-    (does_all_later w (line_elements command moment.scene.session) moment (subst (λ (n : ℕ). IsLater n w) (turn_of_calls all all.refusal) l))
+turn_later w command moment l = grind (arith, nat_tests, does_all_later w (line_elements command moment.scene.session) moment, turn_of_calls)

@@ -54,10 +54,7 @@ levels_stay (level ∷ levels) t u x y a b h = (
 
 -- the parent of a context of the levels is one of theirs or the topmost one
 pub context_above : (levels : List LevelState) → AreOuter levels → (P : Type 0) → (level_parent (first_of levels) ≡ top_context → P) → (IsContext (level_parent (first_of levels)) levels → P) → P
-context_above [] h P top one = top refl
-context_above (level ∷ levels) h P top one =
-    let c = is_there level.context h.0.made.context in
-    one (inl (c.1 ∙ ap Some (sym (ap (λ (o : Option ℕ). option_map_or (λ n. n) o top_context) c.1))))
+context_above x0 h x2 top one = grind (arith, nat_tests, is_there)
 
 -- the contexts of the levels above aren't within a newer context
 pub outer_contexts : (levels : List LevelState) (t : Contexts) (x : OwnerTree) (next p : ℕ) → AreContexts t next → AreLevels levels t x → AreOuter levels → abort_context < p → level_parent (first_of levels) < p

@@ -15,10 +15,7 @@ own_holds n (l ∷ ls) o m s owned same =
     ∙ ap (λ b. (is_lock o m l && has_owner l) || b) (own_holds n ls o m s (All-tail (λ l. has_owner l ≡ true) l ls owned) same)
 
 not_of : (h : Holding) (o : ℕ) (m : Mode) (s : ℕ) → h.session ≢ s → is_holding o m s h ≡ false
-not_of h o m s other = elim (cases_Bool (is_holding o m s h)) as (λ _. is_holding o m s h ≡ false) [
-  | inl e ↦ absurd (other (holding_parts o m s h e).2)
-  | inr e ↦ e
-]
+not_of h o m s other = grind (arith, nat_tests, cases_Bool (is_holding o m s h), holding_parts o m s h)
 
 none_of : (hs : List Holding) (o : ℕ) (m : Mode) (s : ℕ) → All (λ h. h.session ≢ s) hs → holds hs o m s ≡ false
 none_of hs o m s all = list_any_none (is_holding o m s) hs (All-weaker (λ h. h.session ≢ s) (λ h. is_holding o m s h ≡ false) (λ h other. not_of h o m s other) hs all)

@@ -1,7 +1,7 @@
 -- The steps on contexts of a name lead from a session that stands to one that stands.
 use Rattle.session_rules.proofs.Base.{◌≡◌, ◌≢◌, ◌⊎◌, ℕ, ◌+◌, Bool, true, false, Option, Some, None, List, [], ◌∷◌, ◌++◌, refl, sym, ap, ◌∙◌, subst, inl, inr, arith, ◌==◌, reverse, if◌then◌else◌, codes, option_map, option_and_then, eq-eqb, both_ways, or_parts, nat_tests, reverse-append}
-use Rattle.session_rules.proofs.Below.{Empty, Node, Once, children, has, is_above, moved, removed, with_children, Moves, apart_of, at_absent, at_some, has_changed, Hook, taken, CtxKind, Context, Contexts, created, is_protected, new_context, reparented, OwnerTree, is_text, Apart, registered, delete_refusal, is_within, reset_refusal, set_parent_refusal, TreeError, Protected, InUse, Cycle}
-use Rattle.session_rules.proofs.Rules.{LevelState, SessionState, cache_context, context_of, first_of, last_of, level_context, top_context, Scene, Moment, Text, context_named, context_made, new_context_made, at_context, context_moved, hook_registered, hook_waits, does, AreContexts, AreHooks, AreLevels, IsPlace, IsRow, IsWorking, Stands, referred, Check, Element, NewContext, Ended, of_contexts, children_gone, context_cleared, context_cleared_alone, context_gone, switched, where_there, failure, refusal_at, tree_error}
+use Rattle.session_rules.proofs.Below.{Empty, Node, Once, children, has, is_above, moved, removed, with_children, Moves, apart_of, at_absent, at_some, has_changed, Hook, taken, CtxKind, Context, Contexts, created, is_protected, new_context, reparented, OwnerTree, is_text, registered, is_within, set_parent_refusal, TreeError, Protected, Cycle}
+use Rattle.session_rules.proofs.Rules.{LevelState, SessionState, cache_context, context_of, first_of, last_of, level_context, top_context, Scene, Moment, Text, context_named, context_made, new_context_made, at_context, context_moved, hook_waits, does, AreContexts, AreHooks, AreLevels, IsPlace, IsRow, IsWorking, Stands, referred, Check, Element, NewContext, Ended, of_contexts, children_gone, context_cleared, context_cleared_alone, context_gone, switched, where_there, failure, refusal_at, tree_error}
 use Rattle.session_rules.proofs.Kept.{has_emptied, has_left, once_left, hooks_ended, hooks_put, hooks_taken, hooks_reparented, parts_alone, parts_children, parts_cleared, parts_gone, IsContext, no_value, one_value, lone_changed, lone_emptied, lone_left, lone_moved, lone_put, IsCached, levels_other, own_other, plans_current, place_current, place_level, place_own, place_same, portals_moved, row_changed, row_emptied, row_free, row_left, row_put, Stay, apart, contexts_alone, contexts_changed, contexts_children_gone, contexts_created, contexts_gone, contexts_reparented, has_alone, has_created, has_reparented, moves_by, protected_has, same_removed, stay_alone, stay_changed, stay_children_gone, stay_created, stay_gone, stay_on, stay_reparented, stay_same, top_protected, by_alone, by_reparented}
 use Rattle.context_rules.specs.Contexts as rules
 use Rattle.context_rules.specs.Ends as ends
@@ -19,10 +19,7 @@ in_both (x ∷ xs) ys n i = grind (arith, nat_tests, in_both xs ys n)
 
 in_reverse : (levels : List LevelState) (n : ℕ) → IsContext n (reverse levels) → IsContext n levels
 in_reverse [] n i = i
-in_reverse (level ∷ levels) n i = elim (in_both (reverse levels) (level ∷ []) n (subst (IsContext n) (reverse-append (level ∷ []) levels) i)) [
-  | inl j ↦ inr (in_reverse levels n j)
-  | inr j ↦ elim j [ inl e ↦ inl e | inr k ↦ absurd k ]
-]
+in_reverse (level ∷ levels) n i = grind (arith, nat_tests, in_both (reverse levels) (level ∷ []) n (subst (IsContext n) (reverse-append (level ∷ []) levels) i), reverse-append (level ∷ []) levels, in_reverse levels n)
 
 -- a level's context is there
 level_there : (levels : List LevelState) (t : Contexts) (x : OwnerTree) (n : ℕ) → AreLevels levels t x → IsContext n levels → has n t ≡ true
@@ -50,27 +47,16 @@ leads_to P name s n e top cache level script =
 
 -- It is there.
 pub named_there : (name : Text) (s : Scene) (n : ℕ) → Stands s → context_named name s.session ≡ Some n → has n s.session.contexts ≡ true
-named_there name s n h e =
-    leads_to (has n s.session.contexts ≡ true) name s.session n e
-    (λ z. ap (λ (m : ℕ). has m s.session.contexts) (sym z) ∙ protected_has top_context s.session.contexts (top_protected s.session.contexts s.session.next_context h.contexts))
-    (λ z. ap (λ (m : ℕ). has m s.session.contexts) (sym z) ∙ protected_has cache_context s.session.contexts (h.contexts.own cache_context (omega arith) (omega arith)).protected)
-    (λ i. level_there s.session.levels s.session.contexts s.session.owners n h.levels i)
-    (λ q. script_there name s.session.contexts n q)
+named_there name s n h e = grind (arith, nat_tests, leads_to (has n s.session.contexts ≡ true) name s.session n e, protected_has top_context s.session.contexts (top_protected s.session.contexts s.session.next_context h.contexts), protected_has cache_context s.session.contexts, top_protected s.session.contexts s.session.next_context h.contexts, level_there s.session.levels s.session.contexts s.session.owners n h.levels, script_there name s.session.contexts n)
 
 -- a context of the script is none of the session's own
 script_free : (name : Text) (t : Contexts) (n : ℕ) → Once t → rules.context_named name t ≡ Some n → is_protected n t ≡ false
 script_free name Empty n o e = refl
-script_free name (Node k c below beside) n o e =
-    let apart : Apart k below beside = apart_of k c below beside o in
-    grind (arith, nat_tests, script_there name below n, script_there name beside n, apart.apart_back n, at_absent n below, at_some n below, script_free name below n apart.once_below, script_free name beside n apart.once_beside)
+script_free name (Node k c below beside) n o e = grind (arith, nat_tests, apart_of k c below beside o, script_there name below n, script_there name beside n, at_absent n below, at_some n below, script_free name below n, script_free name beside n)
 
 -- A context that a name leads to isn't that of a plan.
 pub named_other : (name : Text) (s : Scene) (n : ℕ) → Stands s → context_named name s.session ≡ Some n → (m : ℕ) → IsCached m s.session.contexts → n ≢ m
-named_other name s n h e m k =
-    leads_to (n ≢ m) name s.session n e
-    (λ z. own_other n (omega (arith, z)) s.session.contexts m k) (λ z. own_other n (omega (arith, z)) s.session.contexts m k)
-    (λ i. levels_other s.session.levels s.session.contexts s.session.owners h.levels n i m k)
-    (λ q z. both_ways (is_protected n s.session.contexts) (script_free name s.session.contexts n h.contexts.once q) (ap (λ (j : ℕ). is_protected j s.session.contexts) z ∙ k.protected))
+named_other name s n h e m k = grind (arith, nat_tests, leads_to (n ≢ m) name s.session n e, own_other n, levels_other s.session.levels s.session.contexts s.session.owners h.levels n, both_ways (is_protected n s.session.contexts), script_free name s.session.contexts n h.contexts.once)
 
 -- nor is it that of a portal or of one row
 pub named_place : (name : Text) (s : Scene) (n : ℕ) → Stands s → context_named name s.session ≡ Some n → (m : ℕ) (expr : Option ℕ) → IsPlace m expr s.session.contexts s.session.current → IsPlace m expr s.session.contexts n
@@ -220,36 +206,19 @@ module _ (w : Option ℕ) (moment : Moment) (h : Stands moment.scene) (working :
 
   pub delete_works : (name : Text) → failure (Check.MayDelete name) moment.scene ≡ None → Works moment.scene (does w (Element.Delete name) moment).moment.scene
   unfolding does
-  delete_works name ok =
-      at_name (Works moment.scene) (context_named name moment.scene.session) context_gone moment.scene (nothing_works moment.scene h)
-      (λ n e.
-      let b = both_none (is_protected n moment.scene.session.contexts) (is_within n moment.scene.session.current moment.scene.session.contexts) Protected InUse
-      (checked name moment.scene.session (λ m. delete_refusal m moment.scene.session.current moment.scene.session.contexts) n e ok) in
-      record { stands = gone_step moment.scene n h working b.0 b.1; levels = refl; at_rest = λ r. r })
+  delete_works name ok = grind (arith, nat_tests, at_name, nothing_works, both_none, checked name, gone_step)
 
   pub delete_children_works : (name : Text) → failure (Check.MayReset name) moment.scene ≡ None → Works moment.scene (does w (Element.DeleteChildren name) moment).moment.scene
   unfolding does
-  delete_children_works name ok =
-      at_name (Works moment.scene) (context_named name moment.scene.session) children_gone moment.scene (nothing_works moment.scene h)
-      (λ n e.
-      let b = both_none (is_protected n moment.scene.session.contexts) (is_above n moment.scene.session.current moment.scene.session.contexts) Protected InUse
-      (checked name moment.scene.session (λ m. reset_refusal m moment.scene.session.current moment.scene.session.contexts) n e ok) in
-      record { stands = children_step moment.scene n h working b.0 b.1; levels = refl; at_rest = λ r. r })
+  delete_children_works name ok = grind (arith, nat_tests, at_name, nothing_works, both_none, checked name, children_step)
 
   pub reset_works : (name : Text) → failure (Check.MayReset name) moment.scene ≡ None → Works moment.scene (does w (Element.Reset name) moment).moment.scene
   unfolding does
-  reset_works name ok =
-      at_name (Works moment.scene) (context_named name moment.scene.session) context_cleared moment.scene (nothing_works moment.scene h)
-      (λ n e.
-      let b = both_none (is_protected n moment.scene.session.contexts) (is_above n moment.scene.session.current moment.scene.session.contexts) Protected InUse
-      (checked name moment.scene.session (λ m. reset_refusal m moment.scene.session.current moment.scene.session.contexts) n e ok) in
-      record { stands = cleared_step moment.scene n h working b.0 b.1; levels = refl; at_rest = λ r. r })
+  reset_works name ok = grind (arith, nat_tests, at_name, nothing_works, both_none, checked name, cleared_step)
 
   pub reset_only_works : (name : Text) → Works moment.scene (does w (Element.ResetOnly name) moment).moment.scene
   unfolding does
-  reset_only_works name =
-      at_name (Works moment.scene) (context_named name moment.scene.session) context_cleared_alone moment.scene (nothing_works moment.scene h)
-      (λ n e. record { stands = alone_step moment.scene n h working; levels = refl; at_rest = λ r. r })
+  reset_only_works name = grind (arith, nat_tests, at_name, nothing_works, alone_step)
 
   pub reparent_works : (name parent : Text) → failure (Check.MayMove name parent) moment.scene ≡ None → Works moment.scene (does w (Element.Reparent name parent) moment).moment.scene
   unfolding does
@@ -291,11 +260,4 @@ module _ (w : Option ℕ) (moment : Moment) (h : Stands moment.scene) (working :
 
   pub register_works : (name : Text) → Works moment.scene (does w (Element.Register name) moment).moment.scene
   unfolding does
-  register_works name =
-      fallible_keeps (Works moment.scene) w moment _ (hook_registered name) (nothing_works moment.scene h)
-      (λ _. at_name (Works moment.scene) (context_named name moment.scene.session) (λ n. where_there (first_of moment.scene.around.shelf.fresh) (hook_waits n)) moment.scene (nothing_works moment.scene h)
-      (λ n e. at_hook n (named_there name moment.scene n h e) (first_of moment.scene.around.shelf.fresh) refl))
-    where
-      at_hook : (n : ℕ) → has n moment.scene.session.contexts ≡ true → (o : Option Hook) → first_of moment.scene.around.shelf.fresh ≡ o → Works moment.scene (where_there o (hook_waits n) moment.scene).scene
-      at_hook n there None e = nothing_works moment.scene h
-      at_hook n there (Some hook) e = record { stands = waits_step moment.scene n hook h working there e; levels = refl; at_rest = λ r. r }
+  register_works name = grind (arith, nat_tests, fallible_keeps, nothing_works, at_name, named_there name, waits_step)

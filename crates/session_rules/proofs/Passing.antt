@@ -1,7 +1,7 @@
 -- Portals pass to the level above where the deepest one is merged into it.
-use Rattle.session_rules.proofs.Base.{◌≡◌, ◌≢◌, ◌⊎◌, ℕ, ◌+◌, ◌-◌, ◌≤◌, Bool, true, false, Option, Some, None, List, [], ◌∷◌, ◌++◌, length, refl, sym, ap, ◌∙◌, subst, inl, inr, arith, ◌==◌, option_map_or, cases_eq, cases_Bool, eq-eqb, eqb-true, eqb-false, ne_eqb, nat_tests}
+use Rattle.session_rules.proofs.Base.{◌≡◌, ◌≢◌, ◌⊎◌, ℕ, ◌+◌, ◌-◌, ◌≤◌, true, false, Option, Some, None, List, [], ◌∷◌, ◌++◌, length, refl, sym, ap, ◌∙◌, subst, inl, inr, arith, option_map_or, cases_eq, cases_Bool, eq-eqb, eqb-true, eqb-false, ne_eqb, nat_tests}
 use Rattle.session_rules.proofs.Below.{Once, has, moved, Moves, Contexts, table_of, Owner, OwnerTree, once_of, sound_moved, Forest, Empty, Node, times, at, children, parent_of, put, removed, at_moved, at_some, children_absent, has_none, has_some, parent_stays, removed_has, times_moved, times_none, times_some, children_in, once_children}
-use Rattle.session_rules.proofs.Rules.{LevelState, OpenPortal, first_of, owner_of, plan_reference, Scene, portal_changed, for_each, in_order, portal_becomes, where_so, where_there, owner_moved, portal_passed, AreLevels, AreOuter, ArePlans, HasItems, IsAtRest, IsAtWork, IsAttached, IsDead, IsLive, IsOwner, IsPortal, owner_at, referred, AreEnding, Ending, IsLoose}
+use Rattle.session_rules.proofs.Rules.{LevelState, OpenPortal, first_of, owner_of, plan_reference, Scene, portal_changed, for_each, in_order, portal_becomes, owner_moved, portal_passed, AreLevels, AreOuter, ArePlans, HasItems, IsAtRest, IsAtWork, IsAttached, IsDead, IsLive, IsOwner, IsPortal, owner_at, referred, AreEnding, Ending, IsLoose}
 use Rattle.session_rules.proofs.Kept.{all_moved, stay_same, held_moved, is_there, levels_stay, no_value, one_value, depth_outer, depth_small, depth_still, plans_counted, Changes, changed_one, owner_beside, owner_here, owner_split, attached_by, children_put, has_left, has_put_other, once_left, parent_left, parent_put, parent_put_other, children_left, lone_moved}
 use Rattle.portal_store.specs.Portal.{lowered}
 use Rattle.session_rules.proofs.Ending.{Leads, each_goes, parts_of, with_parts}
@@ -14,8 +14,7 @@ module _ {A : Type 0} where
   -- what is below a node is so still where another one comes
   put_above : (m lo q o : ℕ) (a : A) (t : Forest A) → lo ≢ o → m ≢ o → has m (children lo t) ≡ true → has m (children lo (put q o a Empty t)) ≡ true
   put_above m lo q o a Empty ne other h = absurd (cc h)
-  put_above m lo q o a (Node k b below beside) ne other h =
-      grind (arith, nat_tests, has_put_other m q o a Empty below other refl, has_put_other lo q o a Empty below ne refl, put_above m lo q o a below ne other, put_above m lo q o a beside ne other)
+  put_above m lo q o a (Node k b below beside) ne other h = grind (arith, nat_tests, has_put_other m q o a Empty below other refl, has_put_other lo q o a Empty below ne refl, put_above m lo q o a below ne other, put_above m lo q o a beside ne other)
 
   -- A node without children moves.
   pub record HasMoved (o q : ℕ) (t : Forest A) : Type 0 where
@@ -58,9 +57,7 @@ loose_moved level m o q x h away other l = grind (arith, nat_tests)
 -- where a portal's owner moves to an owner of these levels
 module _ (levels : List LevelState) (o q : ℕ) (t : Contexts) (x : OwnerTree) (current : ℕ) (m : HasMoved o q x) where
   pub levels_moved : (IsOwner o levels → ⊥) → AreLevels levels t x → AreLevels levels t (moved o q x)
-  levels_moved other l =
-      levels_stay levels t t x (moved o q x) (λ k i prot. stay_same t k prot)
-      (λ k i there. record { there = m.has_same k ∙ there; parent = m.parent_other k (λ z. other (subst (λ (j : ℕ). IsOwner j levels) z i)) }) l
+  levels_moved other l = grind (arith, nat_tests, levels_stay, stay_same)
 
   pub portal_moved : (p r : OpenPortal) → p.owner ≡ Some o → IsBeside p r → IsOwner q levels → IsPortal r levels t x current → IsPortal r levels t (moved o q x) current
   portal_moved p r e b i k = grind (arith, nat_tests, attached_by, moved o q x)
@@ -99,9 +96,7 @@ module _ (level : LevelState) (levels : List LevelState) (some : 1 ≤ length le
   passed_line p line = grind (arith, nat_tests, depth)
 
   pub passed_live : (p : OpenPortal) → AreOuter levels → IsLive p (level ∷ levels) ⊎ IsDead p (level ∷ levels) → IsLive (passed p) levels
-  passed_live p outer s =
-      let b : IsBounded p depth = bounded p (level ∷ levels) s in
-      grind (arith, nat_tests, depth, bounded p (level ∷ levels) s, lowered_most depth p.active b.active, lowered_some depth p.created, lowered_within depth p.created p.active b.within b.active, depth_outer levels outer, passed_line p)
+  passed_live p outer s = grind (arith, nat_tests, bounded p, lowered_most, lowered_some, lowered_within, depth_outer, passed_line p)
 
   pub changes_passed : (p : OpenPortal) → Changes p (passed p)
   changes_passed p = record { name = refl; context = λ n e. e; owner = λ n e. e }
@@ -221,26 +216,7 @@ module _ (level : LevelState) (levels : List LevelState) (some : 1 ≤ length le
       ]
 
   pub passed_leads : (p : OpenPortal) (front back : List OpenPortal) (s : Scene) → Ending level levels levels front (p ∷ back) s → Leads level levels levels back s (portal_passed depth (owner_of (first_of levels)) p s).scene
-  passed_leads p front back s h = by_level (p.created == depth) refl
-    where
-      up : (q : ℕ) × (owner_of (first_of levels) ≡ Some q)
-      up = above_made h.outer
-
-      with_owner : p.created ≡ depth → (o q : ℕ) → owner_of (first_of levels) ≡ Some q → p.owner ≡ Some o
-          → Leads level levels levels back s (in_order (where_there (owner_of (first_of levels)) (owner_moved o) ∷ portal_becomes p.name passed ∷ []) s).scene
-      with_owner deep o q e owned =
-          subst (λ (c : Option ℕ). Leads level levels levels back s (in_order (where_there c (owner_moved o) ∷ portal_becomes p.name passed ∷ []) s).scene) (sym e)
-          (moves p front back s o q h deep owned e)
-
-      by_owner : p.created ≡ depth → (c : Option ℕ) → p.owner ≡ c
-          → Leads level levels levels back s (in_order (where_there c (λ owner. where_there (owner_of (first_of levels)) (owner_moved owner)) ∷ portal_becomes p.name passed ∷ []) s).scene
-      by_owner deep None e = plain p front back s h (λ _. e)
-      by_owner deep (Some o) e = let q = above_made h.outer in with_owner deep o q.0 q.1 e
-
-      by_level : (b : Bool) → (p.created == depth) ≡ b
-          → Leads level levels levels back s (in_order (where_so b (where_there p.owner (λ owner. where_there (owner_of (first_of levels)) (owner_moved owner))) ∷ portal_becomes p.name passed ∷ []) s).scene
-      by_level true e = by_owner (eqb-true p.created depth e) p.owner refl
-      by_level false e = plain p front back s h (λ z. absurd (eqb-false p.created depth e z))
+  passed_leads p front back s h = grind (arith, nat_tests, above_made h.outer, moves p front back s, plain p front back s h, eqb-true p.created, eqb-false p.created)
 
   pub all_passed : (ps : List OpenPortal) (s : Scene) → Ending level levels levels [] ps s → Leads level levels levels [] s (for_each (portal_passed depth (owner_of (first_of levels))) ps s).scene
   all_passed ps s h = each_goes level levels levels (portal_passed depth (owner_of (first_of levels))) passed_leads ps [] s h

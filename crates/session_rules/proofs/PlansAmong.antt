@@ -24,9 +24,7 @@ plans_current plans t a b c other h =
 
 -- contexts change
 pub plans_moved : (plans : List StandingPlan) (t u : Contexts) (current : ℕ) (c : ℕ → ℕ) → ((m : ℕ) → IsCached m t → IsSame m t u × (children m u ≡ Empty)) → ArePlans plans t current c → ArePlans plans u current c
-plans_moved plans t u current c stay h =
-    search (All-weaker (λ plan. IsPlan plan t current) (λ plan. IsPlan plan u current)
-    (λ plan i. let s = stay plan.context (cached plan t current i) in search (s, s.0.parent ∙ i.parent)) plans h.each)
+plans_moved plans t u current c stay h = grind (arith, nat_tests)
 
 -- references are counted in another way
 pub plans_counted : (plans : List StandingPlan) (t : Contexts) (current : ℕ) (c d : ℕ → ℕ) → ((m : ℕ) → c m ≡ d m) → ArePlans plans t current c → ArePlans plans t current d
@@ -43,8 +41,7 @@ some_is a b e = cc e
 -- a level's context isn't that of a plan
 pub levels_other : (levels : List LevelState) (t : Contexts) (x : OwnerTree) → AreLevels levels t x → (n : ℕ) → IsContext n levels → (m : ℕ) → IsCached m t → n ≢ m
 levels_other [] t x l n i m c = absurd i
-levels_other (level ∷ levels) t x l n i m c =
-    grind (arith, nat_tests, above_other levels t x l.1, some_is (level_parent (first_of levels)) cache_context, levels_other levels t x l.1 n)
+levels_other (level ∷ levels) t x l n i m c = grind (arith, nat_tests, above_other levels t x l.1, some_is (level_parent (first_of levels)) cache_context, levels_other levels t x l.1 n)
 
 pub levels_apart : (levels : List LevelState) (t : Contexts) (x : OwnerTree) (plans : List StandingPlan) (current : ℕ) → AreLevels levels t x → All (λ plan. IsPlan plan t current) plans → (n : ℕ) → IsContext n levels → IsApart n plans
 levels_apart levels t x plans current l each n i =

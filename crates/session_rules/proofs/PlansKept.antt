@@ -70,31 +70,25 @@ apart_without p (x ∷ xs) back h = (all_without (Differ x) p xs back h.0, apart
 -- the other plans have other contexts
 apart_others : (p : StandingPlan) (front back : List StandingPlan) → AreApart (front ++ (p ∷ back)) → All (λ q. q.context ≢ p.context) (front ++ back)
 apart_others p [] back h = All-weaker (Differ p) (λ q. q.context ≢ p.context) (λ q d. d.context) back h.0
-apart_others p (x ∷ xs) back h =
-    let d : Differ x p = all_middle (Differ x) p xs back h.0 in
-    All-cons (λ q. q.context ≢ p.context) x (xs ++ back) (λ z. d.context (sym z)) (apart_others p xs back h.1)
+apart_others p (x ∷ xs) back h = grind (arith, nat_tests, all_middle (Differ x) p xs back h.0, apart_others p xs back h.1)
 
 -- the plan changes, or goes
 changed_others : (n : ℕ) (change : StandingPlan → StandingPlan) (xs : List StandingPlan) → All (IsOther n) xs → plan_changed n change xs ≡ xs
 changed_others n change [] h = refl
-changed_others n change (x ∷ xs) h =
-    rw (ne_eqb x.number n (All-head (IsOther n) x xs h)) (ap (λ (ys : List StandingPlan). x ∷ ys) (changed_others n change xs (All-tail (IsOther n) x xs h)))
+changed_others n change (x ∷ xs) h = grind (arith, nat_tests, ne_eqb x.number n (All-head (IsOther n) x xs h), changed_others n change xs (All-tail (IsOther n) x xs h))
 
 pub changed_is : (n : ℕ) (change : StandingPlan → StandingPlan) (p : StandingPlan) (front back : List StandingPlan) → p.number ≡ n → All (IsOther n) front → All (IsOther n) back
     → plan_changed n change (front ++ (p ∷ back)) ≡ front ++ (change p ∷ back)
 changed_is n change p [] back e f b = rw (eq-eqb p.number n e) (ap (λ (ys : List StandingPlan). change p ∷ ys) (changed_others n change back b))
-changed_is n change p (x ∷ xs) back e f b =
-    rw (ne_eqb x.number n (All-head (IsOther n) x xs f)) (ap (λ (ys : List StandingPlan). x ∷ ys) (changed_is n change p xs back e (All-tail (IsOther n) x xs f) b))
+changed_is n change p (x ∷ xs) back e f b = grind (arith, nat_tests, ne_eqb x.number n (All-head (IsOther n) x xs f), changed_is n change p xs back e (All-tail (IsOther n) x xs f) b)
 
 but_others : (n : ℕ) (xs : List StandingPlan) → All (IsOther n) xs → plans_but n xs ≡ xs
 but_others n [] h = refl
-but_others n (x ∷ xs) h =
-    rw (ne_eqb x.number n (All-head (IsOther n) x xs h)) (ap (λ (ys : List StandingPlan). x ∷ ys) (but_others n xs (All-tail (IsOther n) x xs h)))
+but_others n (x ∷ xs) h = grind (arith, nat_tests, ne_eqb x.number n (All-head (IsOther n) x xs h), but_others n xs (All-tail (IsOther n) x xs h))
 
 pub but_is : (n : ℕ) (p : StandingPlan) (front back : List StandingPlan) → p.number ≡ n → All (IsOther n) front → All (IsOther n) back → plans_but n (front ++ (p ∷ back)) ≡ front ++ back
 but_is n p [] back e f b = rw (eq-eqb p.number n e) (but_others n back b)
-but_is n p (x ∷ xs) back e f b =
-    rw (ne_eqb x.number n (All-head (IsOther n) x xs f)) (ap (λ (ys : List StandingPlan). x ∷ ys) (but_is n p xs back e (All-tail (IsOther n) x xs f) b))
+but_is n p (x ∷ xs) back e f b = grind (arith, nat_tests, ne_eqb x.number n (All-head (IsOther n) x xs f), but_is n p xs back e (All-tail (IsOther n) x xs f) b)
 
 -- how many references are counted then
 none_counted : (n : ℕ) (xs : List StandingPlan) → All (IsOther n) xs → references_of n xs ≡ 0

@@ -1,5 +1,5 @@
 -- A portal ends within its level: a session that stands leads to one that stands, where portals are at rest.
-use Rattle.session_rules.proofs.Base.{◌≡◌, ◌≢◌, ℕ, Bool, true, false, Option, Some, None, List, [], ◌∷◌, ◌++◌, refl, sym, ap, ◌∙◌, subst, inl, inr, All, option_map_or, All-append, All-cons, All-head, All-tail, All-weaker}
+use Rattle.session_rules.proofs.Base.{◌≡◌, ◌≢◌, ℕ, Bool, true, false, Option, Some, None, List, [], ◌∷◌, ◌++◌, refl, sym, ap, ◌∙◌, subst, inl, inr, All, option_map_or, All-append, All-cons, All-head, All-tail, All-weaker, arith, nat_tests}
 use Rattle.session_rules.proofs.Below.{Once, has, children, removed, has_of_removed, left_apart, KindId, Contexts, gone, KindTable, IsSoundTable, table_of, Owner, OwnerTree, has_begun, once_of, sound_removed}
 use Rattle.session_rules.proofs.Rules.{LevelState, OpenPortal, buffer_pin, relcache_reference, snapshot_reference, Scene, Moment, does, portal_changed, portal_named, portals_but, Text, context_gone, in_order, portal_gone, where_so, where_there, item_released, owner_gone, owner_released, Element, executor_ended, is_ready, portal_ended, portal_owner_ended, AreContexts, AreLevels, AreOwners, ArePortals, HasItems, IsAtRest, IsAttached, IsLive, IsOfPortal, IsOwner, IsPlace, IsPlan, IsPortal, IsWorking, Stands, referred}
 use Rattle.session_rules.proofs.Kept.{at_left, has_left, parent_left, all_removed, contexts_level_gone, hooks_ended, parts_gone, begun_has, levels_stay, no_value, one_value, Fits, HasSettled, besides_of, release_settles, with_besides, swept_by, with_owners, removed_swept, lone_left, all_back, all_front, but_one, different_changed, different_without, others_back, others_front, owner_beside, owner_split, rests_becomes, rests_but, attached_by, place_spared, levels_apart, plans_counted}
@@ -16,9 +16,7 @@ module _ (name : Text) (p : OpenPortal) where
   owner_in s h working e o q = ((this_portal s h working name p (named_in name p s.session.portals e)).owner o q).there
 
   pub one_item : (s z : Scene) → IsWorking s.session.levels → portal_named name s.session.portals ≡ Some p → LeavesPortals s z → (o : ℕ) → p.owner ≡ Some o → (kind : KindId) (key : ℕ) → LeavesPortals s (item_released o kind key z).scene
-  one_item s z working e b o q kind key =
-      let now : IsWorking z.session.levels = subst IsWorking (sym b.works.levels) working in
-      then_beside s z (item_released o kind key z).scene b (item_beside z o kind key b.works.stands now (owner_in z b.works.stands now (ap (portal_named name) b.portals ∙ e) o q))
+  one_item s z working e b o q kind key = grind (arith, nat_tests, then_beside s z (item_released o kind key z).scene b, item_beside z o kind key b.works.stands, owner_in z b.works.stands)
 
   pub executor_beside : (s : Scene) → Stands s → IsWorking s.session.levels → portal_named name s.session.portals ≡ Some p → LeavesPortals s (executor_ended p s).scene
   executor_beside s h working e = go p.owner refl

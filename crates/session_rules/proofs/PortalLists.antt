@@ -62,13 +62,11 @@ IsNamedOther p q = q.name ≢ p.name
 
 changed_none : (p : OpenPortal) (f : OpenPortal → OpenPortal) (xs : List OpenPortal) → All (IsNamedOther p) xs → portal_changed p.name f xs ≡ xs
 changed_none p f [] h = refl
-changed_none p f (x ∷ xs) h =
-    rw (other_name p x (All-head (IsNamedOther p) x xs h)) (ap (λ (ys : List OpenPortal). x ∷ ys) (changed_none p f xs (All-tail (IsNamedOther p) x xs h)))
+changed_none p f (x ∷ xs) h = grind (arith, nat_tests, other_name p x (All-head (IsNamedOther p) x xs h), changed_none p f xs (All-tail (IsNamedOther p) x xs h))
 
 but_none : (p : OpenPortal) (xs : List OpenPortal) → All (IsNamedOther p) xs → portals_but p.name xs ≡ xs
 but_none p [] h = refl
-but_none p (x ∷ xs) h =
-    rw (other_name p x (All-head (IsNamedOther p) x xs h)) (ap (λ (ys : List OpenPortal). x ∷ ys) (but_none p xs (All-tail (IsNamedOther p) x xs h)))
+but_none p (x ∷ xs) h = grind (arith, nat_tests, other_name p x (All-head (IsNamedOther p) x xs h), but_none p xs (All-tail (IsNamedOther p) x xs h))
 
 named_back : (p : OpenPortal) (front back : List OpenPortal) → AreDifferent (front ++ (p ∷ back)) → All (IsNamedOther p) back
 named_back p front back h = All-weaker (AreOther p) (IsNamedOther p) (λ q o. o.name) back (others_back p front back h)

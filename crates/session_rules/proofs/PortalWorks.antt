@@ -1,7 +1,7 @@
 -- The elements of portals lead from a session that stands to one that stands, with its levels as they were.
 use Rattle.session_rules.proofs.Base.{◌≡◌, ◌≢◌, ℕ, true, false, Option, Some, None, List, [], ◌∷◌, length, refl, sym, ap, ◌∙◌, subst, inl, inr, option_and_then, arith, nat_tests}
-use Rattle.session_rules.proofs.Below.{has, Error, Item, KindId, Mode, ScanStep, table_of, without, forgotten, What, PortalState}
-use Rattle.session_rules.proofs.Rules.{OpenPortal, buffer_pin, Scene, Moment, Check, Element, InPortal, InRow, OfPortal, Text, newest, portal_changed, portal_named, changes, context_cleared_alone, in_order, nothing, portal_becomes, say, where_there, Done, Keeper, NoOne, TheDescriptors, TheKind, ThePlans, given_back, item_released, keeper_of, left_to, scan_part, scanned, does, failing_turn, IsAtRest, IsFetched, IsItem, IsWorking, Stands}
+use Rattle.session_rules.proofs.Below.{has, Error, KindId, Mode, ScanStep, table_of, without, PortalState}
+use Rattle.session_rules.proofs.Rules.{OpenPortal, buffer_pin, Scene, Moment, Check, Element, InPortal, InRow, OfPortal, Text, newest, portal_changed, portal_named, context_cleared_alone, in_order, nothing, portal_becomes, where_there, Done, Keeper, NoOne, TheDescriptors, TheKind, ThePlans, item_released, keeper_of, left_to, scan_part, scanned, does, failing_turn, IsAtRest, IsFetched, IsItem, IsWorking, Stands}
 use Rattle.session_rules.proofs.Kept.{rests_becomes}
 use Rattle.exec_core.specs.Turn.{taken}
 use Rattle.session_rules.proofs.ItemsStand.{give_step, lock_beside, take_beside}
@@ -19,14 +19,7 @@ given_portals (TheKind place) key s = refl
 
 -- an owner gives an item back
 pub item_beside : (s : Scene) (o : ℕ) (kind : KindId) (key : ℕ) → Stands s → IsWorking s.session.levels → has o s.session.owners ≡ true → Beside s (item_released o kind key s).scene
-item_beside s o kind key h working there = record {
-  works = give_step s o kind key h working there (newest o kind key s.session) refl;
-  portals = go (newest o kind key s.session);
-}
-  where
-    go : (i : Option Item) → (where_there i (λ item. in_order (changes (λ session. record session { owners = forgotten o kind key session.owners }) ∷ say (What.Release item o) ∷ given_back item ∷ [])) s).scene.session.portals ≡ s.session.portals
-    go None = refl
-    go (Some item) = given_portals (keeper_of item.kind) item.key (record s { session = record s.session { owners = forgotten o kind key s.session.owners } })
+item_beside s o kind key h working there = grind (arith, nat_tests, give_step s o kind key h working there (newest o kind key s.session) refl, given_portals)
 
 pub then_beside : (a b c : Scene) → Beside a b → Beside b c → Beside a c
 then_beside a b c x y = record { works = record { stands = y.works.stands; levels = y.works.levels ∙ x.works.levels; at_rest = λ r. y.works.at_rest (x.works.at_rest r) }; portals = y.portals ∙ x.portals }
@@ -47,10 +40,7 @@ pub record Turns (name : Text) (s z : Scene) : Type 0 where
   pub fetched : IsFetched name s → IsFetched name z
 
 pub beside_turns : (name : Text) (s z : Scene) → Beside s z → Turns name s z
-beside_turns name s z b = record {
-  works = b.works;
-  fetched = λ f p e. f p (sym (ap (portal_named name) b.portals) ∙ e) ∙ sym (ap length b.works.levels);
-}
+beside_turns name s z b = grind (arith, nat_tests)
 
 pub becomes_fetched : (s : Scene) (name : Text) (f : OpenPortal → OpenPortal) → ((p : OpenPortal) → (f p).name ≡ p.name) → ((p : OpenPortal) → portal_named name s.session.portals ≡ Some p → (f p).active ≡ length s.session.levels)
     → IsFetched name (portal_becomes name f s).scene
@@ -76,11 +66,7 @@ module _ (w : Option ℕ) (moment : Moment) (h : Stands moment.scene) (working :
   there p e o q = ((this_portal moment.scene h working name p (named_in name p moment.scene.session.portals e)).owner o q).there
 
   pub owner_named : (o : ℕ) → option_and_then (λ (p : OpenPortal). p.owner) (portal_named name moment.scene.session.portals) ≡ Some o → has o moment.scene.session.owners ≡ true
-  owner_named o e = go (portal_named name moment.scene.session.portals) refl e
-    where
-      go : (c : Option OpenPortal) → portal_named name moment.scene.session.portals ≡ c → option_and_then (λ (p : OpenPortal). p.owner) c ≡ Some o → has o moment.scene.session.owners ≡ true
-      go None q f = absurd (cc f)
-      go (Some p) q f = there p q o f
+  owner_named o e = grind (arith, nat_tests, there)
 
   pub portal_enlarges : Beside moment.scene (does w (Element.Enlarge (OfPortal name)) moment).moment.scene
   unfolding does

@@ -1,6 +1,6 @@
 -- The steps of a portal lead from a session that stands to one that stands.
 use Rattle.session_rules.proofs.Base.{◌≡◌, ◌≢◌, ◌⊎◌, ℕ, ◌+◌, ◌≤◌, ◌<◌, true, false, Option, Some, None, List, [], ◌∷◌, ◌++◌, length, refl, sym, ap, ◌∙◌, subst, inl, inr, arith, ◌==◌, ◌||◌, All, codes, option_map_or, option_and_then, cases_eq, cases_Bool, both_ways, eq-eqb, or_parts, All-nil, All-cons, All-head, All-tail, All-append, All-weaker, nat_tests}
-use Rattle.session_rules.proofs.Below.{Forest, Empty, Node, Once, at, has, children, parent_of, put, size, Apart, apart_of, Contexts, created, is_protected, new_context, table_of, Owner, OwnerTree, has_begun, once_of, fresh, sound_created, new_scan, Scan, is_text, is_text-means, is_text-same, PortalState, CtxKind}
+use Rattle.session_rules.proofs.Below.{Forest, Empty, Node, Once, at, has, children, parent_of, put, size, apart_of, Contexts, created, is_protected, new_context, table_of, Owner, OwnerTree, has_begun, once_of, fresh, sound_created, new_scan, Scan, is_text, is_text-means, is_text-same, PortalState, CtxKind}
 use Rattle.session_rules.proofs.Rules.{LevelState, OpenPortal, cache_context, first_of, level_owner, plan_reference, portals_context, Scene, OfPortal, PortalContext, Text, portal_changed, portal_named, in_order, portal_becomes, context_made, new_context_made, new_owner_made, owner_made, portal_made, WasReleased, AreContexts, AreDifferent, AreHooks, AreLevels, AreOther, AreOwners, ArePlans, ArePortals, IsAtRest, IsAtWork, IsAttached, IsDead, IsLive, IsOfPortal, IsOwner, IsPlace, IsPortal, IsWorking, Stands, active_depth, owner_at, referred}
 use Rattle.session_rules.proofs.Kept.{children_put, has_put_other, Stay, contexts_created, has_created, is_unused, new_parent, new_protected, protected_has, stay_created, stay_same, held_created, hooks_put, levels_stay, no_value, one_value, lone_put, plans_counted, Changes, all_back, all_front, changed_one, different_new, different_changed, different_owned, others_back, others_front, owner_beside, owner_here, owner_split, IsRowOf, attached_by, own_rows, place_same, row_of, row_put, depth_small, depth_working}
 use Rattle.owner_core.specs.Owners as owners
@@ -81,10 +81,7 @@ module _ (s : Scene) (h : Stands s) (working : IsWorking s.session.levels) (name
   this_live = live_here p s.session.levels working this_portal.stage
 
   pub changes_in : (f : OpenPortal → OpenPortal) → portal_changed name f s.session.portals ≡ n.front ++ (f p ∷ n.back)
-  changes_in f =
-      ap (λ (k : Text). portal_changed k f s.session.portals) (sym n.titled)
-      ∙ ap (portal_changed p.name f) n.is
-      ∙ changed_one p f n.front n.back split_portals.different
+  changes_in f = grind (arith, nat_tests, changed_one, split_portals)
 
   -- whose owner is whose then
   pub same_owners : (q : OpenPortal) → ((k : ℕ) → p.owner ≡ Some k → q.owner ≡ Some k) → AreOwners (table_of s.around.kinds) s.session.owners s.session.next_owner s.session.next_serial s.session.levels (n.front ++ (q ∷ n.back))
@@ -161,9 +158,7 @@ module _ (s : Scene) (h : Stands s) (working : IsWorking s.session.levels) (name
 -- a new node is the first below its parent
 pub put_here : {A : Type 0} (q m : ℕ) (a : A) (t : Forest A) → Once t → has q t ≡ true → has m t ≡ false → children q (put q m a Empty t) ≡ Node m a Empty (children q t)
 put_here q m a Empty o h u = absurd (cc h)
-put_here q m a (Node k b below beside) o h u =
-    let apart : Apart k below beside = apart_of k b below beside o in
-    grind (arith, nat_tests, apart_of k b below beside o, or_parts (k == m) (has m below || has m beside) u, or_parts (has m below) (has m beside), has_put_other q q m a Empty below, put_here q m a below apart.once_below, put_here q m a beside apart.once_beside)
+put_here q m a (Node k b below beside) o h u = grind (arith, nat_tests, apart_of k b below beside o, or_parts (k == m) (has m below || has m beside) u, or_parts (has m below) (has m beside), has_put_other q q m a Empty below, put_here q m a below, put_here q m a beside)
 
 -- a level's owner is there
 pub owners_there : (levels : List LevelState) (t : Contexts) (x : OwnerTree) (m : ℕ) → AreLevels levels t x → IsOwner m levels → has m x ≡ true

@@ -1,5 +1,5 @@
 -- The steps of a phase of a release: what they say themselves, and that a law which each of them keeps is kept by the phase.
-use Rattle.session_rules.proofs.Base.{◌≡◌, ℕ, Bool, true, false, if◌then◌else◌, List, [], ◌∷◌, ◌++◌, Option, Some, None, refl, option_map_or}
+use Rattle.session_rules.proofs.Base.{◌≡◌, ℕ, Bool, true, false, List, [], ◌∷◌, ◌++◌, Option, Some, None, refl, option_map_or, arith, nat_tests}
 use Rattle.session_rules.proofs.Below.{What, Item, Phase, BeforeLocks, Locks, AfterLocks, Empty, Node, at, children, parent_of, table_of, KindTable, release_order, KindId, Owner, OwnerTree, forgotten, released, Step, Said, GivesBack, ReleasesLocks, PassesLocks, ReleasesAllLocks, lock_step, own_steps, release_steps, releases_of, steps_below, top_locks}
 use Rattle.session_rules.proofs.Rules.{Scene, newest, changes, for_each, in_order, say, where_there, Keeper, NoOne, TheDescriptors, TheKind, ThePlans, descriptor_left, given_back, item_released, keeper_of, key_left, left_to, phase_released, plan_left, step_done, remembers}
 use Rattle.session_rules.proofs.Leaves.{Acts, Keeps, Law}
@@ -55,13 +55,7 @@ lock_release false n parent = then_step tt no_step
 
 below_release : (kinds : KindTable) (phase : Phase) (commit top : Bool) (parent : ℕ) (owners : OwnerTree) → AreReleaseSteps (steps_below kinds phase commit top parent owners)
 below_release kinds phase commit top parent Empty = no_step
-below_release kinds phase commit top parent (Node n owner below beside) =
-    both_steps (below_release kinds phase commit top n below)
-    (both_steps (own_release kinds phase commit n owner (if top then [] else lock_step commit n parent ∷ []) (locks top)) (below_release kinds phase commit top parent beside))
-  where
-    locks : (top : Bool) → AreReleaseSteps (if top then [] else lock_step commit n parent ∷ [])
-    locks true = no_step
-    locks false = lock_release commit n parent
+below_release kinds phase commit top parent (Node n owner below beside) = grind (arith, nat_tests, both_steps, below_release kinds phase commit top n below, below_release kinds phase commit top parent beside, own_release kinds phase commit n owner, lock_release commit n parent)
 
 top_release : (top commit : Bool) (n : ℕ) (parent : Option ℕ) → AreReleaseSteps (top_locks top commit n parent)
 top_release true commit n parent = then_step tt no_step

@@ -1,6 +1,6 @@
 -- What a release leaves: the owners without their items, and of all else only what tables count.
-use Rattle.session_rules.proofs.Base.{◌≡◌, ◌≢◌, ℕ, ◌<◌, ◌≤◌, Bool, true, false, Option, List, [], ◌∷◌, length, slice_get, All, refl, sym, ap, ◌∙◌, subst, inl, inr, arith, zero, suc, ◌-◌, not, filter, unwrap_or, if◌then◌else◌, option_map, cases_Bool, le-ltb, lt-ltb, ne_eqb, All-nil, All-head, All-tail, All-filter}
-use Rattle.session_rules.proofs.Below.{Item, Phase, BeforeLocks, Locks, AfterLocks, swept, Kind, table_of, Owner, OwnerTree, HoldsNothing, own_released, released, IsSound, sound_released, Lock, KindTable, built_in_rows, row_of, IsSoundTable, IsPlace, KindRow, is_of_phase, is_phase}
+use Rattle.session_rules.proofs.Base.{◌≡◌, ◌≢◌, ℕ, ◌<◌, ◌≤◌, Bool, true, false, Option, List, [], ◌∷◌, length, slice_get, All, refl, sym, arith, zero, suc, ◌-◌, not, filter, unwrap_or, if◌then◌else◌, option_map, cases_Bool, le-ltb, lt-ltb, ne_eqb, All-nil, All-head, All-tail, All-filter, nat_tests}
+use Rattle.session_rules.proofs.Below.{Item, Phase, BeforeLocks, Locks, AfterLocks, swept, Kind, Owner, OwnerTree, HoldsNothing, own_released, released, IsSound, sound_released, Lock, KindTable, built_in_rows, row_of, IsSoundTable, IsPlace, KindRow, is_of_phase, is_phase}
 use Rattle.session_rules.proofs.Rules.{Scene, HasItems, IsItem}
 use Rattle.session_rules.proofs.Swept.{both_swept}
 
@@ -34,9 +34,7 @@ pub record HasSwept (kinds : KindTable) (p : ℕ) (owners now : OwnerTree) : Typ
 -- the three phases as one
 pub released_swept : (kinds : KindTable) (p : ℕ) (owners : OwnerTree)
     → released kinds AfterLocks p (released kinds Locks p (released kinds BeforeLocks p owners)) ≡ swept (swept_by kinds) p owners
-released_swept kinds p owners =
-    ap (released kinds AfterLocks p) (both_swept (own_released kinds BeforeLocks) (own_released kinds Locks) p owners)
-    ∙ both_swept (λ (x : Owner). own_released kinds Locks (own_released kinds BeforeLocks x)) (own_released kinds AfterLocks) p owners
+released_swept kinds p owners = grind (arith, nat_tests, both_swept (own_released kinds BeforeLocks) (own_released kinds Locks) p owners, both_swept)
 
 -- what isn't released before the locks is released behind them
 abbrev IsLast : KindTable → ℕ → ℕ → ℕ → Type 0
@@ -87,20 +85,12 @@ unfolding row_of
 last_of_kinds kinds key serial k sound high within = rw (le-ltb k 16 high) (last_of_rows kinds.rows (k - 16) sound.places within)
 
 released_last : (kinds : KindTable) (item : Item) → IsSoundTable kinds → IsItem kinds item → is_of_phase kinds BeforeLocks item ≡ false → is_of_phase kinds AfterLocks item ≡ true
-released_last kinds item sound is e = elim is.kind [
-  | inl own ↦ last_of_built_in kinds item.key item.serial item.kind.0 own.from own.to e
-  | inr extension ↦ last_of_kinds kinds item.key item.serial item.kind.0 sound extension.from extension.placed e
-]
+released_last kinds item sound is e = grind (arith, nat_tests, last_of_built_in kinds item.key item.serial item.kind.0, last_of_kinds kinds item.key item.serial item.kind.0 sound)
 
 none_left : (kinds : KindTable) (items : List Item) → IsSoundTable kinds → All (IsItem kinds) items
     → filter (λ item. not (is_of_phase kinds AfterLocks item)) (filter (λ item. not (is_of_phase kinds BeforeLocks item)) items) ≡ []
 none_left kinds [] sound h = refl
-none_left kinds (item ∷ items) sound h =
-    let rest = none_left kinds items sound (All-tail (IsItem kinds) item items h) in
-    elim (cases_Bool (is_of_phase kinds BeforeLocks item)) [
-      | inl y ↦ rw y rest
-      | inr y ↦ rw (y, released_last kinds item sound (All-head (IsItem kinds) item items h) y) rest
-    ]
+none_left kinds (item ∷ items) sound h = grind (arith, nat_tests, none_left kinds items sound (All-tail (IsItem kinds) item items h), cases_Bool (is_of_phase kinds BeforeLocks item), released_last kinds item sound (All-head (IsItem kinds) item items h))
 
 pub holds_nothing : (kinds : KindTable) (owner : Owner) → IsSoundTable kinds → HasItems kinds owner → HoldsNothing (swept_by kinds owner)
 holds_nothing kinds owner sound h = none_left kinds owner.items sound h
@@ -115,8 +105,4 @@ phase_items kinds BeforeLocks owner h = All-filter (λ item. not (is_of_phase ki
 phase_items kinds AfterLocks owner h = All-filter (λ item. not (is_of_phase kinds AfterLocks item)) (IsItem kinds) owner.items h
 
 pub still_sound : (kinds : KindTable) (p : ℕ) (owners now : OwnerTree) (next_owner next_serial : ℕ) → HasSwept kinds p owners now → IsSound owners next_owner next_serial → IsSound now next_owner next_serial
-still_sound kinds p owners now next_owner next_serial s h =
-    subst (λ (z : OwnerTree). IsSound z next_owner next_serial) (sym s.phases)
-    (sound_released kinds AfterLocks p (released kinds Locks p (released kinds BeforeLocks p owners)) next_owner next_serial
-    (sound_released kinds Locks p (released kinds BeforeLocks p owners) next_owner next_serial
-    (sound_released kinds BeforeLocks p owners next_owner next_serial h)))
+still_sound kinds p owners now next_owner next_serial s h = grind (arith, nat_tests, sound_released kinds AfterLocks p (released kinds Locks p (released kinds BeforeLocks p owners)) next_owner next_serial, sound_released kinds Locks p (released kinds BeforeLocks p owners) next_owner next_serial, sound_released kinds BeforeLocks p owners next_owner next_serial h)

@@ -63,17 +63,11 @@ module _ (level : LevelState) (levels done : List LevelState) where
   -- An act makes it so.
   pub replaced_leads : (front back : List OpenPortal) (q : OpenPortal) (s : Scene) (x : Parts) → x.portals ≡ front ++ (q ∷ back) → table_of x.kinds ≡ table_of s.around.kinds
       → Ending level levels done (front ++ (q ∷ [])) back (with_parts (record x { portals = front ++ (q ∷ back) }) s) → Leads level levels done back s (with_parts x s)
-  replaced_leads front back q s x is same e = record {
-    front = front ++ (q ∷ []);
-    goes = record { parts = x; same = same; is = refl; ending = subst (λ (ps : List OpenPortal). Ending level levels done (front ++ (q ∷ [])) back (with_parts (record x { portals = ps }) s)) (sym is) e };
-  }
+  replaced_leads front back q s x is same e = grind (arith, nat_tests)
 
   -- A portal is done as it is.
   pub kept : (p : OpenPortal) (front back : List OpenPortal) (s : Scene) → Ending level levels done front (p ∷ back) s → IsPortal p done s.session.contexts s.session.owners s.session.current → IsAway level p → Ending level levels done (front ++ (p ∷ [])) back s
-  kept p front back s h own away =
-      let e : Ending level levels done (front ++ (p ∷ [])) back (with_parts (record (parts_of s) { portals = front ++ (p ∷ back) }) s) =
-      replaced p p front back s s.session.contexts s.session.owners s.around.shelf h (record { name = refl; context = λ n e. e; owner = λ n e. e }) h.contexts h.hooks h.all h.owners h.plans (λ r b d. d.portal) (λ r b i. i) own away in
-      subst (λ (ps : List OpenPortal). Ending level levels done (front ++ (p ∷ [])) back (with_parts (record (parts_of s) { portals = ps }) s)) (sym h.are) e
+  kept p front back s h own away = grind (arith, nat_tests, replaced p p front back s s.session.contexts s.session.owners s.around.shelf h)
 
   pub first_of_rest : (p : OpenPortal) (front back : List OpenPortal) (s : Scene) → Ending level levels done front (p ∷ back) s → IsPortal p (level ∷ levels) s.session.contexts s.session.owners s.session.current
   first_of_rest p front back s h = All-head (λ q. IsPortal q (level ∷ levels) s.session.contexts s.session.owners s.session.current) p back h.rest

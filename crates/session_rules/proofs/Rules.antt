@@ -14,7 +14,7 @@ pub use Rattle.session_rules.specs.Ending.{AreEnding, Ending, IsDone, IsLoose, I
 pub use Rattle.session_rules.specs.Ends.{given_up, level_rolled_back, stack_lowered, stack_popped, aborted, cleaned_up, committed, subcommitted, empty_context_gone, level_context_gone, level_owner_gone, level_popped, level_released, switched_up}
 unfoldable pub use Rattle.session_rules.specs.Ends.{exited, recovered}
 pub use Rattle.session_rules.specs.Guarded.{AreGuarded, IsRooted}
-pub use Rattle.session_rules.specs.HookCounts.{CountsHooks, all_hooks, callbacks_of, hooks_of, registered_of, runs_of, used_hooks, HookCount, HooksCounted, is_callback, is_registered}
+pub use Rattle.session_rules.specs.HookCounts.{CountsHooks, callbacks_of, hooks_of, registered_of, runs_of, HookCount, HooksCounted, is_callback, is_registered}
 pub use Rattle.session_rules.specs.Lookup.{newest, portals_but, portal_changed, plan_at, context_named, plan_changed, plans_but, portal_named, memory_in, kind_from, kind_named, owner_in, is_named}
 pub use Rattle.session_rules.specs.Making.{context_made, owner_made, plan_made, portal_made, level_parent, new_context_made, left, new_owner_made, held, level_made, level_context_name, limit}
 pub use Rattle.session_rules.specs.Parts.{context_moved, at_kind, at_owner, lock_given_back, at_context, scan_part, scanned, snapshot_popped, level_stands, at_portal, contexts_become, tells, pinning}
@@ -24,7 +24,7 @@ pub use Rattle.session_rules.specs.Standing.{IsFresh, IsOfSession, AreContexts, 
 pub use Rattle.session_rules.specs.State.{SessionState, is_aborted, top_context, abort_context, LevelState, OpenPortal, StandingPlan, cache_context, plan_reference, portals_context, context_of, first_of, deepest_changed, owner_of, buffer_pin, file_kind, level_owner, snapshot_reference, last_of, level_context, relcache_reference, depth, level_above}
 unfoldable pub use Rattle.session_rules.specs.State.{opening}
 pub use Rattle.session_rules.specs.Taking.{hook_waits, descriptor_given, item_taken, lock_taken, remembers, taken_by, chunk_resized, memory_taken, snapshot_pushed, hook_registered, files}
-pub use Rattle.session_rules.specs.Transcript.{line_elements, turn_of, transcript, Course, Reading, after_line, goes_on, is_error, Turn}
+pub use Rattle.session_rules.specs.Transcript.{line_elements, turn_of, transcript, Course, Reading, after_line, goes_on, is_error}
 unfoldable pub use Rattle.session_rules.specs.Transcript.{turn, course_by, transcript_by}
 pub use Rattle.session_rules.specs.Works.{after_turn, chunk_row, context_row, fallible_part, fetch_steps, item_row, lock_row, plan_row, portal_row, row_of, snapshot_row, tell_row, turn_steps, work_of, Row, portal_steps}
 pub use Rattle.session_rules.specs.World.{Moment, Scene, Around, Options, moment, holdings, others, Numbered, for_buffers, pinning_among}

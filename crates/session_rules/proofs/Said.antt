@@ -1,6 +1,6 @@
 -- What is said where contexts, locks, descriptors and snapshots change: all events pass a test where each kind of them does.
-use Rattle.session_rules.proofs.Base.{◌≡◌, ℕ, ◌+◌, Bool, true, false, if◌then◌else◌, List, [], ◌∷◌, ◌++◌, map, flat_map, reverse, Option, Some, None, ◌==◌, filter, option_map_or}
-use Rattle.session_rules.proofs.Below.{What, Mode, Empty, Node, at, children, Hook, is_among, Active, Stats, Total, last_of, line_of, no_total, Context, Contexts, is_child, move_events, reparented_events, callbacks, cleared, cleared_alone, gone_events, reset_of, unchanged, lines, report, summed, Lock, owner_count, Files, given_events, loser, touch_events, is_deep, pops}
+use Rattle.session_rules.proofs.Base.{◌≡◌, ℕ, ◌+◌, Bool, true, false, if◌then◌else◌, List, [], ◌∷◌, ◌++◌, map, flat_map, reverse, Option, Some, None, filter, option_map_or, arith, nat_tests}
+use Rattle.session_rules.proofs.Below.{What, Mode, Empty, Node, at, children, Hook, is_among, Active, Stats, Total, last_of, line_of, no_total, Context, Contexts, reparented_events, callbacks, cleared, cleared_alone, gone_events, reset_of, unchanged, lines, report, summed, Lock, Files, given_events, loser, touch_events, is_deep, pops}
 use Rattle.context_rules.specs.Ends as contexts
 use Rattle.lock_local.specs.Changes as locks
 
@@ -58,11 +58,7 @@ module _ {P : What → Bool} where
     said_cleared deleted reset n t = said_both (said_gone deleted (children n t)) (said_alone reset n (contexts.children_gone n t).contexts)
 
   pub said_moved : ((n parent : ℕ) → P (What.Move n parent) ≡ true) → (n parent : ℕ) (t : Contexts) → AreSaid P (reparented_events n parent t)
-  said_moved moves n parent t = go (is_child n parent t)
-    where
-      go : (b : Bool) → AreSaid P (move_events b n parent)
-      go true = said_none
-      go false = said_one (What.Move n parent) (moves n parent)
+  said_moved moves n parent t = grind (arith, nat_tests, said_one (What.Move n parent) (moves n parent))
 
   pub said_report : ((depth n : ℕ) (name : List ℕ) (stats : Stats) → P (line_of depth n name stats) ≡ true) → ((total : Total) → P (last_of total) ≡ true) → (t : Contexts) → AreSaid P (report t)
   said_report line total t = said_both (all_lines 0 t) (said_one (last_of (summed no_total t)) (total _))
@@ -73,14 +69,10 @@ module _ {P : What → Bool} where
 
   -- locks
   pub said_lock_releases : ((object : ℕ) (mode : Mode) (count owner : ℕ) → P (What.ReleaseLock object mode count owner) ≡ true) → (owner : ℕ) (all : List Lock) → AreSaid P (locks.releases owner all)
-  said_lock_releases unlocked owner all =
-      said_flat (locks.release_of owner)
-      (λ lock. said_if (owner_count owner lock == 0) said_none (said_one (What.ReleaseLock lock.object lock.mode (owner_count owner lock) owner) (unlocked lock.object lock.mode _ owner))) all
+  said_lock_releases unlocked owner all = grind (arith, nat_tests, said_flat, said_if, said_one)
 
   pub said_lock_passes : ((object : ℕ) (mode : Mode) (count from to : ℕ) → P (What.PassLock object mode count from to) ≡ true) → (from to : ℕ) (all : List Lock) → AreSaid P (locks.passes from to all)
-  said_lock_passes passed from to all =
-      said_flat (locks.pass_of from to)
-      (λ lock. said_if (owner_count from lock == 0) said_none (said_one (What.PassLock lock.object lock.mode (owner_count from lock) from to) (passed lock.object lock.mode _ from to))) all
+  said_lock_passes passed from to all = grind (arith, nat_tests, said_flat, said_if, said_one)
 
   pub said_all_locks : ((object : ℕ) (mode : Mode) (count owner : ℕ) → P (What.ReleaseLock object mode count owner) ≡ true) → (top : ℕ) (all : List Lock) → AreSaid P (locks.releases_of_all top all)
   said_all_locks unlocked top all = said_map (locks.release_whole top) (λ lock. unlocked lock.object lock.mode _ top) all

@@ -1,7 +1,7 @@
 -- How scripts are run where they are computed.
 use Rattle.session_rules.proofs.Base.{ℕ, List, [], ◌∷◌, map, codes}
 use Rattle.session_rules.proofs.Below.{BeforeLocks, AfterLocks, Kind, ShelfState, row_of, conflicts, up8, granted, grown, doubled, is_reserved}
-use Rattle.session_rules.proofs.Rules.{Options, opening, elements_of, does, does_all, recovered, exited, turn, course_by, transcript_by, transcript}
+use Rattle.session_rules.proofs.Rules.{Options, opening, elements_of, does, does_all, recovered, exited, turn, course_by, transcript_by}
 use Rattle.std.specs.Fmt.{digits}
 use Rattle.hex.specs.Hex.{decode_pairs, encode_with}
 use Rattle.pgs_step.specs.Text.{kind_name, error_text}

@@ -1,5 +1,5 @@
 -- Laws that see some parts of a scene alone, and to which some events say nothing: they have the leaves that change other parts.
-use Rattle.session_rules.proofs.Base.{◌≡◌, ℕ, ◌-◌, Bool, true, false, if◌then◌else◌, List, [], ◌∷◌, ◌++◌, codes, Option, Some, None, refl, ◌==◌, ◌&&◌, length, take}
+use Rattle.session_rules.proofs.Base.{◌≡◌, ℕ, ◌-◌, Bool, true, false, if◌then◌else◌, List, [], ◌∷◌, ◌++◌, codes, Option, Some, None, refl, ◌==◌, ◌&&◌, length, take, arith, nat_tests}
 use Rattle.session_rules.proofs.Below.{What, Item, KindId, Phase, Mode, CtxKind, changed, children, subtree, Hook, ShelfState, zeros, Context, Contexts, is_among, Lock, Kind, OwnerTree, released, Active, Stats, order_at, Total, last_of, line_of}
 use Rattle.session_rules.proofs.Rules.{Scene, Text, plan_at, changes, children_gone, context_cleared, context_cleared_alone, context_gone, in_order, portal_becomes, say, where_there, context_moved, lock_given_back, snapshot_popped, stack_lowered, stack_popped, LevelState, OpenPortal, StandingPlan, cache_context, last_of as last_snapshot, Keeper, NoOne, TheDescriptors, TheKind, ThePlans, descriptor_left, given_back, item_released, keeper_of, key_left, owner_gone, owner_moved, phase_released, plan_becomes, plan_left, plan_settled, plan_stays, context_made, held, left as bytes_left, owner_made, plan_made, descriptor_given, files, hook_waits, item_taken, lock_taken, remembers, snapshot_pushed, taken_by}
 use Rattle.session_rules.proofs.Leaves.{Acts, EndLeaves, Keeps, Law, Leaves, LevelLeaves, is_level_word, is_word}
@@ -83,99 +83,43 @@ pub record KeyLeaves (R : Law) : Type 0 where
 
 module _ (sees : Part → Bool) (s : Scene) where
   same_all : Same sees s s
-  same_all = record { so = go }
-    where
-      go : (part : Part) → sees part ≡ true → IsSame part s s
-      go of_levels h = refl
-      go other h = refl
+  same_all = grind (arith, nat_tests)
 
   but_levels : sees of_levels ≡ false → (levels : List LevelState) → Same sees s (record s { session = record s.session { levels = levels } })
-  but_levels h0 levels = record { so = go }
-    where
-      go : (part : Part) → sees part ≡ true → IsSame part s (record s { session = record s.session { levels = levels } })
-      go of_levels h = absurd (cc (h0, h))
-      go other h = refl
+  but_levels h0 levels = grind (arith, nat_tests)
 
   but_portals : sees of_portals ≡ false → (portals : List OpenPortal) → Same sees s (record s { session = record s.session { portals = portals } })
-  but_portals h0 portals = record { so = go }
-    where
-      go : (part : Part) → sees part ≡ true → IsSame part s (record s { session = record s.session { portals = portals } })
-      go of_portals h = absurd (cc (h0, h))
-      go other h = refl
+  but_portals h0 portals = grind (arith, nat_tests)
 
   but_plans : sees of_plans ≡ false → (plans : List StandingPlan) → Same sees s (record s { session = record s.session { plans = plans } })
-  but_plans h0 plans = record { so = go }
-    where
-      go : (part : Part) → sees part ≡ true → IsSame part s (record s { session = record s.session { plans = plans } })
-      go of_plans h = absurd (cc (h0, h))
-      go other h = refl
+  but_plans h0 plans = grind (arith, nat_tests)
 
   but_contexts : sees of_contexts ≡ false → sees of_next_context ≡ false → sees of_shelf ≡ false → (contexts : Contexts) (n : ℕ) (shelf : ShelfState) → Same sees s (record { session = record s.session { contexts = contexts; next_context = n }; around = record s.around { shelf = shelf } })
-  but_contexts h0 h1 h2 contexts n shelf = record { so = go }
-    where
-      go : (part : Part) → sees part ≡ true → IsSame part s (record { session = record s.session { contexts = contexts; next_context = n }; around = record s.around { shelf = shelf } })
-      go of_contexts h = absurd (cc (h0, h))
-      go of_next_context h = absurd (cc (h1, h))
-      go of_shelf h = absurd (cc (h2, h))
-      go other h = refl
+  but_contexts h0 h1 h2 contexts n shelf = grind (arith, nat_tests)
 
   but_owners : sees of_owners ≡ false → (owners : OwnerTree) → Same sees s (record s { session = record s.session { owners = owners } })
-  but_owners h0 owners = record { so = go }
-    where
-      go : (part : Part) → sees part ≡ true → IsSame part s (record s { session = record s.session { owners = owners } })
-      go of_owners h = absurd (cc (h0, h))
-      go other h = refl
+  but_owners h0 owners = grind (arith, nat_tests)
 
   but_new_owner : sees of_owners ≡ false → sees of_next_owner ≡ false → (owners : OwnerTree) (n : ℕ) → Same sees s (record s { session = record s.session { owners = owners; next_owner = n } })
-  but_new_owner h0 h1 owners n = record { so = go }
-    where
-      go : (part : Part) → sees part ≡ true → IsSame part s (record s { session = record s.session { owners = owners; next_owner = n } })
-      go of_owners h = absurd (cc (h0, h))
-      go of_next_owner h = absurd (cc (h1, h))
-      go other h = refl
+  but_new_owner h0 h1 owners n = grind (arith, nat_tests)
 
   but_new_item : sees of_owners ≡ false → sees of_next_serial ≡ false → (owners : OwnerTree) (n : ℕ) → Same sees s (record s { session = record s.session { owners = owners; next_serial = n } })
-  but_new_item h0 h1 owners n = record { so = go }
-    where
-      go : (part : Part) → sees part ≡ true → IsSame part s (record s { session = record s.session { owners = owners; next_serial = n } })
-      go of_owners h = absurd (cc (h0, h))
-      go of_next_serial h = absurd (cc (h1, h))
-      go other h = refl
+  but_new_item h0 h1 owners n = grind (arith, nat_tests)
 
   but_locks : sees of_locks ≡ false → (locks : List Lock) → Same sees s (record s { session = record s.session { locks = locks } })
-  but_locks h0 locks = record { so = go }
-    where
-      go : (part : Part) → sees part ≡ true → IsSame part s (record s { session = record s.session { locks = locks } })
-      go of_locks h = absurd (cc (h0, h))
-      go other h = refl
+  but_locks h0 locks = grind (arith, nat_tests)
 
   but_recent : sees of_recent ≡ false → (recent : List ℕ) → Same sees s (record s { session = record s.session { recent = recent } })
-  but_recent h0 recent = record { so = go }
-    where
-      go : (part : Part) → sees part ≡ true → IsSame part s (record s { session = record s.session { recent = recent } })
-      go of_recent h = absurd (cc (h0, h))
-      go other h = refl
+  but_recent h0 recent = grind (arith, nat_tests)
 
   but_snapshots : sees of_snapshots ≡ false → (snapshots : List Active) → Same sees s (record s { session = record s.session { snapshots = snapshots } })
-  but_snapshots h0 snapshots = record { so = go }
-    where
-      go : (part : Part) → sees part ≡ true → IsSame part s (record s { session = record s.session { snapshots = snapshots } })
-      go of_snapshots h = absurd (cc (h0, h))
-      go other h = refl
+  but_snapshots h0 snapshots = grind (arith, nat_tests)
 
   but_kinds : sees of_kinds ≡ false → (kinds : List Kind) → Same sees s (record s { around = record s.around { kinds = kinds } })
-  but_kinds h0 kinds = record { so = go }
-    where
-      go : (part : Part) → sees part ≡ true → IsSame part s (record s { around = record s.around { kinds = kinds } })
-      go of_kinds h = absurd (cc (h0, h))
-      go other h = refl
+  but_kinds h0 kinds = grind (arith, nat_tests)
 
   but_current : (n : ℕ) → Same sees s (record s { session = record s.session { current = n } })
-  but_current n = record { so = go }
-    where
-      go : (part : Part) → sees part ≡ true → IsSame part s (record s { session = record s.session { current = n } })
-      go of_levels h = refl
-      go other h = refl
+  but_current n = grind (arith, nat_tests)
 
 module _ (sees : Part → Bool) (P : What → Bool) (R : Law) (o : Sight sees P R) where
   pub none_so : (s : Scene) → R s s []

@@ -1,7 +1,7 @@
 -- The elements of commands say no more than words by themselves, and those of usual commands register no hook and move no context.
-use Rattle.session_rules.proofs.Base.{◌≡◌, ℕ, zero, suc, ◌+◌, ◌-◌, Bool, true, false, not, if◌then◌else◌, List, [], ◌∷◌, ◌++◌, map, length, replicate, flat_map, Option, Some, None, refl, false_from_ne_true, nat_lt, ◌&&◌, ◌==◌, option_map_or}
+use Rattle.session_rules.proofs.Base.{◌≡◌, ℕ, zero, suc, ◌+◌, ◌-◌, Bool, true, false, not, if◌then◌else◌, List, [], ◌∷◌, ◌++◌, map, length, replicate, flat_map, Option, Some, None, refl, false_from_ne_true, nat_lt, ◌&&◌, ◌==◌, option_map_or, arith, nat_tests}
 use Rattle.session_rules.proofs.Below.{Scan, ScanStep, Command, Error, What, TransactionCommand, Work, ContextCommand, ChunkCommand, ItemCommand, LockCommand, SnapshotCommand, PlanCommand, PortalCommand, TellCommand}
-use Rattle.session_rules.proofs.Rules.{LevelState, OpenPortal, SessionState, is_aborted, Check, Element, Text, portal_named, line_elements, after_turn, chunk_row, context_row, fallible_part, fetch_steps, item_row, lock_row, plan_row, portal_row, row_of, snapshot_row, tell_row, turn_steps, work_of, at_savepoint, begin, commit, committed_to, elements_of, in_transaction, is_end, refused, rollback, rolled_back_to, save, savepoint, start, then_ok, transaction_of, unaborted}
+use Rattle.session_rules.proofs.Rules.{LevelState, OpenPortal, SessionState, is_aborted, Check, Element, Text, line_elements, after_turn, chunk_row, context_row, fallible_part, fetch_steps, item_row, lock_row, plan_row, portal_row, row_of, snapshot_row, tell_row, turn_steps, work_of, at_savepoint, begin, commit, committed_to, elements_of, in_transaction, is_end, refused, rollback, rolled_back_to, save, savepoint, start, then_ok, transaction_of, unaborted}
 use Rattle.exec_core.specs.Turn as exec
 use Rattle.session_rules.proofs.Leaves.{AreSpoken}
 
@@ -43,21 +43,14 @@ module _ (u : Bool) where
 
   rolled_back_spoken : (n : ℕ) (levels : List LevelState) → AreSpoken u (rolled_back_to n levels)
   rolled_back_spoken n [] = tt
-  rolled_back_spoken n (level ∷ levels) =
-      either_are_spoken (nat_lt (length levels + 1) n) [] _ tt
-      (both_are_spoken (if level.aborted then Element.Cleanup ∷ [] else Element.Abort ∷ Element.Cleanup ∷ []) (rolled_back_to n levels)
-      (either_are_spoken level.aborted (Element.Cleanup ∷ []) (Element.Abort ∷ Element.Cleanup ∷ []) (tt, tt) (tt, (tt, tt))) (rolled_back_spoken n levels))
+  rolled_back_spoken n (level ∷ levels) = grind (arith, nat_tests, either_are_spoken (nat_lt (length levels + 1) n) [], either_are_spoken level.aborted (Element.Cleanup ∷ []) (Element.Abort ∷ Element.Cleanup ∷ []) (tt, tt) (tt, (tt, tt)), both_are_spoken, rolled_back_spoken n levels)
 
   then_ok_spoken : (es : List Element) → AreSpoken u es → AreSpoken u (then_ok es)
   then_ok_spoken es h = both_are_spoken es (Element.Says What.Ok ∷ []) h (refl, tt)
 
   -- of the commands on transactions
   commit_spoken : (levels : List LevelState) → AreSpoken u (commit levels)
-  commit_spoken [] = (refl, tt)
-  commit_spoken (level ∷ levels) =
-      either_are_spoken level.aborted (rolled_back_to 1 (level ∷ levels)) (committed_to 2 (level ∷ levels) ++ (Element.CommitTop ∷ []))
-      (rolled_back_spoken 1 (level ∷ levels))
-      (both_are_spoken (committed_to 2 (level ∷ levels)) (Element.CommitTop ∷ []) (commits_are_spoken (length (level ∷ levels) + 1 - 2)) (tt, tt))
+  commit_spoken x0 = grind (arith, nat_tests, either_are_spoken, rolled_back_spoken 1, both_are_spoken, commits_are_spoken)
 
   rollback_spoken : (levels : List LevelState) → AreSpoken u (rollback levels)
   rollback_spoken [] = (refl, tt)
@@ -92,9 +85,7 @@ module _ (u : Bool) where
 
   scans_spoken : (name : Text) (steps : List ScanStep) → AreSpoken u (flat_map (λ s. map (Element.InTurn name) (Element.Scans name s ∷ fallible_part name s)) steps)
   scans_spoken name [] = tt
-  scans_spoken name (s ∷ steps) =
-      both_are_spoken (map (Element.InTurn name) (Element.Scans name s ∷ fallible_part name s)) _
-      (mapped_spoken name (Element.Scans name s ∷ fallible_part name s) (tt, part_spoken name s)) (scans_spoken name steps)
+  scans_spoken name (s ∷ steps) = grind (arith, nat_tests, both_are_spoken (map (Element.InTurn name) (Element.Scans name s ∷ fallible_part name s)), mapped_spoken name (Element.Scans name s ∷ fallible_part name s) (tt, part_spoken name s), part_spoken name s, scans_spoken name steps)
 
   last_or_more : (b : Bool) (xs ys : List Element) → AreSpoken u xs → AreSpoken u ys → AreSpoken u (elim b as (λ _. List Element) [ true ↦ xs | false ↦ ys ])
   last_or_more true xs ys h k = h
@@ -102,10 +93,7 @@ module _ (u : Bool) where
 
   fetch_spoken : (name : Text) (count : ℕ) (scan : Scan) (rows : ℕ) → AreSpoken u (fetch_steps name count scan rows)
   fetch_spoken name zero scan rows = (refl, tt)
-  fetch_spoken name (suc count) scan rows =
-      both_are_spoken (turn_steps name scan) _ (scans_spoken name (exec.turn scan))
-      (last_or_more (scan.at == scan.rows) (Element.Says (What.Fetched name rows) ∷ []) (fetch_steps name count (after_turn scan) (rows + 1))
-      (refl, tt) (fetch_spoken name count (after_turn scan) (rows + 1)))
+  fetch_spoken name (suc count) scan rows = grind (arith, nat_tests, both_are_spoken (turn_steps name scan), scans_spoken name, last_or_more (scan.at == scan.rows) (Element.Says (What.Fetched name rows) ∷ []) (fetch_steps name count (after_turn scan) (rows + 1)), fetch_spoken name count (after_turn scan) (rows + 1))
 
   fetches_spoken : (name : Text) (count : ℕ) (o : Option OpenPortal) → AreSpoken u (option_map_or (λ portal. fetch_steps name count portal.scan 0) o [])
   fetches_spoken name count None = tt
@@ -113,21 +101,14 @@ module _ (u : Bool) where
 
   -- of what is done within a transaction
   contexts_spoken : (c : ContextCommand) → (u ≡ true → IsUsualContext c) → AreSpoken u (context_row c).steps
-  contexts_spoken (ContextCommand.OnReset name) h = (false_from_ne_true u h, tt)
-  contexts_spoken (ContextCommand.Reparent name parent) h = (false_from_ne_true u h, tt)
-  contexts_spoken other h = (tt, tt)
+  contexts_spoken other h = grind (arith, nat_tests, false_from_ne_true)
 
   chunks_spoken : (c : ChunkCommand) → AreSpoken u (chunk_row c).steps
   chunks_spoken (ChunkCommand.Free name) = (tt, tt)
   chunks_spoken other = (tt, tt)
 
   items_spoken : (c : ItemCommand) → AreSpoken u (item_row c).steps
-  items_spoken (ItemCommand.Pin buffer) = (tt, (tt, tt))
-  items_spoken (ItemCommand.Open file) = (tt, (tt, tt))
-  items_spoken (ItemCommand.Reference class key) = (tt, (tt, tt))
-  items_spoken (ItemCommand.Acquire kind key) = (tt, (tt, tt))
-  items_spoken (ItemCommand.Snapshot key) = (tt, (tt, tt))
-  items_spoken other = (tt, tt)
+  items_spoken other = grind (arith, nat_tests)
 
   locks_spoken : (c : LockCommand) → AreSpoken u (lock_row c).steps
   locks_spoken (LockCommand.Lock object mode) = (tt, tt)
@@ -142,24 +123,14 @@ module _ (u : Bool) where
   plans_spoken other = (tt, tt)
 
   portals_spoken : (c : PortalCommand) (portals : List OpenPortal) → AreSpoken u (portal_row c portals).steps
-  portals_spoken (PortalCommand.Open name object rows bad) portals = (tt, (tt, (tt, (tt, (tt, (tt, (tt, (tt, (tt, (tt, (tt, tt)))))))))))
-  portals_spoken (PortalCommand.Fetch name count) portals = (tt, fetches_spoken name count (portal_named name portals))
-  portals_spoken other portals = (tt, tt)
+  portals_spoken other portals = grind (arith, nat_tests, fetches_spoken)
 
   tells_spoken : (c : TellCommand) → AreSpoken u (tell_row c).steps
   tells_spoken TellCommand.Report = (tt, tt)
   tells_spoken other = (tt, tt)
 
   steps_spoken : (w : Work) (portals : List OpenPortal) → (u ≡ true → IsUsualWork w) → AreSpoken u (row_of w portals).steps
-  steps_spoken Work.Raise portals h = tt
-  steps_spoken (Work.Contexts c) portals h = contexts_spoken c h
-  steps_spoken (Work.Chunks c) portals h = chunks_spoken c
-  steps_spoken (Work.Items c) portals h = items_spoken c
-  steps_spoken (Work.Locks c) portals h = locks_spoken c
-  steps_spoken (Work.Snapshots c) portals h = snapshots_spoken c
-  steps_spoken (Work.Plans c) portals h = plans_spoken c
-  steps_spoken (Work.Portals c) portals h = portals_spoken c portals
-  steps_spoken (Work.Tells c) portals h = tells_spoken c
+  steps_spoken x0 portals h = grind (arith, nat_tests, contexts_spoken, chunks_spoken, items_spoken, locks_spoken, snapshots_spoken, plans_spoken, portals_spoken, tells_spoken)
 
   work_spoken : (w : Work) (session : SessionState) → (u ≡ true → IsUsualWork w) → AreSpoken u (work_of w session)
   work_spoken w s h = both_are_spoken (map Element.Checks (row_of w s.portals).checks) (row_of w s.portals).steps (checks_are_spoken (row_of w s.portals).checks) (steps_spoken w s.portals h)
@@ -179,9 +150,7 @@ module _ (u : Bool) where
       (λ n. both_are_spoken (rolled_back_to n levels) (start (Some name) false) (rolled_back_spoken n levels) (tt, (tt, (tt, (tt, tt)))))
 
   unaborted_spoken : (c : Command) (session : SessionState) → (u ≡ true → IsUsual c) → AreSpoken u (unaborted c session)
-  unaborted_spoken Command.Nothing s h = tt
-  unaborted_spoken (Command.Transaction c) s h = then_ok_spoken (transaction_of c s.levels) (transaction_spoken c s.levels)
-  unaborted_spoken (Command.Work w) s h = in_transaction_spoken s.levels (work_of w s) (work_spoken w s h)
+  unaborted_spoken x0 s h = grind (arith, nat_tests, then_ok_spoken, transaction_spoken, in_transaction_spoken s.levels, work_spoken)
 
   elements_spoken : (c : Command) (session : SessionState) → (u ≡ true → IsUsual c) → AreSpoken u (elements_of c session)
   unfolding elements_of

@@ -6,8 +6,7 @@ use Rattle.session_rules.proofs.Rules.{LevelState, AreOuter, AreStacked, IsActiv
 -- the levels are also from a lower one, and to a higher one
 pub stacked_within : (low high least most : ℕ) (entries : List Active) → low ≤ least → most ≤ high → AreStacked least most entries → AreStacked low high entries
 stacked_within low high least most [] l u h = tt
-stacked_within low high least most (entry ∷ entries) l u h =
-    (omega (arith, h.0, l), omega (arith, h.1, u), stacked_within entry.level high entry.level most entries (omega arith) u h.2)
+stacked_within low high least most (entry ∷ entries) l u h = grind (arith, nat_tests, stacked_within entry.level high entry.level most entries)
 
 -- a snapshot is pushed at the deepest of the levels
 pub stacked_pushed : (least most snapshot : ℕ) (entries : List Active) → least ≤ most → AreStacked least most entries → AreStacked least most (entries ++ (record { snapshot = snapshot; level = most } ∷ []))
@@ -23,14 +22,12 @@ stacked_taken (suc n) least most (entry ∷ entries) h = (h.0, h.1, stacked_take
 -- those of a level and of deeper ones are popped
 pub stacked_below : (level least most : ℕ) (entries : List Active) → AreStacked least most entries → AreStacked least (level - 1) (kept_below level entries)
 stacked_below level least most [] h = tt
-stacked_below level least most (entry ∷ entries) h =
-    grind (arith, nat_tests, stacked_below level entry.level most entries h.2, stacked_within least (level - 1) entry.level (level - 1) (kept_below level entries) h.0)
+stacked_below level least most (entry ∷ entries) h = grind (arith, nat_tests, stacked_below level entry.level most entries h.2, stacked_within least (level - 1) entry.level (level - 1) (kept_below level entries) h.0)
 
 -- those of the deepest level belong to the one above
 pub lowered_from : (level least low : ℕ) (entries : List Active) → low ≤ least → low ≤ level - 1 → 1 ≤ level → AreStacked least level entries → AreStacked low (level - 1) (map (lowered level) entries)
 lowered_from level least low [] l u some h = tt
-lowered_from level least low (entry ∷ entries) l u some h =
-    grind (arith, nat_tests, lowered_from level entry.level (level - 1) entries, lowered_from level entry.level entry.level entries)
+lowered_from level least low (entry ∷ entries) l u some h = grind (arith, nat_tests, lowered_from level entry.level (level - 1) entries, lowered_from level entry.level entry.level entries)
 
 pub stacked_lowered : (level : ℕ) (entries : List Active) → 2 ≤ level → AreStacked 1 level entries → AreStacked 1 (level - 1) (map (lowered level) entries)
 stacked_lowered level entries some h = lowered_from level 1 1 entries (omega arith) (omega (arith, some)) (omega (arith, some)) h

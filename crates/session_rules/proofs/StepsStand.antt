@@ -1,7 +1,7 @@
 -- The steps of commands lead from a session that stands to one that stands.
-use Rattle.session_rules.proofs.Base.{◌≡◌, ◌≢◌, ℕ, ◌+◌, ◌<◌, ◌≤◌, ◌⊎◌, ◌++◌, length, Bool, true, false, Option, Some, None, List, [], ◌∷◌, refl, sym, ap, ◌∙◌, subst, inl, inr, arith, ◌==◌, All, if◌then◌else◌, Result, Ok, Err, option_map_or, All-nil, All-weaker, nat_tests, cases_eq, eq-eqb, ne_eqb, both_ways}
-use Rattle.session_rules.proofs.Below.{Empty, has, Once, at, children, parent_of, put, changed, size, AllNodes, has_at, times_some, has_changed, Error, Active, ShelfState, taken, KindTable, IsSoundTable, table_of, once_of, fresh, sound_created, parent_absent, CtxError, Taken, Ledger, Place, CtxKind, Chunk, Context, Contexts, Found, created, found, is_protected, new_context, allocated, freed, from_ok, resized, served, with_chunk, written, zeros, Owner, OwnerTree, has_begun, items_of, IsSound}
-use Rattle.session_rules.proofs.Rules.{LevelState, OpenPortal, StandingPlan, deepest_changed, first_of, owner_of, plan_reference, top_context, Scene, Moment, LevelContext, OfLevel, Text, memory_in, aborted, cleaned_up, committed, subcommitted, does, Ended, changes, in_order, nothing, say, switched, where_there, chunk_resized, memory_taken, snapshot_pushed, level_stands, fallible, is_call, refused_call, Element, held, left, level_context_name, level_made, level_parent, limit, new_context_made, new_owner_made, IsLevel, IsOfPortal, AreContexts, AreHooks, AreLevels, AreOuter, AreOwners, ArePlans, ArePortals, AreStacked, FitLevels, HasItems, IsActive, IsAtRest, IsContextOf, IsDead, IsDeepest, IsFresh, IsItem, IsLive, IsMade, IsOpen, IsOwner, IsOwnerOf, IsPlace, IsPlan, IsPortal, IsReleased, IsRow, IsWorking, Stands, WasReleased, active_depth, owner_at, referred, MemoryRole}
+use Rattle.session_rules.proofs.Base.{◌≡◌, ◌≢◌, ℕ, ◌+◌, ◌<◌, ◌≤◌, ◌⊎◌, ◌++◌, length, Bool, true, false, Option, Some, None, List, [], ◌∷◌, refl, sym, ap, ◌∙◌, subst, inl, inr, arith, ◌==◌, All, if◌then◌else◌, option_map_or, All-nil, All-weaker, nat_tests, cases_eq, eq-eqb, ne_eqb, both_ways}
+use Rattle.session_rules.proofs.Below.{Empty, has, Once, at, children, parent_of, put, changed, size, AllNodes, has_at, times_some, has_changed, Error, Active, ShelfState, KindTable, IsSoundTable, table_of, once_of, fresh, sound_created, parent_absent, Ledger, CtxKind, Chunk, Context, Contexts, created, found, is_protected, new_context, allocated, freed, resized, written, zeros, Owner, OwnerTree, has_begun, items_of, IsSound}
+use Rattle.session_rules.proofs.Rules.{LevelState, OpenPortal, StandingPlan, deepest_changed, first_of, owner_of, plan_reference, Scene, Moment, LevelContext, OfLevel, Text, memory_in, aborted, cleaned_up, committed, subcommitted, does, Ended, changes, in_order, nothing, say, switched, where_there, chunk_resized, memory_taken, snapshot_pushed, level_stands, fallible, is_call, refused_call, Element, held, left, level_context_name, level_made, level_parent, limit, new_context_made, new_owner_made, IsLevel, IsOfPortal, AreContexts, AreHooks, AreLevels, AreOuter, AreOwners, ArePlans, ArePortals, AreStacked, FitLevels, HasItems, IsActive, IsAtRest, IsContextOf, IsDead, IsDeepest, IsFresh, IsItem, IsLive, IsMade, IsOpen, IsOwner, IsOwnerOf, IsPlace, IsPlan, IsPortal, IsReleased, IsRow, IsWorking, Stands, WasReleased, active_depth, owner_at, referred, MemoryRole}
 use Rattle.session_rules.proofs.Kept.{at_put, at_put_other, children_put, has_put_other, parent_put, parent_put_other, all_put, Stay, contexts_changed, contexts_created, has_created, new_empty, new_parent, new_protected, protected_has, stay_changed, stay_created, stay_same, top_protected, hooks_changed, hooks_put, depth_small, depth_working, stacked_pushed, stacked_taken, stacked_within, lone_changed, lone_put, held_created, Besides, Fits, Spares, besides_of, with_besides, IsCached, levels_apart, levels_other, parent_apart, plans_counted, plans_current, plans_moved, IsRowOf, attached_by, off_parent, place_level, place_same, place_spared, portals_by, portals_moved, row_changed, row_of, row_parent_off, row_put, is_there, levels_stay, no_value, one_value}
 use Rattle.context_rules.specs.Contexts as rules
 use Rattle.context_rules.specs.Chunks.{without}
@@ -56,11 +56,7 @@ not_released (level ∷ levels) n x h r = both_ways level.aborted h.unaborted r.
 pub contexts_step : (s : Scene) → Stands s → IsWorking s.session.levels → (u : Contexts) (next current : ℕ) (x : ShelfState) (plans : List StandingPlan) → AreContexts u next → Stay s.session.contexts u → has current u ≡ true → AreHooks u x
     → ArePlans plans u current (referred s.session.owners) → ArePortals s.session.portals s.session.levels u s.session.owners current
     → Stands (record s { session = record s.session { contexts = u; next_context = next; current = current; plans = plans }; around = record s.around { shelf = x } })
-contexts_step s h working u next current x plans c stay there hooks planned open_portals =
-    search (
-      levels_stay s.session.levels s.session.contexts u s.session.owners s.session.owners (λ m i prot. stay m prot) (λ m i there. record { there = there; parent = refl }) h.levels,
-      fit_working s.session.levels s.session.contexts u s.session.owners s.session.owners s.session.current current working h.fit,
-    )
+contexts_step s h working u next current x plans c stay there hooks planned open_portals = grind (arith, nat_tests, levels_stay s.session.levels s.session.contexts u s.session.owners s.session.owners, fit_working s.session.levels s.session.contexts u s.session.owners s.session.owners s.session.current current working h.fit)
 
 -- the plans where no plan's context gets a child
 pub still_planned : (s : Scene) (u : Contexts) → Stands s → Stay s.session.contexts u → ((m : ℕ) → IsCached m s.session.contexts → children m u ≡ Empty) → ArePlans s.session.plans u s.session.current (referred s.session.owners)
@@ -70,9 +66,7 @@ still_planned s u h stay lone =
 -- the portals where each row is as it was
 pub still_portals : (s : Scene) (u : Contexts) → Stands s → Stay s.session.contexts u → ((n : ℕ) (expr : Option ℕ) → IsPlace n expr s.session.contexts s.session.current → IsRow expr (children n u))
     → ArePortals s.session.portals s.session.levels u s.session.owners s.session.current
-still_portals s u h stay rows =
-    portals_moved s.session.portals s.session.levels s.session.contexts u s.session.owners s.session.current s.session.current
-    (λ n expr i. place_same n expr s.session.contexts u s.session.current (stay n i.protected) (rows n expr i) i) h.portals
+still_portals s u h stay rows = grind (arith, nat_tests, portals_moved s.session.portals s.session.levels s.session.contexts u s.session.owners s.session.current s.session.current, place_same)
 
 -- Plans, their contexts and tables change.
 pub besides_step : (s : Scene) (x : Besides) → Stands s → IsWorking s.session.levels → table_of x.kinds ≡ table_of s.around.kinds → Fits s.session.next_context s.session.current (referred s.session.owners) x → Spares (besides_of s) x
@@ -97,11 +91,7 @@ stack_works s stack h stacked = record { stands = search; levels = refl; at_rest
 -- a snapshot is pushed in a level
 pub push_stacked : (levels : List LevelState) (snapshot : ℕ) (stack : List Active) → IsWorking levels → AreStacked 1 (active_depth levels) stack
     → AreStacked 1 (active_depth levels) (stack ++ (record { snapshot = snapshot; level = length levels } ∷ []))
-push_stacked [] snapshot stack working h = absurd working
-push_stacked (level ∷ levels) snapshot stack working h =
-    let most : ℕ = active_depth (level ∷ levels) in
-    let is : most ≡ length (level ∷ levels) = depth_working level levels working ∙ omega arith in
-    subst (λ (n : ℕ). AreStacked 1 most (stack ++ (record { snapshot = snapshot; level = n } ∷ []))) is (stacked_pushed 1 most snapshot stack (omega (arith, is)) h)
+push_stacked x0 snapshot stack working h = grind (arith, nat_tests, depth_working, stacked_pushed 1)
 
 -- a change of the contexts alone
 pub record KeepsContexts (t u : Contexts) (next : ℕ) : Type 0 where
@@ -134,11 +124,7 @@ kept_step s h working u k =
 
 -- chunks
 pub keeps_allocated : (t : Contexts) (next n left : ℕ) (name : Option (List ℕ)) (bytes : ℕ) (known : List ℕ) → AreContexts t next → KeepsContexts t (allocated n left name bytes known t) next
-keeps_allocated t next n left name bytes known h = go (served n left bytes t)
-  where
-    go : (r : Result (Taken Ledger Place) CtxError) → KeepsContexts t (from_ok (λ taken. changed n (with_chunk name bytes known taken) t) t r) next
-    go (Ok taken) = keeps_changed t next n (with_chunk name bytes known taken) h (λ c. refl) (λ c. refl) (λ c _ e. absurd (cc e))
-    go (Err e) = keeps_same t next h
+keeps_allocated t next n left name bytes known h = grind (arith, nat_tests, keeps_changed t next n, keeps_same t next h)
 
 pub fresh_chunks : (c : Context) (g : List Chunk → List Chunk) (ledger : Ledger) → g [] ≡ [] → IsFresh c → IsFresh (record c { ledger = ledger; chunks = g c.chunks })
 fresh_chunks c g ledger e fresh unused = let w = fresh unused in (ap g w.0 ∙ e, w.1)
@@ -207,10 +193,7 @@ level_made_stands name implicit s h at_rest outer alone =
 
 -- the parent of a new context of a level is there, and protected
 pub parent_protected : (levels : List LevelState) (t : Contexts) (x : OwnerTree) (next : ℕ) → AreContexts t next → AreLevels levels t x → AreOuter levels → is_protected (level_parent (first_of levels)) t ≡ true
-parent_protected [] t x next h l o = top_protected t next h
-parent_protected (level ∷ levels) t x next h l o =
-    let c = is_there level.context o.0.made.context in
-    ap (λ (z : Option ℕ). is_protected (option_map_or (λ n. n) z top_context) t) c.1 ∙ (l.0.context c.0 c.1).protected
+parent_protected x0 t x next h l o = grind (arith, nat_tests, top_protected t next h, is_there)
 
 -- The context of a level that is being started is made.
 pub level_context_stands : (level : LevelState) (levels : List LevelState) (s : Scene) → level.starting ≡ true → level.context ≡ None → Stands (settled (level ∷ levels) s)
@@ -470,9 +453,7 @@ level_stands_stands level levels s active made h =
 
 -- a scene that stands is settled
 pub settled_as : (P : Scene → Type 0) (scene : Scene) (levels : List LevelState) → Stands scene → scene.session.levels ≡ levels → (Stands (settled levels scene) → P (settled levels scene)) → P scene
-settled_as P scene levels h e all =
-    let is : scene ≡ settled levels scene = is_settled scene h ∙ ap (λ (ls : List LevelState). settled ls scene) e in
-    subst P (sym is) (all (subst Stands is h))
+settled_as x0 scene levels h e all = grind (arith, nat_tests, is_settled scene h)
 
 -- a limit that wasn't reached
 pub below_limit : (most n : ℕ) → limit most n ≡ None → n < most

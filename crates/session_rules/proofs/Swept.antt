@@ -26,8 +26,7 @@ module _ {A : Type 0} (f : A → A) where
 
   pub parent_swept : (m n : ℕ) (t : Forest A) → parent_of m (swept f n t) ≡ parent_of m t
   parent_swept m n Empty = refl
-  parent_swept m n (Node k a below beside) =
-      grind (arith, root_all m below, has_all m below, parent_all m below, root_swept m n below, has_swept m n below, parent_swept m n below, parent_swept m n beside)
+  parent_swept m n (Node k a below beside) = grind (arith, nat_tests, root_all m below, has_all m below, parent_all m below, root_swept m n below, has_swept m n below, parent_swept m n below, parent_swept m n beside)
 
   pub removed_swept : (n : ℕ) (t : Forest A) → removed n (swept f n t) ≡ removed n t
   removed_swept n Empty = refl

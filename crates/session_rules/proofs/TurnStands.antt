@@ -1,7 +1,7 @@
 -- Commands lead from a session between two lines to one between two lines.
 use Rattle.session_rules.proofs.Base.{◌≡◌, ℕ, ◌+◌, ◌≤◌, ◌<◌, Bool, true, false, Option, Some, None, List, [], ◌∷◌, ◌++◌, refl, sym, ap, ◌∙◌, subst, inl, arith, All, zero, suc, ◌-◌, ◌&&◌, ◌==◌, not, length, map, codes, is_none, is_some, replicate, nat_lt, if◌then◌else◌, option_and_then, option_map_or, le-ltb, ltb-true, All-cons, flat_map, nat_tests}
 use Rattle.session_rules.proofs.Below.{Error, What, size, Scan, ScanStep, table_of, Command, is_text-same, KindId, TransactionCommand, Work, ContextCommand, ChunkCommand, ItemCommand, LockCommand, SnapshotCommand, PlanCommand, PortalCommand, TellCommand, class_kind, is_bad, is_tenth, new_scan, page_of, page_steps, row_step, row_steps, unpinned, turn as scan_turn, PortalState, AccessShareLock, Relcache, CtxKind}
-use Rattle.session_rules.proofs.Rules.{LevelState, OpenPortal, SessionState, buffer_pin, file_kind, is_aborted, level_owner, plan_reference, relcache_reference, snapshot_reference, Scene, Moment, Check, Element, InCurrent, InPortal, InRow, LevelContext, OfLevel, OfPortal, PortalContext, RowContext, Text, Ended, in_order, nothing, portal_becomes, where_there, level_stands, failure, unless, Done, fallible, refused_call, unless_refused, context_made, level_made, new_context_made, new_owner_made, portal_made, does, does_all, then_done, line_elements, turn, turn_of, AreOpen, AreOuter, FitLevels, IsActive, IsAtRest, IsFetched, IsOpen, IsWorking, Stands, StandsBetweenLines, is_named, plan_at, portal_named, at_savepoint, begin, commit, committed_to, elements_of, ends_aborted, in_transaction, is_end, refused, rollback, rolled_back_to, save, savepoint, start, then_ok, transaction_of, unaborted, Row, after_turn, portal_steps, chunk_row, context_row, fallible_part, fetch_steps, item_row, lock_row, plan_row, portal_row, row_of, snapshot_row, tell_row, turn_steps, work_of}
+use Rattle.session_rules.proofs.Rules.{LevelState, OpenPortal, SessionState, buffer_pin, file_kind, is_aborted, level_owner, plan_reference, relcache_reference, snapshot_reference, Scene, Moment, Check, Element, InCurrent, InPortal, InRow, LevelContext, OfLevel, OfPortal, PortalContext, RowContext, Text, Ended, in_order, nothing, portal_becomes, where_there, failure, unless, Done, fallible, unless_refused, context_made, level_made, new_context_made, new_owner_made, portal_made, does, does_all, then_done, line_elements, turn, AreOpen, AreOuter, FitLevels, IsActive, IsAtRest, IsFetched, IsOpen, IsWorking, Stands, StandsBetweenLines, plan_at, portal_named, at_savepoint, begin, commit, committed_to, elements_of, ends_aborted, in_transaction, is_end, refused, rollback, rolled_back_to, save, savepoint, start, then_ok, transaction_of, unaborted, Row, after_turn, portal_steps, chunk_row, context_row, fallible_part, fetch_steps, item_row, lock_row, plan_row, portal_row, row_of, snapshot_row, tell_row, work_of}
 use Rattle.session_rules.proofs.Kept.{is_there, RestsBeside, beside_becomes, beside_rests, rests_beside}
 use Rattle.session_rules.proofs.PortalsStand.{context_portal, made_portal, named_changed, named_in, owner_portal, row_portal}
 use Rattle.session_rules.proofs.PortalWorks.{Beside, Turned, Turns, begins_fetched, begins_works, beside_turns, check_beside, portal_allocates, portal_enlarges, portal_locks, portal_takes, ready_works, row_allocates, scan_turns, turned}
@@ -89,22 +89,12 @@ runs_nowhere w Q moment h q = record { stands = h; passed = λ _. q; run = tt }
 -- A turn.
 pub turn_leads : (w : Option ℕ) (command : Option Command) (moment : Moment) → Runs w StandsBetweenLines (line_elements command moment.scene.session) moment → StandsBetweenLines (turn w command moment).moment.scene
 unfolding turn
-turn_leads w command moment k =
-    go (does_all w (line_elements command moment.scene.session) moment).refusal refl
-  where
-    go : (r : Option Error) → (does_all w (line_elements command moment.scene.session) moment).refusal ≡ r → StandsBetweenLines (turn_of (does_all w (line_elements command moment.scene.session) moment) r).moment.scene
-    go None e = k.passed e
-    go (Some error) e = recovered_stands error (does_all w (line_elements command moment.scene.session) moment).moment.scene k.stands
+turn_leads w command moment k = grind (arith, nat_tests, recovered_stands)
 
 -- a fallible step
 pub fallible_leads : (Q : Scene → Type 0) (w : Option ℕ) (moment : Moment) (own : Option Error) (act : Scene → Ended) → Stands moment.scene → ((z : Scene) → Q z → Stands z) → (own ≡ None → Q (act moment.scene).scene)
     → Leads Q (fallible w moment own act)
-fallible_leads Q w moment own act before so behind =
-    go (refused_call w moment.fail (moment.calls + 1) own) (own_refusal w moment.fail (moment.calls + 1) own)
-  where
-    go : (r : Option Error) → (r ≡ None → own ≡ None) → Leads Q (unless_refused r (record moment { calls = moment.calls + 1 }) act)
-    go None h = let q : Q (act moment.scene).scene = behind (h refl) in record { stands = so (act moment.scene).scene q; passed = λ _. q }
-    go (Some r) h = record { stands = before; passed = λ e. absurd (cc e) }
+fallible_leads x0 w moment own act before so behind = grind (arith, nat_tests, own_refusal w moment.fail (moment.calls + 1) own)
 
 -- a session that stands, with these levels, whose portals are at rest
 pub record At (levels : List LevelState) (scene : Scene) : Type 0 where
@@ -305,10 +295,7 @@ all_fetch w levels name [] moment k a = runs_nowhere w (Fetches levels name) mom
 all_fetch w levels name (x ∷ xs) moment k a = runs_on w (Fetches levels name) (Fetches levels name) x xs moment (a.0 moment k).0 (a.0 moment k).1 (λ m l. all_fetch w levels name xs m l a.1)
 
 pub fetches_on : (levels : List LevelState) (name : Text) (s z : Scene) → Fetches levels name s → Turns name s z → Fetches levels name z
-fetches_on levels name s z k t = record {
-  at = record { stands = t.works.stands; are = t.works.levels ∙ k.at.are; at_rest = t.works.at_rest k.at.at_rest };
-  fetched = t.fetched k.fetched;
-}
+fetches_on levels name s z k t = grind (arith, nat_tests)
 
 module _ (w : Option ℕ) (levels : List LevelState) (active : IsWorking levels) (name : Text) where
   -- a page that is pinned is one of the buffers
@@ -390,12 +377,7 @@ module _ (w : Option ℕ) (levels : List LevelState) (active : IsWorking levels)
 
   pub fetch_work : (count : ℕ) (scan : Scan) (rows : ℕ) → AllTurn (fetch_steps name count scan rows)
   fetch_work zero scan rows = (says_fetched (What.Fetched name rows), tt)
-  fetch_work (suc count) scan rows =
-      both_fetch w levels name (turn_steps name scan) _ (steps_work (scan_turn scan) (turn_is (scan.at == scan.rows) scan)) (rest (scan.at == scan.rows) (fetch_work count (after_turn scan) (rows + 1)))
-    where
-      rest : (b : Bool) → AllTurn (fetch_steps name count (after_turn scan) (rows + 1)) → AllTurn (elim b as (λ _. List Element) [ true ↦ Element.Says (What.Fetched name rows) ∷ [] | false ↦ fetch_steps name count (after_turn scan) (rows + 1) ])
-      rest true more = (says_fetched (What.Fetched name rows), tt)
-      rest false more = more
+  fetch_work (suc count) scan rows = grind (arith, nat_tests, both_fetch, steps_work (scan_turn scan) (turn_is (scan.at == scan.rows) scan), turn_is (scan.at == scan.rows) scan, fetch_work count (after_turn scan) (rows + 1), says_fetched)
 
   pub fetch_all : (count : ℕ) (o : Option OpenPortal) → AllTurn (option_map_or (λ portal. fetch_steps name count portal.scan 0) o [])
   fetch_all count None = tt
@@ -544,15 +526,7 @@ module _ (w : Option ℕ) (levels : List LevelState) (active : IsWorking levels)
   tells_lead (TellCommand.Buffer buffer) m k ok = by_step (Element.TellBuffer buffer) m k tt (nothing_works m.scene k.stands)
 
   steps_lead : (c : Work) (portals : List OpenPortal) (m : Moment) → At levels m.scene → Steps (row_of c portals) m
-  steps_lead Work.Raise portals m k ok = nothing_more w levels m k
-  steps_lead (Work.Contexts c) portals m k ok = contexts_lead c m k ok
-  steps_lead (Work.Chunks c) portals m k ok = chunks_lead c m k ok
-  steps_lead (Work.Items c) portals m k ok = items_lead c m k ok
-  steps_lead (Work.Locks c) portals m k ok = locks_lead c m k ok
-  steps_lead (Work.Snapshots c) portals m k ok = snapshots_lead c m k ok
-  steps_lead (Work.Plans c) portals m k ok = plans_lead c m k ok
-  steps_lead (Work.Portals c) portals m k ok = portals_lead c portals m k ok
-  steps_lead (Work.Tells c) portals m k ok = tells_lead c m k ok
+  steps_lead x0 portals m k ok = grind (arith, nat_tests, nothing_more, contexts_lead, chunks_lead, items_lead, locks_lead, snapshots_lead, plans_lead, portals_lead, tells_lead)
 
   -- What is done within a transaction leads on.
   pub work_runs : (c : Work) (session : SessionState) (moment : Moment) → At levels moment.scene → Runs w (At levels) (work_of c session) moment
@@ -624,17 +598,7 @@ module _ (w : Option ℕ) (name : Option Text) (implicit : Bool) (levels : List 
 
   pub stands_leads : (moment : Moment) → HasOwner name implicit levels moment.scene → Leads (HasBegun name implicit levels) (does w Element.LevelStands moment)
   unfolding does
-  stands_leads moment at =
-      let x : HasBegun name implicit levels (level_stands moment.scene).scene =
-      settled_as (λ (z : Scene). HasBegun name implicit levels (level_stands z).scene) moment.scene (begun name implicit (Some at.context) (Some at.owner) true ∷ levels) at.stands at.levels
-      (λ k. record {
-        stands = level_stands_stands (begun name implicit (Some at.context) (Some at.owner) true) levels moment.scene refl (record { context = refl; owner = refl }) k;
-        at_rest = at.at_rest;
-        context = at.context;
-        owner = at.owner;
-        levels = refl;
-      }) in
-      record { stands = x.stands; passed = λ _. x }
+  stands_leads moment at = grind (arith, nat_tests, settled_as, level_stands_stands)
 
   -- a level is begun
   pub start_leads : (moment : Moment) → At levels moment.scene → AreOuter levels → (implicit ≡ true → levels ≡ []) → Runs w (HasBegun name implicit levels) (start name implicit) moment
@@ -650,11 +614,7 @@ begun_active name implicit c o = record { made = record { context = refl; owner 
 
 -- a block was begun
 pub begun_between : (name : Option Text) (levels : List LevelState) (scene : Scene) → AreOuter levels → HasBegun name false levels scene → StandsBetweenLines scene
-begun_between name levels scene outer h = record {
-  stands = h.stands;
-  open_levels = subst AreOpen (sym h.levels) (record { started = refl; block = refl }, outer_open levels outer);
-  at_rest = h.at_rest;
-}
+begun_between name levels scene outer h = grind (arith, nat_tests, outer_open levels outer)
 
 -- what is known between two lines, and of the levels
 pub at_left : (levels : List LevelState) (scene : Scene) → Leaves levels scene → At levels scene
@@ -743,9 +703,7 @@ module _ (w : Option ℕ) where
           (λ m k. outer_rolled n levels m k (outer_of moment.scene level levels h.between.stands h.are))
 
   pub all_rolled_leads : (n : ℕ) (level : LevelState) (levels : List LevelState) (moment : Moment) → Leaves (level ∷ levels) moment.scene → n ≤ length levels + 1 → Between (rolled_back_to n (level ∷ levels)) moment
-  all_rolled_leads n level levels moment h small =
-      let k : Runs w IsOuter (rolled_back_to n (level ∷ levels)) moment = rolled_leads n level levels moment h small in
-      record { stands = k.stands; passed = λ e. (k.passed e).0; run = k.run }
+  all_rolled_leads n level levels moment h small = grind (arith, nat_tests, rolled_leads n level levels moment h small)
 
   -- levels are merged into those above them
   pub record HasMerged (n : ℕ) (scene : Scene) : Type 0 where
@@ -789,19 +747,7 @@ module _ (w : Option ℕ) where
   -- a savepoint is that of a level that there is
   pub savepoint_bound : (name : Text) (levels : List LevelState) (n : ℕ) → savepoint name levels ≡ Some n → (2 ≤ n) × (n ≤ length levels)
   savepoint_bound name [] n e = absurd (cc e)
-  savepoint_bound name (level ∷ levels) n e = go (nat_lt 0 (length levels) && is_named name level) refl e (λ q. savepoint_bound name levels n q)
-    where
-      some : (a b : Bool) → nat_lt 0 (length levels) ≡ a → (a && b) ≡ true → 0 < length levels
-      some true b is e = ltb-true 0 (length levels) is
-      some false b is e = absurd (cc e)
-
-      go : (b : Bool) → (nat_lt 0 (length levels) && is_named name level) ≡ b → (if b then Some (length levels + 1) else savepoint name levels) ≡ Some n → (savepoint name levels ≡ Some n → (2 ≤ n) × (n ≤ length levels))
-          → (2 ≤ n) × (n ≤ length (level ∷ levels))
-      go true is e rest =
-          let same : length levels + 1 ≡ n = cc e in
-          let above : 0 < length levels = some (nat_lt 0 (length levels)) (is_named name level) refl is in
-          (omega (arith, same, above), omega (arith, same))
-      go false is e rest = let b = rest e in (b.0, omega (arith, b.1))
+  savepoint_bound name (level ∷ levels) n e = grind (arith, nat_tests, savepoint_bound name levels n, ltb-true 0 (length levels))
 
   pub at_savepoint_leads : (name : Text) (levels : List LevelState) (go_on : ℕ → List Element) (moment : Moment) → Leaves levels moment.scene
       → ((n : ℕ) → 2 ≤ n → n ≤ length levels → Between (go_on n) moment) → Between (at_savepoint name levels go_on) moment
@@ -813,9 +759,7 @@ module _ (w : Option ℕ) where
       go (Some n) e = let b = savepoint_bound name (level ∷ levels) n e in next n b.0 b.1
 
   pub release_leads : (n : ℕ) (levels : List LevelState) (moment : Moment) → Leaves levels moment.scene → 2 ≤ n → n ≤ length levels → Between (committed_to n levels) moment
-  release_leads n levels moment h low high =
-      let k : Runs w (HasMerged (n - 1)) (committed_to n levels) moment = merges_leads (length levels + 1 - n) (n - 1) levels moment h (omega (arith, low)) (omega (arith, low, high)) in
-      record { stands = k.stands; passed = λ e. (k.passed e).leaves.between; run = k.run }
+  release_leads n levels moment h low high = grind (arith, nat_tests, merges_leads (length levels + 1 - n) (n - 1) levels moment h)
 
   -- a block or a savepoint is begun
   pub block_leads : (name : Option Text) (levels : List LevelState) (moment : Moment) → Leaves levels moment.scene → AreOuter levels → Between (start name false) moment
@@ -885,12 +829,7 @@ module _ (w : Option ℕ) where
 
   pub command_leads : (c : Command) (moment : Moment) → StandsBetweenLines moment.scene → Between (elements_of c moment.scene.session) moment
   unfolding elements_of
-  command_leads c moment h = go (is_aborted moment.scene.session.levels && not (is_end c)) refl
-    where
-      go : (b : Bool) → (is_aborted moment.scene.session.levels && not (is_end c)) ≡ b
-          → Between (elim b as (λ _. List Element) [ true ↦ refused Error.TransactionAborted | false ↦ unaborted c moment.scene.session ]) moment
-      go true e = refused_leads StandsBetweenLines Error.TransactionAborted moment h.stands
-      go false e = unaborted_leads c moment h e
+  command_leads c moment h = grind (arith, nat_tests, refused_leads StandsBetweenLines Error.TransactionAborted moment h.stands, unaborted_leads c moment h)
 
   line_leads : (line : Option Command) (moment : Moment) → StandsBetweenLines moment.scene → Between (line_elements line moment.scene.session) moment
   line_leads None moment h = refused_leads StandsBetweenLines Error.SyntaxError moment h.stands

@@ -1,7 +1,7 @@
 -- What follows from a law's leaves: each act and each element keeps it, but those that are owed apart.
-use Rattle.session_rules.proofs.Base.{◌≡◌, ℕ, ◌+◌, Bool, true, false, List, [], ◌∷◌, codes, Option, Some, None, refl, subst, arith, option_and_then, append-nil}
+use Rattle.session_rules.proofs.Base.{◌≡◌, ℕ, ◌+◌, Bool, true, false, List, [], ◌∷◌, codes, Option, Some, None, refl, subst, arith, option_and_then, append-nil, nat_tests}
 use Rattle.session_rules.proofs.Below.{Error, What, KindId, CtxKind, ScanStep, PortalState, freed, shown, written}
-use Rattle.session_rules.proofs.Rules.{LevelState, OpenPortal, StandingPlan, buffer_pin, deepest_changed, depth, first_of, level_above, level_context, level_owner, owner_of, portals_context, Moment, Scene, failure, Ended, changes, children_gone, context_cleared, context_cleared_alone, context_gone, for_each, in_order, nothing, portal_becomes, say, switched, where_so, where_there, item_released, plan_becomes, context_made, level_context_name, level_made, level_parent, new_context_made, new_owner_made, owner_made, plan_made, portal_made, chunk_resized, descriptor_given, hook_registered, hook_waits, lock_taken, memory_taken, snapshot_pushed, does, does_all, failing_turn, then_done, counts, Element, LevelContext, MemoryRole, NewContext, OfLevel, OfPortal, OwnerRole, PortalContext, RowContext, ScriptContext, Text, context_named, kind_named, memory_in, owner_in, plan_at, portal_named, at_context, at_kind, at_owner, at_portal, context_moved, contexts_become, level_stands, lock_given_back, pinning, scan_part, scanned, snapshot_popped, Done, fallible, refused_call, unfailing, unless_refused}
+use Rattle.session_rules.proofs.Rules.{LevelState, OpenPortal, buffer_pin, deepest_changed, depth, first_of, level_above, level_context, level_owner, owner_of, portals_context, Moment, Scene, failure, Ended, changes, children_gone, context_cleared, context_cleared_alone, context_gone, for_each, in_order, nothing, portal_becomes, say, switched, where_so, where_there, item_released, plan_becomes, context_made, level_context_name, level_made, level_parent, new_context_made, new_owner_made, owner_made, plan_made, portal_made, chunk_resized, descriptor_given, hook_registered, hook_waits, lock_taken, memory_taken, snapshot_pushed, does, does_all, failing_turn, then_done, counts, Element, LevelContext, MemoryRole, NewContext, OfLevel, OfPortal, OwnerRole, PortalContext, RowContext, ScriptContext, Text, context_named, kind_named, memory_in, owner_in, plan_at, portal_named, at_context, at_kind, at_owner, at_portal, context_moved, contexts_become, level_stands, lock_given_back, pinning, scan_part, scanned, snapshot_popped, Done, fallible, refused_call, unfailing, unless_refused}
 use Rattle.exec_core.specs.Turn.{taken}
 use Rattle.session_rules.proofs.Leaves.{Acts, AllKeep, AreSpoken, Follows, IsRun, IsSpoken, Keeps, Law, Leaves, LevelLeaves, MakeLeaves, MoveLeaves, Owes, OwesEnds, OwesMakes, OwesMoves, last, next}
 
@@ -57,10 +57,7 @@ module _ (R : Law) (a : Acts R) where
   unless_so (Some error) m act h = record { so = a.none m.scene }
 
   pub fallible_at : (w : Option ℕ) (m : Moment) (own : Option Error) (act : Scene → Ended) → R m.scene (act m.scene).scene (act m.scene).events → Follows R m.scene (fallible w m own act)
-  fallible_at w m own act h =
-      let done : Follows R m.scene (unless_refused (refused_call w m.fail (m.calls + 1) own) (record m { calls = m.calls + 1 }) act) =
-      unless_so (refused_call w m.fail (m.calls + 1) own) (record m { calls = m.calls + 1 }) act h in
-      record { so = done.so }
+  fallible_at w m own act h = grind (arith, nat_tests, unless_so (refused_call w m.fail (m.calls + 1) own))
 
   pub fallible_so : (w : Option ℕ) (m : Moment) (own : Option Error) (act : Scene → Ended) → Keeps R act → Follows R m.scene (fallible w m own act)
   fallible_so w m own act h = fallible_at w m own act (h.so m.scene)
@@ -96,11 +93,7 @@ module _ (R : Law) (l : Leaves R) where
   a = l.acts
 
   drops : (plan : ℕ) (s : Scene) → R s (where_there (plan_at plan s.session.plans) (λ p. plan_becomes (record p { discarded = true })) s).scene (where_there (plan_at plan s.session.plans) (λ p. plan_becomes (record p { discarded = true })) s).events
-  drops plan s = go (plan_at plan s.session.plans) refl
-    where
-      go : (o : Option StandingPlan) → plan_at plan s.session.plans ≡ o → R s (where_there o (λ p. plan_becomes (record p { discarded = true })) s).scene (where_there o (λ p. plan_becomes (record p { discarded = true })) s).events
-      go None is = a.none s
-      go (Some p) is = l.plan plan p (record p { discarded = true }) s is refl
+  drops plan s = grind (arith, nat_tests)
 
   part : (s : ScanStep) (p : OpenPortal) → Keeps R (scan_part s p)
   part ScanStep.Reset p = record { so = (by_there R a p.expr context_cleared_alone l.alone).so }
@@ -152,9 +145,7 @@ module _ (R : Law) (l : Leaves R) where
       → ((x : Element) (n : Moment) → P x n.scene → Owes R w x n) → Follows R m.scene (does_all w xs m)
   unfolding does_all
   run_follows u P w [] m h run owed = record { so = a.none m.scene }
-  run_follows u P w (x ∷ xs) m h run owed =
-      then_follows R a m.scene (does w x m) (does w x m).refusal (does_all w xs) (element_follows u w x m h.0 (owed x m run.0))
-      (λ none. run_follows u P w xs (does w x m).moment h.1 (run.1 none) owed)
+  run_follows u P w (x ∷ xs) m h run owed = grind (arith, nat_tests, then_follows R, element_follows u w x m h.0 (owed x m run.0), run_follows u P w xs (does w x m).moment h.1)
 
 -- Where a law is kept whatever becomes of levels and active snapshots, what makes and starts levels and what pops a snapshot keeps it.
 module _ (R : Law) (l : LevelLeaves R) where

@@ -1,7 +1,7 @@
 -- What follows from a law's leaves where it is kept in any scene: what takes items and the ends of portals, levels and sessions keep it too.
-use Rattle.session_rules.proofs.Base.{ℕ, ◌-◌, ◌≤◌, Bool, true, false, not, if◌then◌else◌, List, [], ◌∷◌, Option, None, refl, arith, ◌==◌, drop, unwrap_or}
+use Rattle.session_rules.proofs.Base.{ℕ, ◌-◌, Bool, true, false, not, if◌then◌else◌, List, [], ◌∷◌, Option, None, refl, arith, ◌==◌, drop, unwrap_or, nat_tests}
 use Rattle.session_rules.proofs.Below.{Error, KindId, Phase, BeforeLocks, Locks, AfterLocks, level_lowered, is_empty, What, PortalState}
-use Rattle.session_rules.proofs.Rules.{Moment, Scene, Element, OfLevel, has_failed, changes, children_gone, context_gone, for_each, in_order, portal_becomes, portal_gone, say, switched, where_so, where_there, item_released, owner_gone, owner_moved, owner_released, phase_released, executor_ended, is_ready, portal_aborted, portal_closed, portal_ended, portal_failed, portal_passed, portal_withdrawn, item_taken, at_kind, at_owner, at_portal, does, LevelState, OpenPortal, abort_context, buffer_pin, context_of, deepest_changed, depth, first_of, is_aborted, level_above, level_context, level_owner, owner_of, relcache_reference, snapshot_reference, top_context, aborted, cleaned_up, committed, empty_context_gone, exited, given_up, level_context_gone, level_owner_gone, level_popped, level_released, level_rolled_back, recovered, stack_popped, subcommitted, switched_up}
+use Rattle.session_rules.proofs.Rules.{Moment, Scene, Element, has_failed, changes, children_gone, context_gone, for_each, in_order, portal_becomes, portal_gone, say, switched, where_so, where_there, item_released, owner_gone, owner_moved, owner_released, phase_released, executor_ended, is_ready, portal_aborted, portal_closed, portal_ended, portal_failed, portal_passed, portal_withdrawn, item_taken, at_owner, at_portal, does, LevelState, OpenPortal, abort_context, buffer_pin, context_of, deepest_changed, depth, first_of, is_aborted, level_above, level_context, level_owner, owner_of, relcache_reference, snapshot_reference, top_context, aborted, cleaned_up, committed, empty_context_gone, exited, given_up, level_context_gone, level_owner_gone, level_popped, level_released, level_rolled_back, recovered, stack_popped, subcommitted, switched_up}
 use Rattle.session_rules.proofs.Leaves.{Acts, EndLeaves, Keeps, Law, Leaves, LevelLeaves, MakeLeaves, Owes, OwesEnds, OwesMakes, OwesMoves, last, next}
 use Rattle.session_rules.proofs.Walk.{by_each, by_either, by_kind, by_levels, by_order, by_owner, by_portal, by_portal_named, by_so, by_there, fallible_so, levels_owed, makes_owed, unfailing_so}
 
@@ -19,11 +19,7 @@ module _ (R : Law) (a : Acts R) where
 
   -- a portal is of the level above then, and one that is withdrawn is active there
   pub portal_lowers : (level : ℕ) (p : OpenPortal) → Keeps R (portal_becomes p.name (λ old. record old { created = level_lowered level old.created; active = level_lowered level old.active }))
-  portal_lowers level p = a.portal p.name (λ old. record old { created = level_lowered level old.created; active = level_lowered level old.active }) (record { context = λ q. refl; created = λ q. lower q.created (q.created == level) })
-    where
-      lower : (n : ℕ) (b : Bool) → (if b then n - 1 else n) ≤ n
-      lower n true = omega arith
-      lower n false = omega arith
+  portal_lowers level p = grind (arith, nat_tests)
 
   pub portal_returns : (level : ℕ) (p : OpenPortal) → Keeps R (portal_becomes p.name (λ old. record old { active = level - 1; owner = if has_failed old.state then None else old.owner }))
   portal_returns level p = by_portal R a p.name (λ old. record old { active = level - 1; owner = if has_failed old.state then None else old.owner }) (λ p. refl) (λ p. refl)
@@ -178,9 +174,7 @@ module _ (R : Law) (h : EndLeaves R) where
   unfolding does
   ends_owed w (Element.InTurn name x) m owed = ends_owed w x m owed
   ends_owed w (Element.Take role kind key) m owed = fallible_so R acts w m _ (at_owner role (λ owner. item_taken owner kind key)) (by_owner R acts role (λ owner. item_taken owner kind key) (λ owner. h.taken owner kind key))
-  ends_owed w (Element.TakeNamed name key) m owed =
-      fallible_so R acts w m _ (at_kind name (λ kind. at_owner OfLevel (λ owner. item_taken owner kind key)))
-      (by_kind R acts name (λ kind. at_owner OfLevel (λ owner. item_taken owner kind key)) (λ kind. by_owner R acts OfLevel (λ owner. item_taken owner kind key) (λ owner. h.taken owner kind key)))
+  ends_owed w (Element.TakeNamed name key) m owed = grind (arith, nat_tests, fallible_so R, by_kind R, by_owner R)
   ends_owed w (Element.EndPortal name) m owed = unfailing_so R acts m (at_portal name portal_ended) (by_portal_named R acts name portal_ended (portal_ends R acts h.phase l.released h.discarded))
   ends_owed w Element.CommitTop m owed = unfailing_so R acts m committed commits
   ends_owed w Element.Subcommit m owed = unfailing_so R acts m subcommitted subcommits
