@@ -25,18 +25,10 @@ is_apart What.Exit = false
 is_apart other = true
 
 word_apart : (event : What) → is_word event ≡ true → is_apart event ≡ true
-word_apart (What.Create context name parent) h = absurd (cc h)
-word_apart (What.Move context parent) h = absurd (cc h)
-word_apart (What.Delete context) h = absurd (cc h)
-word_apart (What.Reset context) h = absurd (cc h)
-word_apart (What.Callback word context) h = absurd (cc h)
-word_apart (What.Hook word context) h = absurd (cc h)
-word_apart (What.Error error) h = absurd (cc h)
-word_apart What.Exit h = absurd (cc h)
-word_apart other h = refl
+word_apart event h = grind (arith, nat_tests)
 
 level_apart : (event : What) → is_level_word event ≡ true → is_apart event ≡ true
-level_apart other h = grind (arith, nat_tests)
+level_apart event h = grind (arith, nat_tests)
 
 -- what such a law owes
 pub record ContextLaw (R : Law) : Type 0 where

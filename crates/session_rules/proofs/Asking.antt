@@ -1,5 +1,5 @@
 -- What elements ask together, and a script with a line more.
-use Rattle.session_rules.proofs.Base.{◌≡◌, ◌≢◌, ℕ, ◌+◌, ◌==◌, Bool, true, false, if◌then◌else◌, List, [], ◌∷◌, ◌++◌, Option, Some, None, refl, sym, ap, arith, zero-add, nat_tests}
+use Rattle.session_rules.proofs.Base.{◌≡◌, ◌≢◌, ℕ, ◌+◌, Bool, true, false, List, [], ◌∷◌, ◌++◌, Option, Some, sym, ap, arith, zero-add, nat_tests}
 use Rattle.session_rules.proofs.Below.{Error, Kind, ShelfState, Command}
 use Rattle.session_rules.proofs.Rules.{SessionState, Element, does, does_all, Options, Moment, moment, Course, Reading, after_line, course_by, goes_on, asked, asked_all, asked_by, asked_by_command, asked_by_line, asked_by_read, asked_by_turn, asked_in_all, asked_on, asks_in, then_asked, where_done}
 
@@ -39,10 +39,7 @@ own_line w course number command session = grind (arith, nat_tests)
 
 -- and for other sessions nothing
 pub other_line : (w : Option ℕ) (n : ℕ) (course : Course) (number : ℕ) (command : Option Command) (session : Option SessionState) → number ≢ n → asked_by_command w n course number command session ≡ 0
-other_line w n course number command None differs = refl
-other_line w n course number command (Some session) differs =
-    let other : (number == n) ≡ false = grind (arith, nat_tests) in
-    ap (λ (b : Bool). if b then asked_by_turn w command (moment number session course.world) else 0) other
+other_line w n course number command session differs = grind (arith, nat_tests)
 
 -- a line behind which the script goes on asks as it is read
 pub read_line_asks : (reads : Reading) (w : Option ℕ) (n : ℕ) (line : List ℕ) (course : Course) → course.wanted ≡ false → asked_by_line reads w n line course ≡ asked_by_read w n course (reads line)

@@ -1,5 +1,5 @@
 -- How many ERROR events there are: a line says at most one, and the end of a session none.
-use Rattle.session_rules.proofs.Base.{◌≡◌, ℕ, ◌+◌, ◌≤◌, true, false, not, cond, List, [], ◌∷◌, ◌++◌, count_by, Option, Some, None, refl, ◌∙◌, arith, sum_by-append, sum_by-cons, nat_tests}
+use Rattle.session_rules.proofs.Base.{◌≡◌, ℕ, ◌+◌, ◌≤◌, true, false, not, cond, List, [], ◌∷◌, ◌++◌, count_by, Option, refl, ◌∙◌, arith, sum_by-append, sum_by-cons, nat_tests}
 use Rattle.session_rules.proofs.Below.{Error, What, Command}
 use Rattle.session_rules.proofs.Rules.{is_aborted, top_context, Moment, Scene, in_order, where_so, Done, exited, given_up, recovered, is_error, line_elements, turn, turn_of}
 use Rattle.session_rules.proofs.Ordinary.{elements_ordinary, gone_ordinary, is_ordinary, recovery_ordinary, rollback_ordinary}
@@ -10,8 +10,7 @@ errors_of_both : (xs ys : List What) → count_by is_error (xs ++ ys) ≡ count_
 errors_of_both xs ys = sum_by-append (λ x. cond (is_error x) 1 0) xs ys
 
 no_error : (event : What) → is_ordinary event ≡ true → is_error event ≡ false
-no_error (What.Error error) h = absurd (cc h)
-no_error other h = refl
+no_error event h = grind (arith, nat_tests)
 
 no_errors : {events : List What} → AreSaid is_ordinary events → count_by is_error events ≡ 0
 no_errors said_none = refl
@@ -24,8 +23,7 @@ recovered_errors error scene = errors_of_both (What.Error error ∷ []) (in_orde
 
 -- a line
 turn_of_errors : (done : Done) (refusal : Option Error) → AreSaid is_ordinary done.events → count_by is_error (turn_of done refusal).events ≤ 1
-turn_of_errors done None h = omega (arith, no_errors h)
-turn_of_errors done (Some x) h = omega (arith, no_errors h, errors_of_both done.events (recovered x done.moment.scene).events, recovered_errors x done.moment.scene)
+turn_of_errors done refusal h = grind (arith, nat_tests, no_errors h, errors_of_both done.events, recovered_errors)
 
 -- A line says at most one ERROR event.
 pub turn_errors : (w : Option ℕ) (line : Option Command) (m : Moment) → count_by is_error (turn w line m).events ≤ 1

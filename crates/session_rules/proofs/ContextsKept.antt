@@ -38,7 +38,7 @@ protected_has m t prot = own_has own m t prot
 
 -- what holds of contexts, and of them with one emptied, holds where that is reset alone
 pub by_alone : (P : Contexts → Type 0) (n : ℕ) (t : Contexts) → P t → P (changed n emptied t) → P (ends.cleared_alone n t).contexts
-by_alone x0 n t same reset = grind (arith, nat_tests)
+by_alone P n t same reset = grind (arith, nat_tests)
 
 -- so with one moved
 pub by_reparented : (P : Contexts → Type 0) (n p : ℕ) (t : Contexts) → P t → P (moved n p t) → P (reparented n p t)
@@ -163,8 +163,7 @@ module _ (t : Contexts) (next : ℕ) (h : AreContexts t next) where
       grind (arith, nat_tests, protected_has m t prot, same_own m t (created p next name kind b t) (at_put_other m p next (new_context name kind b) Empty t ne refl) prot, at_put_other m p next (new_context name kind b) Empty t ne refl, parent_put_other m p next (new_context name kind b) Empty t ne refl)
 
   pub guarded_created : (p : ℕ) (name : List ℕ) (kind : CtxKind) (b : Bool) → (b ≡ true → is_protected p t ≡ true) → AreGuarded own (created p next name kind b t)
-  guarded_created p name kind true needs = guarded_put_own own p next (new_context name kind true) t h.once (needs refl) h.guarded
-  guarded_created p name kind false needs = guarded_put own p next (new_context name kind false) Empty t refl tt h.guarded
+  guarded_created p name kind b needs = grind (arith, nat_tests, guarded_put_own, guarded_put)
 
   pub contexts_created : (p : ℕ) (name : List ℕ) (kind : CtxKind) (b : Bool) → has p t ≡ true → (b ≡ true → is_protected p t ≡ true) → AreContexts (created p next name kind b t) (next + 1)
   contexts_created p name kind b there needs = record {
@@ -215,8 +214,7 @@ module _ (t : Contexts) (next : ℕ) (h : AreContexts t next) where
   once_swapped n p w = record { once = λ m. omega (arith, has_swapped m n p w, h.once.once m) }
 
   pub contexts_swapped : (n p : ℕ) → Moves n p t → is_protected n t ≡ false → AreContexts (moved n p t) next
-  contexts_swapped n p w free =
-      grind (arith, nat_tests, rooted_moved own top_context n p t, top_protected, guarded_moved own n p t h.guarded free, once_swapped n p w, has_some, has_swapped, times_some, moved n p t, own_stay t (moved n p t) h.own (stay_swapped n p w free), stay_swapped n p w free, all_moved IsFresh n p t h.fresh)
+  contexts_swapped n p w free = grind (arith, nat_tests, rooted_moved, top_protected, guarded_moved, once_swapped n p w, has_some, has_swapped, times_some, own_stay, stay_swapped n p w free, all_moved IsFresh n p)
 
   pub stay_reparented : (n p : ℕ) → has n t ≡ true → has p t ≡ true → is_protected n t ≡ false → is_within n p t ≡ false → Stay t (reparented n p t)
   stay_reparented n p node there free out = by_reparented (Stay t) n p t (stay_same t) (stay_swapped n p (moves_by n p node there out) free)

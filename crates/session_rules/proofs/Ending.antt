@@ -83,8 +83,7 @@ loose_changed level m n f x l = grind (arith, nat_tests, children_changed l.owne
 
 pub ending_changed : (kinds : KindTable) (level : LevelState) (levels : List LevelState) (portals : List OpenPortal) (x : OwnerTree) (a b n : ℕ) (f : Owner → Owner) → ((o : Owner) → (f o).begun ≡ o.begun) → ((o : Owner) → HasItems kinds o → HasItems kinds (f o))
     → IsSound (changed n f x) a b → AreEnding kinds x a b level levels portals → AreEnding kinds (changed n f x) a b level levels portals
-ending_changed kinds level levels portals x a b n f begun known sound h =
-    grind (arith, nat_tests, has_changed, loose_changed level, begun_changed, all_changed (HasItems kinds) n f x known h.items)
+ending_changed kinds level levels portals x a b n f begun known sound h = grind (arith, nat_tests, has_changed, loose_changed level, begun_changed, all_changed (HasItems kinds) n f x known h.items)
 
 -- An owner gives its newest item of a kind and key back.
 module _ (level : LevelState) (levels done : List LevelState) where

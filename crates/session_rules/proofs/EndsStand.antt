@@ -17,7 +17,7 @@ is_settled scene h = refl
 
 -- where each scene of that form has something, each scene that stands does
 pub at_settled : (P : Scene → Type 0) → ((levels : List LevelState) (s : Scene) → Stands (settled levels s) → P (settled levels s)) → (scene : Scene) → Stands scene → P scene
-at_settled x0 all scene h = grind (arith, nat_tests, is_settled scene h)
+at_settled P all scene h = grind (arith, nat_tests, is_settled scene h)
 
 -- a session that stands between two lines, with these levels
 pub record Leaves (levels : List LevelState) (scene : Scene) : Type 0 where
@@ -65,8 +65,7 @@ contexts_without (Some n) t next x h k own = (contexts_level_gone t next h n (ow
 
 pub same_without : (c : Option ℕ) (t : Contexts) (next : ℕ) → AreContexts t next → (m : ℕ) → ((n : ℕ) → c ≡ Some n → (m ≢ n) × (has m (children n t) ≡ false)) → is_protected m t ≡ true
     → IsSame m t (without_context c t)
-same_without None t next h m out prot = stay_same t m prot
-same_without (Some n) t next h m out prot = same_removed t next h m n (out n refl) prot
+same_without c t next h m out prot = grind (arith, nat_tests, stay_same t m prot, same_removed t next h m)
 
 pub still_without : (o : Option ℕ) (x : OwnerTree) → Once x → (m : ℕ) → ((p : ℕ) → o ≡ Some p → (m ≢ p) × (has m (children p x) ≡ false)) → has m x ≡ true → IsStill m x (without_owner o x)
 still_without None x once m out there = record { there = there; parent = refl }
@@ -78,13 +77,12 @@ deepest_active level t x current h = grind (arith, nat_tests, both_ways level.st
 
 -- the levels that are left
 pub fits_outer : (levels : List LevelState) (t : Contexts) (x : OwnerTree) → AreOuter levels → FitLevels levels t x (unwrap_or (context_of (first_of levels)) top_context)
-fits_outer [] t x h = refl
-fits_outer (level ∷ levels) t x h = (deepest_active level t x (unwrap_or level.context top_context) h.0, h.2)
+fits_outer levels t x h = grind (arith, nat_tests, deepest_active)
 
 -- the context of the level above, or the topmost one, is there
 pub current_above : (levels : List LevelState) (t : Contexts) (x : OwnerTree) (next : ℕ) → AreContexts t next → AreLevels levels t x → AreOuter levels
     → has (unwrap_or (context_of (first_of levels)) top_context) t ≡ true
-current_above x0 t x next h l o = grind (arith, nat_tests, protected_has top_context t (top_protected t next h), protected_has, top_protected t next h, is_there)
+current_above levels t x next h l o = grind (arith, nat_tests, protected_has top_context t (top_protected t next h), protected_has, top_protected t next h, is_there)
 
 -- A scene whose deepest level may go: its portals are those of the levels `done`, and each number of a plan is referred to so often.
 pub record MayEnd (times : ℕ → ℕ) (level : LevelState) (levels done : List LevelState) (s : Scene) : Type 0 where
@@ -103,8 +101,7 @@ abbrev pub left_to_refer : LevelState → Scene → ℕ → ℕ
 left_to_refer level s = referred (without_owner level.owner s.session.owners)
 
 pub same_count : (o : Option ℕ) (x : OwnerTree) → Once x → ((n : ℕ) → o ≡ Some n → AllAt HoldsNothing n x) → (m : ℕ) → referred x m ≡ referred (without_owner o x) m
-same_count None x once idle m = refl
-same_count (Some n) x once idle m = sym (held_removed plan_reference m n x once (idle n refl))
+same_count o x once idle m = grind (arith, nat_tests, held_removed plan_reference m)
 
 -- the way through the portals begins, and has ended
 pub begins : (level : LevelState) (levels done : List LevelState) (s : Scene) → Stands (settled (level ∷ levels) s) → Ending level levels done [] s.session.portals s
@@ -131,12 +128,7 @@ idle_ends level levels done s idle h = grind (arith, nat_tests, plans_counted s.
 
 pub plans_popped : (level : LevelState) (levels done : List LevelState) (s : Scene) (times : ℕ → ℕ) (c : Option ℕ) → ((n : ℕ) → c ≡ Some n → level.context ≡ Some n) → MayEnd times level levels done s
     → ArePlans s.session.plans (without_context c s.session.contexts) s.session.current times
-plans_popped level levels done s times None is h = h.plans
-plans_popped level levels done s times (Some n) is h =
-    let t : Contexts = s.session.contexts in
-    plans_moved s.session.plans t (removed n t) s.session.current times
-    (λ m k. cached_left t s.session.next_context n h.contexts m k (plan_outside level levels t s.session.owners s.session.next_context n h.contexts h.all (is n refl) m k))
-    h.plans
+plans_popped level levels done s times c is h = grind (arith, nat_tests, plans_moved s.session.plans s.session.contexts, cached_left s.session.contexts s.session.next_context, plan_outside level levels s.session.contexts s.session.owners s.session.next_context)
 
 -- a portal's context where the level's goes
 pub place_popped : (level : LevelState) (levels : List LevelState) (t : Contexts) (x : OwnerTree) (next current : ℕ) (c : Option ℕ) → ((n : ℕ) → c ≡ Some n → level.context ≡ Some n) → AreContexts t next → AreLevels (level ∷ levels) t x
@@ -230,10 +222,7 @@ abbrev pub behind_sweep : Scene → Scene
 behind_sweep z = (in_order (level_owner_gone ∷ switched_up ∷ level_context_gone ∷ level_popped ∷ []) z).scene
 
 pub sweep_is : (name : Option (List ℕ)) (c o : Option ℕ) (i a b : Bool) (levels : List LevelState) (z : Scene) → behind_sweep (settled (level_of name c o i a b ∷ levels) z) ≡ popped c o levels z.session.snapshots z
-sweep_is name None None i a b levels z = refl
-sweep_is name None (Some p) i a b levels z = refl
-sweep_is name (Some n) None i a b levels z = refl
-sweep_is name (Some n) (Some p) i a b levels z = refl
+sweep_is name c o i a b levels z = grind (arith, nat_tests)
 
 -- a cleanup leaves owners alone until then
 pub sweep_owners : (level : LevelState) (levels : List LevelState) (gone : level.aborted ≡ true) (ps : List OpenPortal) (s : Scene) → (for_each (swept_away level levels gone) ps s).scene.session.owners ≡ s.session.owners
@@ -296,14 +285,11 @@ gives commit top (Some p) s sound fits =
     record { besides = r.besides; same = r.same; owners = r.owners; left = r.swept; is = r.is; fits = r.fits; spares = r.spares }
 
 pub without_left : (kinds : KindTable) (o : Option ℕ) (owners now : OwnerTree) → HasLeft kinds o owners now → without_owner o now ≡ without_owner o owners
-without_left kinds None owners now left = left
-without_left kinds (Some p) owners now left = ap (removed p) left.is ∙ removed_swept (swept_by kinds) p owners
+without_left kinds o owners now left = grind (arith, nat_tests, removed_swept (swept_by kinds))
 
 -- what is left holds no reference
 pub left_idle : (kinds : KindTable) (o : Option ℕ) (owners now : OwnerTree) → IsSoundTable kinds → HasLeft kinds o owners now → AllNodes (HasItems kinds) owners → (n : ℕ) → o ≡ Some n → AllAt HoldsNothing n now
-left_idle kinds None owners now sound left items n e = absurd (cc e)
-left_idle kinds (Some p) owners now sound left items n e =
-    subst (λ (k : ℕ). AllAt HoldsNothing k now) (one_value (Some p) p n refl e) (left_nothing kinds p owners now sound left items)
+left_idle kinds o owners now sound left items n e = grind (arith, nat_tests, one_value, left_nothing kinds)
 
 pub left_once : (kinds : KindTable) (o : Option ℕ) (owners now : OwnerTree) (a b : ℕ) → HasLeft kinds o owners now → IsSound owners a b → Once now
 left_once kinds None owners now a b left h = subst Once (sym left) (once_of owners a b h)
@@ -344,32 +330,11 @@ abbrev pub behind_commit : Scene → Scene
 behind_commit z = (in_order (stack_popped 1 ∷ level_owner_gone ∷ switched top_context ∷ level_context_gone ∷ level_popped ∷ []) z).scene
 
 pub behind_is : (name : Option (List ℕ)) (c o : Option ℕ) (i a b : Bool) (z : Scene) → behind_commit (settled (level_of name c o i a b ∷ []) z) ≡ popped c o [] (kept_below 1 z.session.snapshots) z
-behind_is name None None i a b z = refl
-behind_is name None (Some p) i a b z = refl
-behind_is name (Some n) None i a b z = refl
-behind_is name (Some n) (Some p) i a b z = refl
+behind_is name c o i a b z = grind (arith, nat_tests)
 
 pub commit_from : (level : LevelState) (s : Scene) → MayEnd (referred s.session.owners) level [] [] s → AreStacked 1 0 (kept_below 1 s.session.snapshots)
     → Leaves [] (behind_commit (where_there level.owner (owner_released true true) (settled (level ∷ []) s)).scene)
-commit_from level s h stacked =
-    let c : Option ℕ = level.context in
-    let o : Option ℕ = level.owner in
-    let stack : List Active = kept_below 1 s.session.snapshots in
-    let g : HasGiven o (settled (level ∷ []) s) (where_there o (owner_released true true) (settled (level ∷ []) s)).scene = gives_now true true level [] [] s h in
-    let z : Scene = with_besides g.besides s in
-    let is : behind_commit (where_there o (owner_released true true) (settled (level ∷ []) s)).scene ≡ popped c o [] stack z =
-    ap behind_commit g.is
-    ∙ behind_is level.name c o level.implicit level.aborted level.starting (with_owners g.owners z)
-    ∙ ap (λ (w : OwnerTree). with_owners w (popped c o [] stack z)) (without_left (table_of s.around.kinds) o s.session.owners g.owners g.left) in
-    let stands : Stands (popped c o [] stack z) = popped_stands level [] z c stack (λ n e. e) stacked (released_ends level [] [] s g.besides g.owners h g.same g.left g.fits g.spares) in
-    subst (Leaves []) (sym is) (record {
-      between = record {
-        stands = stands;
-        open_levels = tt;
-        at_rest = all_rest_outside s.session.portals _ _ _ stands.portals.each;
-      };
-      are = refl;
-    })
+commit_from level s h stacked = grind (arith, nat_tests, gives_now true true level [] [] s h, behind_is level.name level.context level.owner level.implicit level.aborted level.starting (with_owners (gives_now true true level [] [] s h).owners (with_besides (gives_now true true level [] [] s h).besides s)), without_left (table_of s.around.kinds) level.owner s.session.owners (gives_now true true level [] [] s h).owners (gives_now true true level [] [] s h).left, popped_stands level [] (with_besides (gives_now true true level [] [] s h).besides s) level.context (kept_below 1 s.session.snapshots), released_ends level [] [] s (gives_now true true level [] [] s h).besides (gives_now true true level [] [] s h).owners h (gives_now true true level [] [] s h).same (gives_now true true level [] [] s h).left (gives_now true true level [] [] s h).fits (gives_now true true level [] [] s h).spares, all_rest_outside s.session.portals)
 
 -- Level 1 commits.
 pub committed_stands : (level : LevelState) (s : Scene) → Stands (settled (level ∷ []) s) → Leaves [] (committed (settled (level ∷ []) s)).scene
@@ -403,10 +368,7 @@ behind_merge level z =
 
 pub merge_context : (b : Bool) (name : Option (List ℕ)) (n : ℕ) (o : Option ℕ) (i a st : Bool) (levels : List LevelState) (z : Scene)
     → (level_popped (where_so b (context_gone n) (switched_up (level_owner_gone (settled (level_of name (Some n) o i a st ∷ levels) z)).scene).scene).scene).scene ≡ popped (gone_if b n) o levels z.session.snapshots z
-merge_context true name n None i a st levels z = refl
-merge_context true name n (Some p) i a st levels z = refl
-merge_context false name n None i a st levels z = refl
-merge_context false name n (Some p) i a st levels z = refl
+merge_context b name n o i a st levels z = grind (arith, nat_tests)
 
 -- the scene with the active snapshots of this level in the level above
 abbrev pub lowered_in : ℕ → Scene → Scene
@@ -414,14 +376,10 @@ lowered_in level s = record s { session = record s.session { snapshots = map (lo
 
 pub merge_is : (level : ℕ) (name : Option (List ℕ)) (c o : Option ℕ) (i a st : Bool) (levels : List LevelState) (z : Scene)
     → behind_merge level (settled (level_of name c o i a st ∷ levels) z) ≡ popped (context_to_go c z.session.contexts) o levels (map (lowered level) z.session.snapshots) z
-merge_is level name None None i a st levels z = refl
-merge_is level name None (Some p) i a st levels z = refl
-merge_is level name (Some n) None i a st levels z = merge_context (is_empty n z.session.contexts) name n None i a st levels (lowered_in level z)
-merge_is level name (Some n) (Some p) i a st levels z = merge_context (is_empty n z.session.contexts) name n (Some p) i a st levels (lowered_in level z)
+merge_is level name c o i a st levels z = grind (arith, nat_tests, merge_context)
 
 pub context_to_go_is : (c : Option ℕ) (t : Contexts) (n : ℕ) → context_to_go c t ≡ Some n → c ≡ Some n
-context_to_go_is None t n e = absurd (cc e)
-context_to_go_is (Some m) t n e = grind (arith, nat_tests)
+context_to_go_is c t n e = grind (arith, nat_tests)
 
 -- what a merge leads to: the session stands with the levels above, and where portals were at rest they still are
 pub record Merges (levels : List LevelState) (s z : Scene) : Type 0 where
@@ -484,10 +442,7 @@ shut level levels owners s =
     (record s { session = record s.session { owners = owners; current = abort_context; snapshots = kept_below (length (level ∷ levels)) s.session.snapshots } })
 
 pub shut_stacked : (level : LevelState) (levels : List LevelState) (most : ℕ) (stack : List Active) → AreStacked 1 most stack → AreStacked 1 (active_depth (record level { aborted = true } ∷ levels)) (kept_below (length (level ∷ levels)) stack)
-shut_stacked level levels most stack h =
-    let n : ℕ = length (level ∷ levels) in
-    stacked_within 1 (active_depth (record level { aborted = true } ∷ levels)) 1 (n - 1) (kept_below n stack) (omega arith) (omega (arith, depth_still (record level { aborted = true }) levels refl))
-    (stacked_below n 1 most stack h)
+shut_stacked level levels most stack h = grind (arith, nat_tests, stacked_within 1, depth_still, stacked_below (length (level ∷ levels)) 1 most stack h)
 
 abbrev pub behind_abort : ℕ → Scene → Scene
 behind_abort n z = (in_order (stack_popped n ∷ changes (λ session. record session { levels = deepest_changed (λ old. record old { aborted = true }) session.levels }) ∷ []) z).scene
@@ -594,9 +549,7 @@ aborted_stands level levels s active open_level h =
 
 -- what an abort leaves of the stack fits the levels above
 pub away_stacked : (level : LevelState) (levels : List LevelState) (most : ℕ) (stack : List Active) → AreOuter levels → AreStacked 1 most stack → AreStacked 1 (active_depth levels) (kept_below (length (level ∷ levels)) stack)
-away_stacked level levels most stack outer h =
-    let n : ℕ = length (level ∷ levels) in
-    stacked_above levels (n - 1) (kept_below n stack) outer (omega arith) (stacked_below n 1 most stack h)
+away_stacked level levels most stack outer h = grind (arith, nat_tests, stacked_above levels ((length (level ∷ levels)) - 1) (kept_below (length (level ∷ levels)) stack) outer, stacked_below (length (level ∷ levels)) 1 most stack h)
 
 -- What is left behind an abort and a cleanup stands, however the level was.
 pub away_stands : (level : LevelState) (levels : List LevelState) (s : Scene) → Stands (settled (level ∷ levels) s) → Leaves levels (in_order (aborted ∷ cleaned_up ∷ []) (settled (level ∷ levels) s)).scene
@@ -620,16 +573,14 @@ rolled_stands level levels s h = grind (arith, nat_tests, cleaned_up_stands leve
 
 -- a level that was being started goes, and the one above it is aborted
 pub above_aborted : (levels : List LevelState) (s : Scene) → Leaves levels s → AreOuter levels → StandsBetweenLines (where_there (first_of levels) (λ above. aborted) s).scene
-above_aborted x0 s h o = grind (arith, nat_tests, is_left, aborted_stands)
+above_aborted levels s h o = grind (arith, nat_tests, is_left, aborted_stands)
 
 pub given_up_stands : (level : LevelState) (levels : List LevelState) (s : Scene) (b i : Bool) → level.starting ≡ b → level.implicit ≡ i → level.aborted ≡ false → Stands (settled (level ∷ levels) s)
     → StandsBetweenLines (elim b as (λ _. Ended) [
       | true ↦ in_order (level_rolled_back level ∷ where_there (first_of levels) (λ above. aborted) ∷ []) (settled (level ∷ levels) s)
       | false ↦ elim i as (λ _. Ended) [ true ↦ level_rolled_back level (settled (level ∷ levels) s) | false ↦ aborted (settled (level ∷ levels) s) ]
     ]).scene
-given_up_stands level levels s true i e q active h = above_aborted levels (level_rolled_back level (settled (level ∷ levels) s)).scene (rolled_stands level levels s h) h.fit.1
-given_up_stands level levels s false true e q active h = (rolled_stands level levels s h).between
-given_up_stands level levels s false false e q active h = (aborted_stands level levels s active (record { started = e; block = q }) h).between
+given_up_stands level levels s b i e q active h = grind (arith, nat_tests, above_aborted levels, rolled_stands level levels s h, aborted_stands level levels s active)
 
 pub recovered_settled : (error : Error) (levels : List LevelState) (s : Scene) → Stands (settled levels s) → StandsBetweenLines (recovered error (settled levels s)).scene
 unfolding recovered
@@ -690,9 +641,7 @@ exited_left left h = grind (arith, nat_tests, nothing_left left.session.contexts
 
 pub exited_settled : (levels : List LevelState) (s : Scene) → Stands (settled levels s) → HasExited (exited (settled levels s)).scene
 unfolding exited
-exited_settled levels s h =
-    let r : HasRolled levels s = all_rolled levels s h in
-    subst (λ (z : Scene). HasExited (behind_rollback z)) (sym r.is) (exited_left r.left r.stands)
+exited_settled levels s h = grind (arith, nat_tests, all_rolled levels s h, exited_left (all_rolled levels s h).left (all_rolled levels s h).stands)
 
 -- An exit leads from each of them to a session without levels, owners and contexts.
 pub exited_stands : (scene : Scene) → Stands scene → HasExited (exited scene).scene

@@ -1,5 +1,5 @@
 -- What guarded forests with one root keep, and what stays in them where an unprotected node goes.
-use Rattle.session_rules.proofs.Base.{◌≡◌, ◌≢◌, ℕ, Bool, true, false, Some, None, refl, sym, ◌∙◌, option_map_or, cases_Bool, eq-eqb, ne_eqb, both_ways, false_from_ne_true, arith, nat_tests}
+use Rattle.session_rules.proofs.Base.{◌≡◌, ◌≢◌, ℕ, Bool, true, false, Some, None, option_map_or, cases_Bool, eq-eqb, ne_eqb, both_ways, false_from_ne_true, arith, nat_tests}
 use Rattle.session_rules.proofs.Below.{apart_of, at_absent, at_some, has_at, put_absent, children_absent, Forest, Empty, Node, has, Once, at, children, is_root, parent_of, put, removed, changed, moved, with_children, AllNodes, parent_root}
 use Rattle.session_rules.proofs.Rules.{AreGuarded, IsRooted}
 use Rattle.session_rules.proofs.Forests.{at_children}
@@ -83,20 +83,16 @@ module _ {A : Type 0} (own : A → Bool) where
 
   -- the only root
   pub rooted_removed : (top n : ℕ) (t : Forest A) → n ≢ top → IsRooted own top t → IsRooted own top (removed n t)
-  rooted_removed top n Empty ne h = h
-  rooted_removed top n (Node k a below beside) ne h = rw (ne_eqb k n (λ e. ne (sym e ∙ h.0)), h.2) (h.0, h.1, refl)
+  rooted_removed top n t ne h = grind (arith, nat_tests, ne_eqb)
 
   pub rooted_emptied : (top n : ℕ) (t : Forest A) → IsRooted own top t → IsRooted own top (with_children n Empty t)
-  rooted_emptied top n Empty h = h
-  rooted_emptied top n (Node k a below beside) h = rw h.2 (h.0, h.1, refl)
+  rooted_emptied top n t h = grind (arith, nat_tests)
 
   pub rooted_put : (top p n : ℕ) (a : A) (sub t : Forest A) → IsRooted own top t → IsRooted own top (put p n a sub t)
-  rooted_put top p n a sub Empty h = h
-  rooted_put top p n a sub (Node k b below beside) h = rw h.2 (h.0, h.1, refl)
+  rooted_put top p n a sub t h = grind (arith, nat_tests)
 
   pub rooted_changed : (top n : ℕ) (f : A → A) (t : Forest A) → ((a : A) → own (f a) ≡ own a) → IsRooted own top t → IsRooted own top (changed n f t)
-  rooted_changed top n f Empty keeps h = h
-  rooted_changed top n f (Node k a below beside) keeps h = grind (arith, keeps a)
+  rooted_changed top n f t keeps h = grind (arith, nat_tests)
 
   pub rooted_moved : (top n p : ℕ) (t : Forest A) → n ≢ top → IsRooted own top t → IsRooted own top (moved n p t)
   rooted_moved top n p t ne h = grind (arith, rooted_put top p n, rooted_removed top n t ne h)
@@ -106,16 +102,13 @@ module _ {A : Type 0} (own : A → Bool) where
 
   -- what is known of that root
   pub top_own : (top : ℕ) (t : Forest A) → IsRooted own top t → is_own top t ≡ true
-  top_own top Empty h = absurd h
-  top_own top (Node k a below beside) h = rw (eq-eqb k top h.0) h.1
+  top_own top t h = grind (arith, nat_tests, eq-eqb)
 
   pub top_root : (top : ℕ) (t : Forest A) → IsRooted own top t → is_root top t ≡ true
-  top_root top Empty h = absurd h
-  top_root top (Node k a below beside) h = rw (eq-eqb k top h.0) refl
+  top_root top t h = grind (arith, nat_tests, eq-eqb)
 
   pub top_parent : (top : ℕ) (t : Forest A) → Once t → IsRooted own top t → parent_of top t ≡ None
   top_parent top t o h = parent_root top t o (top_root top t h)
 
   pub all_gone : (top : ℕ) (t : Forest A) → IsRooted own top t → removed top t ≡ Empty
-  all_gone top Empty h = refl
-  all_gone top (Node k a below beside) h = rw (eq-eqb k top h.0, h.2) refl
+  all_gone top t h = grind (arith, nat_tests, eq-eqb)

@@ -1,5 +1,5 @@
 -- How often owners hold a kind and key, behind each change of them, and what a phase of a release gives back of it.
-use Rattle.session_rules.proofs.Base.{◌≡◌, ℕ, ◌+◌, find, Bool, true, false, Option, Some, None, List, [], ◌∷◌, ◌++◌, refl, arith, ◌==◌, ◌||◌, if◌then◌else◌, cases_Bool, or_parts, nat_tests, common_steps}
+use Rattle.session_rules.proofs.Base.{◌≡◌, ℕ, ◌+◌, find, Bool, true, false, Option, Some, List, [], ◌∷◌, ◌++◌, refl, arith, ◌==◌, ◌||◌, if◌then◌else◌, cases_Bool, or_parts, nat_tests, common_steps}
 use Rattle.session_rules.proofs.Below.{Item, KindId, Phase, BeforeLocks, Locks, AfterLocks, Empty, Node, Once, has, at, children, moved, parent_of, put, removed, AllNodes, all_changed, swept, Moves, apart_of, at_some, at_absent, removed_absent, KindTable, release_order, Step, GivesBack, lock_step, own_steps, release_steps, releases_of, steps_below, top_locks, is_of, uses, count-without, Owner, OwnerTree, AllAt, HoldsNothing, forgotten, remembered, left_of, own_released, released, total, uses_phase, held_changed, total_moved, total_removed}
 use Rattle.owner_core.specs.Owners.{created, held}
 
@@ -18,8 +18,7 @@ module _ (kind : KindId) (key : ℕ) where
 
   -- a new owner holds nothing
   pub held_created : (parent : Option ℕ) (n : ℕ) (t : OwnerTree) → held kind key (created parent n t) ≡ held kind key t
-  held_created None n t = omega arith
-  held_created (Some p) n t = held_put p n t
+  held_created parent n t = grind (arith, nat_tests, held_put)
 
   -- an owner and those below it
   held_parts : (n : ℕ) (a : Owner) (t : OwnerTree) → Once t → at n t ≡ Some a
@@ -85,17 +84,13 @@ module _ (kind : KindId) (key : ℕ) where
   gives_own kinds AfterLocks commit n owner locks none = omega (arith, gives_releases commit n (release_order kinds AfterLocks owner.items), uses_phase kind key kinds AfterLocks owner.items)
 
   lock_gives : (commit : Bool) (n parent : ℕ) → given (lock_step commit n parent) ≡ 0
-  lock_gives true n parent = refl
-  lock_gives false n parent = refl
+  lock_gives commit n parent = grind (arith, nat_tests)
 
   locks_give : (top commit : Bool) (n parent : ℕ) → gives (if top then [] else lock_step commit n parent ∷ []) ≡ 0
-  locks_give true commit n parent = refl
-  locks_give false commit n parent = omega (arith, lock_gives commit n parent)
+  locks_give top commit n parent = grind (arith, nat_tests, lock_gives commit n parent)
 
   top_gives : (top commit : Bool) (n : ℕ) (parent : Option ℕ) → gives (top_locks top commit n parent) ≡ 0
-  top_gives true commit n parent = refl
-  top_gives false commit n None = refl
-  top_gives false commit n (Some p) = omega (arith, lock_gives commit n p)
+  top_gives top commit n parent = grind (arith, nat_tests, lock_gives commit n)
 
   -- of the owners below one
   gives_below : (kinds : KindTable) (phase : Phase) (commit top : Bool) (parent : ℕ) (t : OwnerTree)

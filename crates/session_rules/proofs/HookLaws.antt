@@ -21,7 +21,7 @@ pub record KeepsCount (s t : Scene) (events : List What) : Type 0 where
   pub counts : IsNumbered s → Counted s (record { scene = t; events = events })
 
 not_of_hooks : (event : What) → is_apart event ≡ true → is_of_hooks event ≡ false
-not_of_hooks other h = grind (arith, nat_tests)
+not_of_hooks event h = grind (arith, nat_tests)
 
 apart_runs : {events : List What} → AreSaid is_apart events → Runs [] events
 apart_runs said_none = none_run
@@ -32,14 +32,7 @@ chunk_counts : (s : Scene) (n : ℕ) (f : Context → Context) → LeavesHooks f
 chunk_counts s n f h = grind (arith, nat_tests, numbered_changed n f s.session.contexts s.session.next_context, counted_kept s.session.contexts (changed n f s.session.contexts) s.around.shelf none_run, none_run, waiting_changed)
 
 made_counts : (parent : ℕ) (name : Text) (protected : Bool) (kind : CtxKind) (s : Scene) → KeepsCount s (context_made parent name protected kind s).scene (context_made parent name protected kind s).events
-made_counts parent name protected kind s =
-    let c : Context = new_context name kind protected in
-    record {
-      counts = λ k. record {
-        numbered = numbered_put parent s.session.next_context c s.session.contexts k;
-        hooks = counted_put parent s.session.next_context c s.session.contexts s.around.shelf k refl (more_runs (What.Create s.session.next_context name parent) refl none_run);
-      };
-    }
+made_counts parent name protected kind s = grind (arith, nat_tests, numbered_put parent s.session.next_context (new_context name kind protected) s.session.contexts, counted_put parent s.session.next_context (new_context name kind protected) s.session.contexts s.around.shelf, more_runs (What.Create s.session.next_context name parent) refl none_run, none_run)
 
 count_leaves : ContextLeaves KeepsCount
 count_leaves = record {
@@ -124,6 +117,4 @@ usual_turn_counts_hooks w line m u k =
 
 -- The end of a session counts hooks.
 pub exited_counts_hooks : (scene : Scene) → IsNumbered scene → CountsHooks scene (exited scene).scene (exited scene).events
-exited_counts_hooks scene k =
-    let all : KeepsCount scene (exited scene).scene (exited scene).events = exit_follows KeepsCount all_counts (record { so = λ s. record { counts = λ k. record { numbered = k; hooks = counted_same (more_runs What.Exit refl none_run) } } }) scene in
-    (all.counts k).hooks
+exited_counts_hooks scene k = grind (arith, nat_tests, exit_follows KeepsCount all_counts, all_counts, more_runs What.Exit refl none_run, none_run)

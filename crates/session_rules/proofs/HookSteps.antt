@@ -124,8 +124,7 @@ pub counted_kept : (t u : Contexts) (x : ShelfState) {events : List What} → Ru
 counted_kept t u x h same = record { counts = kept_count t u x h same; out = λ _. omega (arith, same (λ _. 1), ones (waiting t), ones (waiting u)) }
 
 pub waiting_changed : (g : Hook → ℕ) (n : ℕ) (f : Context → Context) (t : Contexts) → ((c : Context) → (f c).hooks ≡ c.hooks) → sum_by g (waiting (changed n f t)) ≡ sum_by g (waiting t)
-waiting_changed g n f t same =
-    omega (arith, sum_waiting g t, sum_waiting g (changed n f t), sum_same (of_context g) n f t (λ c. ap (sum_by g) (same c)))
+waiting_changed g n f t same = grind (arith, nat_tests, sum_waiting g t, sum_waiting g (changed n f t), sum_same (of_context g) n f t)
 
 -- a context is made
 pub waiting_put : (g : Hook → ℕ) (p n : ℕ) (c : Context) (t : Contexts) → Once t → c.hooks ≡ [] → sum_by g (waiting (put p n c Empty t)) ≡ sum_by g (waiting t)
@@ -139,8 +138,7 @@ counted_put p n c t x k none h = counted_kept t (put p n c Empty t) x h (λ g. w
 
 -- a context moves
 still_moves : (b : Bool) (n p : ℕ) → Runs [] (move_events b n p)
-still_moves true n p = none_run
-still_moves false n p = more_runs (What.Move n p) refl none_run
+still_moves b n p = grind (arith, nat_tests, none_run, more_runs (What.Move n p) refl none_run)
 
 pub counted_moved : (n p : ℕ) (s : Scene) → IsNumbered s → has n s.session.contexts ≡ true → has p s.session.contexts ≡ true → is_within n p s.session.contexts ≡ false
     → Counted s (context_moved n p s)
@@ -169,8 +167,7 @@ counted_moved n p s k node there out = go (is_child n p s.session.contexts)
 
 -- a hook of the shelf is registered with a context that is there
 one_waits : (g : Hook → ℕ) (n : ℕ) (f : Context → Context) (hook : Hook) (c : Context) (t : Contexts) → Once t → at n t ≡ Some c → (f c).hooks ≡ hook ∷ c.hooks → sum_by g (waiting (changed n f t)) ≡ sum_by g (waiting t) + g hook
-one_waits g n f hook c t o there more =
-    omega (arith, sum_waiting g, sum_changed (of_context g) n f c t o there, ap (sum_by g) more, sum_by-cons g hook c.hooks)
+one_waits g n f hook c t o there more = grind (arith, nat_tests, sum_waiting g, sum_changed (of_context g) n f c t o there, sum_by-cons g hook c.hooks)
 
 waits_count : (n : ℕ) (f : Context → Context) (hook : Hook) (c : Context) (t : Contexts) (x : ShelfState) (fresh : List Hook) → Once t → at n t ≡ Some c → (f c).hooks ≡ hook ∷ c.hooks → x.fresh ≡ hook ∷ fresh
     → HookCount (waiting t ++ held x) (waiting t ++ x.spent) (waiting (changed n f t) ++ (drop 1 x.fresh ++ x.spent)) (waiting (changed n f t) ++ x.spent) (What.Hook hook.word n ∷ [])
@@ -197,8 +194,7 @@ counted_waits n f hook c t x fresh o there more is = grind (arith, nat_tests, wa
 
 -- the first of the fresh ones
 pub first_fresh : (xs : List Hook) (hook : Hook) → first_of xs ≡ Some hook → (ys : List Hook) × (xs ≡ hook ∷ ys)
-first_fresh [] hook e = absurd (cc e)
-first_fresh (y ∷ ys) hook e = let same : y ≡ hook = cc e in (ys, ap (λ (h : Hook). h ∷ ys) same)
+first_fresh xs hook e = grind (arith, nat_tests)
 
 pub counted_hook : (n : ℕ) (hook : Hook) (s : Scene) → IsNumbered s → has n s.session.contexts ≡ true → first_of s.around.shelf.fresh ≡ Some hook → Counted s (hook_waits n hook s)
 counted_hook n hook s k there first =

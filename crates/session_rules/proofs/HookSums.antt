@@ -28,14 +28,10 @@ is_of_hooks (What.Hook word context) = true
 is_of_hooks other = false
 
 no_callback : (n : ℕ) (x : What) → is_of_hooks x ≡ false → is_callback n x ≡ false
-no_callback n (What.Callback word context) h = absurd (cc h)
-no_callback n (What.Hook word context) h = refl
-no_callback n other h = refl
+no_callback n x h = grind (arith, nat_tests)
 
 no_hook : (n : ℕ) (x : What) → is_of_hooks x ≡ false → is_registered n x ≡ false
-no_hook n (What.Callback word context) h = refl
-no_hook n (What.Hook word context) h = absurd (cc h)
-no_hook n other h = refl
+no_hook n x h = grind (arith, nat_tests)
 
 pub callbacks_cons : (n : ℕ) (x : What) (xs : List What) → callbacks_of n (x ∷ xs) ≡ cond (is_callback n x) 1 0 + callbacks_of n xs
 callbacks_cons n x xs = sum_by-cons (λ y. cond (is_callback n y) 1 0) x xs

@@ -1,6 +1,6 @@
 -- The steps by which the deepest level's owner takes an item and gives one back lead from a session that stands to one that stands.
 use Rattle.session_rules.proofs.Base.{◌≡◌, ◌≢◌, ℕ, ◌+◌, ◌-◌, ◌<◌, ◌≤◌, ◌++◌, find, length, Bool, true, Option, Some, None, List, [], ◌∷◌, refl, sym, ap, ◌∙◌, subst, inl, inr, arith, ◌==◌, if◌then◌else◌, option_map_or, option_and_then, eq-eqb, ne_eqb, nat_tests, All-cons, All-weaker, false, All, codes, is_none, not, length-map, All-nil, All-head, All-tail, All-push}
-use Rattle.session_rules.proofs.Below.{Once, has, changed, at_some, has_changed, parent_changed, Item, KindId, Mode, Contexts, table_of, is_of, without_newest, Owner, OwnerTree, forgotten, remembered, IsSound, Empty, Error, created, is_protected, new_context, What, ReferenceClass, Relcache, class_kind, Kind, changed_at, opened, KindTable, IsExtension, row, IsSoundTable, table-opened, All-without, once_of, sound_forgotten, sound_remembered, acquired, CtxKind}
+use Rattle.session_rules.proofs.Below.{Once, has, changed, at_some, has_changed, parent_changed, Item, KindId, Mode, Contexts, table_of, is_of, without_newest, Owner, OwnerTree, forgotten, remembered, IsSound, Empty, Error, created, is_protected, new_context, What, ReferenceClass, class_kind, Kind, changed_at, opened, KindTable, IsExtension, row, IsSoundTable, table-opened, All-without, once_of, sound_forgotten, sound_remembered, acquired, CtxKind}
 use Rattle.session_rules.proofs.Rules.{LevelState, StandingPlan, buffer_pin, file_kind, first_of, level_owner, plan_reference, snapshot_reference, Scene, Moment, OfLevel, Text, changes, in_order, say, where_there, Keeper, NoOne, TheKind, given_back, keeper_of, descriptor_given, item_taken, lock_taken, remembers, taken_by, at_kind, at_owner, does, AreLevels, AreOwners, ArePlans, HasItems, IsItem, IsPlan, IsWorking, Stands, references_of, referred, cache_context, plan_at, unless, plan_becomes, plan_made, AreApart, Differ, IsPlace, Element, kind_from, kind_named, newest, plan_changed, owner_in, OwnerRole}
 use Rattle.session_rules.proofs.Kept.{all_changed, levels_stay, no_value, held_forgotten, held_remembered, Split, all_replaced, changed_is, counted_at, plans_replaced, split, IsOther, levels_apart, plans_counted, attached_by, place_spared, portals_by, IsRowOf, own_rows, row_of, row_put, lone_changed, lone_put, Besides, Fits, IsApart, Settles, Spares, besides_of, item_settles, spares_same, with_besides, becomes, Tables, tabled, tables_of, children_put, Stay, contexts_created, has_created, is_unused, new_parent, new_protected, protected_has, stay_created, hooks_put}
 use Rattle.lock_local.specs.Changes as locks
@@ -145,16 +145,13 @@ owner_there (level ∷ levels) t x n l e = (l.0.owner n e).there
 
 -- a reference is an item of a known kind that nothing but owners keeps count of
 pub class_unkept : (class : ReferenceClass) → keeper_of (class_kind class) ≡ NoOne
-class_unkept Relcache = refl
-class_unkept other = refl
+class_unkept class = grind (arith, nat_tests)
 
 pub class_other : (class : ReferenceClass) → (class_kind class).0 ≢ 5
-class_other Relcache = λ z. absurd (omega (arith, z))
-class_other other = λ z. absurd (omega (arith, z))
+class_other class = grind (arith, nat_tests)
 
 pub class_item : (kinds : KindTable) (class : ReferenceClass) (key serial : ℕ) → IsItem kinds (record { kind = class_kind class; key = key; serial = serial })
-class_item kinds Relcache key serial = record { kind = inl (record { from = omega arith; to = omega arith }); buffer = λ e. absurd (omega (arith, e)) }
-class_item kinds other key serial = record { kind = inl (record { from = omega arith; to = omega arith }); buffer = λ e. absurd (omega (arith, e)) }
+class_item kinds class key serial = grind (arith, nat_tests)
 
 -- so are a registered snapshot and a file
 pub snapshot_item : (kinds : KindTable) (snapshot serial : ℕ) → IsItem kinds (record { kind = snapshot_reference; key = snapshot; serial = serial })
@@ -343,18 +340,15 @@ dropped_step s n p h working stands =
 
 -- what the checks say
 pub is_new : (o : Option StandingPlan) (error : Error) → unless (is_none o) error ≡ None → o ≡ None
-is_new None error e = refl
-is_new (Some p) error e = absurd (cc e)
+is_new o error e = grind (arith, nat_tests)
 
 pub is_standing : (o : Option StandingPlan) (error : Error) → unless (option_map_or (λ p. not p.discarded) o false) error ≡ None → (p : StandingPlan) × (o ≡ Some p)
-is_standing None error e = absurd (cc e)
-is_standing (Some p) error e = (p, refl)
+is_standing o error e = grind (arith, nat_tests)
 
 module _ (w : Option ℕ) (moment : Moment) (h : Stands moment.scene) (working : IsWorking moment.scene.session.levels) where
   pub make_plan_works : (n : ℕ) → plan_at n moment.scene.session.plans ≡ None → Works moment.scene (does w (Element.MakePlan n) moment).moment.scene
   unfolding does
-  make_plan_works n free =
-      fallible_keeps (Works moment.scene) w moment _ (plan_made n) (nothing_works moment.scene h) (λ _. record { stands = made_step moment.scene n h working free; levels = refl; at_rest = λ r. r })
+  make_plan_works n free = grind (arith, nat_tests, fallible_keeps, nothing_works, made_step)
 
   pub drop_plan_works : (n : ℕ) → Works moment.scene (does w (Element.DropPlan n) moment).moment.scene
   unfolding does

@@ -1,25 +1,21 @@
 -- A call that is refused for want of memory changes nothing of what was done before it.
-use Rattle.session_rules.proofs.Base.{◌≡◌, ℕ, ◌+◌, ◌≤◌, false, List, [], ◌∷◌, ◌++◌, Option, Some, None, refl, ap, subst, arith, nat_tests}
+use Rattle.session_rules.proofs.Base.{◌≡◌, ℕ, ◌+◌, ◌≤◌, false, List, [], ◌∷◌, Option, None, refl, arith, nat_tests}
 use Rattle.session_rules.proofs.Below.{Error, Command}
 use Rattle.session_rules.proofs.Rules.{Scene, Moment, Element, Text, Ended, failure, does, does_all, failing_turn, then_done, turn, turn_of, line_elements, Done, IsLater, is_call, fallible, unless_refused, refused_call}
 
 -- a later call is none of those that were made
 later_is_no_call : (w : Option ℕ) (call : ℕ) → IsLater call w → is_call w call ≡ false
-later_is_no_call None call l = refl
-later_is_no_call (Some n) call l = grind (arith, nat_tests)
+later_is_no_call w call l = grind (arith, nat_tests)
 
 later_than_less : (w : Option ℕ) (a b : ℕ) → IsLater b w → a ≤ b → IsLater a w
-later_than_less None a b l h = tt
-later_than_less (Some n) a b l h = omega arith
+later_than_less w a b l h = grind (arith, nat_tests)
 
 -- a step counts its call, whatever becomes of it
 refused_calls : (refusal : Option Error) (moment : Moment) (act : Scene → Ended) → (unless_refused refusal moment act).moment.calls ≡ moment.calls
-refused_calls None moment act = refl
-refused_calls (Some error) moment act = refl
+refused_calls refusal moment act = grind (arith, nat_tests)
 
 fallible_calls : (w : Option ℕ) (moment : Moment) (own : Option Error) (act : Scene → Ended) → (fallible w moment own act).moment.calls ≡ moment.calls + 1
-fallible_calls w moment own act =
-    refused_calls (refused_call w moment.fail (moment.calls + 1) own) (record moment { calls = moment.calls + 1 }) act
+fallible_calls w moment own act = grind (arith, nat_tests, refused_calls (refused_call w moment.fail (moment.calls + 1) own))
 
 refused_counts : (refusal : Option Error) (moment : Moment) (act : Scene → Ended) → moment.calls ≤ (unless_refused refusal moment act).moment.calls
 refused_counts refusal moment act = omega (arith, refused_calls refusal moment act)
@@ -29,13 +25,11 @@ fallible_counts w moment own act = omega (arith, fallible_calls w moment own act
 
 fallible_later : (w : Option ℕ) (moment : Moment) (own : Option Error) (act : Scene → Ended)
     → IsLater (fallible None moment own act).moment.calls w → fallible w moment own act ≡ fallible None moment own act
-fallible_later w moment own act l =
-    rw (later_is_no_call w (moment.calls + 1) (subst (λ (n : ℕ). IsLater n w) (fallible_calls None moment own act) l)) refl
+fallible_later w moment own act l = grind (arith, nat_tests, later_is_no_call w (moment.calls + 1), fallible_calls None moment own act)
 
 -- whether an element of a turn was refused or not, it made as many calls
 turn_calls : (name : Text) (done : Done) (refusal : Option Error) → (failing_turn name done refusal).moment.calls ≡ done.moment.calls
-turn_calls name done None = refl
-turn_calls name done (Some error) = refl
+turn_calls name done refusal = grind (arith, nat_tests)
 
 -- No element makes the count of calls fall.
 pub does_counts : (w : Option ℕ) (element : Element) (moment : Moment) → moment.calls ≤ (does w element moment).moment.calls
@@ -81,8 +75,7 @@ does_later w other moment l = refl
 -- The calls do not fall over several elements either.
 then_counts : (calls : ℕ) (done : Done) (refusal : Option Error) (rest : Moment → Done) → calls ≤ done.moment.calls
     → ((moment : Moment) → moment.calls ≤ (rest moment).moment.calls) → calls ≤ (then_done done refusal rest).moment.calls
-then_counts calls done None rest h goes = omega (arith, h, goes done.moment)
-then_counts calls done (Some error) rest h goes = h
+then_counts calls done refusal rest h goes = grind (arith, nat_tests)
 
 pub does_all_counts : (w : Option ℕ) (elements : List Element) (moment : Moment) → moment.calls ≤ (does_all w elements moment).moment.calls
 unfolding does_all
@@ -97,8 +90,7 @@ then_later : (w : Option ℕ) (done : Done) (refusal : Option Error) (rest rest'
     → IsLater (then_done done refusal rest).moment.calls w
     → ((moment : Moment) → IsLater (rest moment).moment.calls w → rest' moment ≡ rest moment)
     → then_done done refusal rest' ≡ then_done done refusal rest
-then_later w done None rest rest' l same = ap (λ (d : Done). record { moment = d.moment; events = done.events ++ d.events; refusal = d.refusal }) (same done.moment l)
-then_later w done (Some error) rest rest' l same = refl
+then_later w done refusal rest rest' l same = grind (arith, nat_tests)
 
 -- The same of elements in order.
 pub does_all_later : (w : Option ℕ) (elements : List Element) (moment : Moment) → IsLater (does_all None elements moment).moment.calls w
@@ -109,8 +101,7 @@ does_all_later w (element ∷ elements) moment l = grind (arith, nat_tests, does
 
 -- A recovery makes no call.
 turn_of_calls : (done : Done) (refusal : Option Error) → (turn_of done refusal).moment.calls ≡ done.moment.calls
-turn_of_calls done None = refl
-turn_of_calls done (Some error) = refl
+turn_of_calls done refusal = grind (arith, nat_tests)
 
 -- The same of a line.
 pub turn_later : (w : Option ℕ) (command : Option Command) (moment : Moment) → IsLater (turn None command moment).moment.calls w

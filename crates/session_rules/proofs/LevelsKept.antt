@@ -10,8 +10,7 @@ use Rattle.session_rules.proofs.Releasing.{HasSwept, swept_by, holds_nothing, st
 
 -- what is there
 pub is_there : (o : Option ℕ) → is_some o ≡ true → (n : ℕ) × (o ≡ Some n)
-is_there None h = absurd (cc h)
-is_there (Some n) h = (n, refl)
+is_there o h = grind (arith, nat_tests)
 
 pub one_value : (o : Option ℕ) (m n : ℕ) → o ≡ Some m → o ≡ Some n → m ≡ n
 one_value o m n a b = let z : Some m ≡ Some n = sym a ∙ b in cc z
@@ -54,7 +53,7 @@ levels_stay (level ∷ levels) t u x y a b h = (
 
 -- the parent of a context of the levels is one of theirs or the topmost one
 pub context_above : (levels : List LevelState) → AreOuter levels → (P : Type 0) → (level_parent (first_of levels) ≡ top_context → P) → (IsContext (level_parent (first_of levels)) levels → P) → P
-context_above x0 h x2 top one = grind (arith, nat_tests, is_there)
+context_above levels h P top one = grind (arith, nat_tests, is_there)
 
 -- the contexts of the levels above aren't within a newer context
 pub outer_contexts : (levels : List LevelState) (t : Contexts) (x : OwnerTree) (next p : ℕ) → AreContexts t next → AreLevels levels t x → AreOuter levels → abort_context < p → level_parent (first_of levels) < p
@@ -174,10 +173,4 @@ left_nothing kinds p owners now sound left items =
 
 -- a release leaves the owners where they are
 pub left_still : (kinds : KindTable) (o : Option ℕ) (owners now : OwnerTree) → HasLeft kinds o owners now → (m : ℕ) → has m owners ≡ true → IsStill m owners now
-left_still kinds None owners now left m there = record { there = ap (has m) left ∙ there; parent = ap (parent_of m) left }
-left_still kinds (Some p) owners now left m there =
-    let f : Owner → Owner = swept_by kinds in
-    record {
-      there = ap (has m) left.is ∙ has_swept f m p owners ∙ there;
-      parent = ap (parent_of m) left.is ∙ parent_swept f m p owners;
-    }
+left_still kinds o owners now left m there = grind (arith, nat_tests, has_swept (swept_by kinds) m, parent_swept (swept_by kinds) m)

@@ -1,5 +1,5 @@
 -- What a law owes for a hook that waits and a context that moves, where it is kept in a scene that stands.
-use Rattle.session_rules.proofs.Base.{◌≡◌, ℕ, true, false, Option, Some, None, refl, arith, nat_tests}
+use Rattle.session_rules.proofs.Base.{◌≡◌, ℕ, true, false, Option, Some, None, arith, nat_tests}
 use Rattle.session_rules.proofs.Below.{has, Hook, is_protected, is_within, Protected, Cycle}
 use Rattle.session_rules.proofs.Rules.{first_of, Moment, Scene, Element, Text, context_named, Ended, where_there, failure, context_moved, Stands, hook_waits, does, Check}
 use Rattle.session_rules.proofs.Leaves.{Acts, Law, OwesMoves}
@@ -20,8 +20,7 @@ pub record StandingMoves (R : Law) : Type 0 where
 
 module _ (R : Law) (a : Acts R) (v : StandingMoves R) where
   at_some : {A : Type 0} (o : Option A) (act : A → Scene → Ended) (s : Scene) → ((x : A) → o ≡ Some x → R s (act x s).scene (act x s).events) → R s (where_there o act s).scene (where_there o act s).events
-  at_some None act s h = a.none s
-  at_some (Some x) act s h = h x refl
+  at_some o act s h = grind (arith, nat_tests)
 
   may_go : (s : Scene) (n p : ℕ) → Stands s → (name parent : Text) → failure (Check.MayMove name parent) s ≡ None → context_named name s.session ≡ Some n → context_named parent s.session ≡ Some p → MayGo n p s
   may_go s n p h name parent ok is q = grind (arith, nat_tests, checked name s.session, both_none (is_protected n s.session.contexts) (is_within n p s.session.contexts) Protected Cycle, named_there name s n h is, named_there parent s p h q)

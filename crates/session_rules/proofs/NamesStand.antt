@@ -1,6 +1,6 @@
 -- The steps on contexts of a name lead from a session that stands to one that stands.
 use Rattle.session_rules.proofs.Base.{◌≡◌, ◌≢◌, ◌⊎◌, ℕ, ◌+◌, Bool, true, false, Option, Some, None, List, [], ◌∷◌, ◌++◌, refl, sym, ap, ◌∙◌, subst, inl, inr, arith, ◌==◌, reverse, if◌then◌else◌, codes, option_map, option_and_then, eq-eqb, both_ways, or_parts, nat_tests, reverse-append}
-use Rattle.session_rules.proofs.Below.{Empty, Node, Once, children, has, is_above, moved, removed, with_children, Moves, apart_of, at_absent, at_some, has_changed, Hook, taken, CtxKind, Context, Contexts, created, is_protected, new_context, reparented, OwnerTree, is_text, registered, is_within, set_parent_refusal, TreeError, Protected, Cycle}
+use Rattle.session_rules.proofs.Below.{Empty, Node, Once, children, has, is_above, removed, with_children, Moves, apart_of, at_absent, at_some, has_changed, Hook, taken, CtxKind, Context, Contexts, created, is_protected, new_context, reparented, OwnerTree, is_text, registered, is_within, set_parent_refusal, TreeError, Protected, Cycle}
 use Rattle.session_rules.proofs.Rules.{LevelState, SessionState, cache_context, context_of, first_of, last_of, level_context, top_context, Scene, Moment, Text, context_named, context_made, new_context_made, at_context, context_moved, hook_waits, does, AreContexts, AreHooks, AreLevels, IsPlace, IsRow, IsWorking, Stands, referred, Check, Element, NewContext, Ended, of_contexts, children_gone, context_cleared, context_cleared_alone, context_gone, switched, where_there, failure, refusal_at, tree_error}
 use Rattle.session_rules.proofs.Kept.{has_emptied, has_left, once_left, hooks_ended, hooks_put, hooks_taken, hooks_reparented, parts_alone, parts_children, parts_cleared, parts_gone, IsContext, no_value, one_value, lone_changed, lone_emptied, lone_left, lone_moved, lone_put, IsCached, levels_other, own_other, plans_current, place_current, place_level, place_own, place_same, portals_moved, row_changed, row_emptied, row_free, row_left, row_put, Stay, apart, contexts_alone, contexts_changed, contexts_children_gone, contexts_created, contexts_gone, contexts_reparented, has_alone, has_created, has_reparented, moves_by, protected_has, same_removed, stay_alone, stay_changed, stay_children_gone, stay_created, stay_gone, stay_on, stay_reparented, stay_same, top_protected, by_alone, by_reparented}
 use Rattle.context_rules.specs.Contexts as rules
@@ -77,8 +77,7 @@ row_alone t once k m expr current h = by_alone (λ u. IsRow expr (children m u))
 
 row_reparented : (m : ℕ) (expr : Option ℕ) (n p : ℕ) (t : Contexts) (next current : ℕ) → AreContexts t next → Moves n p t → m ≢ n → has m (children n t) ≡ false → is_protected n t ≡ false → IsPlace m expr t p → IsPlace m expr t current
     → IsRow expr (children m (reparented n p t))
-row_reparented m expr n p t next current contexts moves ne out free named k =
-    grind (arith, nat_tests, at_some n t moves.node, place_same m expr t (removed n t) current (same_removed t next contexts m n (ne, out) k.protected) (row_left t contexts.once m expr current k n ne out (row_free t contexts.once n free m expr current k)) k, same_removed t next contexts m n (ne, out) k.protected, row_left t contexts.once m expr current k n ne out (row_free t contexts.once n free m expr current k), row_free t contexts.once n free m expr current k, moved n p t, row_put (removed n t) (once_left n t contexts.once) m expr current, once_left n t contexts.once, by_reparented)
+row_reparented m expr n p t next current contexts moves ne out free named k = grind (arith, nat_tests, at_some n t moves.node, place_same m expr t (removed n t) current (same_removed t next contexts m n (ne, out) k.protected) (row_left t contexts.once m expr current k n ne out (row_free t contexts.once n free m expr current k)) k, same_removed t next contexts m n (ne, out) k.protected, row_left t contexts.once m expr current k n ne out (row_free t contexts.once n free m expr current k), row_free t contexts.once n free m expr current k, row_put (removed n t) (once_left n t contexts.once) m expr current, once_left n t contexts.once, by_reparented)
 
 -- a node without children has none behind a reset, nor where another one moves
 lone_alone : (m n : ℕ) (t : Contexts) → children m t ≡ Empty → children m (ends.cleared_alone n t).contexts ≡ Empty
@@ -89,22 +88,17 @@ lone_reparented m n p t once moves other ne out e = by_reparented (λ u. childre
 
 -- what the checks say
 no_error : (o : Option TreeError) → option_map tree_error o ≡ None → o ≡ None
-no_error None e = refl
-no_error (Some x) e = let z : Some (tree_error x) ≡ None = e in absurd (cc z)
+no_error o e = grind (arith, nat_tests)
 
 pub both_none : (a b : Bool) (x y : TreeError) → refusals.first_of (refusals.where_so a x) (refusals.where_so b y) ≡ None → (a ≡ false) × (b ≡ false)
-both_none true b x y e = absurd (cc e)
-both_none false true x y e = absurd (cc e)
-both_none false false x y e = (refl, refl)
+both_none a b x y e = grind (arith, nat_tests)
 
 pub checked : (name : Text) (s : SessionState) (refusal : ℕ → Option TreeError) (n : ℕ) → context_named name s ≡ Some n → refusal_at name s refusal ≡ None → refusal n ≡ None
-checked name s refusal n is e =
-    no_error (refusal n) (ap (λ (o : Option ℕ). option_map tree_error (option_and_then refusal o)) (sym is) ∙ e)
+checked name s refusal n is e = grind (arith, nat_tests, no_error (refusal n))
 
 -- an act on a context that a name leads to
 pub at_name : {A : Type 0} (P : Scene → Type 0) (o : Option A) (act : A → Scene → Ended) (s : Scene) → P s → ((n : A) → o ≡ Some n → P (act n s).scene) → P (where_there o act s).scene
-at_name P None act s before behind = before
-at_name P (Some n) act s before behind = behind n refl
+at_name P o act s before behind = grind (arith, nat_tests)
 
 -- what became of contexts
 ended_step : (s : Scene) → Stands s → IsWorking s.session.levels → (ended : ends.Ended) → AreContexts ended.contexts s.session.next_context → Stay s.session.contexts ended.contexts → has s.session.current ended.contexts ≡ true

@@ -1,5 +1,5 @@
 -- A session that opens stands.
-use Rattle.session_rules.proofs.Base.{◌≡◌, ℕ, zero, suc, ◌≤◌, ◌<◌, true, refl, arith, nat_tests}
+use Rattle.session_rules.proofs.Base.{◌≡◌, ℕ, ◌≤◌, ◌<◌, true, arith, nat_tests}
 use Rattle.session_rules.proofs.Below.{Once, has, AreDistinct, table_of}
 use Rattle.session_rules.proofs.Rules.{abort_context, opening, Around, AreContexts, IsOfSession, StandsBetweenLines}
 use Rattle.reset_callbacks.specs.ShelfState as shelf
@@ -13,13 +13,7 @@ first_below : (n : ℕ) → has n contexts.opening ≡ true → n < 6
 first_below n h = grind (arith, nat_tests)
 
 first_own : (n : ℕ) → 1 < n → n ≤ abort_context → IsOfSession n contexts.opening
-first_own zero l u = absurd (omega arith)
-first_own (suc zero) l u = absurd (omega arith)
-first_own (suc (suc zero)) l u = record { protected = refl; parent = refl }
-first_own (suc (suc (suc zero))) l u = record { protected = refl; parent = refl }
-first_own (suc (suc (suc (suc zero)))) l u = record { protected = refl; parent = refl }
-first_own (suc (suc (suc (suc (suc zero))))) l u = record { protected = refl; parent = refl }
-first_own (suc (suc (suc (suc (suc (suc n)))))) l u = absurd (omega arith)
+first_own n l u = grind (arith, nat_tests)
 
 first_contexts : AreContexts contexts.opening 6
 first_contexts = grind (arith, nat_tests, first_once, first_below, first_own)

@@ -1,5 +1,5 @@
 -- Elements, recoveries and ends say no ERROR event of themselves, nor that the session ends.
-use Rattle.session_rules.proofs.Base.{◌≡◌, ℕ, Bool, true, false, not, List, [], ◌∷◌, Option, refl}
+use Rattle.session_rules.proofs.Base.{◌≡◌, ℕ, Bool, true, false, not, List, [], ◌∷◌, Option, refl, arith, nat_tests}
 use Rattle.session_rules.proofs.Below.{What}
 use Rattle.session_rules.proofs.Rules.{is_aborted, Moment, Scene, Element, context_gone, for_each, in_order, where_so, given_up, level_rolled_back, does_all}
 use Rattle.session_rules.proofs.Leaves.{AreSpoken, EndLeaves, Follows, MakeLeaves, MoveLeaves, is_level_word, is_word, runs_anyhow}
@@ -15,14 +15,10 @@ is_ordinary What.Exit = false
 is_ordinary other = true
 
 word_ordinary : (event : What) → is_word event ≡ true → is_ordinary event ≡ true
-word_ordinary (What.Error error) h = absurd (cc h)
-word_ordinary What.Exit h = absurd (cc h)
-word_ordinary other h = refl
+word_ordinary event h = grind (arith, nat_tests)
 
 level_ordinary : (event : What) → is_level_word event ≡ true → is_ordinary event ≡ true
-level_ordinary (What.Error error) h = absurd (cc h)
-level_ordinary What.Exit h = absurd (cc h)
-level_ordinary other h = refl
+level_ordinary event h = grind (arith, nat_tests)
 
 -- the law that all are such ones
 pub record SaysOrdinary (s t : Scene) (events : List What) : Type 0 where

@@ -64,8 +64,7 @@ module _ (levels : List LevelState) (o q : ℕ) (t : Contexts) (x : OwnerTree) (
 
 pub plans_owner_moved : (s : Scene) (o q : ℕ) → Once s.session.owners → Moves o q s.session.owners → ArePlans s.session.plans s.session.contexts s.session.current (referred s.session.owners)
     → ArePlans s.session.plans s.session.contexts s.session.current (referred (moved o q s.session.owners))
-plans_owner_moved s o q once w h =
-    plans_counted s.session.plans s.session.contexts s.session.current (referred s.session.owners) (referred (moved o q s.session.owners)) (λ m. sym (held_moved plan_reference m o q s.session.owners once w)) h
+plans_owner_moved s o q once w h = grind (arith, nat_tests, plans_counted s.session.plans s.session.contexts s.session.current (referred s.session.owners) (referred (moved o q s.session.owners)), held_moved plan_reference)
 
 -- bounds of the levels of a portal
 pub record IsBounded (p : OpenPortal) (depth : ℕ) : Type 0 where

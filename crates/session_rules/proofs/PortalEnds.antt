@@ -224,8 +224,7 @@ owner_ends s name p o h working e owns =
 -- what goes then with it
 pub ended_same : (name : Text) (c : Option ℕ) (w : Scene) (ps : List OpenPortal) → portals_but name ps ≡ portals_but name w.session.portals
     → (in_order (where_there c context_gone ∷ portal_gone name ∷ []) (record w { session = record w.session { portals = ps } })).scene ≡ (in_order (where_there c context_gone ∷ portal_gone name ∷ []) w).scene
-ended_same name None w ps e = ap (λ (qs : List OpenPortal). record w { session = record w.session { portals = qs } }) e
-ended_same name (Some n) w ps e = ap (λ (qs : List OpenPortal). record (context_gone n w).scene { session = record (context_gone n w).scene.session { portals = qs } }) e
+ended_same name c w ps e = grind (arith, nat_tests)
 
 pub rest_works : (s t : Scene) (name : Text) (p : OpenPortal) → Stands s → IsWorking s.session.levels → portal_named name s.session.portals ≡ Some p → HasEnded s t name p
     → Works s (in_order (where_there p.context context_gone ∷ portal_gone p.name ∷ []) t).scene

@@ -153,8 +153,7 @@ pub rests_beside : (name : Text) (ps : List OpenPortal) → All IsAtRest ps → 
 rests_beside name ps h = All-weaker IsAtRest (RestsBeside name) (λ p r _. r) ps h
 
 pub beside_becomes : (name : Text) (f : OpenPortal → OpenPortal) (ps : List OpenPortal) → ((p : OpenPortal) → (f p).name ≡ p.name) → All (RestsBeside name) ps → All (RestsBeside name) (portal_changed name f ps)
-beside_becomes name f ps keeps h =
-    all_becomes name f (RestsBeside name) (RestsBeside name) ps (λ p y r n. absurd (both_ways (is_text p.name name) (sym (ap (λ (k : Text). is_text k name) (keeps p)) ∙ n) y)) (λ p _ r. r) h
+beside_becomes name f ps keeps h = grind (arith, nat_tests, all_becomes name f (RestsBeside name) (RestsBeside name) ps, both_ways)
 
 -- and then that one
 pub beside_rests : (name : Text) (f : OpenPortal → OpenPortal) (ps : List OpenPortal) → ((p : OpenPortal) → IsAtRest (f p)) → All (RestsBeside name) ps → All IsAtRest (portal_changed name f ps)

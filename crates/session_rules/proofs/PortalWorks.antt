@@ -1,7 +1,7 @@
 -- The elements of portals lead from a session that stands to one that stands, with its levels as they were.
 use Rattle.session_rules.proofs.Base.{◌≡◌, ◌≢◌, ℕ, true, false, Option, Some, None, List, [], ◌∷◌, length, refl, sym, ap, ◌∙◌, subst, inl, inr, option_and_then, arith, nat_tests}
-use Rattle.session_rules.proofs.Below.{has, Error, KindId, Mode, ScanStep, table_of, without, PortalState}
-use Rattle.session_rules.proofs.Rules.{OpenPortal, buffer_pin, Scene, Moment, Check, Element, InPortal, InRow, OfPortal, Text, newest, portal_changed, portal_named, context_cleared_alone, in_order, nothing, portal_becomes, where_there, Done, Keeper, NoOne, TheDescriptors, TheKind, ThePlans, item_released, keeper_of, left_to, scan_part, scanned, does, failing_turn, IsAtRest, IsFetched, IsItem, IsWorking, Stands}
+use Rattle.session_rules.proofs.Below.{has, Error, KindId, Mode, ScanStep, table_of, PortalState}
+use Rattle.session_rules.proofs.Rules.{OpenPortal, Scene, Moment, Check, Element, InPortal, InRow, OfPortal, Text, newest, portal_changed, portal_named, in_order, nothing, portal_becomes, where_there, Done, Keeper, NoOne, item_released, keeper_of, left_to, scan_part, scanned, does, failing_turn, IsAtRest, IsFetched, IsItem, IsWorking, Stands}
 use Rattle.session_rules.proofs.Kept.{rests_becomes}
 use Rattle.exec_core.specs.Turn.{taken}
 use Rattle.session_rules.proofs.ItemsStand.{give_step, lock_beside, take_beside}
@@ -12,10 +12,7 @@ pub use Rattle.session_rules.proofs.StepsStand.{Beside, nothing_beside}
 
 -- what is given back leaves the portals
 pub given_portals : (keeper : Keeper) (key : ℕ) (s : Scene) → (left_to keeper key s).scene.session.portals ≡ s.session.portals
-given_portals NoOne key s = refl
-given_portals ThePlans key s = grind (arith, nat_tests)
-given_portals TheDescriptors key s = grind (arith, nat_tests, without key)
-given_portals (TheKind place) key s = refl
+given_portals keeper key s = grind (arith, nat_tests)
 
 -- an owner gives an item back
 pub item_beside : (s : Scene) (o : ℕ) (kind : KindId) (key : ℕ) → Stands s → IsWorking s.session.levels → has o s.session.owners ≡ true → Beside s (item_released o kind key s).scene
@@ -31,8 +28,7 @@ none_changed name f (p ∷ ps) e = grind (arith, nat_tests, none_changed name f 
 
 -- a portal changes, where one has the name
 pub becomes_works : (s : Scene) (name : Text) (f : OpenPortal → OpenPortal) → Stands s → ((p : OpenPortal) → IsAtRest p → IsAtRest (f p)) → ((p : OpenPortal) → portal_named name s.session.portals ≡ Some p → Stands (portal_becomes name f s).scene) → Works s (portal_becomes name f s).scene
-becomes_works s name f h rests named =
-    grind (arith, nat_tests, none_changed name f s.session.portals, nothing_works s h, rests_becomes name f s.session.portals rests)
+becomes_works s name f h rests named = grind (arith, nat_tests, none_changed name f s.session.portals, nothing_works s h, rests_becomes name f s.session.portals rests)
 
 -- a step of a turn of the portal of a name
 pub record Turns (name : Text) (s z : Scene) : Type 0 where
@@ -111,21 +107,7 @@ module _ (w : Option ℕ) (moment : Moment) (h : Stands moment.scene) (working :
 
   -- what a step of a scan does by itself
   pub part_beside : (s : Scene) (st : ScanStep) (p : OpenPortal) → Stands s → IsWorking s.session.levels → ((o : ℕ) → p.owner ≡ Some o → has o s.session.owners ≡ true) → Beside s (scan_part st p s).scene
-  part_beside s ScanStep.Reset p k work own = go p.expr
-    where
-      go : (o : Option ℕ) → Beside s (where_there o context_cleared_alone s).scene
-      go None = nothing_beside s k
-      go (Some n) = beside_by s _ refl refl (alone_step s n k work)
-  part_beside s (ScanStep.Unpin page) p k work own = go p.owner refl
-    where
-      go : (o : Option ℕ) → p.owner ≡ o → Beside s (where_there o (λ owner. item_released owner buffer_pin page) s).scene
-      go None e = nothing_beside s k
-      go (Some n) e = item_beside s n buffer_pin page k work (own n e)
-  part_beside s (ScanStep.Row row value) p k work own = nothing_beside s k
-  part_beside s (ScanStep.Pin page) p k work own = nothing_beside s k
-  part_beside s (ScanStep.Bad row) p k work own = nothing_beside s k
-  part_beside s ScanStep.Alloc p k work own = nothing_beside s k
-  part_beside s ScanStep.End p k work own = nothing_beside s k
+  part_beside s st p k work own = grind (arith, nat_tests, nothing_beside s k, beside_by s, alone_step s, item_beside s)
 
   pub scan_turns : (st : ScanStep) → Turns name moment.scene (does w (Element.Scans name st) moment).moment.scene
   unfolding does

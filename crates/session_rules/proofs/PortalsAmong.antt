@@ -46,8 +46,7 @@ off_rows (level ∷ levels) t x l n i e c own up p = grind (arith, nat_tests, le
 
 -- nor is one of the session's own
 pub own_rows : (t : Contexts) (next : ℕ) → AreContexts t next → (n : ℕ) → 1 ≤ n → n ≤ abort_context → (e c : ℕ) → abort_context < c → parent_of e t ≡ Some c → n ≢ e
-own_rows t next h n low small e c own_c p =
-    grind (arith, nat_tests, no_value (parent_of e t) c, top_parent own top_context t h.once h.rooted, some_is top_context c)
+own_rows t next h n low small e c own_c p = grind (arith, nat_tests, no_value (parent_of e t) c, top_parent own top_context t h.once h.rooted, some_is top_context c)
 
 -- each portal is as it was
 pub portals_by : (ps : List OpenPortal) (ls ms : List LevelState) (t u : Contexts) (x y : OwnerTree) (a b : ℕ) → ((p : OpenPortal) → IsPortal p ls t x a → IsPortal p ms u y b) → ArePortals ps ls t x a → ArePortals ps ms u y b
@@ -111,7 +110,7 @@ pub off_parent : (levels : List LevelState) (t : Contexts) (x : OwnerTree) → A
 off_parent levels t x l o m p own = levels_up levels t x l m own p
 
 pub row_parent_off : (levels : List LevelState) (t : Contexts) (x : OwnerTree) (next : ℕ) → AreContexts t next → AreLevels levels t x → (e c : ℕ) → abort_context < c → parent_of c t ≡ Some portals_context → parent_of e t ≡ Some c → level_parent (first_of levels) ≢ e
-row_parent_off x0 t x next h l e c own up p = grind (arith, nat_tests, own_rows t next h top_context, off_rows)
+row_parent_off levels t x next h l e c own up p = grind (arith, nat_tests, own_rows t next h top_context, off_rows)
 
 -- an unprotected context isn't that of one row
 pub row_free : (t : Contexts) → Once t → (k : ℕ) → is_protected k t ≡ false → (n : ℕ) (expr : Option ℕ) (current : ℕ) → IsPlace n expr t current → (e : ℕ) → expr ≡ Some e → e ≢ k

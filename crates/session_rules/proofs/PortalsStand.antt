@@ -32,13 +32,11 @@ named_changed name p f (q ∷ qs) keeps e = grind (arith, nat_tests, named_chang
 
 -- in a level where steps are taken each portal is live
 pub live_here : (p : OpenPortal) (levels : List LevelState) → IsWorking levels → IsLive p levels ⊎ IsDead p levels → IsLive p levels
-live_here p [] working s = absurd working
-live_here p (level ∷ levels) working s = elim s [ inl l ↦ l | inr d ↦ absurd (both_ways level.aborted working.unaborted d.aborted) ]
+live_here p levels working s = grind (arith, nat_tests, both_ways)
 
 -- how deep it is there
 pub depth_here : (levels : List LevelState) → IsWorking levels → (active_depth levels ≡ length levels) × (1 ≤ length levels)
-depth_here [] working = absurd working
-depth_here (level ∷ levels) working = (depth_working level levels working ∙ omega arith, omega arith)
+depth_here levels working = grind (arith, nat_tests, depth_working)
 
 -- A portal changes, and contexts and owners with it.
 pub portal_step : (s : Scene) (p q : OpenPortal) (front back : List OpenPortal) (u : Contexts) (next : ℕ) (y : OwnerTree) (count : ℕ) → Stands s → IsWorking s.session.levels → s.session.portals ≡ front ++ (p ∷ back)

@@ -1,6 +1,6 @@
 -- The steps of a phase of a release: what they say themselves, and that a law which each of them keeps is kept by the phase.
 use Rattle.session_rules.proofs.Base.{◌≡◌, ℕ, Bool, true, false, List, [], ◌∷◌, ◌++◌, Option, Some, None, refl, option_map_or, arith, nat_tests}
-use Rattle.session_rules.proofs.Below.{What, Item, Phase, BeforeLocks, Locks, AfterLocks, Empty, Node, at, children, parent_of, table_of, KindTable, release_order, KindId, Owner, OwnerTree, forgotten, released, Step, Said, GivesBack, ReleasesLocks, PassesLocks, ReleasesAllLocks, lock_step, own_steps, release_steps, releases_of, steps_below, top_locks}
+use Rattle.session_rules.proofs.Below.{What, Item, Phase, BeforeLocks, AfterLocks, Empty, Node, at, children, parent_of, table_of, KindTable, release_order, KindId, Owner, OwnerTree, forgotten, released, Step, Said, GivesBack, ReleasesLocks, PassesLocks, ReleasesAllLocks, lock_step, own_steps, release_steps, releases_of, steps_below, top_locks}
 use Rattle.session_rules.proofs.Rules.{Scene, newest, changes, for_each, in_order, say, where_there, Keeper, NoOne, TheDescriptors, TheKind, ThePlans, descriptor_left, given_back, item_released, keeper_of, key_left, left_to, phase_released, plan_left, step_done, remembers}
 use Rattle.session_rules.proofs.Leaves.{Acts, Keeps, Law}
 
@@ -45,9 +45,7 @@ items_release true n (item ∷ items) = warned_step (then_step tt (items_release
 items_release false n (item ∷ items) = then_step refl (then_step tt (items_release false n items))
 
 own_release : (kinds : KindTable) (phase : Phase) (commit : Bool) (n : ℕ) (owner : Owner) (steps : List Step) → AreReleaseSteps steps → AreReleaseSteps (own_steps kinds phase commit n owner steps)
-own_release kinds Locks commit n owner steps h = h
-own_release kinds BeforeLocks commit n owner steps h = items_release commit n (release_order kinds BeforeLocks owner.items)
-own_release kinds AfterLocks commit n owner steps h = items_release commit n (release_order kinds AfterLocks owner.items)
+own_release kinds phase commit n owner steps h = grind (arith, nat_tests, items_release commit n (release_order kinds BeforeLocks owner.items), items_release commit n (release_order kinds AfterLocks owner.items))
 
 lock_release : (commit : Bool) (n parent : ℕ) → AreReleaseSteps (lock_step commit n parent ∷ [])
 lock_release true n parent = then_step tt no_step

@@ -1,5 +1,5 @@
 -- What a release leaves: the owners without their items, and of all else only what tables count.
-use Rattle.session_rules.proofs.Base.{◌≡◌, ◌≢◌, ℕ, ◌<◌, ◌≤◌, Bool, true, false, Option, List, [], ◌∷◌, length, slice_get, All, refl, sym, arith, zero, suc, ◌-◌, not, filter, unwrap_or, if◌then◌else◌, option_map, cases_Bool, le-ltb, lt-ltb, ne_eqb, All-nil, All-head, All-tail, All-filter, nat_tests}
+use Rattle.session_rules.proofs.Base.{◌≡◌, ◌≢◌, ℕ, ◌<◌, ◌≤◌, Bool, true, false, Option, List, [], ◌∷◌, length, slice_get, All, refl, arith, zero, suc, ◌-◌, not, filter, unwrap_or, if◌then◌else◌, option_map, cases_Bool, le-ltb, lt-ltb, ne_eqb, All-nil, All-head, All-tail, All-filter, nat_tests}
 use Rattle.session_rules.proofs.Below.{Item, Phase, BeforeLocks, Locks, AfterLocks, swept, Kind, Owner, OwnerTree, HoldsNothing, own_released, released, IsSound, sound_released, Lock, KindTable, built_in_rows, row_of, IsSoundTable, IsPlace, KindRow, is_of_phase, is_phase}
 use Rattle.session_rules.proofs.Rules.{Scene, HasItems, IsItem}
 use Rattle.session_rules.proofs.Swept.{both_swept}
@@ -47,9 +47,7 @@ abbrev in_phase : Phase → Option KindRow → Bool
 in_phase phase o = unwrap_or (option_map (is_phase phase) (option_map (λ r. r.phase) o)) false
 
 last_phase : (phase : Phase) → phase ≢ Locks → is_phase BeforeLocks phase ≡ false → is_phase AfterLocks phase ≡ true
-last_phase BeforeLocks other e = sym e
-last_phase Locks other e = absurd (other refl)
-last_phase AfterLocks other e = refl
+last_phase phase other e = grind (arith, nat_tests)
 
 last_of_rows : (rows : List KindRow) (i : ℕ) → All IsPlace rows → i < length rows → in_phase BeforeLocks (slice_get rows i) ≡ false → in_phase AfterLocks (slice_get rows i) ≡ true
 last_of_rows [] i places within e = absurd (omega arith)
@@ -62,13 +60,10 @@ are_apart [] = true
 are_apart (r ∷ rs) = if is_phase Locks r.phase then false else are_apart rs
 
 own_last : (phase : Phase) (rest : Bool) → (if is_phase Locks phase then false else rest) ≡ true → is_phase BeforeLocks phase ≡ false → is_phase AfterLocks phase ≡ true
-own_last BeforeLocks rest apart e = sym e
-own_last Locks rest apart e = absurd (cc apart)
-own_last AfterLocks rest apart e = refl
+own_last phase rest apart e = grind (arith, nat_tests)
 
 rest_apart : (phase : Phase) (rest : Bool) → (if is_phase Locks phase then false else rest) ≡ true → rest ≡ true
-rest_apart Locks rest apart = absurd (cc apart)
-rest_apart other rest apart = apart
+rest_apart phase rest apart = grind (arith, nat_tests)
 
 last_of_own : (rows : List KindRow) (i : ℕ) → are_apart rows ≡ true → i < length rows → in_phase BeforeLocks (slice_get rows i) ≡ false → in_phase AfterLocks (slice_get rows i) ≡ true
 last_of_own [] i apart within e = absurd (omega arith)
@@ -77,8 +72,7 @@ last_of_own (r ∷ rs) (suc i) apart within e = last_of_own rs i (rest_apart r.p
 
 last_of_built_in : (kinds : KindTable) (key serial k : ℕ) → 1 ≤ k → k ≤ length built_in_rows → IsLast kinds key serial k
 unfolding row_of
-last_of_built_in kinds key serial k l u =
-    rw (lt-ltb k 16 (omega (arith, u)), ne_eqb k 0 (λ e. absurd (omega (arith, e, l)))) (last_of_own built_in_rows (k - 1) refl (omega (arith, l, u)))
+last_of_built_in kinds key serial k l u = grind (arith, nat_tests, lt-ltb k 16, ne_eqb k 0, last_of_own built_in_rows (k - 1) refl)
 
 last_of_kinds : (kinds : KindTable) (key serial k : ℕ) → IsSoundTable kinds → 16 ≤ k → k - 16 < length kinds.rows → IsLast kinds key serial k
 unfolding row_of

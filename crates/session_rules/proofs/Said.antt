@@ -31,8 +31,7 @@ module _ {P : What → Bool} where
   said_flat f h (x ∷ xs) = said_both (h x) (said_flat f h xs)
 
   said_if : (b : Bool) {xs ys : List What} → AreSaid P xs → AreSaid P ys → AreSaid P (if b then xs else ys)
-  said_if true h k = h
-  said_if false h k = k
+  said_if b h k = grind (arith, nat_tests)
 
   -- contexts that go, are reset, move and are reported
   module _ (called : (word n : ℕ) → P (What.Callback word n) ≡ true) where

@@ -1,7 +1,7 @@
 -- What a release leaves of plans, contexts and tables: each plan counts the references that owners still hold, and one that has to go
 -- is gone with its context.
 use Rattle.session_rules.proofs.Base.{◌≡◌, ◌≢◌, ℕ, ◌+◌, ◌-◌, ◌≤◌, ◌<◌, Bool, true, false, Option, Some, None, List, [], ◌∷◌, ◌++◌, refl, sym, ap, ◌∙◌, subst, arith, ◌==◌, ◌&&◌, nat_lt, if◌then◌else◌, All, option_map_or, eq-eqb, eqb-true, eqb-false, ne_eqb, nat_tests}
-use Rattle.session_rules.proofs.Below.{Item, Phase, BeforeLocks, Locks, AfterLocks, Once, has, children, parent_of, removed, ShelfState, Contexts, is_protected, gone, handed_in, KindTable, table_of, is_of, OwnerTree, released, IsSound, Step, Said, GivesBack, ReleasesLocks, PassesLocks, ReleasesAllLocks, release_steps, once_of, sound_released, Lock, removed_absent, Kind, changed_at, closed, table-closed}
+use Rattle.session_rules.proofs.Below.{Item, Phase, BeforeLocks, Locks, AfterLocks, Once, has, children, parent_of, removed, ShelfState, Contexts, is_protected, gone, handed_in, KindTable, table_of, is_of, OwnerTree, released, IsSound, Step, Said, GivesBack, ReleasesLocks, PassesLocks, ReleasesAllLocks, release_steps, once_of, sound_released, Lock, removed_absent, Kind, table-closed}
 use Rattle.session_rules.proofs.Rules.{StandingPlan, abort_context, cache_context, plan_reference, Scene, plan_at, plan_changed, plans_but, for_each, where_there, NoOne, ThePlans, TheDescriptors, TheKind, given_back, left_to, owner_released, phase_released, plan_becomes, plan_left, plan_settled, plan_stays, step_done, AreContexts, AreHooks, ArePlans, IsPlan, referred, references_of}
 use Rattle.lock_local.specs.Changes as locks
 use Rattle.session_rules.proofs.ContextsKept.{IsSame, contexts_level_gone, off_outside, same_removed}
@@ -178,9 +178,7 @@ module _ (s : Scene) (d : ℕ → ℕ) (h : Fits s.session.next_context s.sessio
 
   -- an item that isn't a reference to a plan
   pub other_left : (a b : Bool) (place key : ℕ) → Settles d s (left_to (if a then TheDescriptors else (if b then NoOne else TheKind place)) key s).scene
-  other_left true b place key = closes key
-  other_left false true place key = settles_nothing
-  other_left false false place key = settles_tables s.session.locks s.session.recent (changed_at place (closed key) s.around.kinds) (table-closed s.around.kinds place key)
+  other_left a b place key = grind (arith, nat_tests, closes key, settles_nothing, settles_tables, table-closed)
 
 pub fewer : (s : Scene) (c d : ℕ → ℕ) → ((m : ℕ) → c m ≡ d m) → Fits s.session.next_context s.session.current c (besides_of s) → Fits s.session.next_context s.session.current d (besides_of s)
 fewer s c d same h = grind (arith, nat_tests)
@@ -221,23 +219,7 @@ pub record HasPhase (kinds : KindTable) (owner : ℕ) (phase : Phase) (s t : Sce
 
 pub phase_settles : (kinds : KindTable) (commit top : Bool) (owner : ℕ) (phase : Phase) (s : Scene) → Once s.session.owners → Fits s.session.next_context s.session.current (referred s.session.owners) (besides_of s) → table_of s.around.kinds ≡ kinds
     → HasPhase kinds owner phase s (phase_released commit top owner phase s).scene
-phase_settles kinds commit top owner phase s once h e =
-    let x : OwnerTree = s.session.owners in
-    let table : KindTable = table_of s.around.kinds in
-    let steps : List Step = release_steps table phase commit top owner x in
-    let left : ℕ → ℕ = referred (released table phase owner x) in
-    let start : Fits s.session.next_context s.session.current (λ m. gives plan_reference m steps + left m) (besides_of s) =
-    fewer s (referred x) (λ m. gives plan_reference m steps + left m) (λ m. sym (gives_phase plan_reference m table phase commit top owner x once)) h in
-    let all : Settles left s (for_each step_done steps s).scene = steps_settle steps s left start in
-    record {
-      besides = all.besides;
-      same = all.same;
-      is =
-          ap (λ (z : Scene). with_owners (released table phase owner z.session.owners) z) all.is
-          ∙ ap (λ (k : KindTable). with_owners (released k phase owner x) (with_besides all.besides s)) e;
-      fits = subst (λ (k : KindTable). Fits s.session.next_context s.session.current (referred (released k phase owner x)) all.besides) e all.fits;
-      spares = all.spares;
-    }
+phase_settles kinds commit top owner phase s once h e = grind (arith, nat_tests, gives plan_reference, fewer s (referred s.session.owners), gives_phase plan_reference, steps_settle (release_steps (table_of s.around.kinds) phase commit top owner s.session.owners) s (referred (released (table_of s.around.kinds) phase owner s.session.owners)))
 
 -- an owner is released
 pub record HasSettled (p : ℕ) (s t : Scene) : Type 0 where

@@ -1,5 +1,5 @@
 -- What the stack of active snapshots keeps: its levels never fall, and each of them is a level.
-use Rattle.session_rules.proofs.Base.{◌≡◌, ℕ, ◌+◌, ◌≤◌, Bool, true, false, List, [], ◌∷◌, ◌++◌, refl, ◌∙◌, arith, zero, suc, ◌-◌, ◌||◌, length, map, take, nat_tests}
+use Rattle.session_rules.proofs.Base.{◌≡◌, ℕ, ◌+◌, ◌≤◌, Bool, true, List, [], ◌∷◌, ◌++◌, refl, arith, zero, suc, ◌-◌, ◌||◌, length, map, take, nat_tests}
 use Rattle.session_rules.proofs.Below.{Active, kept_below, lowered}
 use Rattle.session_rules.proofs.Rules.{LevelState, AreOuter, AreStacked, IsActive, active_depth}
 
@@ -39,8 +39,7 @@ none_stacked (entry ∷ entries) h = absurd (omega (arith, h.0, h.1))
 
 -- the level that snapshots may be active in
 pub or_true : (b : Bool) → (b || true) ≡ true
-or_true true = refl
-or_true false = refl
+or_true b = grind (arith, nat_tests)
 
 pub depth_still : (level : LevelState) (levels : List LevelState) → level.aborted ≡ true → active_depth (level ∷ levels) ≡ length levels
 depth_still level levels a = rw (a, or_true level.starting) refl
@@ -49,12 +48,10 @@ pub depth_working : (level : LevelState) (levels : List LevelState) → IsActive
 depth_working level levels h = rw (h.started, h.unaborted) refl
 
 pub depth_small : (levels : List LevelState) → active_depth levels ≤ length levels
-depth_small [] = omega arith
-depth_small (level ∷ levels) = grind (arith, nat_tests)
+depth_small levels = grind (arith, nat_tests)
 
 pub depth_outer : (levels : List LevelState) → AreOuter levels → active_depth levels ≡ length levels
-depth_outer [] h = refl
-depth_outer (level ∷ levels) h = depth_working level levels h.0 ∙ omega arith
+depth_outer levels h = grind (arith, nat_tests, depth_working)
 
 -- The stack that is left by a level that was aborted, or is: it fits the levels above.
 pub stacked_above : (levels : List LevelState) (most : ℕ) (entries : List Active) → AreOuter levels → most ≤ length levels → AreStacked 1 most entries → AreStacked 1 (active_depth levels) entries

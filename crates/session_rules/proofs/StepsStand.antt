@@ -10,9 +10,7 @@ use Rattle.session_rules.proofs.EndsStand.{Leaves, deepest_active, aborted_stand
 
 -- a refused call changes nothing but the count
 pub not_refused : (a b : Bool) (x y : Error) (own : Option Error) → (if a then Some x else (if b then Some y else own)) ≡ None → own ≡ None
-not_refused true b x y own e = absurd (cc e)
-not_refused false true x y own e = absurd (cc e)
-not_refused false false x y own e = e
+not_refused a b x y own e = grind (arith, nat_tests)
 
 pub own_refusal : (w : Option ℕ) (fail call : ℕ) (own : Option Error) → refused_call w fail call own ≡ None → own ≡ None
 own_refusal w fail call own e = not_refused (call == fail) (is_call w call) _ _ own e
@@ -41,16 +39,13 @@ pub nothing_beside : (s : Scene) → Stands s → Beside s s
 nothing_beside s h = beside_by s s refl refl h
 
 pub fit_working : (levels : List LevelState) (t u : Contexts) (x y : OwnerTree) (a b : ℕ) → IsWorking levels → FitLevels levels t x a → FitLevels levels u y b
-fit_working [] t u x y a b w h = absurd w
-fit_working (level ∷ levels) t u x y a b w h = (deepest_active level u y b w, h.1)
+fit_working levels t u x y a b w h = grind (arith, nat_tests, deepest_active)
 
 pub not_released_outer : (levels : List LevelState) (n : ℕ) (x : OwnerTree) → AreOuter levels → WasReleased n levels x → ⊥
-not_released_outer [] n x h r = r
-not_released_outer (level ∷ levels) n x h r = both_ways level.aborted h.0.unaborted r.aborted
+not_released_outer levels n x h r = grind (arith, nat_tests, both_ways)
 
 pub not_released : (levels : List LevelState) (n : ℕ) (x : OwnerTree) → IsWorking levels → WasReleased n levels x → ⊥
-not_released [] n x h r = r
-not_released (level ∷ levels) n x h r = both_ways level.aborted h.unaborted r.aborted
+not_released levels n x h r = grind (arith, nat_tests, both_ways)
 
 -- The contexts of a session change, the protected ones stay, and the current one and the plans are other ones.
 pub contexts_step : (s : Scene) → Stands s → IsWorking s.session.levels → (u : Contexts) (next current : ℕ) (x : ShelfState) (plans : List StandingPlan) → AreContexts u next → Stay s.session.contexts u → has current u ≡ true → AreHooks u x
@@ -60,8 +55,7 @@ contexts_step s h working u next current x plans c stay there hooks planned open
 
 -- the plans where no plan's context gets a child
 pub still_planned : (s : Scene) (u : Contexts) → Stands s → Stay s.session.contexts u → ((m : ℕ) → IsCached m s.session.contexts → children m u ≡ Empty) → ArePlans s.session.plans u s.session.current (referred s.session.owners)
-still_planned s u h stay lone =
-    plans_moved s.session.plans s.session.contexts u s.session.current (referred s.session.owners) (λ m k. (stay m k.protected, lone m k)) h.plans
+still_planned s u h stay lone = grind (arith, nat_tests, plans_moved s.session.plans s.session.contexts u s.session.current (referred s.session.owners))
 
 -- the portals where each row is as it was
 pub still_portals : (s : Scene) (u : Contexts) → Stands s → Stay s.session.contexts u → ((n : ℕ) (expr : Option ℕ) → IsPlace n expr s.session.contexts s.session.current → IsRow expr (children n u))
@@ -91,7 +85,7 @@ stack_works s stack h stacked = record { stands = search; levels = refl; at_rest
 -- a snapshot is pushed in a level
 pub push_stacked : (levels : List LevelState) (snapshot : ℕ) (stack : List Active) → IsWorking levels → AreStacked 1 (active_depth levels) stack
     → AreStacked 1 (active_depth levels) (stack ++ (record { snapshot = snapshot; level = length levels } ∷ []))
-push_stacked x0 snapshot stack working h = grind (arith, nat_tests, depth_working, stacked_pushed 1)
+push_stacked levels snapshot stack working h = grind (arith, nat_tests, depth_working, stacked_pushed 1)
 
 -- a change of the contexts alone
 pub record KeepsContexts (t u : Contexts) (next : ℕ) : Type 0 where
@@ -133,8 +127,7 @@ pub keeps_freed : (t : Contexts) (next : ℕ) (name : List ℕ) → AreContexts 
 keeps_freed t next name h = grind (arith, nat_tests, found name t, without name, keeps_changed t next, fresh_chunks, keeps_same t next h)
 
 pub keeps_resized : (t : Contexts) (next held limit : ℕ) (name : List ℕ) (bytes : ℕ) → AreContexts t next → KeepsContexts t (resized held limit name bytes t) next
-keeps_resized t next held limit name bytes h =
-    grind (arith, nat_tests, found name t, keeps_changed t next, fresh_chunks, keeps_same t next h)
+keeps_resized t next held limit name bytes h = grind (arith, nat_tests, keeps_changed t next, fresh_chunks, keeps_same t next h)
 
 pub keeps_written : (t : Contexts) (next : ℕ) (name : List ℕ) (place : ℕ) (bytes : List ℕ) → AreContexts t next → KeepsContexts t (written name place bytes t) next
 keeps_written t next name place bytes h = grind (arith, nat_tests, found name t, keeps_same t next h, keeps_changed t next, fresh_chunks)
@@ -145,14 +138,12 @@ stacked_above_it levels stack h = stacked_within 1 (length levels) 1 (active_dep
 
 -- no portal is one of an aborted level where none is
 pub not_dead : (p : OpenPortal) (levels : List LevelState) → AreOuter levels → IsDead p levels → ⊥
-not_dead p [] outer d = let z : false ≡ true = d.aborted in absurd (cc z)
-not_dead p (level ∷ levels) outer d = both_ways level.aborted outer.0.unaborted d.aborted
+not_dead p levels outer d = grind (arith, nat_tests, both_ways)
 
 -- a portal stays where a level is pushed
 pub pushed_portal : (new : LevelState) (levels : List LevelState) (t : Contexts) (x : OwnerTree) (current : ℕ) (p : OpenPortal) → new.starting ≡ true → new.owner ≡ None → AreOuter levels → IsAtRest p → IsPortal p levels t x current
     → IsPortal p (new ∷ levels) t x current
-pushed_portal new levels t x current p starting none outer rests i =
-    grind (arith, nat_tests, depth_small levels, attached_by, no_value new.owner, not_dead p levels outer)
+pushed_portal new levels t x current p starting none outer rests i = grind (arith, nat_tests, depth_small levels, attached_by, no_value new.owner, not_dead p levels outer)
 
 -- a portal where the deepest level changes and keeps its owner
 pub same_portal : (old new : LevelState) (levels : List LevelState) (t u : Contexts) (x : OwnerTree) (a b : ℕ) (p : OpenPortal) → new.owner ≡ old.owner → (IsLive p (old ∷ levels) → IsLive p (new ∷ levels)) → new.aborted ≡ old.aborted
@@ -193,7 +184,7 @@ level_made_stands name implicit s h at_rest outer alone =
 
 -- the parent of a new context of a level is there, and protected
 pub parent_protected : (levels : List LevelState) (t : Contexts) (x : OwnerTree) (next : ℕ) → AreContexts t next → AreLevels levels t x → AreOuter levels → is_protected (level_parent (first_of levels)) t ≡ true
-parent_protected x0 t x next h l o = grind (arith, nat_tests, top_protected t next h, is_there)
+parent_protected levels t x next h l o = grind (arith, nat_tests, top_protected t next h, is_there)
 
 -- The context of a level that is being started is made.
 pub level_context_stands : (level : LevelState) (levels : List LevelState) (s : Scene) → level.starting ≡ true → level.context ≡ None → Stands (settled (level ∷ levels) s)
@@ -453,7 +444,7 @@ level_stands_stands level levels s active made h =
 
 -- a scene that stands is settled
 pub settled_as : (P : Scene → Type 0) (scene : Scene) (levels : List LevelState) → Stands scene → scene.session.levels ≡ levels → (Stands (settled levels scene) → P (settled levels scene)) → P scene
-settled_as x0 scene levels h e all = grind (arith, nat_tests, is_settled scene h)
+settled_as P scene levels h e all = grind (arith, nat_tests, is_settled scene h)
 
 -- a limit that wasn't reached
 pub below_limit : (most n : ℕ) → limit most n ≡ None → n < most
@@ -474,8 +465,7 @@ module _ (w : Option ℕ) (moment : Moment) (h : Stands moment.scene) where
   pub abort_stands : (level : LevelState) (levels : List LevelState) → moment.scene.session.levels ≡ level ∷ levels → level.aborted ≡ false → IsOpen level
       → Leaves (record level { aborted = true } ∷ levels) (does w Element.Abort moment).moment.scene
   unfolding does
-  abort_stands level levels is active open_level =
-      settled_as (λ (z : Scene). Leaves (record level { aborted = true } ∷ levels) (aborted z).scene) moment.scene (level ∷ levels) h is (λ k. aborted_stands level levels moment.scene active open_level k)
+  abort_stands level levels is active open_level = grind (arith, nat_tests, settled_as, aborted_stands level levels)
 
   pub cleanup_stands : (level : LevelState) (levels : List LevelState) → moment.scene.session.levels ≡ level ∷ levels → level.aborted ≡ true → Leaves levels (does w Element.Cleanup moment).moment.scene
   unfolding does

@@ -1,7 +1,7 @@
 -- Commands lead from a session between two lines to one between two lines.
 use Rattle.session_rules.proofs.Base.{◌≡◌, ℕ, ◌+◌, ◌≤◌, ◌<◌, Bool, true, false, Option, Some, None, List, [], ◌∷◌, ◌++◌, refl, sym, ap, ◌∙◌, subst, inl, arith, All, zero, suc, ◌-◌, ◌&&◌, ◌==◌, not, length, map, codes, is_none, is_some, replicate, nat_lt, if◌then◌else◌, option_and_then, option_map_or, le-ltb, ltb-true, All-cons, flat_map, nat_tests}
 use Rattle.session_rules.proofs.Below.{Error, What, size, Scan, ScanStep, table_of, Command, is_text-same, KindId, TransactionCommand, Work, ContextCommand, ChunkCommand, ItemCommand, LockCommand, SnapshotCommand, PlanCommand, PortalCommand, TellCommand, class_kind, is_bad, is_tenth, new_scan, page_of, page_steps, row_step, row_steps, unpinned, turn as scan_turn, PortalState, AccessShareLock, Relcache, CtxKind}
-use Rattle.session_rules.proofs.Rules.{LevelState, OpenPortal, SessionState, buffer_pin, file_kind, is_aborted, level_owner, plan_reference, relcache_reference, snapshot_reference, Scene, Moment, Check, Element, InCurrent, InPortal, InRow, LevelContext, OfLevel, OfPortal, PortalContext, RowContext, Text, Ended, in_order, nothing, portal_becomes, where_there, failure, unless, Done, fallible, unless_refused, context_made, level_made, new_context_made, new_owner_made, portal_made, does, does_all, then_done, line_elements, turn, AreOpen, AreOuter, FitLevels, IsActive, IsAtRest, IsFetched, IsOpen, IsWorking, Stands, StandsBetweenLines, plan_at, portal_named, at_savepoint, begin, commit, committed_to, elements_of, ends_aborted, in_transaction, is_end, refused, rollback, rolled_back_to, save, savepoint, start, then_ok, transaction_of, unaborted, Row, after_turn, portal_steps, chunk_row, context_row, fallible_part, fetch_steps, item_row, lock_row, plan_row, portal_row, row_of, snapshot_row, tell_row, work_of}
+use Rattle.session_rules.proofs.Rules.{LevelState, OpenPortal, SessionState, buffer_pin, file_kind, is_aborted, level_owner, plan_reference, relcache_reference, snapshot_reference, Scene, Moment, Check, Element, InCurrent, InPortal, InRow, LevelContext, OfLevel, OfPortal, PortalContext, RowContext, Text, Ended, in_order, nothing, portal_becomes, where_there, failure, unless, Done, fallible, unless_refused, context_made, level_made, new_context_made, new_owner_made, portal_made, does, does_all, then_done, line_elements, turn, AreOpen, AreOuter, IsActive, IsAtRest, IsFetched, IsOpen, IsWorking, Stands, StandsBetweenLines, plan_at, portal_named, at_savepoint, begin, commit, committed_to, elements_of, ends_aborted, in_transaction, is_end, refused, rollback, rolled_back_to, save, savepoint, start, then_ok, transaction_of, unaborted, Row, after_turn, portal_steps, chunk_row, context_row, fallible_part, fetch_steps, item_row, lock_row, plan_row, portal_row, row_of, snapshot_row, tell_row, work_of}
 use Rattle.session_rules.proofs.Kept.{is_there, RestsBeside, beside_becomes, beside_rests, rests_beside}
 use Rattle.session_rules.proofs.PortalsStand.{context_portal, made_portal, named_changed, named_in, owner_portal, row_portal}
 use Rattle.session_rules.proofs.PortalWorks.{Beside, Turned, Turns, begins_fetched, begins_works, beside_turns, check_beside, portal_allocates, portal_enlarges, portal_locks, portal_takes, ready_works, row_allocates, scan_turns, turned}
@@ -94,7 +94,7 @@ turn_leads w command moment k = grind (arith, nat_tests, recovered_stands)
 -- a fallible step
 pub fallible_leads : (Q : Scene → Type 0) (w : Option ℕ) (moment : Moment) (own : Option Error) (act : Scene → Ended) → Stands moment.scene → ((z : Scene) → Q z → Stands z) → (own ≡ None → Q (act moment.scene).scene)
     → Leads Q (fallible w moment own act)
-fallible_leads x0 w moment own act before so behind = grind (arith, nat_tests, own_refusal w moment.fail (moment.calls + 1) own)
+fallible_leads Q w moment own act before so behind = grind (arith, nat_tests, own_refusal w moment.fail (moment.calls + 1) own)
 
 -- a session that stands, with these levels, whose portals are at rest
 pub record At (levels : List LevelState) (scene : Scene) : Type 0 where
@@ -155,8 +155,7 @@ pub record Makes (levels : List LevelState) (name : Text) (context owner : Bool)
   is : IsMaking context owner (length levels) portal
 
 pub no_value_of : (o : Option ℕ) → is_some o ≡ false → o ≡ None
-no_value_of None e = refl
-no_value_of (Some n) e = absurd (cc e)
+no_value_of o e = grind (arith, nat_tests)
 
 module _ (w : Option ℕ) (levels : List LevelState) (active : IsWorking levels) (name : Text) (Q : Scene → Type 0) where
   -- a step that leaves portals as they are
@@ -312,23 +311,19 @@ module _ (w : Option ℕ) (levels : List LevelState) (active : IsWorking levels)
   both_steps (x ∷ xs) ys a b = (a.0, both_steps xs ys a.1 b)
 
   pub unpinned_steps : (page : Option ℕ) → AreSteps (unpinned page)
-  unpinned_steps None = tt
-  unpinned_steps (Some page) = (tt, tt)
+  unpinned_steps page = grind (arith, nat_tests)
 
   pub page_is : (scan : Scan) → page_of scan < 1024
   page_is scan = omega arith
 
   pub pages : (b : Bool) (scan : Scan) → AreSteps (if b then unpinned scan.page ++ (ScanStep.Pin (page_of scan) ∷ []) else [])
-  pages true scan = both_steps (unpinned scan.page) (ScanStep.Pin (page_of scan) ∷ []) (unpinned_steps scan.page) (page_is scan, tt)
-  pages false scan = tt
+  pages b scan = grind (arith, nat_tests, both_steps (unpinned scan.page) (ScanStep.Pin (page_of scan) ∷ []) (unpinned_steps scan.page) (page_is scan, tt), unpinned_steps scan.page, page_is scan)
 
   pub rows_are : (b : Bool) (scan : Scan) → AreSteps (if b then ScanStep.Bad scan.at ∷ [] else ScanStep.Alloc ∷ (row_step scan ∷ []))
-  rows_are true scan = (tt, tt)
-  rows_are false scan = (tt, (tt, tt))
+  rows_are b scan = grind (arith, nat_tests)
 
   pub turn_is : (b : Bool) (scan : Scan) → AreSteps (if b then unpinned scan.page ++ (ScanStep.End ∷ []) else ScanStep.Reset ∷ (page_steps scan ++ row_steps scan))
-  turn_is true scan = both_steps (unpinned scan.page) (ScanStep.End ∷ []) (unpinned_steps scan.page) (tt, tt)
-  turn_is false scan = (tt, both_steps (page_steps scan) (row_steps scan) (pages (is_tenth scan) scan) (rows_are (is_bad scan) scan))
+  turn_is b scan = grind (arith, nat_tests, both_steps (unpinned scan.page) (ScanStep.End ∷ []) (unpinned_steps scan.page) (tt, tt), both_steps (page_steps scan) (row_steps scan) (pages (is_tenth scan) scan) (rows_are (is_bad scan) scan), unpinned_steps scan.page, pages (is_tenth scan) scan, rows_are (is_bad scan) scan)
 
   abbrev AllTurn : List Element → Type 0
   AllTurn xs = AllFetch w levels name xs
@@ -380,8 +375,7 @@ module _ (w : Option ℕ) (levels : List LevelState) (active : IsWorking levels)
   fetch_work (suc count) scan rows = grind (arith, nat_tests, both_fetch, steps_work (scan_turn scan) (turn_is (scan.at == scan.rows) scan), turn_is (scan.at == scan.rows) scan, fetch_work count (after_turn scan) (rows + 1), says_fetched)
 
   pub fetch_all : (count : ℕ) (o : Option OpenPortal) → AllTurn (option_map_or (λ portal. fetch_steps name count portal.scan 0) o [])
-  fetch_all count None = tt
-  fetch_all count (Some p) = fetch_work count p.scan 0
+  fetch_all count o = grind (arith, nat_tests, fetch_work count)
 
 pub behind_begin : (w : Option ℕ) (levels : List LevelState) → IsWorking levels → (name : Text) (Q : Scene → Type 0) (xs : List Element) (moment : Moment) → At levels moment.scene → ((m : Moment) → Fetches levels name m.scene → Runs w Q xs m)
     → Runs w Q (Element.FetchBegins name ∷ xs) moment
@@ -398,8 +392,7 @@ behind_begin w levels active name Q xs moment k next =
     }) next
 
 pub is_unnamed : (o : Option OpenPortal) (error : Error) → unless (is_none o) error ≡ None → o ≡ None
-is_unnamed None error e = refl
-is_unnamed (Some p) error e = absurd (cc e)
+is_unnamed o error e = grind (arith, nat_tests)
 
 module _ (w : Option ℕ) (levels : List LevelState) (active : IsWorking levels) where
   pub portal_leads : (name : Text) (object rows : ℕ) (bad : Option ℕ) (moment : Moment) → At levels moment.scene → portal_named name moment.scene.session.portals ≡ None → Runs w (At levels) (portal_steps name object rows bad) moment
@@ -521,12 +514,10 @@ module _ (w : Option ℕ) (levels : List LevelState) (active : IsWorking levels)
 
   tells_lead : (c : TellCommand) (m : Moment) → At levels m.scene → Steps (tell_row c) m
   unfolding does
-  tells_lead TellCommand.Report m k ok = by_step Element.Report m k tt (nothing_works m.scene k.stands)
-  tells_lead TellCommand.Stat m k ok = by_step Element.Stat m k tt (nothing_works m.scene k.stands)
-  tells_lead (TellCommand.Buffer buffer) m k ok = by_step (Element.TellBuffer buffer) m k tt (nothing_works m.scene k.stands)
+  tells_lead c m k ok = grind (arith, nat_tests, by_step Element.Report m k tt (nothing_works m.scene k.stands), by_step Element.Stat m k tt (nothing_works m.scene k.stands), by_step, nothing_works m.scene k.stands)
 
   steps_lead : (c : Work) (portals : List OpenPortal) (m : Moment) → At levels m.scene → Steps (row_of c portals) m
-  steps_lead x0 portals m k ok = grind (arith, nat_tests, nothing_more, contexts_lead, chunks_lead, items_lead, locks_lead, snapshots_lead, plans_lead, portals_lead, tells_lead)
+  steps_lead c portals m k ok = grind (arith, nat_tests, nothing_more, contexts_lead, chunks_lead, items_lead, locks_lead, snapshots_lead, plans_lead, portals_lead, tells_lead)
 
   -- What is done within a transaction leads on.
   pub work_runs : (c : Work) (session : SessionState) (moment : Moment) → At levels moment.scene → Runs w (At levels) (work_of c session) moment
@@ -621,8 +612,7 @@ pub at_left : (levels : List LevelState) (scene : Scene) → Leaves levels scene
 at_left levels scene h = record { stands = h.between.stands; are = h.are; at_rest = h.between.at_rest }
 
 pub outer_of : (scene : Scene) (level : LevelState) (levels : List LevelState) → Stands scene → scene.session.levels ≡ level ∷ levels → AreOuter levels
-outer_of scene level levels h is =
-    (subst (λ (ls : List LevelState). FitLevels ls scene.session.contexts scene.session.owners scene.session.current) is h.fit).1
+outer_of scene level levels h is = grind (arith, nat_tests)
 
 pub open_of : (scene : Scene) (level : LevelState) (levels : List LevelState) → StandsBetweenLines scene → scene.session.levels ≡ level ∷ levels → IsOpen level
 open_of scene level levels h is = (subst AreOpen is h.open_levels).0
@@ -631,8 +621,7 @@ pub active_of : (scene : Scene) (level : LevelState) (levels : List LevelState) 
 active_of scene level levels h is unaborted = grind (arith, nat_tests, open_of scene level levels h is)
 
 pub only_left : (b : Bool) → (b && true) ≡ false → b ≡ false
-only_left true e = e
-only_left false e = refl
+only_left b e = grind (arith, nat_tests)
 
 pub says_leads : (w : Option ℕ) (event : What) (moment : Moment) → StandsBetweenLines moment.scene → Leads StandsBetweenLines (does w (Element.Says event) moment)
 unfolding does

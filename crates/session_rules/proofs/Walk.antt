@@ -15,12 +15,10 @@ module _ (R : Law) (a : Acts R) where
   by_order {acts = acts} hs = record { so = order_so acts hs }
 
   pub by_there : {A : Type 0} (o : Option A) (act : A → Scene → Ended) → ((x : A) → Keeps R (act x)) → Keeps R (where_there o act)
-  by_there None act h = record { so = a.none }
-  by_there (Some x) act h = record { so = (h x).so }
+  by_there o act h = grind (arith, nat_tests)
 
   pub by_so : (b : Bool) (act : Scene → Ended) → Keeps R act → Keeps R (where_so b act)
-  by_so false act h = record { so = a.none }
-  by_so true act h = record { so = h.so }
+  by_so b act h = grind (arith, nat_tests)
 
   each_so : {A : Type 0} (act : A → Scene → Ended) → ((x : A) → Keeps R (act x)) → (xs : List A) (s : Scene) → R s (for_each act xs s).scene (for_each act xs s).events
   each_so act h [] s = a.none s
@@ -31,8 +29,7 @@ module _ (R : Law) (a : Acts R) where
 
   pub by_either : (b : Bool) {s : Scene} (x y : Ended) → R s x.scene x.events → R s y.scene y.events
       → R s (elim b as (λ _. Ended) [ true ↦ x | false ↦ y ]).scene (elim b as (λ _. Ended) [ true ↦ x | false ↦ y ]).events
-  by_either true x y h k = h
-  by_either false x y h k = k
+  by_either b x y h k = grind (arith, nat_tests)
 
   -- on what is there
   pub by_context : (name : Text) (act : ℕ → Scene → Ended) → ((n : ℕ) → Keeps R (act n)) → Keeps R (at_context name act)
@@ -53,8 +50,7 @@ module _ (R : Law) (a : Acts R) where
 
   -- what can fail and what can't
   unless_so : (refusal : Option Error) (m : Moment) (act : Scene → Ended) → R m.scene (act m.scene).scene (act m.scene).events → Follows R m.scene (unless_refused refusal m act)
-  unless_so None m act h = record { so = h }
-  unless_so (Some error) m act h = record { so = a.none m.scene }
+  unless_so refusal m act h = grind (arith, nat_tests)
 
   pub fallible_at : (w : Option ℕ) (m : Moment) (own : Option Error) (act : Scene → Ended) → R m.scene (act m.scene).scene (act m.scene).events → Follows R m.scene (fallible w m own act)
   fallible_at w m own act h = grind (arith, nat_tests, unless_so (refused_call w m.fail (m.calls + 1) own))
@@ -73,8 +69,7 @@ module _ (R : Law) (a : Acts R) where
   }
 
   pub then_follows : (s : Scene) (done : Done) (refusal : Option Error) (rest : Moment → Done) → Follows R s done → (refusal ≡ None → Follows R done.moment.scene (rest done.moment)) → Follows R s (then_done done refusal rest)
-  then_follows s done None rest h more = let k : Follows R done.moment.scene (rest done.moment) = more refl in record { so = a.both h.so k.so }
-  then_follows s done (Some error) rest h more = h
+  then_follows s done refusal rest h more = grind (arith, nat_tests)
 
   -- what is owed for the two elements that change contexts and hooks, where it is kept in any scene
   pub moves_owed : MoveLeaves R → (w : Option ℕ) (x : Element) (m : Moment) → OwesMoves R w x m
