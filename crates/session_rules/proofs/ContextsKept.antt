@@ -1,5 +1,5 @@
 -- What the calls on contexts keep of them.
-use Rattle.session_rules.proofs.Base.{◌≡◌, ◌≢◌, ℕ, ◌+◌, ◌≤◌, ◌<◌, Bool, true, false, Option, Some, List, refl, sym, ap, ◌∙◌, inl, inr, arith, ◌==◌, option_map_or, cases_eq, both_ways, false_from_ne_true, or_parts, nat_tests}
+use Rattle.session_rules.proofs.Base.{◌≡◌, ◌≢◌, ℕ, ◌+◌, ◌≤◌, ◌<◌, Bool, true, false, Option, Some, List, refl, ap, ◌∙◌, inl, inr, arith, ◌==◌, option_map_or, cases_eq, both_ways, false_from_ne_true, or_parts, nat_tests}
 use Rattle.session_rules.proofs.Below.{Empty, has, times, Once, at, children, parent_of, is_above, removed, changed, moved, with_children, times_some, has_some, at_some, has_of_removed, Moves, once_put, once_changed, times_moved, has_changed, above_by_parent, above_none, at_moved, parent_changed, at_changed, at_changed_other, CtxKind, Context, Contexts, new_context, is_protected, is_empty, created, reparented, emptied, is_within}
 use Rattle.session_rules.proofs.Rules.{abort_context, top_context, IsFresh, IsOfSession, AreContexts, AreGuarded}
 use Rattle.context_rules.specs.Ends as ends
@@ -170,10 +170,7 @@ module _ (t : Contexts) (next : ℕ) (h : AreContexts t next) where
     rooted = rooted_put own top_context p next (new_context name kind b) Empty t h.rooted;
     guarded = guarded_created p name kind b needs;
     once = once_put p next (new_context name kind b) t h.once there is_unused;
-    below = λ m u. elim (cases_eq m next) [
-      | inl e ↦ omega (arith, e)
-      | inr ne ↦ omega (arith, h.below m (sym (has_put_other m p next (new_context name kind b) Empty t ne refl) ∙ u))
-    ];
+    below = grind (arith, nat_tests, cases_eq, has_put_other);
     room = omega (arith, h.room);
     own = own_stay t (created p next name kind b t) h.own (stay_created p name kind b);
     fresh = all_put IsFresh p next (new_context name kind b) Empty t (λ _. (refl, refl)) tt h.fresh;

@@ -2,7 +2,7 @@
 use Rattle.session_rules.proofs.Base.{◌≡◌, ◌≢◌, ℕ, ◌<◌, ◌≤◌, ◌-◌, Bool, true, false, Option, Some, None, List, [], ◌∷◌, refl, sym, ap, ◌∙◌, subst, inl, inr, arith, ◌==◌, ◌+◌, ◌⊎◌, not, unwrap_or, length, map, All, All-nil, All-append, All-head, All-weaker, cases_Bool, eq-eqb, eqb-false, both_ways, nat_tests}
 use Rattle.session_rules.proofs.Below.{Forest, Empty, Node, has, Once, children, removed, AllNodes, above_by_parent, Error, ShelfState, Contexts, is_empty, is_protected, gone, handed_in, KindTable, IsSoundTable, table_of, OwnerTree, AllAt, HoldsNothing, IsSound, once_of, Active, kept_below, lowered}
 use Rattle.session_rules.proofs.Rules.{LevelState, OpenPortal, abort_context, context_of, first_of, deepest_changed, owner_of, plan_reference, portals_context, top_context, Scene, Ended, changes, context_gone, for_each, in_order, switched, where_so, where_there, portal_aborted, portal_closed, portal_passed, owner_released, AreEnding, Ending, IsAway, IsDone, gone_levels, aborted, cleaned_up, committed, empty_context_gone, exited, given_up, level_context_gone, level_owner_gone, level_popped, level_released, level_rolled_back, recovered, stack_lowered, stack_popped, subcommitted, switched_up, IsActive, IsDeepest, AreContexts, AreHooks, AreLevels, AreOpen, AreDifferent, AreOwners, AreOuter, ArePlans, ArePortals, AreStacked, FitLevels, HasExited, HasItems, IsAtRest, IsAttached, IsDead, IsLevel, IsLive, IsOfPortal, IsOwner, IsPlace, IsPortal, IsMade, IsOpen, Stands, StandsBetweenLines, active_depth, owner_at, referred}
-use Rattle.session_rules.proofs.Kept.{has_left, parent_left, IsSame, contexts_level_gone, nothing_left, off_outside, protected_has, same_removed, stay_same, top_protected, hooks_ended, parts_gone, removed_swept, held_removed, Tables, still_sound, swept_by, tabled, with_owners, Besides, Fits, HasSettled, Spares, besides_of, release_settles, spares_same, with_besides, depth_small, depth_still, none_stacked, stacked_above, stacked_below, stacked_lowered, stacked_within, HasLeft, IsStill, is_there, left_nothing, left_still, levels_stay, one_value, outer_contexts, outer_owners, owners_aborted, owners_end, owners_without, without_owner, lone_left, lone_swept, IsRowOf, attached_by, off_levels, off_rows, place_level, place_own, place_same, place_spared, row_left, row_of, all_rest_aborted, all_rest_outside, rests_becomes, rests_but, above_apart, cached_left, levels_apart, own_other, plan_outside, plans_counted, plans_current, plans_moved}
+use Rattle.session_rules.proofs.Kept.{has_left, parent_left, IsSame, contexts_level_gone, nothing_left, off_outside, protected_has, same_removed, stay_same, top_protected, hooks_ended, parts_gone, removed_swept, held_removed, Tables, still_sound, swept_by, tabled, with_owners, Besides, Fits, Spares, besides_of, release_settles, spares_same, with_besides, depth_small, depth_still, none_stacked, stacked_above, stacked_below, stacked_lowered, stacked_within, HasLeft, IsStill, is_there, left_nothing, left_still, levels_stay, one_value, outer_contexts, outer_owners, owners_aborted, owners_end, owners_without, without_owner, lone_left, lone_swept, IsRowOf, attached_by, off_levels, off_rows, place_level, place_own, place_same, place_spared, row_left, row_of, all_rest_aborted, all_rest_outside, rests_becomes, rests_but, above_apart, cached_left, levels_apart, own_other, plan_outside, plans_counted, plans_current, plans_moved}
 use Rattle.session_rules.proofs.Ending.{Leads, Parts, with_parts}
 use Rattle.session_rules.proofs.Replacing.{all_closed, all_swept_away, swept_away}
 use Rattle.session_rules.proofs.Passing.{all_passed}
@@ -247,11 +247,7 @@ clean_from level levels s gone h idle stacked =
     let may : MayEnd (referred loop2.goes.parts.owners) level levels levels z = may_end level levels levels loop2.front z (unsettled level levels levels loop2.front [] (level ∷ levels) z loop2.goes.ending) in
     subst (Leaves levels) (sym (ap behind_sweep loop2.goes.is ∙ sweep_is level.name level.context level.owner level.implicit level.aborted level.starting levels z))
     (record {
-      between = record {
-        stands = popped_stands level levels z level.context s.session.snapshots (λ n e. e) stacked (idle_ends level levels levels z still may);
-        open_levels = outer_open levels h.outer;
-        at_rest = at_rest;
-      };
+      between = grind (arith, nat_tests, popped_stands level levels z level.context s.session.snapshots, idle_ends level levels levels z still may, outer_open levels h.outer);
       are = refl;
     })
 
@@ -271,18 +267,8 @@ pub record HasGiven (o : Option ℕ) (s t : Scene) : Type 0 where
 
 pub gives : (commit top : Bool) (o : Option ℕ) (s : Scene) → IsSound s.session.owners s.session.next_owner s.session.next_serial → Fits s.session.next_context s.session.current (referred s.session.owners) (besides_of s)
     → HasGiven o s (where_there o (owner_released commit top) s).scene
-gives commit top None s sound fits = record {
-  besides = besides_of s;
-  same = refl;
-  owners = s.session.owners;
-  left = refl;
-  is = refl;
-  fits = fits;
-  spares = spares_same (besides_of s) (besides_of s) refl refl;
-}
-gives commit top (Some p) s sound fits =
-    let r : HasSettled p s (owner_released commit top p s).scene = release_settles commit top p s s.session.next_serial sound fits in
-    record { besides = r.besides; same = r.same; owners = r.owners; left = r.swept; is = r.is; fits = r.fits; spares = r.spares }
+gives commit top None s sound fits = grind (arith, nat_tests, spares_same (besides_of s) (besides_of s) refl refl)
+gives commit top (Some p) s sound fits = grind (arith, nat_tests, release_settles commit top p s s.session.next_serial sound fits)
 
 pub without_left : (kinds : KindTable) (o : Option ℕ) (owners now : OwnerTree) → HasLeft kinds o owners now → without_owner o now ≡ without_owner o owners
 without_left kinds o owners now left = grind (arith, nat_tests, removed_swept (swept_by kinds))
@@ -396,10 +382,7 @@ merge_from level levels s h stacked =
     let g : HasGiven o (settled (level ∷ levels) s) (where_there o (owner_released true false) (settled (level ∷ levels) s)).scene = gives_now true false level levels levels s h in
     let z : Scene = with_besides g.besides s in
     let c : Option ℕ = context_to_go level.context g.besides.contexts in
-    let is : behind_merge n (where_there o (owner_released true false) (settled (level ∷ levels) s)).scene ≡ popped c o levels stack z =
-    ap (behind_merge n) g.is
-    ∙ merge_is n level.name level.context o level.implicit level.aborted level.starting levels (with_owners g.owners z)
-    ∙ ap (λ (w : OwnerTree). with_owners w (popped c o levels stack z)) (without_left (table_of s.around.kinds) o s.session.owners g.owners g.left) in
+    let is : behind_merge n (where_there o (owner_released true false) (settled (level ∷ levels) s)).scene ≡ popped c o levels stack z = grind (arith, nat_tests, merge_is n level.name level.context o level.implicit level.aborted level.starting levels (with_owners g.owners z), without_left (table_of s.around.kinds) o s.session.owners g.owners g.left) in
     subst (Merges levels s) (sym is) (record {
       stands = popped_stands level levels z c stack (λ k e. context_to_go_is level.context g.besides.contexts k e) stacked (released_ends level levels levels s g.besides g.owners h g.same g.left g.fits g.spares);
       are = refl;
@@ -539,11 +522,7 @@ aborted_stands level levels s active open_level h =
     let a : HasShut level levels s z = aborted_is level levels s h in
     let stands : Stands (shut level levels a.parts.owners (with_parts a.parts s)) = shut_stands level levels s z open_level a h in
     subst (Leaves (record level { aborted = true } ∷ levels)) (sym a.is) (record {
-      between = record {
-        stands = stands;
-        open_levels = (record { started = open_level.started; block = open_level.block }, outer_open levels h.fit.1);
-        at_rest = all_rest_aborted a.parts.portals (record level { aborted = true }) levels _ _ _ refl stands.portals.each;
-      };
+      between = grind (arith, nat_tests, outer_open levels h.fit.1, all_rest_aborted a.parts.portals);
       are = refl;
     })
 
@@ -559,11 +538,7 @@ away_stands level levels s h =
     let old : LevelState = record level { aborted = true } in
     let z : Scene = record (with_parts a.parts s) { session = record (with_parts a.parts s).session { current = abort_context; snapshots = kept_below (length (level ∷ levels)) s.session.snapshots } } in
     let mine : IsLevel old levels a.parts.contexts a.parts.owners = search (c.all.0) in
-    let e : Ending old levels levels [] a.parts.portals z = search (
-      c.all.1,
-      owners_end (table_of a.parts.kinds) a.parts.owners s.session.next_owner s.session.next_serial old levels a.parts.portals c.owners,
-      All-nil (IsDone old levels a.parts.contexts a.parts.owners abort_context),
-    ) in
+    let e : Ending old levels levels [] a.parts.portals z = grind (arith, nat_tests, owners_end (table_of a.parts.kinds) a.parts.owners s.session.next_owner s.session.next_serial old levels a.parts.portals c.owners) in
     subst (Leaves levels) (sym (ap (λ (y : Scene). (cleaned_up y).scene) a.is))
     (clean_from old levels z refl e c.idle (away_stacked level levels (active_depth (level ∷ levels)) s.session.snapshots h.fit.1 h.snapshots))
 

@@ -84,10 +84,7 @@ recovered_counts error s k =
 turn_of_counts : (s : Scene) (done : Done) (refusal : Option Error) → IsNumbered s → Follows KeepsCount s done
     → IsNumbered (turn_of done refusal).moment.scene × CountsHooks s (turn_of done refusal).moment.scene (turn_of done refusal).events
 turn_of_counts s done None k h = let now : Counted s (record { scene = done.moment.scene; events = done.events }) = h.so.counts k in (now.numbered, now.hooks)
-turn_of_counts s done (Some error) k h =
-    let now : Counted s (record { scene = done.moment.scene; events = done.events }) = h.so.counts k in
-    let more : Counted done.moment.scene (recovered error done.moment.scene) = recovered_counts error done.moment.scene now.numbered in
-    (more.numbered, counted_on now.hooks more.hooks)
+turn_of_counts s done (Some error) k h = grind (arith, nat_tests, recovered_counts error done.moment.scene, counted_on)
 
 -- A line counts hooks, in a session that stands between lines.
 pub turn_counts_hooks : (w : Option ℕ) (line : Option Command) (m : Moment) → StandsBetweenLines m.scene → CountsHooks m.scene (turn w line m).moment.scene (turn w line m).events

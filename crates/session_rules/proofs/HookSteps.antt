@@ -1,5 +1,5 @@
 -- What became of a scene's hooks is counted: where contexts end, come and move, where a hook is registered, and where nothing becomes of them.
-use Rattle.session_rules.proofs.Base.{◌≡◌, ℕ, ◌+◌, ◌<◌, Bool, true, false, cond, if◌then◌else◌, Some, List, [], ◌∷◌, ◌++◌, length, map, drop, refl, sym, ap, ◌∙◌, arith, ◌≤◌, ◌==◌, sum_by, cases_Bool, eq-eqb, both_ways, false_from_ne_true, or_parts, sum_by-append, sum_by-cons, nat_tests}
+use Rattle.session_rules.proofs.Base.{◌≡◌, ℕ, ◌+◌, ◌<◌, Bool, true, false, cond, if◌then◌else◌, Some, List, [], ◌∷◌, ◌++◌, length, map, drop, refl, sym, ap, ◌∙◌, arith, ◌==◌, sum_by, cases_Bool, eq-eqb, both_ways, false_from_ne_true, or_parts, sum_by-append, sum_by-cons, nat_tests}
 use Rattle.session_rules.proofs.Below.{What, Empty, has, times, Once, at, changed, is_above, moved, put, with_children, Moves, at_some, has_changed, has_of_removed, has_some, once_changed, once_put, put_absent, times_moved, times_some, sum_moved, Hook, ran, ShelfState, held, taken, Context, Contexts, is_child, placed_under, move_events, cleared, cleared_alone, emptied, gone, handed_in, waiting, is_within}
 use Rattle.session_rules.proofs.Rules.{first_of, Scene, context_moved, hook_waits, Ended, behind, children_gone, context_cleared, context_cleared_alone, context_gone, HookCount, HooksCounted, CountsHooks, runs_of}
 use Rattle.context_rules.specs.Ends as ends
@@ -43,9 +43,7 @@ count_on {es = es} {fs = fs} h k = record {
 pub counted_on : {t u v : Contexts} {x y z : ShelfState} {es fs : List What} → HooksCounted t x u y es → HooksCounted u y v z fs → HooksCounted t x v z (es ++ fs)
 counted_on {t = t} {u = u} {x = x} {y = y} h k = record {
   counts = count_on h.counts k.counts;
-  out = λ fit.
-      let first = h.out fit in
-      let next : length (waiting u) ≤ y.out = omega (arith, first, fit) in omega (arith, first, k.out next);
+  out = grind (arith, nat_tests);
 }
 
 pub counted_both : {scene : Scene} {first next : Ended} → Counted scene first → Counted first.scene next → Counted scene (behind first.events next)
@@ -115,9 +113,7 @@ kept_count t u x h same = record {
   taken = λ n.
       let g : Hook → ℕ = λ hook. cond (hook.word == n) 1 0 in
       omega (arith, h.others n, same g, sum_by-append g);
-  whole = λ n.
-      let g : Hook → ℕ = λ hook. cond (hook.word == n) 1 0 in
-      omega (arith, same g, sum_by-append g);
+  whole = grind (arith, nat_tests, sum_by-append);
 }
 
 pub counted_kept : (t u : Contexts) (x : ShelfState) {events : List What} → Runs [] events → ((g : Hook → ℕ) → sum_by g (waiting u) ≡ sum_by g (waiting t)) → HooksCounted t x u x events
@@ -157,10 +153,7 @@ counted_moved n p s k node there out = go (is_child n p s.session.contexts)
     go false =
         let times_same : (m : ℕ) → times m (moved n p s.session.contexts) ≡ times m s.session.contexts = λ m. let a = at_some n s.session.contexts node in rw a.1 (times_moved m n p a.0 s.session.contexts k.once moves) in
         record {
-          numbered = record {
-            once = record { once = λ m. omega (arith, times_same m, k.once.once m) };
-            below = λ m u. k.below m (has_some m s.session.contexts (omega (arith, times_same m, times_some m (moved n p s.session.contexts) u)));
-          };
+          numbered = grind (arith, nat_tests, has_some, times_some);
           hooks = counted_kept s.session.contexts (moved n p s.session.contexts) s.around.shelf (still_moves false n p)
               (λ g. omega (arith, sum_waiting g s.session.contexts, sum_waiting g (moved n p s.session.contexts), sum_moved (of_context g) n p s.session.contexts k.once moves));
         }
@@ -177,15 +170,9 @@ waits_count n f hook c t x fresh o there more is =
     let had : (g : Hook → ℕ) → sum_by g x.fresh ≡ g hook + sum_by g fresh = λ g. ap (sum_by g) is ∙ sum_by-cons g hook fresh in
     let left : (g : Hook → ℕ) → sum_by g (drop 1 x.fresh) ≡ sum_by g fresh = λ g. ap (λ (hooks : List Hook). sum_by g (drop 1 hooks)) is in
     record {
-      runs = λ n.
-          let g : Hook → ℕ = λ hook. if hook.word == n then hook.runs else 0 in
-          omega (arith, sums g, had g, left g, sum_by-append g);
-      taken = λ n.
-          let g : Hook → ℕ = λ hook. cond (hook.word == n) 1 0 in
-          omega (arith, sums g, sum_by-append g);
-      whole = λ n.
-          let g : Hook → ℕ = λ hook. cond (hook.word == n) 1 0 in
-          omega (arith, sums g, had g, left g, sum_by-append g);
+      runs = grind (arith, nat_tests, sum_by-append);
+      taken = grind (arith, nat_tests, sum_by-append);
+      whole = grind (arith, nat_tests, sum_by-append);
     }
 
 pub counted_waits : (n : ℕ) (f : Context → Context) (hook : Hook) (c : Context) (t : Contexts) (x : ShelfState) (fresh : List Hook) → Once t → at n t ≡ Some c → (f c).hooks ≡ hook ∷ c.hooks → x.fresh ≡ hook ∷ fresh

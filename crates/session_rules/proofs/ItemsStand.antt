@@ -1,5 +1,5 @@
 -- The steps by which the deepest level's owner takes an item and gives one back lead from a session that stands to one that stands.
-use Rattle.session_rules.proofs.Base.{◌≡◌, ◌≢◌, ℕ, ◌+◌, ◌-◌, ◌<◌, ◌≤◌, ◌++◌, find, length, Bool, true, Option, Some, None, List, [], ◌∷◌, refl, sym, ap, ◌∙◌, subst, inl, inr, arith, ◌==◌, if◌then◌else◌, option_map_or, option_and_then, eq-eqb, ne_eqb, nat_tests, All-cons, All-weaker, false, All, codes, is_none, not, length-map, All-nil, All-head, All-tail, All-push}
+use Rattle.session_rules.proofs.Base.{◌≡◌, ◌≢◌, ℕ, ◌+◌, ◌-◌, ◌<◌, ◌≤◌, ◌++◌, find, length, Bool, true, Option, Some, None, List, [], ◌∷◌, refl, sym, ap, ◌∙◌, subst, inl, arith, ◌==◌, if◌then◌else◌, option_map_or, option_and_then, eq-eqb, ne_eqb, nat_tests, All-cons, All-weaker, false, All, codes, is_none, not, length-map, All-nil, All-head, All-tail, All-push}
 use Rattle.session_rules.proofs.Below.{Once, has, changed, at_some, has_changed, parent_changed, Item, KindId, Mode, Contexts, table_of, is_of, without_newest, Owner, OwnerTree, forgotten, remembered, IsSound, Empty, Error, created, is_protected, new_context, What, ReferenceClass, class_kind, Kind, changed_at, opened, KindTable, IsExtension, row, IsSoundTable, table-opened, All-without, once_of, sound_forgotten, sound_remembered, acquired, CtxKind}
 use Rattle.session_rules.proofs.Rules.{LevelState, StandingPlan, buffer_pin, file_kind, first_of, level_owner, plan_reference, snapshot_reference, Scene, Moment, OfLevel, Text, changes, in_order, say, where_there, Keeper, NoOne, TheKind, given_back, keeper_of, descriptor_given, item_taken, lock_taken, remembers, taken_by, at_kind, at_owner, does, AreLevels, AreOwners, ArePlans, HasItems, IsItem, IsPlan, IsWorking, Stands, references_of, referred, cache_context, plan_at, unless, plan_becomes, plan_made, AreApart, Differ, IsPlace, Element, kind_from, kind_named, newest, plan_changed, owner_in, OwnerRole}
 use Rattle.session_rules.proofs.Kept.{all_changed, levels_stay, no_value, held_forgotten, held_remembered, Split, all_replaced, changed_is, counted_at, plans_replaced, split, IsOther, levels_apart, plans_counted, attached_by, place_spared, portals_by, IsRowOf, own_rows, row_of, row_put, lone_changed, lone_put, Besides, Fits, IsApart, Settles, Spares, besides_of, item_settles, spares_same, with_besides, becomes, Tables, tabled, tables_of, children_put, Stay, contexts_created, has_created, is_unused, new_parent, new_protected, protected_has, stay_created, hooks_put}
@@ -29,10 +29,7 @@ items_step s n serial f x h working begun known sound same fits spares =
       fit = fit_working s.session.levels t x.contexts o y s.session.current s.session.current working h.fit;
       owners = subst (λ (kinds : KindTable). AreOwners kinds y s.session.next_owner serial s.session.levels s.session.portals) (sym same) (record {
         sound = sound;
-        each = λ m u. elim (h.owners.each m (sym (has_changed m n f o) ∙ u)) [
-          | inl i ↦ inl i
-          | inr k ↦ elim k [ inl p ↦ inr (inl p) | inr r ↦ absurd (not_released s.session.levels m o working r) ]
-        ];
+        each = grind (arith, nat_tests, has_changed, not_released s.session.levels);
         begun = λ m u. absurd (not_released s.session.levels m o working (h.owners.begun m (sym (begun_changed m n f o begun) ∙ u)));
         items = all_changed (HasItems (table_of s.around.kinds)) n f o known h.owners.items;
       });
@@ -240,10 +237,7 @@ module _ (w : Option ℕ) (moment : Moment) (h : Stands moment.scene) (working :
   extension_works kind key n extension e =
       let x : Tables = record (tables_of moment.scene) { kinds = changed_at (kind.0 - 16) (opened key) moment.scene.around.kinds } in
       let same : table_of x.kinds ≡ table_of moment.scene.around.kinds = table-opened moment.scene.around.kinds (kind.0 - 16) key in
-      let is : (serial : ℕ) → IsItem (table_of moment.scene.around.kinds) (record { kind = kind; key = key; serial = serial }) = λ serial. record {
-        kind = inr extension;
-        buffer = λ is. absurd (omega (arith, is, extension.from));
-      } in
+      let is : (serial : ℕ) → IsItem (table_of moment.scene.around.kinds) (record { kind = kind; key = key; serial = serial }) = grind (arith, nat_tests) in
       subst (Works moment.scene)
       (sym (ap (λ (k : Keeper). (in_order (taken_by k key ∷ remembers n kind key ∷ []) moment.scene).scene) (extension_keeps kind extension.from)))
       (record { stands = other_step moment.scene n kind key x h working (there n e) (λ z. absurd (omega (arith, z, extension.from))) is same; levels = refl; at_rest = λ r. r })

@@ -1,5 +1,5 @@
 -- The steps on contexts of a name lead from a session that stands to one that stands.
-use Rattle.session_rules.proofs.Base.{◌≡◌, ◌≢◌, ◌⊎◌, ℕ, ◌+◌, Bool, true, false, Option, Some, None, List, [], ◌∷◌, ◌++◌, refl, sym, ap, ◌∙◌, subst, inl, inr, arith, ◌==◌, reverse, if◌then◌else◌, codes, option_map, option_and_then, eq-eqb, both_ways, or_parts, nat_tests, reverse-append}
+use Rattle.session_rules.proofs.Base.{◌≡◌, ◌≢◌, ◌⊎◌, ℕ, ◌+◌, Bool, true, false, Option, Some, None, List, [], ◌∷◌, ◌++◌, refl, sym, ap, ◌∙◌, subst, inl, inr, arith, ◌==◌, reverse, if◌then◌else◌, codes, option_map, eq-eqb, both_ways, or_parts, nat_tests, reverse-append}
 use Rattle.session_rules.proofs.Below.{Empty, Node, Once, children, has, is_above, removed, with_children, Moves, apart_of, at_absent, at_some, has_changed, Hook, taken, CtxKind, Context, Contexts, created, is_protected, new_context, reparented, OwnerTree, is_text, registered, is_within, set_parent_refusal, TreeError, Protected, Cycle}
 use Rattle.session_rules.proofs.Rules.{LevelState, SessionState, cache_context, context_of, first_of, last_of, level_context, top_context, Scene, Moment, Text, context_named, context_made, new_context_made, at_context, context_moved, hook_waits, does, AreContexts, AreHooks, AreLevels, IsPlace, IsRow, IsWorking, Stands, referred, Check, Element, NewContext, Ended, of_contexts, children_gone, context_cleared, context_cleared_alone, context_gone, switched, where_there, failure, refusal_at, tree_error}
 use Rattle.session_rules.proofs.Kept.{has_emptied, has_left, once_left, hooks_ended, hooks_put, hooks_taken, hooks_reparented, parts_alone, parts_children, parts_cleared, parts_gone, IsContext, no_value, one_value, lone_changed, lone_emptied, lone_left, lone_moved, lone_put, IsCached, levels_other, own_other, plans_current, place_current, place_level, place_own, place_same, portals_moved, row_changed, row_emptied, row_free, row_left, row_put, Stay, apart, contexts_alone, contexts_changed, contexts_children_gone, contexts_created, contexts_gone, contexts_reparented, has_alone, has_created, has_reparented, moves_by, protected_has, same_removed, stay_alone, stay_changed, stay_children_gone, stay_created, stay_gone, stay_on, stay_reparented, stay_same, top_protected, by_alone, by_reparented}
@@ -220,9 +220,7 @@ module _ (w : Option ℕ) (moment : Moment) (h : Stands moment.scene) (working :
       at_name (Works moment.scene) (context_named name moment.scene.session) (λ n. at_context parent (context_moved n)) moment.scene (nothing_works moment.scene h)
       (λ n e. at_name (Works moment.scene) (context_named parent moment.scene.session) (context_moved n) moment.scene (nothing_works moment.scene h)
       (λ p q.
-      let may : set_parent_refusal n p moment.scene.session.contexts ≡ None =
-      ap (option_and_then (λ (m : ℕ). set_parent_refusal n m moment.scene.session.contexts)) (sym q)
-      ∙ checked name moment.scene.session (λ m. option_and_then (λ k. set_parent_refusal m k moment.scene.session.contexts) (context_named parent moment.scene.session)) n e ok in
+      let may : set_parent_refusal n p moment.scene.session.contexts ≡ None = grind (arith, nat_tests, checked name moment.scene.session) in
       let b = both_none (is_protected n moment.scene.session.contexts) (is_within n p moment.scene.session.contexts) Protected Cycle may in
       record { stands = moved_step moment.scene n p h working (named_there name moment.scene n h e) (named_there parent moment.scene p h q) b.0 b.1 (named_other parent moment.scene p h q) (named_place parent moment.scene p h q); levels = refl; at_rest = λ r. r }))
 

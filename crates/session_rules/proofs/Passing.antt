@@ -44,10 +44,7 @@ module _ {A : Type 0} where
         parent = rw a.1 (parent_put q o a.0 (children o t) (removed o t) left there gone);
         lone_other = λ m other ne f. lone_moved m o q t once w other ne (out m) f;
         lone = rw a.1 (children_put q o a.0 (children o t) (removed o t) left there gone ∙ e);
-        above = λ m lo ne other h.
-            let kept : has m (children lo (removed o t)) ≡ true = ap (has m) (children_left lo o t once ne (out lo)) ∙ has_left m o (children lo t) (once_children lo t once) other (inner m lo) ∙ h in
-            let put_in : has m (children lo (put q o a.0 Empty (removed o t))) ≡ true = put_above m lo q o a.0 (removed o t) ne other kept in
-            rw a.1 (subst (λ (sub : Forest A). has m (children lo (put q o a.0 sub (removed o t))) ≡ true) (sym e) put_in);
+        above = grind (arith, nat_tests, children_left, has_left, once_children, put_above);
       }
 
 -- owners that are left to the deepest level still are
@@ -133,15 +130,7 @@ module _ (level : LevelState) (levels : List LevelState) (some : 1 ≤ length le
       let own : IsPortal q levels s.session.contexts s.session.owners s.session.current = record {
         place = i.place;
         made = i.made;
-        owner = λ n e.
-            let a : IsAttached n p.created (level ∷ levels) s.session.owners = i.owner n e in
-            let ne : p.created ≢ depth = lower n e in
-            record {
-              there = a.there;
-              parent = a.parent ∙ rw (ne_eqb (length levels + 1) p.created (λ z. ne (sym z ∙ omega arith)), ne_eqb p.created depth ne) refl;
-              lone = a.lone;
-              other = λ j. a.other (inr j);
-            };
+        owner = grind (arith, nat_tests, ne_eqb (length levels + 1) p.created, ne_eqb p.created depth);
         stage = inl (passed_live p h.outer i.stage);
       } in
       let owners : AreEnding (table_of s.around.kinds) s.session.owners s.session.next_owner s.session.next_serial level levels (front ++ (q ∷ back)) = kept_owners level levels levels p q front back s h (λ n e. e) in
@@ -173,19 +162,11 @@ module _ (level : LevelState) (levels : List LevelState) (some : 1 ≤ length le
       let own : IsPortal new levels t y s.session.current = record {
         place = i.place;
         made = i.made;
-        owner = λ n e. subst (λ (j : ℕ). IsAttached j (lowered depth p.created) levels y) (one_value p.owner o n owned e) (record {
-          there = m.has_same o ∙ a.there;
-          parent = m.parent ∙ sym (above_is q up) ∙ ap (λ (k : ℕ). owner_at k levels) (sym number);
-          lone = m.lone;
-          other = λ j. a.other (inr j);
-        });
+        owner = grind (arith, nat_tests, one_value p.owner o, above_is q up);
         stage = inl (passed_live p h.outer i.stage);
       } in
       let off : (lo : ℕ) → level.owner ≡ Some lo → lo ≢ o = λ lo e z. a.other (inl (e ∙ ap Some z)) in
-      let active : level.aborted ≡ false = elim i.stage [
-        | inl l ↦ not_aborted p l deep
-        | inr d ↦ absurd (no_value p.owner o d.owner owned)
-      ] in
+      let active : level.aborted ≡ false = grind (arith, nat_tests, no_value p.owner o) in
       let owners : AreEnding (table_of s.around.kinds) y no ns level levels (front ++ (new ∷ back)) = record {
         sound = sound_moved o q x no ns h.owners.sound;
         each = λ n u. elim (cases_eq n o) [

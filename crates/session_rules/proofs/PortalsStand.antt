@@ -1,7 +1,7 @@
 -- The steps of a portal lead from a session that stands to one that stands.
-use Rattle.session_rules.proofs.Base.{◌≡◌, ◌≢◌, ◌⊎◌, ℕ, ◌+◌, ◌≤◌, ◌<◌, true, false, Option, Some, None, List, [], ◌∷◌, ◌++◌, length, refl, sym, ap, ◌∙◌, subst, inl, inr, arith, ◌==◌, ◌||◌, All, codes, option_map_or, option_and_then, cases_eq, cases_Bool, both_ways, eq-eqb, or_parts, All-nil, All-cons, All-head, All-tail, All-append, All-weaker, nat_tests}
-use Rattle.session_rules.proofs.Below.{Forest, Empty, Node, Once, at, has, children, parent_of, put, size, apart_of, Contexts, created, is_protected, new_context, table_of, Owner, OwnerTree, has_begun, once_of, fresh, sound_created, new_scan, Scan, is_text, is_text-means, is_text-same, PortalState, CtxKind}
-use Rattle.session_rules.proofs.Rules.{LevelState, OpenPortal, cache_context, first_of, level_owner, plan_reference, portals_context, Scene, OfPortal, PortalContext, Text, portal_changed, portal_named, in_order, portal_becomes, context_made, new_context_made, new_owner_made, owner_made, portal_made, WasReleased, AreContexts, AreDifferent, AreHooks, AreLevels, AreOther, AreOwners, ArePlans, ArePortals, IsAtRest, IsAtWork, IsAttached, IsDead, IsLive, IsOfPortal, IsOwner, IsPlace, IsPortal, IsWorking, Stands, active_depth, owner_at, referred}
+use Rattle.session_rules.proofs.Base.{◌≡◌, ◌≢◌, ◌⊎◌, ℕ, ◌+◌, ◌≤◌, ◌<◌, true, false, Option, Some, None, List, [], ◌∷◌, ◌++◌, length, refl, sym, ap, ◌∙◌, subst, inl, inr, arith, ◌==◌, ◌||◌, All, codes, option_and_then, cases_eq, cases_Bool, both_ways, eq-eqb, or_parts, All-nil, All-cons, All-head, All-tail, All-append, All-weaker, nat_tests}
+use Rattle.session_rules.proofs.Below.{Forest, Empty, Node, Once, at, has, children, parent_of, put, size, apart_of, Contexts, created, is_protected, new_context, table_of, OwnerTree, once_of, fresh, sound_created, new_scan, Scan, is_text, is_text-means, is_text-same, PortalState, CtxKind}
+use Rattle.session_rules.proofs.Rules.{LevelState, OpenPortal, cache_context, first_of, level_owner, plan_reference, portals_context, Scene, OfPortal, PortalContext, Text, portal_changed, portal_named, in_order, portal_becomes, context_made, new_context_made, new_owner_made, owner_made, portal_made, WasReleased, AreContexts, AreDifferent, AreHooks, AreLevels, AreOther, AreOwners, ArePlans, ArePortals, IsAtRest, IsAtWork, IsDead, IsLive, IsOfPortal, IsOwner, IsPlace, IsPortal, IsWorking, Stands, active_depth, owner_at, referred}
 use Rattle.session_rules.proofs.Kept.{children_put, has_put_other, Stay, contexts_created, has_created, is_unused, new_parent, new_protected, protected_has, stay_created, stay_same, held_created, hooks_put, levels_stay, no_value, one_value, lone_put, plans_counted, Changes, all_back, all_front, changed_one, different_new, different_changed, different_owned, others_back, others_front, owner_beside, owner_here, owner_split, IsRowOf, attached_by, own_rows, place_same, row_of, row_put, depth_small, depth_working}
 use Rattle.owner_core.specs.Owners as owners
 use Rattle.session_rules.proofs.ItemsStand.{owner_there}
@@ -126,14 +126,7 @@ module _ (s : Scene) (h : Stands s) (working : IsWorking s.session.levels) (name
       let other : (r : OpenPortal) → IsPortal r s.session.levels t s.session.owners cur → IsPortal r s.session.levels u s.session.owners cur = λ r k.
       record { place = λ m e. off m r.expr (k.place m e); made = k.made; owner = k.owner; stage = k.stage } in
       let own : IsPortal q s.session.levels u s.session.owners cur = record {
-        place = λ m e. subst (λ (j : ℕ). IsPlace j p.expr u cur) (one_value (Some next) next m refl e) (subst (λ (o : Option ℕ). IsPlace next o u cur) (sym (i.made none)) (record {
-          protected = new_protected t next h.contexts portals_context title CtxKind.Small there;
-          parent = new_parent t next h.contexts portals_context title CtxKind.Small true there;
-          own = h.contexts.room;
-          row = children_put portals_context next (new_context title CtxKind.Small true) Empty t h.contexts.once there (is_unused t next h.contexts);
-          other = newer cur h.current;
-          apart = λ z. absurd (cc z);
-        }));
+        place = grind (arith, nat_tests, one_value (Some next) next, new_protected t next h.contexts portals_context title CtxKind.Small there, new_parent t next h.contexts portals_context title CtxKind.Small true there, children_put portals_context next (new_context title CtxKind.Small true) Empty t h.contexts.once there (is_unused t next h.contexts), is_unused t next h.contexts);
         made = λ z. absurd (cc z);
         owner = i.owner;
         stage = inl (record { some = this_live.some; within = this_live.within; active = this_live.active; line = this_live.line });
@@ -196,12 +189,7 @@ module _ (s : Scene) (h : Stands s) (working : IsWorking s.session.levels) (name
       let own : IsPortal q ls t y cur = record {
         place = i.place;
         made = i.made;
-        owner = λ m e. subst (λ (j : ℕ). IsAttached j p.created ls y) (one_value (Some count) count m refl e) (record {
-          there = new.there;
-          parent = new.parent ∙ sym up.0 ∙ ap (λ (k : ℕ). owner_at k ls) (sym deep);
-          lone = new.alone;
-          other = λ j. both_ways (has count x) unused (owners_there ls t x count h.levels j);
-        });
+        owner = grind (arith, nat_tests, one_value (Some count) count, both_ways (has count x) unused, owners_there ls t x count h.levels);
         stage = inl (record { some = l.some; within = l.within; active = l.active; line = inr (omega (arith, l.within, l.active, depth_small ls, deep), λ _. deep) });
       } in
       let was : ArePortals (n.front ++ (p ∷ n.back)) ls t x cur = split_portals s h working name p n in
@@ -217,15 +205,7 @@ module _ (s : Scene) (h : Stands s) (working : IsWorking s.session.levels) (name
             ])
           ]
         ];
-        begun = λ m u. elim (cases_eq m count) [
-          | inl e ↦
-              let z : option_map_or (λ (owner : Owner). owner.begun) (at count y) false ≡ true = ap (λ (k : ℕ). has_begun k y) (sym e) ∙ u in
-              let w : false ≡ true = rw new.idle at z in
-              absurd (cc w)
-          | inr ne ↦
-              let z : has_begun m x ≡ true = ap (λ (c : Option Owner). option_map_or (λ owner. owner.begun) c false) (sym (new.others m ne)) ∙ u in
-              absurd (not_released ls m x working (h.owners.begun m z))
-        ];
+        begun = grind (arith, nat_tests, cases_eq, not_released ls);
         items = new.items (table_of s.around.kinds) h.owners.items;
       } in
       let off : All (λ r. (m : ℕ) → r.owner ≡ Some m → m ≢ count) (n.front ++ (p ∷ n.back)) =
@@ -271,14 +251,7 @@ module _ (s : Scene) (h : Stands s) (working : IsWorking s.session.levels) (name
         stage = k.stage;
       } in
       let own : IsPortal q ls u x cur = record {
-        place = λ m e. subst (λ (j : ℕ). IsPlace j (Some next) u cur) (one_value p.context c m at_c e) (record {
-          protected = (stay c place.protected).protected;
-          parent = (stay c place.protected).parent ∙ place.parent;
-          own = place.own;
-          row = (new_context title CtxKind.Small true, put_here c next (new_context title CtxKind.Small true) t h.contexts.once there (is_unused t next h.contexts) ∙ ap (Node next (new_context title CtxKind.Small true) Empty) place.row, refl);
-          other = place.other;
-          apart = λ z. newer cur h.current (sym (one_value (Some next) next cur refl z));
-        });
+        place = grind (arith, nat_tests, one_value p.context c, one_value (Some next) next cur refl, put_here c next (new_context title CtxKind.Small true) t h.contexts.once there (is_unused t next h.contexts), is_unused t next h.contexts);
         made = λ z. absurd (no_value p.context c z at_c);
         owner = i.owner;
         stage = inl (let l : IsLive p ls = this_live s h working name p n in record { some = l.some; within = l.within; active = l.active; line = l.line });
@@ -328,12 +301,7 @@ pub made_portal : (s : Scene) (name : Text) (object rows : ℕ) (bad : Option �
 made_portal s name object rows bad h working free =
     let d = depth_here s.session.levels working in
     let p : OpenPortal = record { name = name; context = None; expr = None; owner = None; scan = new_scan object rows bad; created = length s.session.levels; active = length s.session.levels; state = PortalState.New } in
-    let own : IsPortal p s.session.levels s.session.contexts s.session.owners s.session.current = record {
-      place = λ n e. absurd (cc e);
-      made = λ _. refl;
-      owner = λ n e. absurd (cc e);
-      stage = inl (record { some = d.1; within = omega arith; active = omega (arith, d.0); line = inl (λ _. refl) });
-    } in
+    let own : IsPortal p s.session.levels s.session.contexts s.session.owners s.session.current = grind (arith, nat_tests) in
     let each : (n : ℕ) → has n s.session.owners ≡ true → IsOwner n s.session.levels ⊎ (IsOfPortal n (p ∷ s.session.portals) ⊎ WasReleased n s.session.levels s.session.owners) =
     λ n u. elim (h.owners.each n u) [ inl i ↦ inl i | inr k ↦ inr (elim k [ inl j ↦ inl (inr j) | inr r ↦ inr r ]) ] in
     search (All-cons (λ r. IsPortal r s.session.levels s.session.contexts s.session.owners s.session.current) p s.session.portals own h.portals.each, new_names name s.session.portals free p refl refl refl)

@@ -158,10 +158,7 @@ module _ (level : LevelState) (levels : List LevelState) (aborted : level.aborte
             made = i.made;
             owner = λ n q. attached_by n p.created (level ∷ levels) levels s.session.owners s.session.owners (λ w. w) refl (λ w. w)
                 (sym (rw (ne_eqb (length levels + 1) p.created (λ z. ne (sym z ∙ omega arith))) refl)) (λ j. inr j) (i.owner n q);
-            stage = elim i.stage [
-              | inl l ↦ inl (record { some = l.some; within = l.within; active = omega (arith, l.active, depth_still level levels aborted, depth_outer levels h.outer); line = inl (rests_aborted p level levels aborted i.stage) })
-              | inr d ↦ absurd (ne d.created)
-            ];
+            stage = grind (arith, nat_tests, depth_still level levels aborted, depth_outer levels h.outer, rests_aborted p level levels aborted i.stage);
           } in
           record {
             front = front ++ (p ∷ []);

@@ -78,20 +78,12 @@ module _ (s : Scene) (c d : ℕ → ℕ) (h : Fits s.session.next_context s.sess
       → Settles d s (plan_stays q s).scene
   stays n p q w number context kept now others =
       let plans : List StandingPlan = plan_changed q.number (λ old. q) s.session.plans in
-      let is : plans ≡ w.front ++ (q ∷ w.back) =
-      ap (λ (k : ℕ). plan_changed k (λ old. q) s.session.plans) (number ∙ w.number)
-      ∙ ap (plan_changed n (λ old. q)) w.is
-      ∙ changed_is n (λ old. q) p w.front w.back w.number w.before w.behind in
+      let is : plans ≡ w.front ++ (q ∷ w.back) = grind (arith, nat_tests, changed_is n) in
       record {
         besides = record (besides_of s) { plans = plans };
         same = refl;
         is = refl;
-        fits = record {
-          contexts = h.contexts;
-          hooks = h.hooks;
-          plans = subst (λ (x : List StandingPlan). ArePlans x s.session.contexts s.session.current d) (sym is)
-              (plans_replaced s.session.plans s.session.contexts s.session.current c d n p q h.plans w number context kept now others);
-        };
+        fits = grind (arith, nat_tests, plans_replaced s.session.plans s.session.contexts s.session.current c d n p q h.plans w number context kept now others);
         spares = record {
           there = λ m a u. u;
           same = λ m a prot. record { protected = prot; parent = refl };
@@ -117,14 +109,7 @@ module _ (s : Scene) (c d : ℕ → ℕ) (h : Fits s.session.next_context s.sess
         besides = record (besides_of s) { plans = plans; contexts = removed k t; shelf = handed_in (gone k t).hooks s.around.shelf };
         same = refl;
         is = refl;
-        fits = record {
-          contexts = contexts_level_gone t s.session.next_context h.contexts k (subst (λ (j : ℕ). abort_context < j) (sym context) own.own);
-          hooks = hooks_ended t (gone k t) s.around.shelf (parts_gone k t h.contexts.once) h.hooks;
-          plans =
-              subst (λ (x : List StandingPlan). ArePlans x (removed k t) s.session.current d) (sym is)
-              (subst (λ (j : ℕ). ArePlans (w.front ++ w.back) (removed j t) s.session.current d) (sym context)
-              (plans_without s.session.plans t s.session.next_context s.session.current c d n p h.contexts h.plans w none others));
-        };
+        fits = grind (arith, nat_tests, contexts_level_gone t s.session.next_context h.contexts k, hooks_ended t (gone k t) s.around.shelf (parts_gone k t h.contexts.once) h.hooks, parts_gone k t h.contexts.once, plans_without s.session.plans t s.session.next_context s.session.current c d n p h.contexts h.plans w none others);
         spares = record {
           there = λ m a u. has_left m k t h.contexts.once (other m a) (out m) ∙ u;
           same = λ m a prot. same_removed t s.session.next_context h.contexts m k (other m a, out m) prot;

@@ -1,7 +1,7 @@
 -- The steps of commands lead from a session that stands to one that stands.
-use Rattle.session_rules.proofs.Base.{◌≡◌, ◌≢◌, ℕ, ◌+◌, ◌<◌, ◌≤◌, ◌⊎◌, ◌++◌, length, Bool, true, false, Option, Some, None, List, [], ◌∷◌, refl, sym, ap, ◌∙◌, subst, inl, inr, arith, ◌==◌, All, if◌then◌else◌, option_map_or, All-nil, All-weaker, nat_tests, cases_eq, eq-eqb, ne_eqb, both_ways}
-use Rattle.session_rules.proofs.Below.{Empty, has, Once, at, children, parent_of, put, changed, size, AllNodes, has_at, times_some, has_changed, Error, Active, ShelfState, KindTable, IsSoundTable, table_of, once_of, fresh, sound_created, parent_absent, Ledger, CtxKind, Chunk, Context, Contexts, created, found, is_protected, new_context, allocated, freed, resized, written, zeros, Owner, OwnerTree, has_begun, items_of, IsSound}
-use Rattle.session_rules.proofs.Rules.{LevelState, OpenPortal, StandingPlan, deepest_changed, first_of, owner_of, plan_reference, Scene, Moment, LevelContext, OfLevel, Text, memory_in, aborted, cleaned_up, committed, subcommitted, does, Ended, changes, in_order, nothing, say, switched, where_there, chunk_resized, memory_taken, snapshot_pushed, level_stands, fallible, is_call, refused_call, Element, held, left, level_context_name, level_made, level_parent, limit, new_context_made, new_owner_made, IsLevel, IsOfPortal, AreContexts, AreHooks, AreLevels, AreOuter, AreOwners, ArePlans, ArePortals, AreStacked, FitLevels, HasItems, IsActive, IsAtRest, IsContextOf, IsDead, IsDeepest, IsFresh, IsItem, IsLive, IsMade, IsOpen, IsOwner, IsOwnerOf, IsPlace, IsPlan, IsPortal, IsReleased, IsRow, IsWorking, Stands, WasReleased, active_depth, owner_at, referred, MemoryRole}
+use Rattle.session_rules.proofs.Base.{◌≡◌, ◌≢◌, ℕ, ◌+◌, ◌<◌, ◌≤◌, ◌⊎◌, ◌++◌, length, Bool, true, false, Option, Some, None, List, [], ◌∷◌, refl, sym, ap, ◌∙◌, subst, inl, inr, arith, ◌==◌, All, if◌then◌else◌, All-weaker, nat_tests, cases_eq, eq-eqb, ne_eqb, both_ways}
+use Rattle.session_rules.proofs.Below.{Empty, has, Once, at, children, parent_of, put, changed, size, AllNodes, has_at, times_some, has_changed, Error, Active, ShelfState, KindTable, IsSoundTable, table_of, once_of, fresh, sound_created, parent_absent, Ledger, CtxKind, Chunk, Context, Contexts, created, found, is_protected, new_context, allocated, freed, resized, written, zeros, Owner, OwnerTree, has_begun, IsSound}
+use Rattle.session_rules.proofs.Rules.{LevelState, OpenPortal, StandingPlan, deepest_changed, first_of, owner_of, plan_reference, Scene, Moment, LevelContext, OfLevel, Text, memory_in, aborted, cleaned_up, committed, subcommitted, does, Ended, changes, in_order, nothing, say, switched, where_there, chunk_resized, memory_taken, snapshot_pushed, level_stands, fallible, is_call, refused_call, Element, held, left, level_context_name, level_made, level_parent, limit, new_context_made, new_owner_made, IsLevel, IsOfPortal, AreContexts, AreHooks, AreLevels, AreOuter, AreOwners, ArePlans, ArePortals, AreStacked, FitLevels, HasItems, IsActive, IsAtRest, IsDead, IsDeepest, IsFresh, IsLive, IsMade, IsOpen, IsOwner, IsOwnerOf, IsPlace, IsPlan, IsPortal, IsReleased, IsRow, IsWorking, Stands, WasReleased, active_depth, owner_at, referred, MemoryRole}
 use Rattle.session_rules.proofs.Kept.{at_put, at_put_other, children_put, has_put_other, parent_put, parent_put_other, all_put, Stay, contexts_changed, contexts_created, has_created, new_empty, new_parent, new_protected, protected_has, stay_changed, stay_created, stay_same, top_protected, hooks_changed, hooks_put, depth_small, depth_working, stacked_pushed, stacked_taken, stacked_within, lone_changed, lone_put, held_created, Besides, Fits, Spares, besides_of, with_besides, IsCached, levels_apart, levels_other, parent_apart, plans_counted, plans_current, plans_moved, IsRowOf, attached_by, off_parent, place_level, place_same, place_spared, portals_by, portals_moved, row_changed, row_of, row_parent_off, row_put, is_there, levels_stay, no_value, one_value}
 use Rattle.context_rules.specs.Contexts as rules
 use Rattle.context_rules.specs.Chunks.{without}
@@ -164,19 +164,8 @@ pub level_made_stands : (name : Option Text) (implicit : Bool) (s : Scene) → S
 level_made_stands name implicit s h at_rest outer alone =
     let new : LevelState = record { name = name; context = None; owner = None; implicit = implicit; aborted = false; starting = true } in
     let level : IsLevel new s.session.levels s.session.contexts s.session.owners = record { context = λ n e. absurd (cc e); owner = λ n e. absurd (cc e); implicit = alone } in
-    let deepest : IsDeepest new s.session.contexts s.session.owners s.session.current = record {
-      made = λ e. absurd (cc e);
-      empty = λ n _ e. absurd (cc e);
-      alone = λ n _ e. absurd (cc e);
-      idle = λ n _ e. absurd (cc e);
-      released = λ n _ e. absurd (cc e);
-      at_abort = λ e. absurd (cc e);
-      open_level = λ e. absurd (cc e);
-    } in
-    let each : (n : ℕ) → has n s.session.owners ≡ true → IsOwner n (new ∷ s.session.levels) ⊎ (IsOfPortal n s.session.portals ⊎ IsReleased new n s.session.owners) = λ n u. elim (h.owners.each n u) [
-      | inl i ↦ inl (inr i)
-      | inr k ↦ elim k [ inl p ↦ inr (inl p) | inr r ↦ absurd (not_released_outer s.session.levels n s.session.owners outer r) ]
-    ] in
+    let deepest : IsDeepest new s.session.contexts s.session.owners s.session.current = grind (arith, nat_tests) in
+    let each : (n : ℕ) → has n s.session.owners ≡ true → IsOwner n (new ∷ s.session.levels) ⊎ (IsOfPortal n s.session.portals ⊎ IsReleased new n s.session.owners) = grind (arith, nat_tests, not_released_outer s.session.levels) in
     let begun : (n : ℕ) → has_begun n s.session.owners ≡ true → IsReleased new n s.session.owners = λ n u. absurd (not_released_outer s.session.levels n s.session.owners outer (h.owners.begun n u)) in
     let portals : All (λ p. IsPortal p (new ∷ s.session.levels) s.session.contexts s.session.owners s.session.current) s.session.portals =
     λ k r below. pushed_portal new s.session.levels s.session.contexts s.session.owners s.session.current _ refl refl outer (at_rest k r below) (h.portals.each k r below) in
@@ -209,35 +198,16 @@ level_context_stands level levels s starting none h =
       hooks = hooks_put p next (new_context name CtxKind.Default true) t s.around.shelf c.once refl h.hooks;
       levels = (
         record {
-          context = λ n e. subst (λ (m : ℕ). IsContextOf m levels u) (one_value (Some next) next n refl e) (record {
-            protected = new_protected t next c p name CtxKind.Default there;
-            parent = new_parent t next c p name CtxKind.Default true there;
-            newer = c.below p there;
-            own = c.room;
-          });
+          context = grind (arith, nat_tests, one_value (Some next) next, new_protected t next c p name CtxKind.Default there, new_parent t next c p name CtxKind.Default true there);
           owner = λ n e. let o : IsOwnerOf n levels x = h.levels.0.owner n e in o;
           implicit = h.levels.0.implicit;
         },
         rest,
       );
-      fit = (
-        record {
-          made = λ e. absurd (both_ways level.starting e starting);
-          empty = λ n _ e. subst (λ (m : ℕ). rules.is_empty m u ≡ true) (one_value (Some next) next n refl e) (new_empty t next c p name CtxKind.Default true there);
-          alone = h.fit.0.alone;
-          idle = h.fit.0.idle;
-          released = h.fit.0.released;
-          at_abort = h.fit.0.at_abort;
-          open_level = λ a. let o : IsOpen level = h.fit.0.open_level a in record { started = o.started; block = o.block };
-        },
-        outer,
-      );
+      fit = grind (arith, nat_tests, both_ways level.starting, one_value (Some next) next, new_empty t next c p name CtxKind.Default true there);
       owners = record {
         sound = h.owners.sound;
-        each = λ n u. elim (h.owners.each n u) [
-          | inl i ↦ inl i
-          | inr k ↦ inr (elim k [ inl p ↦ inl p | inr r ↦ inr (record { aborted = r.aborted; owner = r.owner; is = r.is; within = r.within }) ])
-        ];
+        each = grind (arith, nat_tests);
         begun = λ n u. let r : IsReleased level n x = h.owners.begun n u in record { aborted = r.aborted; owner = r.owner; is = r.is; within = r.within };
         items = h.owners.items;
       };
@@ -278,30 +248,8 @@ pub record IsNewOwner (o : Option ℕ) (n : ℕ) (x y : OwnerTree) : Type 0 wher
   pub items : (kinds : KindTable) → AllNodes (HasItems kinds) x → AllNodes (HasItems kinds) y
 
 pub new_owner_is : (o : Option ℕ) (n : ℕ) (x : OwnerTree) → Once x → has n x ≡ false → ((p : ℕ) → o ≡ Some p → has p x ≡ true) → IsNewOwner o n x (owners.created o n x)
-new_owner_is None n x once new there = record {
-  there = rw (eq-eqb n n refl) refl;
-  parent = parent_absent n x new;
-  alone = rw (eq-eqb n n refl) refl;
-  idle = rw (eq-eqb n n refl) refl;
-  others = λ m ne. rw (ne_eqb n m (λ e. ne (sym e))) refl;
-  had = λ m ne. rw (ne_eqb n m (λ e. ne (sym e))) refl;
-  parents = λ m ne. refl;
-  lone = λ m ne off e. rw (ne_eqb n m (λ z. ne (sym z))) e;
-  items = λ kinds h. (All-nil (IsItem kinds), tt, h);
-}
-new_owner_is (Some p) n x once new there =
-    let u : has p x ≡ true = there p refl in
-    record {
-      there = has_at n (put p n new_owner Empty x) new_owner (at_put p n new_owner Empty x once u new);
-      parent = parent_put p n new_owner Empty x once u new;
-      alone = children_put p n new_owner Empty x once u new;
-      idle = at_put p n new_owner Empty x once u new;
-      others = λ m ne. at_put_other m p n new_owner Empty x ne refl;
-      had = λ m ne. has_put_other m p n new_owner Empty x ne refl;
-      parents = λ m ne. parent_put_other m p n new_owner Empty x ne refl;
-      lone = λ m ne off e. lone_put m p n new_owner Empty x (off p refl) ne refl e;
-      items = λ kinds h. all_put (HasItems kinds) p n new_owner Empty x (All-nil (IsItem kinds)) tt h;
-    }
+new_owner_is None n x once new there = grind (arith, nat_tests, eq-eqb n n refl, parent_absent n x new, ne_eqb n)
+new_owner_is (Some p) n x once new there = grind (arith, nat_tests, has_at n (put p n new_owner Empty x) new_owner, at_put p n new_owner Empty x once, parent_put p n new_owner Empty x once, children_put p n new_owner Empty x once, at_put_other, has_put_other, parent_put_other, lone_put, all_put)
 
 -- a portal isn't one of a level that is being started
 pub created_below : (level : LevelState) (levels : List LevelState) → level.starting ≡ true → (level.aborted ≡ true → IsOpen level) → (p : OpenPortal) → IsLive p (level ∷ levels) ⊎ IsDead p (level ∷ levels) → p.created ≤ length levels
@@ -327,9 +275,7 @@ level_owner_stands level levels s starting none few h =
     let parent_there : (p : ℕ) → owner_of (first_of levels) ≡ Some p → has p x ≡ true = above_there levels t x h.levels.1 in
     let new : IsNewOwner o n x y = new_owner_is o n x once unused parent_there in
     let other : (m : ℕ) → has m x ≡ true → m ≢ n = λ m u e. both_ways (has n x) unused (ap (λ (k : ℕ). has k x) (sym e) ∙ u) in
-    let rest : AreLevels levels t y =
-    levels_stay levels t t x y (λ m i prot. stay_same t m prot)
-    (λ m i u. let ne : m ≢ n = other m u in record { there = new.had m ne ∙ u; parent = new.parents m ne }) h.levels.1 in
+    let rest : AreLevels levels t y = grind (arith, nat_tests, levels_stay levels t t x y, stay_same t) in
     record {
       contexts = h.contexts;
       current = h.current;
@@ -346,37 +292,11 @@ level_owner_stands level levels s starting none few h =
         },
         rest,
       );
-      fit = (
-        record {
-          made = λ e. absurd (both_ways level.starting e starting);
-          empty = h.fit.0.empty;
-          alone = λ m _ e. subst (λ (k : ℕ). children k y ≡ Empty) (one_value (Some n) n m refl e) new.alone;
-          idle = λ m _ e. subst (λ (k : ℕ). items_of k y ≡ []) (one_value (Some n) n m refl e) (ap (λ (z : Option Owner). option_map_or (λ owner. owner.items) z []) new.idle);
-          released = λ m a e. absurd (both_ways level.starting (h.fit.0.open_level a).started starting);
-          at_abort = h.fit.0.at_abort;
-          open_level = λ a. let z : IsOpen level = h.fit.0.open_level a in record { started = z.started; block = z.block };
-        },
-        outer,
-      );
+      fit = grind (arith, nat_tests, both_ways level.starting, one_value (Some n) n);
       owners = record {
         sound = sound_created o x n b h.owners.sound few;
-        each = λ m u. elim (cases_eq m n) [
-          | inl e ↦ inl (inl (ap Some (sym e)))
-          | inr ne ↦ elim (h.owners.each m (sym (new.had m ne) ∙ u)) [
-            | inl i ↦ elim i [ inl q ↦ absurd (no_value level.owner m none q) | inr j ↦ inl (inr j) ]
-            | inr k ↦ elim k [ inl p ↦ inr (inl p) | inr r ↦ absurd (no_value level.owner r.owner none r.is) ]
-          ]
-        ];
-        begun = λ m u. elim (cases_eq m n) [
-          | inl e ↦
-              let z : option_map_or (λ (owner : Owner). owner.begun) (at n y) false ≡ true = ap (λ (k : ℕ). has_begun k y) (sym e) ∙ u in
-              let w : false ≡ true = rw new.idle at z in
-              absurd (cc w)
-          | inr ne ↦
-              let z : has_begun m x ≡ true = ap (λ (q : Option Owner). option_map_or (λ owner. owner.begun) q false) (sym (new.others m ne)) ∙ u in
-              let r = h.owners.begun m z in
-              absurd (no_value level.owner r.owner none r.is)
-        ];
+        each = grind (arith, nat_tests, cases_eq, no_value level.owner);
+        begun = grind (arith, nat_tests, cases_eq, no_value level.owner);
         items = new.items (table_of s.around.kinds) h.owners.items;
       };
       kinds = h.kinds;
@@ -384,17 +304,8 @@ level_owner_stands level levels s starting none few h =
           (λ q i. record {
             place = i.place;
             made = i.made;
-            owner = λ m e.
-                let a = i.owner m e in
-                let small : q.created ≤ length levels = created_below level levels starting h.fit.0.open_level q i.stage in
-                attached_by m q.created (level ∷ levels) (record level { owner = Some n } ∷ levels) x y (λ u. new.had m (other m u) ∙ u) (new.parents m (other m a.there))
-                (λ u. new.lone m (other m a.there) (λ p f z. a.other (inr (subst (λ (k : ℕ). IsOwner k levels) (sym z) (first_is levels p f)))) u)
-                (rw (ne_eqb (length levels + 1) q.created (λ z. omega (arith, z, small))) refl)
-                (λ j. elim j [ inl f ↦ absurd (both_ways (has n x) unused (ap (λ (k : ℕ). has k x) (one_value (Some n) n m refl f) ∙ a.there)) | inr k ↦ inr k ]) a;
-            stage = elim i.stage [
-              | inl l ↦ inl (record { some = l.some; within = l.within; active = l.active; line = l.line })
-              | inr d ↦ inr (record { aborted = d.aborted; created = d.created; within = d.within; active = d.active; failed = d.failed; owner = d.owner; expr = d.expr })
-            ];
+            owner = grind (arith, nat_tests, created_below level levels starting h.fit.0.open_level q i.stage, attached_by, first_is levels, ne_eqb (length levels + 1) q.created, both_ways (has n x) unused, one_value (Some n) n);
+            stage = grind (arith, nat_tests);
           }) h.portals;
       plans = plans_counted s.session.plans t s.session.current (referred x) (referred y) (λ m. sym (held_created plan_reference m o n x)) h.plans;
       snapshots = h.snapshots;
@@ -425,10 +336,7 @@ level_stands_stands level levels s active made h =
       fit = (deepest_active now s.session.contexts x c.0 working, h.fit.1);
       owners = record {
         sound = h.owners.sound;
-        each = λ n u. elim (h.owners.each n u) [
-          | inl i ↦ inl i
-          | inr k ↦ inr (elim k [ inl p ↦ inl p | inr r ↦ inr (record { aborted = r.aborted; owner = r.owner; is = r.is; within = r.within }) ])
-        ];
+        each = grind (arith, nat_tests);
         begun = λ n u. let r : IsReleased level n x = h.owners.begun n u in record { aborted = r.aborted; owner = r.owner; is = r.is; within = r.within };
         items = h.owners.items;
       };

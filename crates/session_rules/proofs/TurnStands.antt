@@ -1,5 +1,5 @@
 -- Commands lead from a session between two lines to one between two lines.
-use Rattle.session_rules.proofs.Base.{◌≡◌, ℕ, ◌+◌, ◌≤◌, ◌<◌, Bool, true, false, Option, Some, None, List, [], ◌∷◌, ◌++◌, refl, sym, ap, ◌∙◌, subst, inl, arith, All, zero, suc, ◌-◌, ◌&&◌, ◌==◌, not, length, map, codes, is_none, is_some, replicate, nat_lt, if◌then◌else◌, option_and_then, option_map_or, le-ltb, ltb-true, All-cons, flat_map, nat_tests}
+use Rattle.session_rules.proofs.Base.{◌≡◌, ℕ, ◌+◌, ◌≤◌, ◌<◌, Bool, true, false, Option, Some, None, List, [], ◌∷◌, ◌++◌, refl, sym, ap, ◌∙◌, subst, inl, arith, All, zero, suc, ◌-◌, ◌&&◌, ◌==◌, not, length, map, codes, is_none, is_some, replicate, nat_lt, if◌then◌else◌, option_and_then, option_map_or, le-ltb, ltb-true, flat_map, nat_tests}
 use Rattle.session_rules.proofs.Below.{Error, What, size, Scan, ScanStep, table_of, Command, is_text-same, KindId, TransactionCommand, Work, ContextCommand, ChunkCommand, ItemCommand, LockCommand, SnapshotCommand, PlanCommand, PortalCommand, TellCommand, class_kind, is_bad, is_tenth, new_scan, page_of, page_steps, row_step, row_steps, unpinned, turn as scan_turn, PortalState, AccessShareLock, Relcache, CtxKind}
 use Rattle.session_rules.proofs.Rules.{LevelState, OpenPortal, SessionState, buffer_pin, file_kind, is_aborted, level_owner, plan_reference, relcache_reference, snapshot_reference, Scene, Moment, Check, Element, InCurrent, InPortal, InRow, LevelContext, OfLevel, OfPortal, PortalContext, RowContext, Text, Ended, in_order, nothing, portal_becomes, where_there, failure, unless, Done, fallible, unless_refused, context_made, level_made, new_context_made, new_owner_made, portal_made, does, does_all, then_done, line_elements, turn, AreOpen, AreOuter, IsActive, IsAtRest, IsFetched, IsOpen, IsWorking, Stands, StandsBetweenLines, plan_at, portal_named, at_savepoint, begin, commit, committed_to, elements_of, ends_aborted, in_transaction, is_end, refused, rollback, rolled_back_to, save, savepoint, start, then_ok, transaction_of, unaborted, Row, after_turn, portal_steps, chunk_row, context_row, fallible_part, fetch_steps, item_row, lock_row, plan_row, portal_row, row_of, snapshot_row, tell_row, work_of}
 use Rattle.session_rules.proofs.Kept.{is_there, RestsBeside, beside_becomes, beside_rests, rests_beside}
@@ -165,12 +165,7 @@ module _ (w : Option ℕ) (levels : List LevelState) (active : IsWorking levels)
       runs_on w (Makes levels name c o) Q x xs moment (record { stands = k.at.stands; asks = asks })
       (record {
         stands = b.works.stands;
-        passed = λ _. record {
-          at = record { stands = b.works.stands; are = b.works.levels ∙ k.at.are; beside = subst (All (RestsBeside name)) (sym b.portals) k.at.beside };
-          portal = k.portal;
-          named = ap (portal_named name) b.portals ∙ k.named;
-          is = k.is;
-        };
+        passed = grind (arith, nat_tests);
       }) next
 
   pub behind_made : (object rows : ℕ) (bad : Option ℕ) (xs : List Element) (moment : Moment) → At levels moment.scene → portal_named name moment.scene.session.portals ≡ None
@@ -180,11 +175,7 @@ module _ (w : Option ℕ) (levels : List LevelState) (active : IsWorking levels)
       runs_on w (Makes levels name false false) Q (Element.MakePortal name object rows bad) xs moment (record { stands = at.stands; asks = tt })
       (fallible_leads (Makes levels name false false) w moment _ (portal_made name object rows bad) at.stands (λ z q. q.at.stands)
       (λ _. record {
-        at = record {
-          stands = made_portal moment.scene name object rows bad at.stands (working_at levels moment.scene active at) free;
-          are = at.are;
-          beside = All-cons (RestsBeside name) _ moment.scene.session.portals (λ _ _. refl) (rests_beside name moment.scene.session.portals at.at_rest);
-        };
+        at = grind (arith, nat_tests, made_portal moment.scene name object rows bad at.stands (working_at levels moment.scene active at) free, working_at levels moment.scene active, rests_beside name moment.scene.session.portals at.at_rest);
         portal = record { name = name; context = None; expr = None; owner = None; scan = new_scan object rows bad; created = length moment.scene.session.levels; active = length moment.scene.session.levels; state = PortalState.New };
         named = rw (is_text-same name) refl;
         is = record { has_context = refl; has_owner = refl; expr = refl; created = ap length at.are };
@@ -197,11 +188,7 @@ module _ (w : Option ℕ) (levels : List LevelState) (active : IsWorking levels)
       runs_on w (Makes levels name true false) Q (Element.MakeContext (PortalContext name)) xs moment (record { stands = k.at.stands; asks = tt })
       (fallible_leads (Makes levels name true false) w moment _ (new_context_made (PortalContext name)) k.at.stands (λ z q. q.at.stands)
       (λ _. record {
-        at = record {
-          stands = context_portal moment.scene k.at.stands (working_in levels moment.scene active k.at.are) name k.portal (named_in name k.portal moment.scene.session.portals k.named) (no_value_of k.portal.context k.is.has_context);
-          are = k.at.are;
-          beside = beside_becomes name (λ p. record p { context = Some moment.scene.session.next_context }) moment.scene.session.portals (λ q. refl) k.at.beside;
-        };
+        at = grind (arith, nat_tests, context_portal moment.scene k.at.stands (working_in levels moment.scene active k.at.are) name k.portal (named_in name k.portal moment.scene.session.portals k.named) (no_value_of k.portal.context k.is.has_context), working_in levels moment.scene active k.at.are, named_in name k.portal moment.scene.session.portals k.named, no_value_of k.portal.context k.is.has_context, beside_becomes name);
         portal = record k.portal { context = Some moment.scene.session.next_context };
         named = named_changed name k.portal (λ p. record p { context = Some moment.scene.session.next_context }) moment.scene.session.portals (λ q. refl) k.named;
         is = record { has_context = refl; has_owner = k.is.has_owner; expr = k.is.expr; created = k.is.created };
@@ -218,12 +205,7 @@ module _ (w : Option ℕ) (levels : List LevelState) (active : IsWorking levels)
       runs_on w (Makes levels name true true) Q (Element.MakeOwner (OfPortal name)) xs moment (record { stands = k.at.stands; asks = tt })
       (fallible_leads (Makes levels name true true) w moment _ (new_owner_made (OfPortal name)) k.at.stands (λ z q. q.at.stands)
       (λ room. record {
-        at = record {
-          stands = owner_portal moment.scene k.at.stands (working_in levels moment.scene active k.at.are) name k.portal (named_in name k.portal moment.scene.session.portals k.named) lo.0 lo.1
-              (no_value_of k.portal.owner k.is.has_owner) (k.is.created ∙ sym (ap length k.at.are)) (below_limit 65536 (size moment.scene.session.owners) room);
-          are = k.at.are;
-          beside = beside_becomes name (λ p. record p { owner = Some moment.scene.session.next_owner }) moment.scene.session.portals (λ q. refl) k.at.beside;
-        };
+        at = grind (arith, nat_tests, owner_portal moment.scene k.at.stands (working_in levels moment.scene active k.at.are) name k.portal (named_in name k.portal moment.scene.session.portals k.named) lo.0 lo.1, working_in levels moment.scene active k.at.are, named_in name k.portal moment.scene.session.portals k.named, no_value_of k.portal.owner k.is.has_owner, below_limit 65536 (size moment.scene.session.owners) room, beside_becomes name);
         portal = record k.portal { owner = Some moment.scene.session.next_owner };
         named = named_changed name k.portal (λ p. record p { owner = Some moment.scene.session.next_owner }) moment.scene.session.portals (λ q. refl) k.named;
         is = record { has_context = k.is.has_context; has_owner = refl; expr = k.is.expr; created = k.is.created };
@@ -268,11 +250,7 @@ module _ (w : Option ℕ) (levels : List LevelState) (active : IsWorking levels)
       let works : Works moment.scene (does w (Element.PortalReady name) moment).moment.scene = ready_works w moment k.stands (working_in levels moment.scene active k.are) name in
       record {
         stands = works.stands;
-        passed = λ _. record {
-          stands = works.stands;
-          are = works.levels ∙ k.are;
-          at_rest = beside_rests name (λ p. record p { state = PortalState.Ready }) moment.scene.session.portals (λ q unready. absurd (cc unready)) k.beside;
-        };
+        passed = grind (arith, nat_tests, beside_rests name);
       }
 
 -- The portal of a name is fetched from in a session with these levels, whose portals are at rest.
@@ -385,10 +363,7 @@ behind_begin w levels active name Q xs moment k next =
     runs_on w (Fetches levels name) Q (Element.FetchBegins name) xs moment (record { stands = k.stands; asks = tt })
     (record {
       stands = works.stands;
-      passed = λ _. record {
-        at = record { stands = works.stands; are = works.levels ∙ k.are; at_rest = works.at_rest k.at_rest };
-        fetched = begins_fetched w moment k.stands working name;
-      };
+      passed = grind (arith, nat_tests, begins_fetched w moment k.stands working name);
     }) next
 
 pub is_unnamed : (o : Option OpenPortal) (error : Error) → unless (is_none o) error ≡ None → o ≡ None
@@ -768,9 +743,7 @@ module _ (w : Option ℕ) where
 
   pub save_leads : (name : Text) (levels : List LevelState) (moment : Moment) → Leaves levels moment.scene → is_aborted levels ≡ false → Between (save name levels) moment
   save_leads name [] moment h active = refused_leads StandsBetweenLines Error.NoTransactionBlock moment h.between.stands
-  save_leads name (level ∷ levels) moment h active =
-      block_leads (Some name) (level ∷ levels) moment h
-      (active_of moment.scene level levels h.between h.are active, open_of moment.scene level levels h.between h.are, outer_of moment.scene level levels h.between.stands h.are)
+  save_leads name (level ∷ levels) moment h active = grind (arith, nat_tests, block_leads (Some name) (level ∷ levels) moment h, active_of moment.scene level levels h.between h.are active, open_of moment.scene level levels h.between h.are, outer_of moment.scene level levels h.between.stands h.are)
 
   -- what a command does in a level, and the level that is begun for it alone
   pub work_between : (levels : List LevelState) (work : List Element) (moment : Moment) → Leaves levels moment.scene → is_aborted levels ≡ false

@@ -148,9 +148,7 @@ module _ (R : Law) (h : EndLeaves R) where
   gives_up : (levels : List LevelState) → Keeps R (given_up levels)
   gives_up [] = record { so = acts.none }
   gives_up (level ∷ levels) = record {
-    so = λ s. by_either R acts level.starting _ _
-        ((by_order R acts (next (rolls_back level) (next (by_there R acts (first_of levels) (λ (above : LevelState). aborted) (λ above. aborts)) last))).so s)
-        (by_either R acts level.implicit _ _ ((rolls_back level).so s) (aborts.so s));
+    so = grind (arith, nat_tests, by_either R acts level.starting, by_either R acts level.implicit, by_order R acts, rolls_back level, by_there R acts (first_of levels), aborts);
   }
 
   pub recovery_follows : (s : Scene) → R s (in_order (where_so (not (is_aborted s.session.levels)) (given_up s.session.levels) ∷ []) s).scene
