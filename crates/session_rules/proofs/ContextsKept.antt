@@ -1,5 +1,5 @@
 -- What the calls on contexts keep of them.
-use Rattle.session_rules.proofs.Base.{◌≡◌, ◌≢◌, ℕ, ◌+◌, ◌≤◌, ◌<◌, Bool, true, false, Option, Some, List, refl, ap, ◌∙◌, inl, inr, arith, ◌==◌, option_map_or, cases_eq, both_ways, false_from_ne_true, or_parts, nat_tests}
+use Rattle.session_rules.proofs.Base.{◌≡◌, ◌≢◌, ℕ, ◌+◌, ◌≤◌, ◌<◌, Bool, true, false, Option, Some, List, refl, ap, ◌∙◌, arith, ◌==◌, option_map_or, cases_eq, both_ways, false_from_ne_true, or_parts, nat_tests}
 use Rattle.session_rules.proofs.Below.{Empty, has, times, Once, at, children, parent_of, is_above, removed, changed, moved, with_children, times_some, has_some, at_some, has_of_removed, Moves, once_put, once_changed, times_moved, has_changed, above_by_parent, above_none, at_moved, parent_changed, at_changed, at_changed_other, CtxKind, Context, Contexts, new_context, is_protected, is_empty, created, reparented, emptied, is_within}
 use Rattle.session_rules.proofs.Rules.{abort_context, top_context, IsFresh, IsOfSession, AreContexts, AreGuarded}
 use Rattle.context_rules.specs.Ends as ends
@@ -130,17 +130,7 @@ module _ (t : Contexts) (next : ℕ) (h : AreContexts t next) where
 
   -- the data of a context changes
   pub stay_changed : (n : ℕ) (f : Context → Context) → ((c : Context) → (f c).protected ≡ c.protected) → Stay t (changed n f t)
-  stay_changed n f keeps m prot = record {
-    protected = elim (cases_eq m n) [
-      | inl e ↦
-          let w = at_some m t (protected_has m t prot) in
-          let was : w.0.protected ≡ true = rw w.1 at prot in
-          let now : at m (changed n f t) ≡ Some (f w.0) = rw (← e) (at_changed m f t w.0 w.1) in
-          ap (λ (o : Option Context). option_map_or own o false) now ∙ keeps w.0 ∙ was
-      | inr ne ↦ same_own m t (changed n f t) (at_changed_other m n f t ne) prot
-    ];
-    parent = parent_changed m n f t;
-  }
+  stay_changed n f keeps m prot = grind (arith, nat_tests, cases_eq, protected_has, at_changed, same_own, at_changed_other, parent_changed)
 
   pub contexts_changed : (n : ℕ) (f : Context → Context) → ((c : Context) → (f c).protected ≡ c.protected) → ((c : Context) → IsFresh c → IsFresh (f c)) → AreContexts (changed n f t) next
   contexts_changed n f keeps fresh =
@@ -196,13 +186,7 @@ module _ (t : Contexts) (next : ℕ) (h : AreContexts t next) where
   moves_by n p node there out = grind (arith, nat_tests, or_parts (p == n) (is_above n p t) out, is_above n p t, apart)
 
   pub stay_swapped : (n p : ℕ) → Moves n p t → is_protected n t ≡ false → Stay t (moved n p t)
-  stay_swapped n p w free m prot =
-      let out = apart m n free prot in
-      let a = at_some n t w.node in
-      record {
-        protected = same_own m t (moved n p t) (at_moved m n p t h.once w) prot;
-        parent = rw a.1 (parent_put_other m p n a.0 (children n t) (removed n t) out.0 out.1 ∙ parent_left m n t h.once out.0 out.1);
-      }
+  stay_swapped n p w free m prot = grind (arith, nat_tests, apart, same_own, at_moved, parent_put_other, parent_left)
 
   pub has_swapped : (m n p : ℕ) → Moves n p t → times m (moved n p t) ≡ times m t
   has_swapped m n p w = let a = at_some n t w.node in rw a.1 (times_moved m n p a.0 t h.once w)

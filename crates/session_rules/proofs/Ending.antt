@@ -1,6 +1,6 @@
 -- A session of which the deepest level ends, on its way through the portals.
 use Rattle.session_rules.proofs.Base.{◌≡◌, All, ◌≢◌, ℕ, ◌+◌, find, true, false, Option, Some, None, List, [], ◌∷◌, ◌++◌, refl, sym, ap, ◌∙◌, subst, inl, inr, arith, if◌then◌else◌, option_map_or, cases_eq, cases_Bool, All-head, All-tail, All-weaker, nat_tests}
-use Rattle.session_rules.proofs.Below.{Empty, Once, has, at, children, parent_of, changed, removed, at_some, at_absent, has_changed, at_changed, at_changed_other, parent_changed, children_changed, Item, KindId, ShelfState, Contexts, is_protected, gone, handed_in, Kind, KindTable, IsSoundTable, table_of, is_of, without_newest, Owner, OwnerTree, forgotten, has_begun, IsSound, once_of, sound_forgotten, Lock, What, All-without}
+use Rattle.session_rules.proofs.Below.{Empty, Once, has, children, parent_of, changed, removed, at_some, at_absent, has_changed, at_changed, at_changed_other, parent_changed, children_changed, Item, KindId, ShelfState, Contexts, is_protected, gone, handed_in, Kind, KindTable, IsSoundTable, table_of, is_of, without_newest, Owner, OwnerTree, forgotten, has_begun, IsSound, once_of, sound_forgotten, Lock, What, All-without}
 use Rattle.session_rules.proofs.Rules.{LevelState, OpenPortal, StandingPlan, cache_context, plan_reference, portals_context, Scene, newest, portals_but, Ended, changes, context_gone, for_each, in_order, portal_gone, say, where_there, given_back, item_released, AreContexts, AreLevels, ArePlans, HasItems, IsItem, IsPlace, IsPortal, IsRow, referred, AreEnding, Ending, IsDone, IsLoose}
 use Rattle.session_rules.proofs.Kept.{all_changed, IsSame, contexts_level_gone, off_outside, same_removed, hooks_ended, parts_gone, held_forgotten, levels_stay, lone_changed, lone_left, levels_apart, plans_moved, but_one, different_without, others_back, others_front, owner_split, IsRowOf, attached_by, off_levels, off_rows, place_same, place_spared, row_left, row_of, Fits, Settles, besides_of, item_settles}
 
@@ -66,17 +66,7 @@ module _ (level : LevelState) (levels done : List LevelState) where
 
 -- owners of which one changes its items
 pub begun_changed : (m n : ℕ) (f : Owner → Owner) (x : OwnerTree) → ((o : Owner) → (f o).begun ≡ o.begun) → has_begun m (changed n f x) ≡ has_begun m x
-begun_changed m n f x same =
-    elim (cases_eq m n) [
-      | inl e ↦ elim (cases_Bool (has m x)) [
-        | inl y ↦
-            let a = at_some m x y in
-            let now : at m (changed n f x) ≡ Some (f a.0) = rw (← e) (at_changed m f x a.0 a.1) in
-            ap (λ (o : Option Owner). option_map_or (λ owner. owner.begun) o false) now ∙ same a.0 ∙ ap (λ (o : Option Owner). option_map_or (λ owner. owner.begun) o false) (sym a.1)
-        | inr y ↦ ap (λ (o : Option Owner). option_map_or (λ owner. owner.begun) o false) (at_absent m (changed n f x) (has_changed m n f x ∙ y) ∙ sym (at_absent m x y))
-      ]
-      | inr ne ↦ ap (λ (o : Option Owner). option_map_or (λ owner. owner.begun) o false) (at_changed_other m n f x ne)
-    ]
+begun_changed m n f x same = grind (arith, nat_tests, cases_eq, cases_Bool, at_some, at_changed, at_absent, has_changed, at_changed_other)
 
 pub loose_changed : (level : LevelState) (m n : ℕ) (f : Owner → Owner) (x : OwnerTree) → IsLoose level m x → IsLoose level m (changed n f x)
 loose_changed level m n f x l = grind (arith, nat_tests, children_changed l.owner n f x, has_changed m n f (children l.owner x))

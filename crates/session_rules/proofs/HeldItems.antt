@@ -24,9 +24,7 @@ module _ (kind : KindId) (key : ℕ) where
   held_parts : (n : ℕ) (a : Owner) (t : OwnerTree) → Once t → at n t ≡ Some a
       → held kind key (removed n t) + (uses kind key a.items + held kind key (children n t)) ≡ held kind key t
   unfolding used
-  held_parts n a t o h =
-      let sum = total_removed used n a t o h in
-      omega (arith, sum, held_total (removed n t), held_total (children n t), held_total t)
+  held_parts n a t o h = grind (arith, nat_tests, total_removed, used, held_total)
 
   held_nothing : (t : OwnerTree) → AllNodes HoldsNothing t → held kind key t ≡ 0
   held_nothing Empty h = refl
@@ -39,10 +37,7 @@ module _ (kind : KindId) (key : ℕ) where
   -- an owner moves
   pub held_moved : (n q : ℕ) (t : OwnerTree) → Once t → Moves n q t → held kind key (moved n q t) ≡ held kind key t
   unfolding used
-  held_moved n q t o w =
-      let a = at_some n t w.node in
-      let sum = total_moved used n q a.0 t o w a.1 in
-      rw a.1 (omega (arith, sum, held_total (put q n a.0 (children n t) (removed n t)), held_total t))
+  held_moved n q t o w = grind (arith, nat_tests, at_some, total_moved, used, held_total)
 
   uses_one : (item : Item) (items : List Item) → uses kind key (item ∷ items) ≡ uses kind key items + (if is_of kind key item then 1 else 0)
   uses_one item items = grind (arith, common_steps)

@@ -1,7 +1,7 @@
 -- The steps by which the deepest level's owner takes an item and gives one back lead from a session that stands to one that stands.
 use Rattle.session_rules.proofs.Base.{◌≡◌, ◌≢◌, ℕ, ◌+◌, ◌-◌, ◌<◌, ◌≤◌, ◌++◌, find, length, Bool, true, Option, Some, None, List, [], ◌∷◌, refl, sym, ap, ◌∙◌, subst, inl, arith, ◌==◌, if◌then◌else◌, option_map_or, option_and_then, eq-eqb, ne_eqb, nat_tests, All-cons, All-weaker, false, All, codes, is_none, not, length-map, All-nil, All-head, All-tail, All-push}
 use Rattle.session_rules.proofs.Below.{Once, has, changed, at_some, has_changed, parent_changed, Item, KindId, Mode, Contexts, table_of, is_of, without_newest, Owner, OwnerTree, forgotten, remembered, IsSound, Empty, Error, created, is_protected, new_context, What, ReferenceClass, class_kind, Kind, changed_at, opened, KindTable, IsExtension, row, IsSoundTable, table-opened, All-without, once_of, sound_forgotten, sound_remembered, acquired, CtxKind}
-use Rattle.session_rules.proofs.Rules.{LevelState, StandingPlan, buffer_pin, file_kind, first_of, level_owner, plan_reference, snapshot_reference, Scene, Moment, OfLevel, Text, changes, in_order, say, where_there, Keeper, NoOne, TheKind, given_back, keeper_of, descriptor_given, item_taken, lock_taken, remembers, taken_by, at_kind, at_owner, does, AreLevels, AreOwners, ArePlans, HasItems, IsItem, IsPlan, IsWorking, Stands, references_of, referred, cache_context, plan_at, unless, plan_becomes, plan_made, AreApart, Differ, IsPlace, Element, kind_from, kind_named, newest, plan_changed, owner_in, OwnerRole}
+use Rattle.session_rules.proofs.Rules.{LevelState, StandingPlan, buffer_pin, file_kind, first_of, level_owner, plan_reference, snapshot_reference, Scene, Moment, OfLevel, Text, changes, in_order, say, where_there, Keeper, NoOne, TheKind, given_back, keeper_of, descriptor_given, item_taken, lock_taken, remembers, taken_by, at_kind, at_owner, does, AreLevels, ArePlans, HasItems, IsItem, IsPlan, IsWorking, Stands, references_of, referred, cache_context, plan_at, unless, plan_becomes, plan_made, AreApart, Differ, IsPlace, Element, kind_from, kind_named, newest, plan_changed, owner_in, OwnerRole}
 use Rattle.session_rules.proofs.Kept.{all_changed, levels_stay, no_value, held_forgotten, held_remembered, Split, all_replaced, changed_is, counted_at, plans_replaced, split, IsOther, levels_apart, plans_counted, attached_by, place_spared, portals_by, IsRowOf, own_rows, row_of, row_put, lone_changed, lone_put, Besides, Fits, IsApart, Settles, Spares, besides_of, item_settles, spares_same, with_besides, becomes, Tables, tabled, tables_of, children_put, Stay, contexts_created, has_created, is_unused, new_parent, new_protected, protected_has, stay_created, hooks_put}
 use Rattle.lock_local.specs.Changes as locks
 use Rattle.session_rules.proofs.Ending.{begun_changed}
@@ -27,12 +27,7 @@ items_step s n serial f x h working begun known sound same fits spares =
           (λ m i prot. spares.same m (levels_apart s.session.levels t o s.session.plans s.session.current h.levels h.plans.each m i) prot)
           (λ m i u. record { there = has_changed m n f o ∙ u; parent = parent_changed m n f o }) h.levels;
       fit = fit_working s.session.levels t x.contexts o y s.session.current s.session.current working h.fit;
-      owners = subst (λ (kinds : KindTable). AreOwners kinds y s.session.next_owner serial s.session.levels s.session.portals) (sym same) (record {
-        sound = sound;
-        each = grind (arith, nat_tests, has_changed, not_released s.session.levels);
-        begun = λ m u. absurd (not_released s.session.levels m o working (h.owners.begun m (sym (begun_changed m n f o begun) ∙ u)));
-        items = all_changed (HasItems (table_of s.around.kinds)) n f o known h.owners.items;
-      });
+      owners = grind (arith, nat_tests, has_changed, not_released s.session.levels, begun_changed, all_changed (HasItems (table_of s.around.kinds)) n f o known h.owners.items);
       kinds = subst (λ (kinds : KindTable). IsSoundTable kinds) (sym same) h.kinds;
       portals = portals_by s.session.portals s.session.levels s.session.levels t x.contexts o y s.session.current s.session.current
           (λ p i. record {

@@ -1,7 +1,7 @@
 -- What levels and their owners keep where the deepest level goes, is released or is made.
 use Rattle.session_rules.proofs.Base.{◌≡◌, ◌≢◌, ◌⊎◌, ℕ, ◌<◌, true, false, Option, Some, None, List, [], ◌∷◌, refl, sym, ap, ◌∙◌, inl, inr, arith, is_some, option_map_or, cases_eq, cases_Bool, nat_tests}
-use Rattle.session_rules.proofs.Below.{has, Once, children, parent_of, is_above, removed, AllNodes, swept, at_absent, has_of_removed, left_apart, above_by_parent, above_none, Contexts, is_protected, KindTable, IsSoundTable, Owner, OwnerTree, AllAt, HoldsNothing, has_begun, once_of, sound_removed}
-use Rattle.session_rules.proofs.Rules.{LevelState, OpenPortal, abort_context, first_of, owner_of, top_context, level_parent, AreContexts, AreLevels, AreOuter, AreOwners, HasItems, IsContextOf, IsOwner, IsOwnerOf, IsReleased, AreEnding, IsLoose}
+use Rattle.session_rules.proofs.Below.{has, Once, children, parent_of, is_above, removed, AllNodes, at_absent, has_of_removed, left_apart, above_by_parent, above_none, Contexts, is_protected, KindTable, IsSoundTable, Owner, OwnerTree, AllAt, HoldsNothing, has_begun, once_of, sound_removed}
+use Rattle.session_rules.proofs.Rules.{LevelState, OpenPortal, abort_context, first_of, owner_of, top_context, level_parent, AreContexts, AreLevels, AreOuter, AreOwners, HasItems, IsContextOf, IsOwner, IsOwnerOf, AreEnding}
 use Rattle.session_rules.proofs.Forests.{at_left}
 use Rattle.session_rules.proofs.Guarded.{all_removed, top_parent}
 use Rattle.session_rules.proofs.ContextsKept.{IsSame, own as own_context}
@@ -126,18 +126,7 @@ HasLeft kinds (Some p) owners now = HasSwept kinds p owners now
 pub owners_aborted : (kinds : KindTable) (level : LevelState) (levels : List LevelState) (portals : List OpenPortal) (owners now : OwnerTree) (a b : ℕ) (o : Option ℕ) → IsSoundTable kinds → level.owner ≡ o → HasLeft kinds o owners now
     → AreEnding kinds owners a b level levels portals → AreOwners kinds now a b (record level { aborted = true } ∷ levels) portals
 owners_aborted kinds level levels portals owners now a b None sound e left h = grind (arith, nat_tests, no_value level.owner)
-owners_aborted kinds level levels portals owners now a b (Some p) sound e left h =
-    let once : Once owners = once_of owners a b h.sound in
-    let f : Owner → Owner = swept_by kinds in
-    let is : now ≡ swept f p owners = left.is in
-    let below : (n : ℕ) → has n (children p now) ≡ has n (children p owners) = λ n. ap (λ (z : OwnerTree). has n (children p z)) is ∙ below_swept f n p owners in
-    let gone : (n : ℕ) → IsLoose level n owners → IsReleased (record level { aborted = true }) n now = grind (arith, nat_tests, one_value level.owner) in
-    record {
-      sound = still_sound kinds p owners now a b left h.sound;
-      each = grind (arith, nat_tests, has_swept f);
-      begun = grind (arith, nat_tests, cases_eq, cases_Bool, at_swept_other f);
-      items = rw is (all_swept f (HasItems kinds) p owners (λ owner. still_items kinds owner sound) h.items);
-    }
+owners_aborted kinds level levels portals owners now a b (Some p) sound e left h = grind (arith, nat_tests, once_of owners a b h.sound, below_swept, one_value level.owner, still_sound kinds p owners now a b left h.sound, has_swept, cases_eq, cases_Bool, at_swept_other, all_swept, still_items kinds)
 
 -- its owner and all below that hold nothing
 pub left_nothing : (kinds : KindTable) (p : ℕ) (owners now : OwnerTree) → IsSoundTable kinds → HasSwept kinds p owners now → AllNodes (HasItems kinds) owners → AllAt HoldsNothing p now

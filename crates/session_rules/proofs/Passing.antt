@@ -102,21 +102,13 @@ module _ (level : LevelState) (levels : List LevelState) (some : 1 ≤ length le
   above_is q e = grind (arith, nat_tests, owner_at)
 
   pub above_owner : (q : ℕ) → owner_of (first_of levels) ≡ Some q → IsOwner q levels
-  above_owner q e = go levels e
-    where
-      go : (ls : List LevelState) → owner_of (first_of ls) ≡ Some q → IsOwner q ls
-      go [] e = absurd (no_value None q refl e)
-      go (l ∷ ls) e = inl e
+  above_owner q e = grind (arith, nat_tests, no_value)
 
   pub above_made : AreOuter levels → (q : ℕ) × (owner_of (first_of levels) ≡ Some q)
   above_made outer = grind (arith, nat_tests, is_there)
 
   pub above_there : (t : Contexts) (x : OwnerTree) (q : ℕ) → AreLevels levels t x → owner_of (first_of levels) ≡ Some q → has q x ≡ true
-  above_there t x q l e = go levels l e
-    where
-      go : (ls : List LevelState) → AreLevels ls t x → owner_of (first_of ls) ≡ Some q → has q x ≡ true
-      go [] l e = absurd (no_value None q refl e)
-      go (a ∷ ls) l e = (l.0.owner q e).there
+  above_there t x q l e = grind (arith, nat_tests, no_value)
 
   -- without a move
   pub plain : (p : OpenPortal) (front back : List OpenPortal) (s : Scene) → Ending level levels levels front (p ∷ back) s → (p.created ≡ depth → p.owner ≡ None)
@@ -127,12 +119,7 @@ module _ (level : LevelState) (levels : List LevelState) (some : 1 ≤ length le
       let portals : List OpenPortal = portal_changed p.name passed s.session.portals in
       let is : portals ≡ front ++ (q ∷ back) = ap (portal_changed p.name passed) h.are ∙ changed_one p passed front back h.different in
       let lower : (n : ℕ) → p.owner ≡ Some n → p.created ≢ depth = λ n e z. no_value p.owner n (none z) e in
-      let own : IsPortal q levels s.session.contexts s.session.owners s.session.current = record {
-        place = i.place;
-        made = i.made;
-        owner = grind (arith, nat_tests, ne_eqb (length levels + 1) p.created, ne_eqb p.created depth);
-        stage = inl (passed_live p h.outer i.stage);
-      } in
+      let own : IsPortal q levels s.session.contexts s.session.owners s.session.current = grind (arith, nat_tests, ne_eqb (length levels + 1) p.created, ne_eqb p.created depth, passed_live p h.outer i.stage) in
       let owners : AreEnding (table_of s.around.kinds) s.session.owners s.session.next_owner s.session.next_serial level levels (front ++ (q ∷ back)) = kept_owners level levels levels p q front back s h (λ n e. e) in
       let e : Ending level levels levels (front ++ (q ∷ [])) back (with_parts (record (parts_of s) { portals = front ++ (q ∷ back) }) s) =
       replaced level levels levels p q front back s s.session.contexts s.session.owners s.around.shelf h (changes_passed p) h.contexts h.hooks h.all owners h.plans (λ r b d. d.portal) (λ r b k. k) own
@@ -159,12 +146,7 @@ module _ (level : LevelState) (levels : List LevelState) (some : 1 ≤ length le
       let portals : List OpenPortal = portal_changed p.name passed s.session.portals in
       let is : portals ≡ front ++ (new ∷ back) = ap (portal_changed p.name passed) h.are ∙ changed_one p passed front back h.different in
       let number : lowered depth p.created ≡ depth - 1 = rw (eq-eqb p.created depth deep) (omega (arith, deep)) in
-      let own : IsPortal new levels t y s.session.current = record {
-        place = i.place;
-        made = i.made;
-        owner = grind (arith, nat_tests, one_value p.owner o, above_is q up);
-        stage = inl (passed_live p h.outer i.stage);
-      } in
+      let own : IsPortal new levels t y s.session.current = grind (arith, nat_tests, one_value p.owner o, above_is q up, passed_live p h.outer i.stage) in
       let off : (lo : ℕ) → level.owner ≡ Some lo → lo ≢ o = λ lo e z. a.other (inl (e ∙ ap Some z)) in
       let active : level.aborted ≡ false = grind (arith, nat_tests, no_value p.owner o) in
       let owners : AreEnding (table_of s.around.kinds) y no ns level levels (front ++ (new ∷ back)) = record {

@@ -125,12 +125,7 @@ module _ (s : Scene) (h : Stands s) (working : IsWorking s.session.levels) (name
       own_rows t next h.contexts portals_context (omega arith) (omega arith) e m k.own r.parent (sym z))) k in
       let other : (r : OpenPortal) → IsPortal r s.session.levels t s.session.owners cur → IsPortal r s.session.levels u s.session.owners cur = λ r k.
       record { place = λ m e. off m r.expr (k.place m e); made = k.made; owner = k.owner; stage = k.stage } in
-      let own : IsPortal q s.session.levels u s.session.owners cur = record {
-        place = grind (arith, nat_tests, one_value (Some next) next, new_protected t next h.contexts portals_context title CtxKind.Small there, new_parent t next h.contexts portals_context title CtxKind.Small true there, children_put portals_context next (new_context title CtxKind.Small true) Empty t h.contexts.once there (is_unused t next h.contexts), is_unused t next h.contexts);
-        made = λ z. absurd (cc z);
-        owner = i.owner;
-        stage = inl (record { some = this_live.some; within = this_live.within; active = this_live.active; line = this_live.line });
-      } in
+      let own : IsPortal q s.session.levels u s.session.owners cur = grind (arith, nat_tests, one_value (Some next) next, new_protected t next h.contexts portals_context title CtxKind.Small there, new_parent t next h.contexts portals_context title CtxKind.Small true there, children_put portals_context next (new_context title CtxKind.Small true) Empty t h.contexts.once there (is_unused t next h.contexts), is_unused t next h.contexts, this_live) in
       let fresh_context : (r : OpenPortal) → IsPortal r s.session.levels t s.session.owners cur → (m : ℕ) → r.context ≡ Some m → m ≢ next = λ r k m e. newer m (protected_has m t (k.place m e).protected) in
       portal_step s p q n.front n.back u (next + 1) s.session.owners s.session.next_owner h working n.is
       (contexts_created t next h.contexts portals_context title CtxKind.Small true there (λ _. guarded)) stay
@@ -186,12 +181,7 @@ module _ (s : Scene) (h : Stands s) (working : IsWorking s.session.levels) (name
       let a = k.owner m e in
       attached_by m r.created ls ls x y (λ w. new.had m (other m a.there) ∙ w) (new.parents m (other m a.there))
       (new.lone m (other m a.there) (λ j g z. a.other (subst (λ (v : ℕ). IsOwner v ls) (one_value (Some lo) lo j refl g ∙ sym z) up.1))) refl (λ j. j) a) in
-      let own : IsPortal q ls t y cur = record {
-        place = i.place;
-        made = i.made;
-        owner = grind (arith, nat_tests, one_value (Some count) count, both_ways (has count x) unused, owners_there ls t x count h.levels);
-        stage = inl (record { some = l.some; within = l.within; active = l.active; line = inr (omega (arith, l.within, l.active, depth_small ls, deep), λ _. deep) });
-      } in
+      let own : IsPortal q ls t y cur = grind (arith, nat_tests, one_value (Some count) count, both_ways (has count x) unused, owners_there ls t x count h.levels, depth_small ls) in
       let was : ArePortals (n.front ++ (p ∷ n.back)) ls t x cur = split_portals s h working name p n in
       let owned : AreOwners (table_of s.around.kinds) y (count + 1) b ls (n.front ++ (q ∷ n.back)) = record {
         sound = sound_created (Some lo) x count b h.owners.sound few;
@@ -250,12 +240,7 @@ module _ (s : Scene) (h : Stands s) (working : IsWorking s.session.levels) (name
         owner = k.owner;
         stage = k.stage;
       } in
-      let own : IsPortal q ls u x cur = record {
-        place = grind (arith, nat_tests, one_value p.context c, one_value (Some next) next cur refl, put_here c next (new_context title CtxKind.Small true) t h.contexts.once there (is_unused t next h.contexts), is_unused t next h.contexts);
-        made = λ z. absurd (no_value p.context c z at_c);
-        owner = i.owner;
-        stage = inl (let l : IsLive p ls = this_live s h working name p n in record { some = l.some; within = l.within; active = l.active; line = l.line });
-      } in
+      let own : IsPortal q ls u x cur = grind (arith, nat_tests, one_value p.context c, one_value (Some next) next cur refl, put_here c next (new_context title CtxKind.Small true) t h.contexts.once there (is_unused t next h.contexts), is_unused t next h.contexts, no_value p.context c, this_live s h working name p n) in
       portal_step s p q n.front n.back u (next + 1) x s.session.next_owner h working n.is
       (contexts_created t next h.contexts c title CtxKind.Small true there (λ _. place.protected)) stay
       (has_created t next h.contexts cur c title CtxKind.Small true h.current)

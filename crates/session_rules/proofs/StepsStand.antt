@@ -196,21 +196,9 @@ level_context_stands level levels s starting none h =
       contexts = contexts_created t next c p name CtxKind.Default true there (λ _. guarded);
       current = has_created t next c s.session.current p name CtxKind.Default true h.current;
       hooks = hooks_put p next (new_context name CtxKind.Default true) t s.around.shelf c.once refl h.hooks;
-      levels = (
-        record {
-          context = grind (arith, nat_tests, one_value (Some next) next, new_protected t next c p name CtxKind.Default there, new_parent t next c p name CtxKind.Default true there);
-          owner = λ n e. let o : IsOwnerOf n levels x = h.levels.0.owner n e in o;
-          implicit = h.levels.0.implicit;
-        },
-        rest,
-      );
+      levels = grind (arith, nat_tests, one_value (Some next) next, new_protected t next c p name CtxKind.Default there, new_parent t next c p name CtxKind.Default true there);
       fit = grind (arith, nat_tests, both_ways level.starting, one_value (Some next) next, new_empty t next c p name CtxKind.Default true there);
-      owners = record {
-        sound = h.owners.sound;
-        each = grind (arith, nat_tests);
-        begun = λ n u. let r : IsReleased level n x = h.owners.begun n u in record { aborted = r.aborted; owner = r.owner; is = r.is; within = r.within };
-        items = h.owners.items;
-      };
+      owners = grind (arith, nat_tests);
       kinds = h.kinds;
       portals = portals_by s.session.portals (level ∷ levels) (record level { context = Some next } ∷ levels) t u x x s.session.current s.session.current
           (λ q i. same_portal level (record level { context = Some next }) levels t u x s.session.current s.session.current q refl (λ l. record { some = l.some; within = l.within; active = l.active; line = l.line }) refl
@@ -334,12 +322,7 @@ level_stands_stands level levels s active made h =
       hooks = h.hooks;
       levels = (record { context = h.levels.0.context; owner = h.levels.0.owner; implicit = h.levels.0.implicit }, h.levels.1);
       fit = (deepest_active now s.session.contexts x c.0 working, h.fit.1);
-      owners = record {
-        sound = h.owners.sound;
-        each = grind (arith, nat_tests);
-        begun = λ n u. let r : IsReleased level n x = h.owners.begun n u in record { aborted = r.aborted; owner = r.owner; is = r.is; within = r.within };
-        items = h.owners.items;
-      };
+      owners = grind (arith, nat_tests);
       kinds = h.kinds;
       portals = portals_by s.session.portals (level ∷ levels) (now ∷ levels) s.session.contexts s.session.contexts x x s.session.current c.0
           (λ q i. same_portal level now levels s.session.contexts s.session.contexts x s.session.current c.0 q refl

@@ -147,9 +147,7 @@ module _ (R : Law) (h : EndLeaves R) where
   -- what comes behind the word of an error
   gives_up : (levels : List LevelState) → Keeps R (given_up levels)
   gives_up [] = record { so = acts.none }
-  gives_up (level ∷ levels) = record {
-    so = grind (arith, nat_tests, by_either R acts level.starting, by_either R acts level.implicit, by_order R acts, rolls_back level, by_there R acts (first_of levels), aborts);
-  }
+  gives_up (level ∷ levels) = grind (arith, nat_tests, by_either R acts level.starting, by_either R acts level.implicit, by_order R acts, rolls_back level, by_there R acts (first_of levels), aborts)
 
   pub recovery_follows : (s : Scene) → R s (in_order (where_so (not (is_aborted s.session.levels)) (given_up s.session.levels) ∷ []) s).scene
       (in_order (where_so (not (is_aborted s.session.levels)) (given_up s.session.levels) ∷ []) s).events
