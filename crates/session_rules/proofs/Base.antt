@@ -10,4 +10,4 @@ pub use Rattle.std.proofs.lemmas.List.FromFn.{get_or-map-range_with_len}
 pub use Rattle.std.proofs.lemmas.List.Sums.{sum_by-append, sum_by-cons}
 pub use Rattle.std.specs.List.{sum_by, flat_map, range_with_len}
 pub use Rattle.std.specs.Option.{option_map_or, option_and_then, option_map}
-pub use Rattle.std.specs.Prelude.{◌==◌, if◌then◌else◌, Result, Ok, Err, unwrap_or, All, ◌||◌, codes, is_some, ◌&&◌, nat_lt, slice_get, reverse, slice_index, is_none, filter, replicate, take}
+pub use Rattle.std.specs.Prelude.{◌==◌, if◌then◌else◌, unwrap_or, All, ◌||◌, codes, is_some, ◌&&◌, nat_lt, slice_get, reverse, slice_index, is_none, filter, replicate, take}

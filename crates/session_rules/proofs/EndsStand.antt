@@ -356,10 +356,6 @@ pub merge_context : (b : Bool) (name : Option (List ℕ)) (n : ℕ) (o : Option 
     → (level_popped (where_so b (context_gone n) (switched_up (level_owner_gone (settled (level_of name (Some n) o i a st ∷ levels) z)).scene).scene).scene).scene ≡ popped (gone_if b n) o levels z.session.snapshots z
 merge_context b name n o i a st levels z = grind (arith, nat_tests)
 
--- the scene with the active snapshots of this level in the level above
-abbrev pub lowered_in : ℕ → Scene → Scene
-lowered_in level s = record s { session = record s.session { snapshots = map (lowered level) s.session.snapshots } }
-
 pub merge_is : (level : ℕ) (name : Option (List ℕ)) (c o : Option ℕ) (i a st : Bool) (levels : List LevelState) (z : Scene)
     → behind_merge level (settled (level_of name c o i a st ∷ levels) z) ≡ popped (context_to_go c z.session.contexts) o levels (map (lowered level) z.session.snapshots) z
 merge_is level name c o i a st levels z = grind (arith, nat_tests, merge_context)

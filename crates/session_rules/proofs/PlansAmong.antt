@@ -14,9 +14,6 @@ pub record IsCached (m : ℕ) (contexts : Contexts) : Type 0 where
   pub own : abort_context < m
   pub lone : children m contexts ≡ Empty
 
-abbrev pub cached : (plan : StandingPlan) (t : Contexts) (current : ℕ) → IsPlan plan t current → IsCached plan.context t
-cached plan t current i = record { protected = i.protected; parent = i.parent; own = i.own; lone = i.lone }
-
 -- another context is the current one
 pub plans_current : (plans : List StandingPlan) (t : Contexts) (a b : ℕ) (c : ℕ → ℕ) → ((m : ℕ) → IsCached m t → b ≢ m) → ArePlans plans t a c → ArePlans plans t b c
 plans_current plans t a b c other h = grind (arith, nat_tests)

@@ -15,7 +15,7 @@ pub use Rattle.session_rules.specs.Ends.{given_up, level_rolled_back, stack_lowe
 unfoldable pub use Rattle.session_rules.specs.Ends.{exited, recovered}
 pub use Rattle.session_rules.specs.Guarded.{AreGuarded, IsRooted}
 pub use Rattle.session_rules.specs.HookCounts.{CountsHooks, callbacks_of, hooks_of, registered_of, runs_of, HookCount, HooksCounted, is_callback, is_registered}
-pub use Rattle.session_rules.specs.Lookup.{newest, portals_but, portal_changed, plan_at, context_named, plan_changed, plans_but, portal_named, memory_in, kind_from, kind_named, owner_in, is_named}
+pub use Rattle.session_rules.specs.Lookup.{newest, portals_but, portal_changed, plan_at, context_named, plan_changed, plans_but, portal_named, memory_in, kind_from, kind_named, owner_in}
 pub use Rattle.session_rules.specs.Making.{context_made, owner_made, plan_made, portal_made, level_parent, new_context_made, left, new_owner_made, held, level_made, level_context_name, limit}
 pub use Rattle.session_rules.specs.Parts.{context_moved, at_kind, at_owner, lock_given_back, at_context, scan_part, scanned, snapshot_popped, level_stands, at_portal, contexts_become, tells, pinning}
 pub use Rattle.session_rules.specs.Portals.{portal_aborted, portal_closed, portal_passed, is_ready, portal_failed, portal_withdrawn, executor_ended, portal_ended, portal_owner_ended}

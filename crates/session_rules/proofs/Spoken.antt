@@ -2,7 +2,6 @@
 use Rattle.session_rules.proofs.Base.{◌≡◌, ℕ, zero, suc, ◌+◌, Bool, true, false, not, if◌then◌else◌, List, [], ◌∷◌, ◌++◌, map, length, replicate, flat_map, Option, Some, None, refl, false_from_ne_true, nat_lt, ◌&&◌, ◌==◌, option_map_or, arith, nat_tests}
 use Rattle.session_rules.proofs.Below.{Scan, ScanStep, Command, Error, What, TransactionCommand, Work, ContextCommand, ChunkCommand, ItemCommand, LockCommand, SnapshotCommand, PlanCommand, PortalCommand, TellCommand}
 use Rattle.session_rules.proofs.Rules.{LevelState, OpenPortal, SessionState, is_aborted, Check, Element, Text, line_elements, after_turn, chunk_row, context_row, fallible_part, fetch_steps, item_row, lock_row, plan_row, portal_row, row_of, snapshot_row, tell_row, turn_steps, work_of, at_savepoint, begin, commit, elements_of, in_transaction, is_end, refused, rollback, rolled_back_to, save, then_ok, transaction_of, unaborted}
-use Rattle.exec_core.specs.Turn as exec
 use Rattle.session_rules.proofs.Leaves.{AreSpoken}
 
 -- a command that registers no hook and moves no context
