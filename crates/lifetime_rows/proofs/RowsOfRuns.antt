@@ -95,9 +95,9 @@ call_10_wants_memory = refl
 
 -- the script that a run makes, in one round and in three
 pub one_round : keeps_laws options (made_script 1) ≡ true
-unfolding all_rules made_script
+unfolding all_rules
 one_round = refl
 
 pub three_rounds : keeps_laws options (made_script 3) ≡ true
-unfolding all_rules made_script
+unfolding all_rules
 three_rounds = refl

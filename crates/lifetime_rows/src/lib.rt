@@ -1,3 +1,3 @@
-//! Rows of the laws of lifetimes: the transcripts of scripts, computed from the rules of sessions, keep them. See
-//! proofs/. There is no code here.
+//! Scripts computed from the rules of sessions: their transcripts to the last byte, and that these keep the laws of
+//! lifetimes. See proofs/. There is no code here.
 #![tactic(auto)]

@@ -1,8 +1,7 @@
 -- A law that speaks of contexts and hooks alone: what it owes for contexts gives it all leaves.
-use Rattle.session_rules.proofs.Base.{◌≡◌, ℕ, Bool, true, false, refl}
+use Rattle.session_rules.proofs.Base.{◌≡◌, ℕ, Bool, true, false, refl, arith, nat_tests}
 use Rattle.session_rules.proofs.Below.{What, CtxKind}
 use Rattle.session_rules.proofs.Rules.{Text, context_made}
-use Rattle.pgs_step.specs.declared.events.What.TheVariants as what
 use Rattle.session_rules.proofs.Leaves.{EndLeaves, Keeps, Law, MakeLeaves, is_level_word, is_word}
 use Rattle.session_rules.proofs.Sight.{ContextLeaves, FileLeaves, Part, Sight, end_leaves_of, item_comes, item_goes, locks_one, of_contexts, of_next_context, of_shelf, owner_goes, owner_makes, owner_moves, places, plans_one, pushes, unlocks, unseen_files, unseen_keys, unseen_locks, unseen_owners, unseen_stack}
 
@@ -15,33 +14,21 @@ is_of_contexts other = false
 
 -- an event that says nothing of contexts and hooks, nor that a line fails or the session ends
 abbrev pub is_apart : What → Bool
-is_apart (what.Create context name parent) = false
-is_apart (what.Move context parent) = false
-is_apart (what.Delete context) = false
-is_apart (what.Reset context) = false
-is_apart (what.Callback word context) = false
-is_apart (what.Hook word context) = false
-is_apart (what.Error error) = false
-is_apart what.Exit = false
+is_apart (What.Create context name parent) = false
+is_apart (What.Move context parent) = false
+is_apart (What.Delete context) = false
+is_apart (What.Reset context) = false
+is_apart (What.Callback word context) = false
+is_apart (What.Hook word context) = false
+is_apart (What.Error error) = false
+is_apart What.Exit = false
 is_apart other = true
 
 word_apart : (event : What) → is_word event ≡ true → is_apart event ≡ true
-word_apart (what.Create context name parent) h = absurd (cc h)
-word_apart (what.Move context parent) h = absurd (cc h)
-word_apart (what.Delete context) h = absurd (cc h)
-word_apart (what.Reset context) h = absurd (cc h)
-word_apart (what.Callback word context) h = absurd (cc h)
-word_apart (what.Hook word context) h = absurd (cc h)
-word_apart (what.Error error) h = absurd (cc h)
-word_apart what.Exit h = absurd (cc h)
-word_apart other h = refl
+word_apart event h = grind (arith, nat_tests)
 
 level_apart : (event : What) → is_level_word event ≡ true → is_apart event ≡ true
-level_apart (what.BeginLevel level) h = refl
-level_apart (what.CommitLevel level) h = refl
-level_apart (what.AbortLevel level) h = refl
-level_apart (what.CleanupLevel level) h = refl
-level_apart other h = absurd (cc h)
+level_apart event h = grind (arith, nat_tests)
 
 -- what such a law owes
 pub record ContextLaw (R : Law) : Type 0 where

@@ -1,10 +1,7 @@
 -- What elements ask together, and a script with a line more.
-use Rattle.session_rules.proofs.Base.{◌≡◌, ◌≢◌, ℕ, ◌+◌, ◌==◌, Bool, true, false, if◌then◌else◌, List, [], ◌∷◌, ◌++◌, Option, Some, None, refl, sym, ap, arith, zero-add, nat_tests}
+use Rattle.session_rules.proofs.Base.{◌≡◌, ◌≢◌, ℕ, ◌+◌, Bool, true, false, List, [], ◌∷◌, ◌++◌, Option, Some, sym, ap, arith, zero-add, nat_tests}
 use Rattle.session_rules.proofs.Below.{Error, Kind, ShelfState, Command}
-use Rattle.session_rules.proofs.Rules.{SessionState, Element, does, does_all}
-use Rattle.session_rules.specs.World.{Options, Moment, moment}
-use Rattle.session_rules.specs.Transcript.{Course, Reading, after_line, course_by, goes_on}
-use Rattle.session_rules.specs.Asked.{asked, asked_all, asked_by, asked_by_command, asked_by_line, asked_by_read, asked_by_turn, asked_in_all, asked_on, asks_in, then_asked, where_done}
+use Rattle.session_rules.proofs.Rules.{SessionState, Element, does, does_all, Options, Moment, moment, Course, Reading, after_line, course_by, goes_on, asked, asked_all, asked_by, asked_by_command, asked_by_line, asked_by_read, asked_by_turn, asked_in_all, asked_on, asks_in, then_asked, where_done}
 
 -- what an element asks, by how it was answered
 pub asked_so : (w : Option ℕ) (x : Element) (m : Moment) (r : Option Error) → (does w x m).refusal ≡ r → asked w x m ≡ where_done r (asks_in x m.scene)
@@ -27,10 +24,7 @@ asked_both w (x ∷ xs) ys m = grind (arith, nat_tests, asked_both w xs ys (does
 asked_more : (reads : Reading) (w : Option ℕ) (n : ℕ) (lines : List (List ℕ)) (line : List ℕ) (course : Course)
     → asked_on reads w n (lines ++ line ∷ []) course ≡ asked_on reads w n lines course + asked_by_line reads w n line (goes_on reads w lines course)
 asked_more reads w n [] line course = omega arith
-asked_more reads w n (first ∷ lines) line course =
-    let rest : asked_on reads w n (lines ++ line ∷ []) (after_line reads w first course)
-    ≡ asked_on reads w n lines (after_line reads w first course) + asked_by_line reads w n line (goes_on reads w lines (after_line reads w first course)) = asked_more reads w n lines line (after_line reads w first course) in
-    omega (arith, rest)
+asked_more reads w n (first ∷ lines) line course = grind (arith, nat_tests, asked_more reads w n lines line (after_line reads w first course))
 
 pub asked_by_more : (reads : Reading) (w : Option ℕ) (options : Options) (kinds : List Kind) (shelf : ShelfState) (lines : List (List ℕ)) (line : List ℕ) (n : ℕ)
     → asked_by reads w options kinds shelf (lines ++ line ∷ []) n
@@ -41,16 +35,11 @@ asked_by_more reads w options kinds shelf lines line n = asked_more reads w n li
 -- a line of a session that the run has asks what its turn asks
 pub own_line : (w : Option ℕ) (course : Course) (number : ℕ) (command : Option Command) (session : SessionState)
     → asked_by_command w number course number command (Some session) ≡ asked_by_turn w command (moment number session course.world)
-own_line w course number command session =
-    let same : (number == number) ≡ true = grind (arith, nat_tests) in
-    ap (λ (b : Bool). if b then asked_by_turn w command (moment number session course.world) else 0) same
+own_line w course number command session = grind (arith, nat_tests)
 
 -- and for other sessions nothing
 pub other_line : (w : Option ℕ) (n : ℕ) (course : Course) (number : ℕ) (command : Option Command) (session : Option SessionState) → number ≢ n → asked_by_command w n course number command session ≡ 0
-other_line w n course number command None differs = refl
-other_line w n course number command (Some session) differs =
-    let other : (number == n) ≡ false = grind (arith, nat_tests) in
-    ap (λ (b : Bool). if b then asked_by_turn w command (moment number session course.world) else 0) other
+other_line w n course number command session differs = grind (arith, nat_tests)
 
 -- a line behind which the script goes on asks as it is read
 pub read_line_asks : (reads : Reading) (w : Option ℕ) (n : ℕ) (line : List ℕ) (course : Course) → course.wanted ≡ false → asked_by_line reads w n line course ≡ asked_by_read w n course (reads line)

@@ -1,9 +1,8 @@
 -- What the calls on contexts keep of them.
-use Rattle.session_rules.proofs.Base.{◌≡◌, ◌≢◌, ℕ, ◌+◌, ◌≤◌, ◌<◌, Bool, true, false, Option, Some, None, List, refl, sym, ap, ◌∙◌, inl, inr, arith, ◌==◌, option_map_or, cases_eq, both_ways, false_from_ne_true, or_parts, nat_tests}
+use Rattle.session_rules.proofs.Base.{◌≡◌, ◌≢◌, ℕ, ◌+◌, ◌≤◌, ◌<◌, Bool, true, false, Option, Some, List, refl, ap, ◌∙◌, arith, ◌==◌, option_map_or, cases_eq, both_ways, false_from_ne_true, or_parts, nat_tests}
 use Rattle.session_rules.proofs.Below.{Empty, has, times, Once, at, children, parent_of, is_above, removed, changed, moved, with_children, times_some, has_some, at_some, has_of_removed, Moves, once_put, once_changed, times_moved, has_changed, above_by_parent, above_none, at_moved, parent_changed, at_changed, at_changed_other, CtxKind, Context, Contexts, new_context, is_protected, is_empty, created, reparented, emptied, is_within}
-use Rattle.session_rules.proofs.Rules.{abort_context, top_context, IsFresh, IsOfSession, AreContexts}
+use Rattle.session_rules.proofs.Rules.{abort_context, top_context, IsFresh, IsOfSession, AreContexts, AreGuarded}
 use Rattle.context_rules.specs.Ends as ends
-use Rattle.session_rules.specs.Guarded.{AreGuarded}
 use Rattle.session_rules.proofs.Forests.{parent_left, at_left, once_left, times_emptied, once_emptied, at_emptied, parent_emptied, has_put_other, at_put_other, parent_put_other, at_put, children_put, parent_put}
 use Rattle.session_rules.proofs.Guarded.{all_removed, all_emptied, all_put, all_changed, all_moved, guarded_removed, guarded_emptied, guarded_put, guarded_put_own, guarded_changed, guarded_moved, own_apart, own_has, rooted_removed, rooted_emptied, rooted_put, rooted_changed, rooted_moved, top_own, top_parent, all_gone}
 
@@ -24,10 +23,7 @@ pub stay_same : (t : Contexts) → Stay t t
 stay_same t m prot = record { protected = prot; parent = refl }
 
 pub stay_on : (t u v : Contexts) → Stay t u → Stay u v → Stay t v
-stay_on t u v a b m prot =
-    let x : IsSame m t u = a m prot in
-    let y : IsSame m u v = b m x.protected in
-    record { protected = y.protected; parent = y.parent ∙ x.parent }
+stay_on t u v a b m prot = grind (arith, nat_tests)
 
 -- the session's own contexts do
 pub own_stay : (t u : Contexts) → ((m : ℕ) → 1 < m → m ≤ abort_context → IsOfSession m t) → Stay t u → (m : ℕ) → 1 < m → m ≤ abort_context → IsOfSession m u
@@ -42,15 +38,7 @@ protected_has m t prot = own_has own m t prot
 
 -- what holds of contexts, and of them with one emptied, holds where that is reset alone
 pub by_alone : (P : Contexts → Type 0) (n : ℕ) (t : Contexts) → P t → P (changed n emptied t) → P (ends.cleared_alone n t).contexts
-by_alone P n t same reset = go (at n t)
-  where
-    by_use : (c : Context) (b : Bool) → c.used ≡ b → P (ends.reset_of n t c).contexts
-    by_use c true e = rw e reset
-    by_use c false e = rw e same
-
-    go : (o : Option Context) → P (option_map_or (ends.reset_of n t) o (ends.unchanged t)).contexts
-    go None = same
-    go (Some c) = by_use c c.used refl
+by_alone P n t same reset = grind (arith, nat_tests)
 
 -- so with one moved
 pub by_reparented : (P : Contexts → Type 0) (n p : ℕ) (t : Contexts) → P t → P (moved n p t) → P (reparented n p t)
@@ -103,9 +91,7 @@ module _ (t : Contexts) (next : ℕ) (h : AreContexts t next) where
   stay_gone n free m prot = same_removed m n (apart m n free prot) prot
 
   pub contexts_gone : (n : ℕ) → is_protected n t ≡ false → AreContexts (removed n t) next
-  contexts_gone n free =
-      contexts_removed n (λ e. both_ways (is_protected n t) free (ap (λ (x : ℕ). is_protected x t) e ∙ top_protected))
-      (λ m l b. apart m n free (h.own m l b).protected)
+  contexts_gone n free = grind (arith, nat_tests, contexts_removed n, both_ways, top_protected, apart)
 
   -- the context of a level goes
   pub contexts_level_gone : (n : ℕ) → abort_context < n → AreContexts (removed n t) next
@@ -144,17 +130,7 @@ module _ (t : Contexts) (next : ℕ) (h : AreContexts t next) where
 
   -- the data of a context changes
   pub stay_changed : (n : ℕ) (f : Context → Context) → ((c : Context) → (f c).protected ≡ c.protected) → Stay t (changed n f t)
-  stay_changed n f keeps m prot = record {
-    protected = elim (cases_eq m n) [
-      | inl e ↦
-          let w = at_some m t (protected_has m t prot) in
-          let was : w.0.protected ≡ true = rw w.1 at prot in
-          let now : at m (changed n f t) ≡ Some (f w.0) = rw (← e) (at_changed m f t w.0 w.1) in
-          ap (λ (o : Option Context). option_map_or own o false) now ∙ keeps w.0 ∙ was
-      | inr ne ↦ same_own m t (changed n f t) (at_changed_other m n f t ne) prot
-    ];
-    parent = parent_changed m n f t;
-  }
+  stay_changed n f keeps m prot = grind (arith, nat_tests, cases_eq, protected_has, at_changed, same_own, at_changed_other, parent_changed)
 
   pub contexts_changed : (n : ℕ) (f : Context → Context) → ((c : Context) → (f c).protected ≡ c.protected) → ((c : Context) → IsFresh c → IsFresh (f c)) → AreContexts (changed n f t) next
   contexts_changed n f keeps fresh =
@@ -177,18 +153,14 @@ module _ (t : Contexts) (next : ℕ) (h : AreContexts t next) where
       grind (arith, nat_tests, protected_has m t prot, same_own m t (created p next name kind b t) (at_put_other m p next (new_context name kind b) Empty t ne refl) prot, at_put_other m p next (new_context name kind b) Empty t ne refl, parent_put_other m p next (new_context name kind b) Empty t ne refl)
 
   pub guarded_created : (p : ℕ) (name : List ℕ) (kind : CtxKind) (b : Bool) → (b ≡ true → is_protected p t ≡ true) → AreGuarded own (created p next name kind b t)
-  guarded_created p name kind true needs = guarded_put_own own p next (new_context name kind true) t h.once (needs refl) h.guarded
-  guarded_created p name kind false needs = guarded_put own p next (new_context name kind false) Empty t refl tt h.guarded
+  guarded_created p name kind b needs = grind (arith, nat_tests, guarded_put_own, guarded_put)
 
   pub contexts_created : (p : ℕ) (name : List ℕ) (kind : CtxKind) (b : Bool) → has p t ≡ true → (b ≡ true → is_protected p t ≡ true) → AreContexts (created p next name kind b t) (next + 1)
   contexts_created p name kind b there needs = record {
     rooted = rooted_put own top_context p next (new_context name kind b) Empty t h.rooted;
     guarded = guarded_created p name kind b needs;
     once = once_put p next (new_context name kind b) t h.once there is_unused;
-    below = λ m u. elim (cases_eq m next) [
-      | inl e ↦ omega (arith, e)
-      | inr ne ↦ omega (arith, h.below m (sym (has_put_other m p next (new_context name kind b) Empty t ne refl) ∙ u))
-    ];
+    below = grind (arith, nat_tests, cases_eq, has_put_other);
     room = omega (arith, h.room);
     own = own_stay t (created p next name kind b t) h.own (stay_created p name kind b);
     fresh = all_put IsFresh p next (new_context name kind b) Empty t (λ _. (refl, refl)) tt h.fresh;
@@ -214,13 +186,7 @@ module _ (t : Contexts) (next : ℕ) (h : AreContexts t next) where
   moves_by n p node there out = grind (arith, nat_tests, or_parts (p == n) (is_above n p t) out, is_above n p t, apart)
 
   pub stay_swapped : (n p : ℕ) → Moves n p t → is_protected n t ≡ false → Stay t (moved n p t)
-  stay_swapped n p w free m prot =
-      let out = apart m n free prot in
-      let a = at_some n t w.node in
-      record {
-        protected = same_own m t (moved n p t) (at_moved m n p t h.once w) prot;
-        parent = rw a.1 (parent_put_other m p n a.0 (children n t) (removed n t) out.0 out.1 ∙ parent_left m n t h.once out.0 out.1);
-      }
+  stay_swapped n p w free m prot = grind (arith, nat_tests, apart, same_own, at_moved, parent_put_other, parent_left)
 
   pub has_swapped : (m n p : ℕ) → Moves n p t → times m (moved n p t) ≡ times m t
   has_swapped m n p w = let a = at_some n t w.node in rw a.1 (times_moved m n p a.0 t h.once w)
@@ -229,8 +195,7 @@ module _ (t : Contexts) (next : ℕ) (h : AreContexts t next) where
   once_swapped n p w = record { once = λ m. omega (arith, has_swapped m n p w, h.once.once m) }
 
   pub contexts_swapped : (n p : ℕ) → Moves n p t → is_protected n t ≡ false → AreContexts (moved n p t) next
-  contexts_swapped n p w free =
-      grind (arith, nat_tests, rooted_moved own top_context n p t, top_protected, guarded_moved own n p t h.guarded free, once_swapped n p w, has_some, has_swapped, times_some, moved n p t, own_stay t (moved n p t) h.own (stay_swapped n p w free), stay_swapped n p w free, all_moved IsFresh n p t h.fresh)
+  contexts_swapped n p w free = grind (arith, nat_tests, rooted_moved, top_protected, guarded_moved, once_swapped n p w, has_some, has_swapped, times_some, own_stay, stay_swapped n p w free, all_moved IsFresh n p)
 
   pub stay_reparented : (n p : ℕ) → has n t ≡ true → has p t ≡ true → is_protected n t ≡ false → is_within n p t ≡ false → Stay t (reparented n p t)
   stay_reparented n p node there free out = by_reparented (Stay t) n p t (stay_same t) (stay_swapped n p (moves_by n p node there out) free)

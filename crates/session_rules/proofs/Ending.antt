@@ -1,9 +1,7 @@
 -- A session of which the deepest level ends, on its way through the portals.
 use Rattle.session_rules.proofs.Base.{◌≡◌, All, ◌≢◌, ℕ, ◌+◌, find, true, false, Option, Some, None, List, [], ◌∷◌, ◌++◌, refl, sym, ap, ◌∙◌, subst, inl, inr, arith, if◌then◌else◌, option_map_or, cases_eq, cases_Bool, All-head, All-tail, All-weaker, nat_tests}
-use Rattle.session_rules.proofs.Below.{Empty, Once, has, at, children, parent_of, changed, removed, at_some, at_absent, has_changed, at_changed, at_changed_other, parent_changed, children_changed, Item, KindId, ShelfState, Contexts, is_protected, gone, handed_in, Kind, KindTable, IsSoundTable, table_of, is_of, without_newest, Owner, OwnerTree, forgotten, has_begun, IsSound, once_of, sound_forgotten, Lock}
+use Rattle.session_rules.proofs.Below.{Empty, Once, has, children, parent_of, changed, removed, at_some, at_absent, has_changed, at_changed, at_changed_other, parent_changed, children_changed, Item, KindId, ShelfState, Contexts, is_protected, gone, handed_in, Kind, KindTable, IsSoundTable, table_of, is_of, without_newest, Owner, OwnerTree, forgotten, has_begun, IsSound, once_of, sound_forgotten, Lock, What, All-without}
 use Rattle.session_rules.proofs.Rules.{LevelState, OpenPortal, StandingPlan, cache_context, plan_reference, portals_context, Scene, newest, portals_but, Ended, changes, context_gone, for_each, in_order, portal_gone, say, where_there, given_back, item_released, AreContexts, AreLevels, ArePlans, HasItems, IsItem, IsPlace, IsPortal, IsRow, referred, AreEnding, Ending, IsDone, IsLoose}
-use Rattle.pgs_step.specs.declared.events.What.TheVariants as what
-use Rattle.owner_items.proofs.Order.{All-without}
 use Rattle.session_rules.proofs.Kept.{all_changed, IsSame, contexts_level_gone, off_outside, same_removed, hooks_ended, parts_gone, held_forgotten, levels_stay, lone_changed, lone_left, levels_apart, plans_moved, but_one, different_without, others_back, others_front, owner_split, IsRowOf, attached_by, off_levels, off_rows, place_same, place_spared, row_left, row_of, Fits, Settles, besides_of, item_settles}
 
 -- what an end changes on this way
@@ -54,12 +52,7 @@ module _ (level : LevelState) (levels done : List LevelState) where
   -- one act and then another
   pub then_goes : (act : Scene → Ended) (a b c d : List OpenPortal) (s t : Scene) (one : Goes level levels done a b s t) → Goes level levels done c d (with_parts one.parts s) (act (with_parts one.parts s)).scene
       → Goes level levels done c d s (act t).scene
-  then_goes act a b c d s t one two = record {
-    parts = two.parts;
-    same = two.same ∙ one.same;
-    is = ap (λ (z : Scene). (act z).scene) one.is ∙ two.is;
-    ending = two.ending;
-  }
+  then_goes act a b c d s t one two = grind (arith, nat_tests)
 
   -- an act for each portal
   pub each_goes : (act : OpenPortal → Scene → Ended) → ((p : OpenPortal) (front back : List OpenPortal) (s : Scene) → Ending level levels done front (p ∷ back) s → Leads level levels done back s (act p s).scene)
@@ -73,29 +66,14 @@ module _ (level : LevelState) (levels done : List LevelState) where
 
 -- owners of which one changes its items
 pub begun_changed : (m n : ℕ) (f : Owner → Owner) (x : OwnerTree) → ((o : Owner) → (f o).begun ≡ o.begun) → has_begun m (changed n f x) ≡ has_begun m x
-begun_changed m n f x same =
-    elim (cases_eq m n) [
-      | inl e ↦ elim (cases_Bool (has m x)) [
-        | inl y ↦
-            let a = at_some m x y in
-            let now : at m (changed n f x) ≡ Some (f a.0) = rw (← e) (at_changed m f x a.0 a.1) in
-            ap (λ (o : Option Owner). option_map_or (λ owner. owner.begun) o false) now ∙ same a.0 ∙ ap (λ (o : Option Owner). option_map_or (λ owner. owner.begun) o false) (sym a.1)
-        | inr y ↦ ap (λ (o : Option Owner). option_map_or (λ owner. owner.begun) o false) (at_absent m (changed n f x) (has_changed m n f x ∙ y) ∙ sym (at_absent m x y))
-      ]
-      | inr ne ↦ ap (λ (o : Option Owner). option_map_or (λ owner. owner.begun) o false) (at_changed_other m n f x ne)
-    ]
+begun_changed m n f x same = grind (arith, nat_tests, cases_eq, cases_Bool, at_some, at_changed, at_absent, has_changed, at_changed_other)
 
 pub loose_changed : (level : LevelState) (m n : ℕ) (f : Owner → Owner) (x : OwnerTree) → IsLoose level m x → IsLoose level m (changed n f x)
-loose_changed level m n f x l = record {
-  owner = l.owner;
-  is = l.is;
-  within = elim l.within [ inl e ↦ inl e | inr u ↦ inr (ap (has m) (children_changed l.owner n f x) ∙ has_changed m n f (children l.owner x) ∙ u) ];
-}
+loose_changed level m n f x l = grind (arith, nat_tests, children_changed l.owner n f x, has_changed m n f (children l.owner x))
 
 pub ending_changed : (kinds : KindTable) (level : LevelState) (levels : List LevelState) (portals : List OpenPortal) (x : OwnerTree) (a b n : ℕ) (f : Owner → Owner) → ((o : Owner) → (f o).begun ≡ o.begun) → ((o : Owner) → HasItems kinds o → HasItems kinds (f o))
     → IsSound (changed n f x) a b → AreEnding kinds x a b level levels portals → AreEnding kinds (changed n f x) a b level levels portals
-ending_changed kinds level levels portals x a b n f begun known sound h =
-    grind (arith, nat_tests, has_changed, loose_changed level, begun_changed, all_changed (HasItems kinds) n f x known h.items)
+ending_changed kinds level levels portals x a b n f begun known sound h = grind (arith, nat_tests, has_changed, loose_changed level, begun_changed, all_changed (HasItems kinds) n f x known h.items)
 
 -- An owner gives its newest item of a kind and key back.
 module _ (level : LevelState) (levels done : List LevelState) where
@@ -103,7 +81,7 @@ module _ (level : LevelState) (levels done : List LevelState) where
   item_goes o kind key front back s there h = go (newest o kind key s.session) refl
     where
       go : (i : Option Item) → newest o kind key s.session ≡ i
-          → Goes level levels done front back s (where_there i (λ item. in_order (changes (λ session. record session { owners = forgotten o kind key session.owners }) ∷ say (what.Release item o) ∷ given_back item ∷ [])) s).scene
+          → Goes level levels done front back s (where_there i (λ item. in_order (changes (λ session. record session { owners = forgotten o kind key session.owners }) ∷ say (What.Release item o) ∷ given_back item ∷ [])) s).scene
       go None e = goes_nothing level levels done front back s h
       go (Some item) e =
           let x : OwnerTree = s.session.owners in

@@ -1,10 +1,8 @@
 -- The ends of levels and of sessions lead from a session that stands to one that stands.
 use Rattle.session_rules.proofs.Base.{◌≡◌, ◌≢◌, ℕ, ◌<◌, ◌≤◌, ◌-◌, Bool, true, false, Option, Some, None, List, [], ◌∷◌, refl, sym, ap, ◌∙◌, subst, inl, inr, arith, ◌==◌, ◌+◌, ◌⊎◌, not, unwrap_or, length, map, All, All-nil, All-append, All-head, All-weaker, cases_Bool, eq-eqb, eqb-false, both_ways, nat_tests}
 use Rattle.session_rules.proofs.Below.{Forest, Empty, Node, has, Once, children, removed, AllNodes, above_by_parent, Error, ShelfState, Contexts, is_empty, is_protected, gone, handed_in, KindTable, IsSoundTable, table_of, OwnerTree, AllAt, HoldsNothing, IsSound, once_of, Active, kept_below, lowered}
-use Rattle.session_rules.proofs.Rules.{LevelState, OpenPortal, abort_context, context_of, first_of, deepest_changed, owner_of, plan_reference, portals_context, top_context, Scene, Ended, changes, context_gone, for_each, in_order, switched, where_so, where_there, portal_aborted, portal_closed, portal_passed, owner_released, AreEnding, Ending, IsAway, IsDone, gone_levels}
-use Rattle.session_rules.specs.Ends.{aborted, cleaned_up, committed, empty_context_gone, exited, given_up, level_context_gone, level_owner_gone, level_popped, level_released, level_rolled_back, recovered, stack_lowered, stack_popped, subcommitted, switched_up}
-use Rattle.session_rules.specs.Standing.{IsActive, IsDeepest, AreContexts, AreHooks, AreLevels, AreOpen, AreDifferent, AreOwners, AreOuter, ArePlans, ArePortals, AreStacked, FitLevels, HasExited, HasItems, IsAtRest, IsAttached, IsDead, IsLevel, IsLive, IsOfPortal, IsOwner, IsPlace, IsPortal, IsMade, IsOpen, Stands, StandsBetweenLines, active_depth, owner_at, referred}
-use Rattle.session_rules.proofs.Kept.{has_left, parent_left, IsSame, contexts_level_gone, nothing_left, off_outside, protected_has, same_removed, stay_same, top_protected, hooks_ended, parts_gone, removed_swept, held_removed, Tables, still_sound, swept_by, tabled, with_owners, Besides, Fits, HasSettled, Spares, besides_of, release_settles, spares_same, with_besides, depth_small, depth_still, none_stacked, stacked_above, stacked_below, stacked_lowered, stacked_within, HasLeft, IsStill, is_there, left_nothing, left_still, levels_stay, one_value, outer_contexts, outer_owners, owners_aborted, owners_end, owners_without, without_owner, lone_left, lone_swept, IsRowOf, attached_by, off_levels, off_rows, place_level, place_own, place_same, place_spared, row_left, row_of, all_rest_aborted, all_rest_outside, rests_becomes, rests_but, above_apart, cached_left, levels_apart, own_other, plan_outside, plans_counted, plans_current, plans_moved}
+use Rattle.session_rules.proofs.Rules.{LevelState, OpenPortal, abort_context, context_of, first_of, deepest_changed, owner_of, plan_reference, portals_context, top_context, Scene, Ended, changes, context_gone, for_each, in_order, switched, where_so, where_there, portal_aborted, portal_closed, portal_passed, owner_released, AreEnding, Ending, IsAway, IsDone, gone_levels, aborted, cleaned_up, committed, empty_context_gone, exited, given_up, level_context_gone, level_owner_gone, level_popped, level_released, level_rolled_back, recovered, stack_lowered, stack_popped, subcommitted, switched_up, IsActive, IsDeepest, AreContexts, AreHooks, AreLevels, AreOpen, AreDifferent, AreOwners, AreOuter, ArePlans, ArePortals, AreStacked, FitLevels, HasExited, HasItems, IsAtRest, IsAttached, IsDead, IsLevel, IsLive, IsOfPortal, IsOwner, IsPlace, IsPortal, IsMade, IsOpen, Stands, StandsBetweenLines, active_depth, owner_at, referred}
+use Rattle.session_rules.proofs.Kept.{has_left, parent_left, IsSame, contexts_level_gone, nothing_left, off_outside, protected_has, same_removed, stay_same, top_protected, hooks_ended, parts_gone, removed_swept, held_removed, Tables, still_sound, swept_by, tabled, with_owners, Besides, Fits, Spares, besides_of, release_settles, spares_same, with_besides, depth_small, depth_still, none_stacked, stacked_above, stacked_below, stacked_lowered, stacked_within, HasLeft, IsStill, is_there, left_nothing, left_still, levels_stay, one_value, outer_contexts, outer_owners, owners_aborted, owners_end, owners_without, without_owner, lone_left, lone_swept, IsRowOf, attached_by, off_levels, off_rows, place_level, place_own, place_same, place_spared, row_left, row_of, all_rest_aborted, all_rest_outside, rests_becomes, rests_but, above_apart, cached_left, levels_apart, own_other, plan_outside, plans_counted, plans_current, plans_moved}
 use Rattle.session_rules.proofs.Ending.{Leads, Parts, with_parts}
 use Rattle.session_rules.proofs.Replacing.{all_closed, all_swept_away, swept_away}
 use Rattle.session_rules.proofs.Passing.{all_passed}
@@ -19,9 +17,7 @@ is_settled scene h = refl
 
 -- where each scene of that form has something, each scene that stands does
 pub at_settled : (P : Scene → Type 0) → ((levels : List LevelState) (s : Scene) → Stands (settled levels s) → P (settled levels s)) → (scene : Scene) → Stands scene → P scene
-at_settled P all scene h =
-    let is : scene ≡ settled scene.session.levels scene = is_settled scene h in
-    subst P (sym is) (all scene.session.levels scene (subst Stands is h))
+at_settled P all scene h = grind (arith, nat_tests, is_settled scene h)
 
 -- a session that stands between two lines, with these levels
 pub record Leaves (levels : List LevelState) (scene : Scene) : Type 0 where
@@ -34,11 +30,7 @@ is_left levels scene h = is_settled scene h.between.stands ∙ ap (λ (ls : List
 
 -- tables don't matter, as far as what never changes of kinds is the same
 pub stands_tabled : (x : Tables) (s : Scene) → table_of x.kinds ≡ table_of s.around.kinds → Stands s → Stands (tabled x s)
-stands_tabled x s same h =
-    search (
-      subst (λ (kinds : KindTable). AreOwners kinds s.session.owners s.session.next_owner s.session.next_serial s.session.levels s.session.portals) (sym same) h.owners,
-      subst (λ (kinds : KindTable). IsSoundTable kinds) (sym same) h.kinds,
-    )
+stands_tabled x s same h = grind (arith, nat_tests)
 
 -- without the context of a level, and the shelf then
 abbrev pub without_context : Option ℕ → Contexts → Contexts
@@ -73,8 +65,7 @@ contexts_without (Some n) t next x h k own = (contexts_level_gone t next h n (ow
 
 pub same_without : (c : Option ℕ) (t : Contexts) (next : ℕ) → AreContexts t next → (m : ℕ) → ((n : ℕ) → c ≡ Some n → (m ≢ n) × (has m (children n t) ≡ false)) → is_protected m t ≡ true
     → IsSame m t (without_context c t)
-same_without None t next h m out prot = stay_same t m prot
-same_without (Some n) t next h m out prot = same_removed t next h m n (out n refl) prot
+same_without c t next h m out prot = grind (arith, nat_tests, stay_same t m prot, same_removed t next h m)
 
 pub still_without : (o : Option ℕ) (x : OwnerTree) → Once x → (m : ℕ) → ((p : ℕ) → o ≡ Some p → (m ≢ p) × (has m (children p x) ≡ false)) → has m x ≡ true → IsStill m x (without_owner o x)
 still_without None x once m out there = record { there = there; parent = refl }
@@ -82,28 +73,16 @@ still_without (Some p) x once m out there = grind (arith, nat_tests, has_left m 
 
 -- a level in which steps can be taken is deepest
 pub deepest_active : (level : LevelState) (t : Contexts) (x : OwnerTree) (current : ℕ) → IsActive level → IsDeepest level t x current
-deepest_active level t x current h = record {
-  made = λ _. h.made;
-  empty = λ n s e. absurd (both_ways level.starting h.started s);
-  alone = λ n s e. absurd (both_ways level.starting h.started s);
-  idle = λ n s e. absurd (both_ways level.starting h.started s);
-  released = λ n a e. absurd (both_ways level.aborted h.unaborted a);
-  at_abort = λ a. absurd (both_ways level.aborted h.unaborted a);
-  open_level = λ a. absurd (both_ways level.aborted h.unaborted a);
-}
+deepest_active level t x current h = grind (arith, nat_tests, both_ways level.starting h.started, both_ways level.aborted h.unaborted)
 
 -- the levels that are left
 pub fits_outer : (levels : List LevelState) (t : Contexts) (x : OwnerTree) → AreOuter levels → FitLevels levels t x (unwrap_or (context_of (first_of levels)) top_context)
-fits_outer [] t x h = refl
-fits_outer (level ∷ levels) t x h = (deepest_active level t x (unwrap_or level.context top_context) h.0, h.2)
+fits_outer levels t x h = grind (arith, nat_tests, deepest_active)
 
 -- the context of the level above, or the topmost one, is there
 pub current_above : (levels : List LevelState) (t : Contexts) (x : OwnerTree) (next : ℕ) → AreContexts t next → AreLevels levels t x → AreOuter levels
     → has (unwrap_or (context_of (first_of levels)) top_context) t ≡ true
-current_above [] t x next h l o = protected_has top_context t (top_protected t next h)
-current_above (level ∷ levels) t x next h l o =
-    let c = is_there level.context o.0.made.context in
-    ap (λ (z : Option ℕ). has (unwrap_or z top_context) t) c.1 ∙ protected_has c.0 t (l.0.context c.0 c.1).protected
+current_above levels t x next h l o = grind (arith, nat_tests, protected_has top_context t (top_protected t next h), protected_has, top_protected t next h, is_there)
 
 -- A scene whose deepest level may go: its portals are those of the levels `done`, and each number of a plan is referred to so often.
 pub record MayEnd (times : ℕ → ℕ) (level : LevelState) (levels done : List LevelState) (s : Scene) : Type 0 where
@@ -122,16 +101,11 @@ abbrev pub left_to_refer : LevelState → Scene → ℕ → ℕ
 left_to_refer level s = referred (without_owner level.owner s.session.owners)
 
 pub same_count : (o : Option ℕ) (x : OwnerTree) → Once x → ((n : ℕ) → o ≡ Some n → AllAt HoldsNothing n x) → (m : ℕ) → referred x m ≡ referred (without_owner o x) m
-same_count None x once idle m = refl
-same_count (Some n) x once idle m = sym (held_removed plan_reference m n x once (idle n refl))
+same_count o x once idle m = grind (arith, nat_tests, held_removed plan_reference m)
 
 -- the way through the portals begins, and has ended
 pub begins : (level : LevelState) (levels done : List LevelState) (s : Scene) → Stands (settled (level ∷ levels) s) → Ending level levels done [] s.session.portals s
-begins level levels done s h =
-    search (
-      owners_end (table_of s.around.kinds) s.session.owners s.session.next_owner s.session.next_serial level levels s.session.portals h.owners,
-      All-nil (IsDone level done s.session.contexts s.session.owners s.session.current),
-    )
+begins level levels done s h = grind (arith, nat_tests, owners_end (table_of s.around.kinds) s.session.owners s.session.next_owner s.session.next_serial level levels s.session.portals h.owners)
 
 -- the levels of the scene don't matter
 pub resettled : (level : LevelState) (levels done : List LevelState) (front back : List OpenPortal) (s : Scene) → Ending level levels done front back s → Ending level levels done front back (settled (level ∷ levels) s)
@@ -150,18 +124,11 @@ may_end level levels done ps s h =
     )
 
 pub idle_ends : (level : LevelState) (levels done : List LevelState) (s : Scene) → ((n : ℕ) → level.owner ≡ Some n → AllAt HoldsNothing n s.session.owners) → MayEnd (referred s.session.owners) level levels done s → MayEnd (left_to_refer level s) level levels done s
-idle_ends level levels done s idle h =
-    search (plans_counted s.session.plans s.session.contexts s.session.current (referred s.session.owners) (left_to_refer level s)
-    (same_count level.owner s.session.owners (once_of s.session.owners s.session.next_owner s.session.next_serial h.owners.sound) idle) h.plans)
+idle_ends level levels done s idle h = grind (arith, nat_tests, plans_counted s.session.plans s.session.contexts s.session.current (referred s.session.owners), same_count level.owner s.session.owners (once_of s.session.owners s.session.next_owner s.session.next_serial h.owners.sound) idle, once_of s.session.owners s.session.next_owner s.session.next_serial h.owners.sound)
 
 pub plans_popped : (level : LevelState) (levels done : List LevelState) (s : Scene) (times : ℕ → ℕ) (c : Option ℕ) → ((n : ℕ) → c ≡ Some n → level.context ≡ Some n) → MayEnd times level levels done s
     → ArePlans s.session.plans (without_context c s.session.contexts) s.session.current times
-plans_popped level levels done s times None is h = h.plans
-plans_popped level levels done s times (Some n) is h =
-    let t : Contexts = s.session.contexts in
-    plans_moved s.session.plans t (removed n t) s.session.current times
-    (λ m k. cached_left t s.session.next_context n h.contexts m k (plan_outside level levels t s.session.owners s.session.next_context n h.contexts h.all (is n refl) m k))
-    h.plans
+plans_popped level levels done s times c is h = grind (arith, nat_tests, plans_moved s.session.plans s.session.contexts, cached_left s.session.contexts s.session.next_context, plan_outside level levels s.session.contexts s.session.owners s.session.next_context)
 
 -- a portal's context where the level's goes
 pub place_popped : (level : LevelState) (levels : List LevelState) (t : Contexts) (x : OwnerTree) (next current : ℕ) (c : Option ℕ) → ((n : ℕ) → c ≡ Some n → level.context ≡ Some n) → AreContexts t next → AreLevels (level ∷ levels) t x
@@ -188,13 +155,7 @@ place_above (level ∷ levels) t x next h l o m expr a k =
 -- the owner of an outer level
 pub owner_made : (levels : List LevelState) → AreOuter levels → (k : ℕ) → 1 ≤ k → k ≤ length levels → (q : ℕ) × (owner_at k levels ≡ Some q) × IsOwner q levels
 owner_made [] outer k low high = absurd (omega (arith, low, high))
-owner_made (level ∷ levels) outer k low high = elim (cases_Bool (length levels + 1 == k)) [
-  | inl y ↦ let o = is_there level.owner outer.0.made.owner in (o.0, rw y o.1, inl o.1)
-  | inr y ↦
-      let ne = eqb-false (length levels + 1) k y in
-      let w = owner_made levels outer.2 k low (omega (arith, high, ne)) in
-      (w.0, rw y w.1, inr w.2)
-]
+owner_made (level ∷ levels) outer k low high = grind (arith, nat_tests, cases_Bool (length levels + 1 == k), is_there level.owner outer.0.made.owner, eqb-false (length levels + 1) k, owner_made levels outer.2 k low)
 
 pub outer_live : (p : OpenPortal) (levels : List LevelState) → AreOuter levels → IsLive p levels ⊎ IsDead p levels → IsLive p levels
 outer_live p levels outer s = grind (arith, nat_tests)
@@ -261,10 +222,7 @@ abbrev pub behind_sweep : Scene → Scene
 behind_sweep z = (in_order (level_owner_gone ∷ switched_up ∷ level_context_gone ∷ level_popped ∷ []) z).scene
 
 pub sweep_is : (name : Option (List ℕ)) (c o : Option ℕ) (i a b : Bool) (levels : List LevelState) (z : Scene) → behind_sweep (settled (level_of name c o i a b ∷ levels) z) ≡ popped c o levels z.session.snapshots z
-sweep_is name None None i a b levels z = refl
-sweep_is name None (Some p) i a b levels z = refl
-sweep_is name (Some n) None i a b levels z = refl
-sweep_is name (Some n) (Some p) i a b levels z = refl
+sweep_is name c o i a b levels z = grind (arith, nat_tests)
 
 -- a cleanup leaves owners alone until then
 pub sweep_owners : (level : LevelState) (levels : List LevelState) (gone : level.aborted ≡ true) (ps : List OpenPortal) (s : Scene) → (for_each (swept_away level levels gone) ps s).scene.session.owners ≡ s.session.owners
@@ -274,8 +232,7 @@ sweep_owners level levels gone (p ∷ ps) s = grind (arith, nat_tests, sweep_own
 -- and leaves portals at rest
 pub sweep_rests : (level : LevelState) (levels : List LevelState) (gone : level.aborted ≡ true) (ps : List OpenPortal) (s : Scene) → All IsAtRest s.session.portals → All IsAtRest (for_each (swept_away level levels gone) ps s).scene.session.portals
 sweep_rests level levels gone [] s h = h
-sweep_rests level levels gone (p ∷ ps) s h =
-    grind (arith, nat_tests, sweep_rests level levels gone ps, in_order, rests_but p.name s.session.portals h)
+sweep_rests level levels gone (p ∷ ps) s h = grind (arith, nat_tests, sweep_rests level levels gone ps, rests_but p.name s.session.portals h)
 
 pub clean_from : (level : LevelState) (levels : List LevelState) (s : Scene) → level.aborted ≡ true → Ending level levels levels [] s.session.portals s → ((n : ℕ) → level.owner ≡ Some n → AllAt HoldsNothing n s.session.owners)
     → AreStacked 1 (active_depth levels) s.session.snapshots → Leaves levels (cleaned_up (settled (level ∷ levels) s)).scene
@@ -290,19 +247,13 @@ clean_from level levels s gone h idle stacked =
     let may : MayEnd (referred loop2.goes.parts.owners) level levels levels z = may_end level levels levels loop2.front z (unsettled level levels levels loop2.front [] (level ∷ levels) z loop2.goes.ending) in
     subst (Leaves levels) (sym (ap behind_sweep loop2.goes.is ∙ sweep_is level.name level.context level.owner level.implicit level.aborted level.starting levels z))
     (record {
-      between = record {
-        stands = popped_stands level levels z level.context s.session.snapshots (λ n e. e) stacked (idle_ends level levels levels z still may);
-        open_levels = outer_open levels h.outer;
-        at_rest = at_rest;
-      };
+      between = grind (arith, nat_tests, popped_stands level levels z level.context s.session.snapshots, idle_ends level levels levels z still may, outer_open levels h.outer);
       are = refl;
     })
 
 -- A level that is aborted is cleaned up.
 pub cleaned_up_stands : (level : LevelState) (levels : List LevelState) (s : Scene) → level.aborted ≡ true → Stands (settled (level ∷ levels) s) → Leaves levels (cleaned_up (settled (level ∷ levels) s)).scene
-cleaned_up_stands level levels s aborted h =
-    clean_from level levels s aborted (begins level levels levels s h) (λ n e. h.fit.0.released n aborted e)
-    (stacked_above levels (active_depth (level ∷ levels)) s.session.snapshots h.fit.1 (omega (arith, depth_still level levels aborted)) h.snapshots)
+cleaned_up_stands level levels s aborted h = grind (arith, nat_tests, clean_from level levels s aborted (begins level levels levels s h), begins level levels levels s h, stacked_above levels (active_depth (level ∷ levels)) s.session.snapshots h.fit.1, depth_still level levels aborted)
 
 -- what a release of an owner, where there is one, leaves
 pub record HasGiven (o : Option ℕ) (s t : Scene) : Type 0 where
@@ -316,28 +267,15 @@ pub record HasGiven (o : Option ℕ) (s t : Scene) : Type 0 where
 
 pub gives : (commit top : Bool) (o : Option ℕ) (s : Scene) → IsSound s.session.owners s.session.next_owner s.session.next_serial → Fits s.session.next_context s.session.current (referred s.session.owners) (besides_of s)
     → HasGiven o s (where_there o (owner_released commit top) s).scene
-gives commit top None s sound fits = record {
-  besides = besides_of s;
-  same = refl;
-  owners = s.session.owners;
-  left = refl;
-  is = refl;
-  fits = fits;
-  spares = spares_same (besides_of s) (besides_of s) refl refl;
-}
-gives commit top (Some p) s sound fits =
-    let r : HasSettled p s (owner_released commit top p s).scene = release_settles commit top p s s.session.next_serial sound fits in
-    record { besides = r.besides; same = r.same; owners = r.owners; left = r.swept; is = r.is; fits = r.fits; spares = r.spares }
+gives commit top None s sound fits = grind (arith, nat_tests, spares_same (besides_of s) (besides_of s) refl refl)
+gives commit top (Some p) s sound fits = grind (arith, nat_tests, release_settles commit top p s s.session.next_serial sound fits)
 
 pub without_left : (kinds : KindTable) (o : Option ℕ) (owners now : OwnerTree) → HasLeft kinds o owners now → without_owner o now ≡ without_owner o owners
-without_left kinds None owners now left = left
-without_left kinds (Some p) owners now left = ap (removed p) left.is ∙ removed_swept (swept_by kinds) p owners
+without_left kinds o owners now left = grind (arith, nat_tests, removed_swept (swept_by kinds))
 
 -- what is left holds no reference
 pub left_idle : (kinds : KindTable) (o : Option ℕ) (owners now : OwnerTree) → IsSoundTable kinds → HasLeft kinds o owners now → AllNodes (HasItems kinds) owners → (n : ℕ) → o ≡ Some n → AllAt HoldsNothing n now
-left_idle kinds None owners now sound left items n e = absurd (cc e)
-left_idle kinds (Some p) owners now sound left items n e =
-    subst (λ (k : ℕ). AllAt HoldsNothing k now) (one_value (Some p) p n refl e) (left_nothing kinds p owners now sound left items)
+left_idle kinds o owners now sound left items n e = grind (arith, nat_tests, one_value, left_nothing kinds)
 
 pub left_once : (kinds : KindTable) (o : Option ℕ) (owners now : OwnerTree) (a b : ℕ) → HasLeft kinds o owners now → IsSound owners a b → Once now
 left_once kinds None owners now a b left h = subst Once (sym left) (once_of owners a b h)
@@ -345,9 +283,7 @@ left_once kinds (Some p) owners now a b left h = once_of now a b (still_sound ki
 
 -- what counts then is what owners hold without the one that is released
 pub left_count : (kinds : KindTable) (o : Option ℕ) (owners now : OwnerTree) (a b : ℕ) → IsSoundTable kinds → HasLeft kinds o owners now → AllNodes (HasItems kinds) owners → IsSound owners a b → (m : ℕ) → referred now m ≡ referred (without_owner o owners) m
-left_count kinds o owners now a b table left items sound m =
-    same_count o now (left_once kinds o owners now a b left sound) (left_idle kinds o owners now table left items) m
-    ∙ ap (λ (z : OwnerTree). referred z m) (without_left kinds o owners now left)
+left_count kinds o owners now a b table left items sound m = grind (arith, nat_tests, same_count o now (left_once kinds o owners now a b left sound) (left_idle kinds o owners now table left items) m, left_once kinds o owners now a b left sound, left_idle kinds o owners now table left items, without_left kinds o owners now left)
 
 -- Behind the release of its owner the deepest level may go.
 pub released_ends : (level : LevelState) (levels done : List LevelState) (s : Scene) (x : Besides) (now : OwnerTree) → MayEnd (referred s.session.owners) level levels done s → table_of x.kinds ≡ table_of s.around.kinds
@@ -380,32 +316,11 @@ abbrev pub behind_commit : Scene → Scene
 behind_commit z = (in_order (stack_popped 1 ∷ level_owner_gone ∷ switched top_context ∷ level_context_gone ∷ level_popped ∷ []) z).scene
 
 pub behind_is : (name : Option (List ℕ)) (c o : Option ℕ) (i a b : Bool) (z : Scene) → behind_commit (settled (level_of name c o i a b ∷ []) z) ≡ popped c o [] (kept_below 1 z.session.snapshots) z
-behind_is name None None i a b z = refl
-behind_is name None (Some p) i a b z = refl
-behind_is name (Some n) None i a b z = refl
-behind_is name (Some n) (Some p) i a b z = refl
+behind_is name c o i a b z = grind (arith, nat_tests)
 
 pub commit_from : (level : LevelState) (s : Scene) → MayEnd (referred s.session.owners) level [] [] s → AreStacked 1 0 (kept_below 1 s.session.snapshots)
     → Leaves [] (behind_commit (where_there level.owner (owner_released true true) (settled (level ∷ []) s)).scene)
-commit_from level s h stacked =
-    let c : Option ℕ = level.context in
-    let o : Option ℕ = level.owner in
-    let stack : List Active = kept_below 1 s.session.snapshots in
-    let g : HasGiven o (settled (level ∷ []) s) (where_there o (owner_released true true) (settled (level ∷ []) s)).scene = gives_now true true level [] [] s h in
-    let z : Scene = with_besides g.besides s in
-    let is : behind_commit (where_there o (owner_released true true) (settled (level ∷ []) s)).scene ≡ popped c o [] stack z =
-    ap behind_commit g.is
-    ∙ behind_is level.name c o level.implicit level.aborted level.starting (with_owners g.owners z)
-    ∙ ap (λ (w : OwnerTree). with_owners w (popped c o [] stack z)) (without_left (table_of s.around.kinds) o s.session.owners g.owners g.left) in
-    let stands : Stands (popped c o [] stack z) = popped_stands level [] z c stack (λ n e. e) stacked (released_ends level [] [] s g.besides g.owners h g.same g.left g.fits g.spares) in
-    subst (Leaves []) (sym is) (record {
-      between = record {
-        stands = stands;
-        open_levels = tt;
-        at_rest = all_rest_outside s.session.portals _ _ _ stands.portals.each;
-      };
-      are = refl;
-    })
+commit_from level s h stacked = grind (arith, nat_tests, gives_now true true level [] [] s h, behind_is level.name level.context level.owner level.implicit level.aborted level.starting (with_owners (gives_now true true level [] [] s h).owners (with_besides (gives_now true true level [] [] s h).besides s)), without_left (table_of s.around.kinds) level.owner s.session.owners (gives_now true true level [] [] s h).owners (gives_now true true level [] [] s h).left, popped_stands level [] (with_besides (gives_now true true level [] [] s h).besides s) level.context (kept_below 1 s.session.snapshots), released_ends level [] [] s (gives_now true true level [] [] s h).besides (gives_now true true level [] [] s h).owners h (gives_now true true level [] [] s h).same (gives_now true true level [] [] s h).left (gives_now true true level [] [] s h).fits (gives_now true true level [] [] s h).spares, all_rest_outside s.session.portals)
 
 -- Level 1 commits.
 pub committed_stands : (level : LevelState) (s : Scene) → Stands (settled (level ∷ []) s) → Leaves [] (committed (settled (level ∷ []) s)).scene
@@ -439,25 +354,14 @@ behind_merge level z =
 
 pub merge_context : (b : Bool) (name : Option (List ℕ)) (n : ℕ) (o : Option ℕ) (i a st : Bool) (levels : List LevelState) (z : Scene)
     → (level_popped (where_so b (context_gone n) (switched_up (level_owner_gone (settled (level_of name (Some n) o i a st ∷ levels) z)).scene).scene).scene).scene ≡ popped (gone_if b n) o levels z.session.snapshots z
-merge_context true name n None i a st levels z = refl
-merge_context true name n (Some p) i a st levels z = refl
-merge_context false name n None i a st levels z = refl
-merge_context false name n (Some p) i a st levels z = refl
-
--- the scene with the active snapshots of this level in the level above
-abbrev pub lowered_in : ℕ → Scene → Scene
-lowered_in level s = record s { session = record s.session { snapshots = map (lowered level) s.session.snapshots } }
+merge_context b name n o i a st levels z = grind (arith, nat_tests)
 
 pub merge_is : (level : ℕ) (name : Option (List ℕ)) (c o : Option ℕ) (i a st : Bool) (levels : List LevelState) (z : Scene)
     → behind_merge level (settled (level_of name c o i a st ∷ levels) z) ≡ popped (context_to_go c z.session.contexts) o levels (map (lowered level) z.session.snapshots) z
-merge_is level name None None i a st levels z = refl
-merge_is level name None (Some p) i a st levels z = refl
-merge_is level name (Some n) None i a st levels z = merge_context (is_empty n z.session.contexts) name n None i a st levels (lowered_in level z)
-merge_is level name (Some n) (Some p) i a st levels z = merge_context (is_empty n z.session.contexts) name n (Some p) i a st levels (lowered_in level z)
+merge_is level name c o i a st levels z = grind (arith, nat_tests, merge_context)
 
 pub context_to_go_is : (c : Option ℕ) (t : Contexts) (n : ℕ) → context_to_go c t ≡ Some n → c ≡ Some n
-context_to_go_is None t n e = absurd (cc e)
-context_to_go_is (Some m) t n e = grind (arith, nat_tests)
+context_to_go_is c t n e = grind (arith, nat_tests)
 
 -- what a merge leads to: the session stands with the levels above, and where portals were at rest they still are
 pub record Merges (levels : List LevelState) (s z : Scene) : Type 0 where
@@ -474,10 +378,7 @@ merge_from level levels s h stacked =
     let g : HasGiven o (settled (level ∷ levels) s) (where_there o (owner_released true false) (settled (level ∷ levels) s)).scene = gives_now true false level levels levels s h in
     let z : Scene = with_besides g.besides s in
     let c : Option ℕ = context_to_go level.context g.besides.contexts in
-    let is : behind_merge n (where_there o (owner_released true false) (settled (level ∷ levels) s)).scene ≡ popped c o levels stack z =
-    ap (behind_merge n) g.is
-    ∙ merge_is n level.name level.context o level.implicit level.aborted level.starting levels (with_owners g.owners z)
-    ∙ ap (λ (w : OwnerTree). with_owners w (popped c o levels stack z)) (without_left (table_of s.around.kinds) o s.session.owners g.owners g.left) in
+    let is : behind_merge n (where_there o (owner_released true false) (settled (level ∷ levels) s)).scene ≡ popped c o levels stack z = grind (arith, nat_tests, merge_is n level.name level.context o level.implicit level.aborted level.starting levels (with_owners g.owners z), without_left (table_of s.around.kinds) o s.session.owners g.owners g.left) in
     subst (Merges levels s) (sym is) (record {
       stands = popped_stands level levels z c stack (λ k e. context_to_go_is level.context g.besides.contexts k e) stacked (released_ends level levels levels s g.besides g.owners h g.same g.left g.fits g.spares);
       are = refl;
@@ -511,12 +412,7 @@ subcommitted_stands level levels s some h =
 
 -- and between two lines it stands between two lines
 pub subcommitted_leaves : (level : LevelState) (levels : List LevelState) (s : Scene) → 1 ≤ length levels → All IsAtRest s.session.portals → Stands (settled (level ∷ levels) s) → Leaves levels (subcommitted (settled (level ∷ levels) s)).scene
-subcommitted_leaves level levels s some at_rest h =
-    let m : Merges levels s (subcommitted (settled (level ∷ levels) s)).scene = subcommitted_stands level levels s some h in
-    record {
-      between = record { stands = m.stands; open_levels = subst AreOpen (sym m.are) (outer_open levels h.fit.1); at_rest = m.at_rest at_rest };
-      are = m.are;
-    }
+subcommitted_leaves level levels s some at_rest h = grind (arith, nat_tests, subcommitted_stands level levels s some h, outer_open levels h.fit.1)
 
 -- the deepest level is aborted, with these owners left
 abbrev pub shut : LevelState → List LevelState → OwnerTree → Scene → Scene
@@ -525,10 +421,7 @@ shut level levels owners s =
     (record s { session = record s.session { owners = owners; current = abort_context; snapshots = kept_below (length (level ∷ levels)) s.session.snapshots } })
 
 pub shut_stacked : (level : LevelState) (levels : List LevelState) (most : ℕ) (stack : List Active) → AreStacked 1 most stack → AreStacked 1 (active_depth (record level { aborted = true } ∷ levels)) (kept_below (length (level ∷ levels)) stack)
-shut_stacked level levels most stack h =
-    let n : ℕ = length (level ∷ levels) in
-    stacked_within 1 (active_depth (record level { aborted = true } ∷ levels)) 1 (n - 1) (kept_below n stack) (omega arith) (omega (arith, depth_still (record level { aborted = true }) levels refl))
-    (stacked_below n 1 most stack h)
+shut_stacked level levels most stack h = grind (arith, nat_tests, stacked_within 1, depth_still, stacked_below (length (level ∷ levels)) 1 most stack h)
 
 abbrev pub behind_abort : ℕ → Scene → Scene
 behind_abort n z = (in_order (stack_popped n ∷ changes (λ session. record session { levels = deepest_changed (λ old. record old { aborted = true }) session.levels }) ∷ []) z).scene
@@ -615,23 +508,7 @@ aborted_is level levels s h =
 
 pub shut_stands : (level : LevelState) (levels : List LevelState) (s z : Scene) → IsOpen level → (a : HasShut level levels s z) → Stands (settled (level ∷ levels) s)
     → Stands (shut level levels a.parts.owners (with_parts a.parts s))
-shut_stands level levels s z open_level a h =
-    let c : Shut level levels (with_parts a.parts s) = a.shut_is in
-    let mine : IsLevel (record level { aborted = true }) levels a.parts.contexts a.parts.owners = search (c.all.0) in
-    let deepest : IsDeepest (record level { aborted = true }) a.parts.contexts a.parts.owners abort_context = record {
-      made = λ e. let m : IsMade level = h.fit.0.made e in record { context = m.context; owner = m.owner };
-      empty = λ n e. absurd (both_ways level.starting open_level.started e);
-      alone = λ n e. absurd (both_ways level.starting open_level.started e);
-      idle = λ n e. absurd (both_ways level.starting open_level.started e);
-      released = λ n _ e. c.idle n e;
-      at_abort = λ _. refl;
-      open_level = λ _. record { started = open_level.started; block = open_level.block };
-    } in
-    search (
-      protected_has abort_context a.parts.contexts (c.contexts.own abort_context (omega arith) (omega arith)).protected,
-      c.all.1,
-      shut_stacked level levels (active_depth (level ∷ levels)) s.session.snapshots h.snapshots,
-    )
+shut_stands level levels s z open_level a h = grind (arith, nat_tests, both_ways level.starting open_level.started, protected_has abort_context a.parts.contexts, shut_stacked level levels (active_depth (level ∷ levels)) s.session.snapshots h.snapshots)
 
 -- The deepest level aborts.
 pub aborted_stands : (level : LevelState) (levels : List LevelState) (s : Scene) → level.aborted ≡ false → IsOpen level → Stands (settled (level ∷ levels) s)
@@ -641,19 +518,13 @@ aborted_stands level levels s active open_level h =
     let a : HasShut level levels s z = aborted_is level levels s h in
     let stands : Stands (shut level levels a.parts.owners (with_parts a.parts s)) = shut_stands level levels s z open_level a h in
     subst (Leaves (record level { aborted = true } ∷ levels)) (sym a.is) (record {
-      between = record {
-        stands = stands;
-        open_levels = (record { started = open_level.started; block = open_level.block }, outer_open levels h.fit.1);
-        at_rest = all_rest_aborted a.parts.portals (record level { aborted = true }) levels _ _ _ refl stands.portals.each;
-      };
+      between = grind (arith, nat_tests, outer_open levels h.fit.1, all_rest_aborted a.parts.portals);
       are = refl;
     })
 
 -- what an abort leaves of the stack fits the levels above
 pub away_stacked : (level : LevelState) (levels : List LevelState) (most : ℕ) (stack : List Active) → AreOuter levels → AreStacked 1 most stack → AreStacked 1 (active_depth levels) (kept_below (length (level ∷ levels)) stack)
-away_stacked level levels most stack outer h =
-    let n : ℕ = length (level ∷ levels) in
-    stacked_above levels (n - 1) (kept_below n stack) outer (omega arith) (stacked_below n 1 most stack h)
+away_stacked level levels most stack outer h = grind (arith, nat_tests, stacked_above levels ((length (level ∷ levels)) - 1) (kept_below (length (level ∷ levels)) stack) outer, stacked_below (length (level ∷ levels)) 1 most stack h)
 
 -- What is left behind an abort and a cleanup stands, however the level was.
 pub away_stands : (level : LevelState) (levels : List LevelState) (s : Scene) → Stands (settled (level ∷ levels) s) → Leaves levels (in_order (aborted ∷ cleaned_up ∷ []) (settled (level ∷ levels) s)).scene
@@ -663,37 +534,24 @@ away_stands level levels s h =
     let old : LevelState = record level { aborted = true } in
     let z : Scene = record (with_parts a.parts s) { session = record (with_parts a.parts s).session { current = abort_context; snapshots = kept_below (length (level ∷ levels)) s.session.snapshots } } in
     let mine : IsLevel old levels a.parts.contexts a.parts.owners = search (c.all.0) in
-    let e : Ending old levels levels [] a.parts.portals z = search (
-      c.all.1,
-      owners_end (table_of a.parts.kinds) a.parts.owners s.session.next_owner s.session.next_serial old levels a.parts.portals c.owners,
-      All-nil (IsDone old levels a.parts.contexts a.parts.owners abort_context),
-    ) in
+    let e : Ending old levels levels [] a.parts.portals z = grind (arith, nat_tests, owners_end (table_of a.parts.kinds) a.parts.owners s.session.next_owner s.session.next_serial old levels a.parts.portals c.owners) in
     subst (Leaves levels) (sym (ap (λ (y : Scene). (cleaned_up y).scene) a.is))
     (clean_from old levels z refl e c.idle (away_stacked level levels (active_depth (level ∷ levels)) s.session.snapshots h.fit.1 h.snapshots))
 
 -- a level is rolled back
 pub rolled_stands : (level : LevelState) (levels : List LevelState) (s : Scene) → Stands (settled (level ∷ levels) s) → Leaves levels (level_rolled_back level (settled (level ∷ levels) s)).scene
-rolled_stands level levels s h = go level.aborted refl
-  where
-    go : (b : Bool) → level.aborted ≡ b → Leaves levels (cleaned_up (where_so (not b) aborted (settled (level ∷ levels) s)).scene).scene
-    go true e = cleaned_up_stands level levels s e h
-    go false e = away_stands level levels s h
+rolled_stands level levels s h = grind (arith, nat_tests, cleaned_up_stands level levels s, away_stands level levels s h)
 
 -- a level that was being started goes, and the one above it is aborted
 pub above_aborted : (levels : List LevelState) (s : Scene) → Leaves levels s → AreOuter levels → StandsBetweenLines (where_there (first_of levels) (λ above. aborted) s).scene
-above_aborted [] s h o = h.between
-above_aborted (level ∷ levels) s h o =
-    let is : s ≡ settled (level ∷ levels) s = is_left (level ∷ levels) s h in
-    subst (λ (z : Scene). StandsBetweenLines (aborted z).scene) (sym is) (aborted_stands level levels s o.0.unaborted o.1 (subst Stands is h.between.stands)).between
+above_aborted levels s h o = grind (arith, nat_tests, is_left, aborted_stands)
 
 pub given_up_stands : (level : LevelState) (levels : List LevelState) (s : Scene) (b i : Bool) → level.starting ≡ b → level.implicit ≡ i → level.aborted ≡ false → Stands (settled (level ∷ levels) s)
     → StandsBetweenLines (elim b as (λ _. Ended) [
       | true ↦ in_order (level_rolled_back level ∷ where_there (first_of levels) (λ above. aborted) ∷ []) (settled (level ∷ levels) s)
       | false ↦ elim i as (λ _. Ended) [ true ↦ level_rolled_back level (settled (level ∷ levels) s) | false ↦ aborted (settled (level ∷ levels) s) ]
     ]).scene
-given_up_stands level levels s true i e q active h = above_aborted levels (level_rolled_back level (settled (level ∷ levels) s)).scene (rolled_stands level levels s h) h.fit.1
-given_up_stands level levels s false true e q active h = (rolled_stands level levels s h).between
-given_up_stands level levels s false false e q active h = (aborted_stands level levels s active (record { started = e; block = q }) h).between
+given_up_stands level levels s b i e q active h = grind (arith, nat_tests, above_aborted levels, rolled_stands level levels s h, aborted_stands level levels s active)
 
 pub recovered_settled : (error : Error) (levels : List LevelState) (s : Scene) → Stands (settled levels s) → StandsBetweenLines (recovered error (settled levels s)).scene
 unfolding recovered
@@ -750,21 +608,11 @@ abbrev pub behind_rollback : Scene → Scene
 behind_rollback z = (in_order (switched top_context ∷ context_gone top_context ∷ []) z).scene
 
 pub exited_left : (left : Scene) → Stands (settled [] left) → HasExited (behind_rollback (settled [] left))
-exited_left left h = record {
-  levels = refl;
-  contexts = nothing_left left.session.contexts left.session.next_context h.contexts;
-  owners = no_owners left h;
-  snapshots = none_stacked left.session.snapshots h.snapshots;
-  hooks = subst (λ (z : Contexts). AreHooks z (handed_in (gone top_context left.session.contexts).hooks left.around.shelf))
-      (nothing_left left.session.contexts left.session.next_context h.contexts)
-      (hooks_ended left.session.contexts (gone top_context left.session.contexts) left.around.shelf (parts_gone top_context left.session.contexts h.contexts.once) h.hooks);
-}
+exited_left left h = grind (arith, nat_tests, nothing_left left.session.contexts left.session.next_context h.contexts, no_owners left h, none_stacked left.session.snapshots h.snapshots, hooks_ended left.session.contexts (gone top_context left.session.contexts) left.around.shelf (parts_gone top_context left.session.contexts h.contexts.once) h.hooks, parts_gone top_context left.session.contexts h.contexts.once)
 
 pub exited_settled : (levels : List LevelState) (s : Scene) → Stands (settled levels s) → HasExited (exited (settled levels s)).scene
 unfolding exited
-exited_settled levels s h =
-    let r : HasRolled levels s = all_rolled levels s h in
-    subst (λ (z : Scene). HasExited (behind_rollback z)) (sym r.is) (exited_left r.left r.stands)
+exited_settled levels s h = grind (arith, nat_tests, all_rolled levels s h, exited_left (all_rolled levels s h).left (all_rolled levels s h).stands)
 
 -- An exit leads from each of them to a session without levels, owners and contexts.
 pub exited_stands : (scene : Scene) → Stands scene → HasExited (exited scene).scene

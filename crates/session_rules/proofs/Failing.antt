@@ -1,10 +1,9 @@
 -- Portals of a level that aborts fail, and those from further out that are active there belong to the level above.
 use Rattle.session_rules.proofs.Base.{◌≡◌, ◌≢◌, ℕ, ◌-◌, ◌≤◌, Bool, true, false, Option, Some, None, List, [], ◌∷◌, ◌++◌, length, refl, sym, ap, ◌∙◌, subst, inl, inr, arith, ◌==◌, if◌then◌else◌, option_map_or, cases_eq, cases_Bool, eqb-true, eqb-false, nat_tests}
-use Rattle.session_rules.proofs.Below.{Empty, Once, has, at, children, moved, with_children, Moves, first_child_other, below_parent, ShelfState, Contexts, handed_in, table_of, Owner, OwnerTree, once_of, sound_moved}
+use Rattle.session_rules.proofs.Below.{Empty, Once, has, at, children, moved, with_children, Moves, first_child_other, below_parent, ShelfState, Contexts, handed_in, table_of, Owner, OwnerTree, once_of, sound_moved, PortalState}
 use Rattle.session_rules.proofs.Rules.{LevelState, OpenPortal, Scene, portal_changed, Ended, children_gone, for_each, in_order, portal_becomes, where_so, where_there, owner_moved, has_failed, portal_aborted, portal_failed, portal_withdrawn, HasItems, IsAtRest, IsAttached, IsDead, IsLive, IsOwner, IsPlace, IsPortal, active_depth, referred, AreEnding, Ending, IsLoose, gone_levels}
-use Rattle.portal_store.specs.declared.portal.PortalState.TheVariants as portal
-use Rattle.context_rules.specs.Ends as ends
 use Rattle.session_rules.proofs.Kept.{all_moved, contexts_emptied, protected_has, same_emptied, hooks_ended, parts_children, no_value, one_value, lone_emptied, own_emptied, depth_small, depth_still, Changes, changed_one, owner_beside, owner_split, attached_by, row_emptied}
+use Rattle.context_rules.specs.Ends as ends
 use Rattle.session_rules.proofs.Ending.{Beside, Leads, each_goes, goes_nothing, levels_beside, parts_of, places_beside, plans_beside, with_parts}
 use Rattle.session_rules.proofs.Replacing.{IsBeside, first_of_rest, kept, own_loose, replaced, replaced_leads, kept_owners}
 use Rattle.session_rules.proofs.Passing.{IsBounded, bounded, levels_moved, plans_owner_moved, portal_moved, HasMoved, has_moved, loose_moved}
@@ -28,7 +27,7 @@ module _ (level : LevelState) (levels : List LevelState) where
     owned p l low = made (omega (arith, l.active, low, depth_small (level ∷ levels)))
 
     abbrev pub failed : OpenPortal → OpenPortal
-    failed old = record old { state = portal.Failed; owner = None; expr = None }
+    failed old = record old { state = PortalState.Failed; owner = None; expr = None }
 
     pub changes_failed : (p : OpenPortal) → Changes p (failed p)
     changes_failed p = record { name = refl; context = λ n e. e; owner = λ n e. absurd (cc e) }

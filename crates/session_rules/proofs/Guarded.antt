@@ -1,9 +1,7 @@
 -- What guarded forests with one root keep, and what stays in them where an unprotected node goes.
-use Rattle.session_rules.proofs.Base.{◌≡◌, ◌≢◌, ℕ, Bool, true, false, Some, None, refl, sym, ◌∙◌, inl, inr, option_map_or, cases_Bool, eq-eqb, ne_eqb, both_ways, false_from_ne_true, arith}
-use Rattle.session_rules.proofs.Below.{Apart, apart_of, at_absent, at_some, has_at, put_absent, children_absent}
-use Rattle.forest.specs.Forest.{Forest, Empty, Node, has, Once, at, children, is_root, parent_of, put, removed, changed, moved, with_children, AllNodes}
-use Rattle.forest.proofs.Neighbours.{parent_root}
-use Rattle.session_rules.specs.Guarded.{AreGuarded, IsRooted}
+use Rattle.session_rules.proofs.Base.{◌≡◌, ◌≢◌, ℕ, Bool, true, false, Some, None, option_map_or, cases_Bool, eq-eqb, ne_eqb, both_ways, false_from_ne_true, arith, nat_tests}
+use Rattle.session_rules.proofs.Below.{apart_of, at_absent, at_some, has_at, put_absent, children_absent, Forest, Empty, Node, has, Once, at, children, is_root, parent_of, put, removed, changed, moved, with_children, AllNodes, parent_root}
+use Rattle.session_rules.proofs.Rules.{AreGuarded, IsRooted}
 use Rattle.session_rules.proofs.Forests.{at_children}
 
 module _ {A : Type 0} (P : A → Type 0) where
@@ -60,8 +58,7 @@ module _ {A : Type 0} (own : A → Bool) where
 
   pub guarded_changed : (n : ℕ) (f : A → A) (t : Forest A) → ((a : A) → own (f a) ≡ own a) → AreGuarded own t → AreGuarded own (changed n f t)
   guarded_changed n f Empty keeps h = tt
-  guarded_changed n f (Node k a below beside) keeps h =
-      grind (arith, keeps a, all_changed Free n f below (λ b r. keeps b ∙ r), guarded_changed n f below keeps h.1, guarded_changed n f beside keeps h.2)
+  guarded_changed n f (Node k a below beside) keeps h = grind (arith, nat_tests, all_changed Free n f below, guarded_changed n f below keeps h.1, guarded_changed n f beside keeps h.2)
 
   -- where no node of a forest is protected, none that is protected stands in it
   pub free_lacks : (m : ℕ) (t : Forest A) → AllNodes Free t → is_own m t ≡ true → ⊥
@@ -73,9 +70,7 @@ module _ {A : Type 0} (own : A → Bool) where
   -- A protected node comes below a protected one.
   pub guarded_put_own : (p n : ℕ) (a : A) (t : Forest A) → Once t → is_own p t ≡ true → AreGuarded own t → AreGuarded own (put p n a Empty t)
   guarded_put_own p n a Empty o e h = tt
-  guarded_put_own p n a (Node k b below beside) o e h =
-      let apart : Apart k below beside = apart_of k b below beside o in
-      grind (arith, apart.apart p, at_some p below, at_absent p below, own_has p (Node k b below beside) e, put_absent p n a Empty below, put_absent p n a Empty beside, free_lacks p below, guarded_put_own p n a below apart.once_below, guarded_put_own p n a beside apart.once_beside)
+  guarded_put_own p n a (Node k b below beside) o e h = grind (arith, nat_tests, apart_of k b below beside o, at_some p below, at_absent p below, own_has p (Node k b below beside) e, put_absent p n a Empty below, put_absent p n a Empty beside, free_lacks p below, guarded_put_own p n a below, guarded_put_own p n a beside)
 
   -- all below an unprotected node is unprotected
   pub below_free : (n : ℕ) (t : Forest A) → AreGuarded own t → has n t ≡ true → is_own n t ≡ false → AllNodes Free (children n t)
@@ -84,34 +79,20 @@ module _ {A : Type 0} (own : A → Bool) where
 
   -- A protected node isn't an unprotected one, nor below it.
   pub own_apart : (m n : ℕ) (t : Forest A) → Once t → AreGuarded own t → is_own n t ≡ false → is_own m t ≡ true → (m ≢ n) × (has m (children n t) ≡ false)
-  own_apart m n t o h e r = (
-    λ same. both_ways (is_own n t) e (rw (← same) r),
-    false_from_ne_true (has m (children n t)) (λ u. elim (cases_Bool (has n t)) [
-      | inl there ↦
-          let x : is_own m (children n t) ≡ true = rw (at_children m n t o u) r in
-          free_lacks m (children n t) (below_free n t h there e) x
-      | inr absent ↦
-          let none : has m (children n t) ≡ false = rw (children_absent n t absent) refl in
-          both_ways (has m (children n t)) none u
-    ]),
-  )
+  own_apart m n t o h e r = grind (arith, nat_tests, both_ways, both_ways (has m (children n t)), false_from_ne_true (has m (children n t)), cases_Bool (has n t), at_children m n t o, free_lacks m (children n t), below_free n t h, children_absent n t)
 
   -- the only root
   pub rooted_removed : (top n : ℕ) (t : Forest A) → n ≢ top → IsRooted own top t → IsRooted own top (removed n t)
-  rooted_removed top n Empty ne h = h
-  rooted_removed top n (Node k a below beside) ne h = rw (ne_eqb k n (λ e. ne (sym e ∙ h.0)), h.2) (h.0, h.1, refl)
+  rooted_removed top n t ne h = grind (arith, nat_tests, ne_eqb)
 
   pub rooted_emptied : (top n : ℕ) (t : Forest A) → IsRooted own top t → IsRooted own top (with_children n Empty t)
-  rooted_emptied top n Empty h = h
-  rooted_emptied top n (Node k a below beside) h = rw h.2 (h.0, h.1, refl)
+  rooted_emptied top n t h = grind (arith, nat_tests)
 
   pub rooted_put : (top p n : ℕ) (a : A) (sub t : Forest A) → IsRooted own top t → IsRooted own top (put p n a sub t)
-  rooted_put top p n a sub Empty h = h
-  rooted_put top p n a sub (Node k b below beside) h = rw h.2 (h.0, h.1, refl)
+  rooted_put top p n a sub t h = grind (arith, nat_tests)
 
   pub rooted_changed : (top n : ℕ) (f : A → A) (t : Forest A) → ((a : A) → own (f a) ≡ own a) → IsRooted own top t → IsRooted own top (changed n f t)
-  rooted_changed top n f Empty keeps h = h
-  rooted_changed top n f (Node k a below beside) keeps h = grind (arith, keeps a)
+  rooted_changed top n f t keeps h = grind (arith, nat_tests)
 
   pub rooted_moved : (top n p : ℕ) (t : Forest A) → n ≢ top → IsRooted own top t → IsRooted own top (moved n p t)
   rooted_moved top n p t ne h = grind (arith, rooted_put top p n, rooted_removed top n t ne h)
@@ -121,16 +102,13 @@ module _ {A : Type 0} (own : A → Bool) where
 
   -- what is known of that root
   pub top_own : (top : ℕ) (t : Forest A) → IsRooted own top t → is_own top t ≡ true
-  top_own top Empty h = absurd h
-  top_own top (Node k a below beside) h = rw (eq-eqb k top h.0) h.1
+  top_own top t h = grind (arith, nat_tests, eq-eqb)
 
   pub top_root : (top : ℕ) (t : Forest A) → IsRooted own top t → is_root top t ≡ true
-  top_root top Empty h = absurd h
-  top_root top (Node k a below beside) h = rw (eq-eqb k top h.0) refl
+  top_root top t h = grind (arith, nat_tests, eq-eqb)
 
   pub top_parent : (top : ℕ) (t : Forest A) → Once t → IsRooted own top t → parent_of top t ≡ None
   top_parent top t o h = parent_root top t o (top_root top t h)
 
   pub all_gone : (top : ℕ) (t : Forest A) → IsRooted own top t → removed top t ≡ Empty
-  all_gone top Empty h = refl
-  all_gone top (Node k a below beside) h = rw (eq-eqb k top h.0, h.2) refl
+  all_gone top t h = grind (arith, nat_tests, eq-eqb)

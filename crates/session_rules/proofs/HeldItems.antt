@@ -1,15 +1,7 @@
 -- How often owners hold a kind and key, behind each change of them, and what a phase of a release gives back of it.
-use Rattle.session_rules.proofs.Base.{◌≡◌, ℕ, ◌+◌, find, Bool, true, false, Option, Some, None, List, [], ◌∷◌, ◌++◌, refl, ap, arith, inl, inr, ◌==◌, ◌||◌, if◌then◌else◌, cases_Bool, or_parts, nat_tests}
-use Rattle.session_rules.proofs.Below.{Item, KindId, Phase, BeforeLocks, Locks, AfterLocks, Empty, Node, Once, has, at, children, moved, parent_of, put, removed, AllNodes, all_changed, swept, Apart, Moves, apart_of, at_some, at_absent, removed_absent, KindTable, release_order, Step, GivesBack, lock_step, own_steps, release_steps, releases_of, steps_below, top_locks}
-use Rattle.std.proofs.lemmas.Grind.{common_steps}
-use Rattle.owner_items.specs.ItemList.{is_of, uses}
-use Rattle.owner_items.proofs.Uses.{count-without}
-use Rattle.owner_core.specs.Owners.{Owner, OwnerTree, AllAt, HoldsNothing, created, forgotten, held, remembered}
-use Rattle.owner_core.specs.Released.{left_of, own_released, released}
-use Rattle.owner_core.specs.Sound.{total}
-use Rattle.owner_core.proofs.ItemLemmas.{uses_phase}
-use Rattle.owner_core.proofs.Releasing.{held_changed}
-use Rattle.owner_core.proofs.Sounds.{total_moved, total_removed}
+use Rattle.session_rules.proofs.Base.{◌≡◌, ℕ, ◌+◌, find, Bool, true, false, Option, Some, List, [], ◌∷◌, ◌++◌, refl, arith, ◌==◌, ◌||◌, if◌then◌else◌, cases_Bool, or_parts, nat_tests, common_steps}
+use Rattle.session_rules.proofs.Below.{Item, KindId, Phase, BeforeLocks, Locks, AfterLocks, Empty, Node, Once, has, at, children, moved, parent_of, put, removed, AllNodes, all_changed, swept, Moves, apart_of, at_some, at_absent, removed_absent, KindTable, release_order, Step, GivesBack, lock_step, own_steps, release_steps, releases_of, steps_below, top_locks, is_of, uses, count-without, Owner, OwnerTree, AllAt, HoldsNothing, forgotten, remembered, left_of, own_released, released, total, uses_phase, held_changed, total_moved, total_removed}
+use Rattle.owner_core.specs.Owners.{created, held}
 
 module _ (kind : KindId) (key : ℕ) where
   used : Owner → ℕ
@@ -26,40 +18,26 @@ module _ (kind : KindId) (key : ℕ) where
 
   -- a new owner holds nothing
   pub held_created : (parent : Option ℕ) (n : ℕ) (t : OwnerTree) → held kind key (created parent n t) ≡ held kind key t
-  held_created None n t = omega arith
-  held_created (Some p) n t = held_put p n t
+  held_created parent n t = grind (arith, nat_tests, held_put)
 
   -- an owner and those below it
   held_parts : (n : ℕ) (a : Owner) (t : OwnerTree) → Once t → at n t ≡ Some a
       → held kind key (removed n t) + (uses kind key a.items + held kind key (children n t)) ≡ held kind key t
   unfolding used
-  held_parts n a t o h =
-      let sum = total_removed used n a t o h in
-      omega (arith, sum, held_total (removed n t), held_total (children n t), held_total t)
+  held_parts n a t o h = grind (arith, nat_tests, total_removed, used, held_total)
 
   held_nothing : (t : OwnerTree) → AllNodes HoldsNothing t → held kind key t ≡ 0
   held_nothing Empty h = refl
-  held_nothing (Node n a below beside) h =
-      omega (arith, ap (uses kind key) h.0, held_nothing below h.1, held_nothing beside h.2)
+  held_nothing (Node n a below beside) h = grind (arith, nat_tests, held_nothing below h.1, held_nothing beside h.2)
 
   -- owners go that hold nothing
   pub held_removed : (n : ℕ) (t : OwnerTree) → Once t → AllAt HoldsNothing n t → held kind key (removed n t) ≡ held kind key t
-  held_removed n t o all =
-      elim (cases_Bool (has n t)) [
-        | inl h ↦
-            let w = at_some n t h in
-            let nothing : AllNodes HoldsNothing (Node n w.0 (children n t) Empty) = rw w.1 at all in
-            omega (arith, held_parts n w.0 t o w.1, ap (uses kind key) nothing.0, held_nothing (children n t) nothing.1)
-        | inr h ↦ ap (held kind key) (removed_absent n t h)
-      ]
+  held_removed n t o all = grind (arith, nat_tests, cases_Bool (has n t), at_some n t, held_parts n, held_nothing (children n t), removed_absent n t)
 
   -- an owner moves
   pub held_moved : (n q : ℕ) (t : OwnerTree) → Once t → Moves n q t → held kind key (moved n q t) ≡ held kind key t
   unfolding used
-  held_moved n q t o w =
-      let a = at_some n t w.node in
-      let sum = total_moved used n q a.0 t o w a.1 in
-      rw a.1 (omega (arith, sum, held_total (put q n a.0 (children n t) (removed n t)), held_total t))
+  held_moved n q t o w = grind (arith, nat_tests, at_some, total_moved, used, held_total)
 
   uses_one : (item : Item) (items : List Item) → uses kind key (item ∷ items) ≡ uses kind key items + (if is_of kind key item then 1 else 0)
   uses_one item items = grind (arith, common_steps)
@@ -101,59 +79,31 @@ module _ (kind : KindId) (key : ℕ) where
   gives_own kinds AfterLocks commit n owner locks none = omega (arith, gives_releases commit n (release_order kinds AfterLocks owner.items), uses_phase kind key kinds AfterLocks owner.items)
 
   lock_gives : (commit : Bool) (n parent : ℕ) → given (lock_step commit n parent) ≡ 0
-  lock_gives true n parent = refl
-  lock_gives false n parent = refl
+  lock_gives commit n parent = grind (arith, nat_tests)
 
   locks_give : (top commit : Bool) (n parent : ℕ) → gives (if top then [] else lock_step commit n parent ∷ []) ≡ 0
-  locks_give true commit n parent = refl
-  locks_give false commit n parent = omega (arith, lock_gives commit n parent)
+  locks_give top commit n parent = grind (arith, nat_tests, lock_gives commit n parent)
 
   top_gives : (top commit : Bool) (n : ℕ) (parent : Option ℕ) → gives (top_locks top commit n parent) ≡ 0
-  top_gives true commit n parent = refl
-  top_gives false commit n None = refl
-  top_gives false commit n (Some p) = omega (arith, lock_gives commit n p)
+  top_gives top commit n parent = grind (arith, nat_tests, lock_gives commit n)
 
   -- of the owners below one
   gives_below : (kinds : KindTable) (phase : Phase) (commit top : Bool) (parent : ℕ) (t : OwnerTree)
       → gives (steps_below kinds phase commit top parent t) + held kind key (all_changed (own_released kinds phase) t) ≡ held kind key t
   gives_below kinds phase commit top parent Empty = refl
-  gives_below kinds phase commit top parent (Node n owner below beside) =
-      let locks : List Step = if top then [] else lock_step commit n parent ∷ [] in
-      let own : List Step = own_steps kinds phase commit n owner locks in
-      grind (arith, nat_tests, gives_both (steps_below kinds phase commit top n below) (own ++ steps_below kinds phase commit top parent beside), gives_both own (steps_below kinds phase commit top parent beside), gives_own kinds phase commit n owner locks (locks_give top commit n parent), locks_give top commit n parent, gives_below kinds phase commit top n below, gives_below kinds phase commit top parent beside)
+  gives_below kinds phase commit top parent (Node n owner below beside) = grind (arith, nat_tests, gives_both (steps_below kinds phase commit top n below), gives_both, gives_own kinds phase commit n owner, locks_give top commit n parent, gives_below kinds phase commit top n below, gives_below kinds phase commit top parent beside)
 
   -- what a change of an owner and of all below it does to the sum
   unswept : (f : Owner → Owner) (n : ℕ) (t : OwnerTree) → has n t ≡ false → swept f n t ≡ t
   unswept f n Empty h = refl
-  unswept f n (Node k a below beside) h =
-      grind (arith, nat_tests, or_parts (k == n) (has n below || has n beside) h, or_parts (has n below) (has n beside), unswept f n below, unswept f n beside)
+  unswept f n (Node k a below beside) h = grind (arith, nat_tests, or_parts (k == n) (has n below || has n beside) h, or_parts (has n below) (has n beside), unswept f n below, unswept f n beside)
 
   held_swept : (f : Owner → Owner) (n : ℕ) (a : Owner) (t : OwnerTree) → Once t → at n t ≡ Some a
       → held kind key (swept f n t) + (uses kind key a.items + held kind key (children n t)) ≡ held kind key t + (uses kind key (f a).items + held kind key (all_changed f (children n t)))
   held_swept f n a Empty o h = absurd (cc h)
-  held_swept f n a (Node k b below beside) o h =
-      let apart : Apart k below beside = apart_of k b below beside o in
-      grind (arith, nat_tests, apart_of k b below beside o, unswept f n beside, at_some n below, held_swept f n a below apart.once_below, at_absent n below, unswept f n below, held_swept f n a beside apart.once_beside)
+  held_swept f n a (Node k b below beside) o h = grind (arith, nat_tests, apart_of k b below beside o, unswept f n beside, unswept f n below, at_some n below, held_swept f n a below, held_swept f n a beside, at_absent n below)
 
   -- A phase gives back what it takes off the owners.
   pub gives_phase : (kinds : KindTable) (phase : Phase) (commit top : Bool) (n : ℕ) (t : OwnerTree) → Once t
       → gives (release_steps kinds phase commit top n t) + held kind key (released kinds phase n t) ≡ held kind key t
-  gives_phase kinds phase commit top n t o =
-      elim (cases_Bool (has n t)) [
-        | inl u ↦
-            let w = at_some n t u in
-            let below : List Step = steps_below kinds phase commit top n (children n t) in
-            let own : List Step = own_steps kinds phase commit n w.0 (top_locks top commit n (parent_of n t)) in
-            let steps : release_steps kinds phase commit top n t ≡ below ++ own = rw w.1 refl in
-            omega (
-              arith,
-              ap gives steps,
-              gives_both below own,
-              gives_below kinds phase commit top n (children n t),
-              gives_own kinds phase commit n w.0 (top_locks top commit n (parent_of n t)) (top_gives top commit n (parent_of n t)),
-              held_swept (own_released kinds phase) n w.0 t o w.1,
-            )
-        | inr u ↦
-            let steps : release_steps kinds phase commit top n t ≡ [] = rw (at_absent n t u) refl in
-            omega (arith, ap gives steps, ap (held kind key) (unswept (own_released kinds phase) n t u))
-      ]
+  gives_phase kinds phase commit top n t o = grind (arith, nat_tests, cases_Bool (has n t), at_some n t, gives_both, gives_below kinds phase commit top n (children n t), gives_own kinds phase commit n, top_gives top commit n (parent_of n t), held_swept (own_released kinds phase) n, at_absent n t, unswept (own_released kinds phase) n t)

@@ -1,9 +1,7 @@
 -- Each line counts hooks: each has run as often more as callbacks of its word are said, and as many leave the fresh ones as are said to be registered.
-use Rattle.session_rules.proofs.Base.{◌≡◌, ℕ, Bool, true, false, not, Option, Some, None, List, [], ◌∷◌, refl, codes}
+use Rattle.session_rules.proofs.Base.{◌≡◌, ℕ, Bool, true, false, not, Option, Some, None, List, [], ◌∷◌, refl, arith, nat_tests}
 use Rattle.session_rules.proofs.Below.{Error, What, CtxKind, changed, Context, new_context, Command}
-use Rattle.session_rules.proofs.Rules.{is_aborted, Moment, Scene, Element, Text, in_order, where_so, context_made, Done, does_all, exited, given_up, recovered, line_elements, turn, turn_of, Stands, StandsBetweenLines, CountsHooks, opening, elements_of, does}
-use Rattle.pgs_step.specs.declared.events.What.TheVariants as what
-use Rattle.session_rules.specs.Elements as e
+use Rattle.session_rules.proofs.Rules.{is_aborted, Moment, Scene, Element, Text, in_order, where_so, context_made, Done, does_all, exited, given_up, recovered, line_elements, turn, turn_of, Stands, StandsBetweenLines, CountsHooks}
 use Rattle.session_rules.proofs.Kept.{Runs, is_of_hooks, more_runs, none_run}
 use Rattle.session_rules.proofs.HookSteps.{Counted, IsNumbered, counted_alone, counted_both, counted_children, counted_cleared, counted_gone, counted_hook, counted_kept, counted_moved, counted_on, counted_put, counted_same, numbered_changed, numbered_put, waiting_changed}
 use Rattle.session_rules.proofs.Chunked.{LeavesHooks}
@@ -17,21 +15,13 @@ use Rattle.session_rules.proofs.Sight.{ContextLeaves, of_contexts, of_next_conte
 use Rattle.session_rules.proofs.Aside.{ContextLaw, context_ends, context_makes, is_apart}
 use Rattle.session_rules.proofs.Spoken.{IsUsualLine, line_spoken}
 use Rattle.session_rules.proofs.TurnStands.{Meets, line_runs}
-use Rattle.pgs_command.specs.declared.commands.Command.TheVariants as command
-use Rattle.pgs_command.specs.declared.commands.Work.TheVariants as work
-use Rattle.pgs_command.specs.declared.commands.ContextCommand.TheVariants as context
-use Rattle.any_ctx.specs.SetLedger.{created, stats}
-use Rattle.session_rules.specs.Transcript.{Turn}
-use Rattle.session_rules.specs.HookCounts.{all_hooks, callbacks_of, hooks_of, registered_of, runs_of, used_hooks}
 
 -- The law: where each context's number stands once and is below the next one, that is so behind, and the hooks are counted.
 pub record KeepsCount (s t : Scene) (events : List What) : Type 0 where
   pub counts : IsNumbered s → Counted s (record { scene = t; events = events })
 
 not_of_hooks : (event : What) → is_apart event ≡ true → is_of_hooks event ≡ false
-not_of_hooks (what.Callback word context) h = absurd (cc h)
-not_of_hooks (what.Hook word context) h = absurd (cc h)
-not_of_hooks other h = refl
+not_of_hooks event h = grind (arith, nat_tests)
 
 apart_runs : {events : List What} → AreSaid is_apart events → Runs [] events
 apart_runs said_none = none_run
@@ -39,22 +29,10 @@ apart_runs (said_more {event = event} h hs) = more_runs event (not_of_hooks even
 
 -- a call on chunks
 chunk_counts : (s : Scene) (n : ℕ) (f : Context → Context) → LeavesHooks f → KeepsCount s (record s { session = record s.session { contexts = changed n f s.session.contexts } }) []
-chunk_counts s n f h = record {
-  counts = λ k. record {
-    numbered = numbered_changed n f s.session.contexts s.session.next_context k;
-    hooks = counted_kept s.session.contexts (changed n f s.session.contexts) s.around.shelf none_run (λ g. waiting_changed g n f s.session.contexts h.hooks);
-  };
-}
+chunk_counts s n f h = grind (arith, nat_tests, numbered_changed n f s.session.contexts s.session.next_context, counted_kept s.session.contexts (changed n f s.session.contexts) s.around.shelf none_run, none_run, waiting_changed)
 
 made_counts : (parent : ℕ) (name : Text) (protected : Bool) (kind : CtxKind) (s : Scene) → KeepsCount s (context_made parent name protected kind s).scene (context_made parent name protected kind s).events
-made_counts parent name protected kind s =
-    let c : Context = new_context name kind protected in
-    record {
-      counts = λ k. record {
-        numbered = numbered_put parent s.session.next_context c s.session.contexts k;
-        hooks = counted_put parent s.session.next_context c s.session.contexts s.around.shelf k refl (more_runs (what.Create s.session.next_context name parent) refl none_run);
-      };
-    }
+made_counts parent name protected kind s = grind (arith, nat_tests, numbered_put parent s.session.next_context (new_context name kind protected) s.session.contexts, counted_put parent s.session.next_context (new_context name kind protected) s.session.contexts s.around.shelf, more_runs (What.Create s.session.next_context name parent) refl none_run, none_run)
 
 count_leaves : ContextLeaves KeepsCount
 count_leaves = record {
@@ -100,16 +78,13 @@ recovered_counts error s k =
     let behind : KeepsCount s _ (in_order (where_so (not (is_aborted s.session.levels)) (given_up s.session.levels) ∷ []) s).events =
     recovery_follows KeepsCount all_counts s in
     let more : Counted s (in_order (where_so (not (is_aborted s.session.levels)) (given_up s.session.levels) ∷ []) s) = behind.counts k in
-    record { numbered = more.numbered; hooks = counted_on (counted_same (more_runs (what.Error error) refl none_run)) more.hooks }
+    record { numbered = more.numbered; hooks = counted_on (counted_same (more_runs (What.Error error) refl none_run)) more.hooks }
 
 -- a turn of what was done
 turn_of_counts : (s : Scene) (done : Done) (refusal : Option Error) → IsNumbered s → Follows KeepsCount s done
     → IsNumbered (turn_of done refusal).moment.scene × CountsHooks s (turn_of done refusal).moment.scene (turn_of done refusal).events
 turn_of_counts s done None k h = let now : Counted s (record { scene = done.moment.scene; events = done.events }) = h.so.counts k in (now.numbered, now.hooks)
-turn_of_counts s done (Some error) k h =
-    let now : Counted s (record { scene = done.moment.scene; events = done.events }) = h.so.counts k in
-    let more : Counted done.moment.scene (recovered error done.moment.scene) = recovered_counts error done.moment.scene now.numbered in
-    (more.numbered, counted_on now.hooks more.hooks)
+turn_of_counts s done (Some error) k h = grind (arith, nat_tests, recovered_counts error done.moment.scene, counted_on)
 
 -- A line counts hooks, in a session that stands between lines.
 pub turn_counts_hooks : (w : Option ℕ) (line : Option Command) (m : Moment) → StandsBetweenLines m.scene → CountsHooks m.scene (turn w line m).moment.scene (turn w line m).events
@@ -122,9 +97,9 @@ turn_counts_hooks w line m h =
 
 -- A line that registers no hook and moves no context does in any session whose contexts are numbered, and leaves one of that kind.
 owed_usual : (w : Option ℕ) (x : Element) (m : Moment) → IsSpoken true x → OwesMoves KeepsCount w x m
-owed_usual w (e.InTurn name x) m h = owed_usual w x m h
-owed_usual w (e.Register name) m h = absurd (cc h)
-owed_usual w (e.Reparent name parent) m h = absurd (cc h)
+owed_usual w (Element.InTurn name x) m h = owed_usual w x m h
+owed_usual w (Element.Register name) m h = absurd (cc h)
+owed_usual w (Element.Reparent name parent) m h = absurd (cc h)
 owed_usual w other m h = tt
 
 pub usual_turn_counts_hooks : (w : Option ℕ) (line : Option Command) (m : Moment) → IsUsualLine line → IsNumbered m.scene
@@ -139,47 +114,4 @@ usual_turn_counts_hooks w line m u k =
 
 -- The end of a session counts hooks.
 pub exited_counts_hooks : (scene : Scene) → IsNumbered scene → CountsHooks scene (exited scene).scene (exited scene).events
-exited_counts_hooks scene k =
-    let all : KeepsCount scene (exited scene).scene (exited scene).events = exit_follows KeepsCount all_counts (record { so = λ s. record { counts = λ k. record { numbered = k; hooks = counted_same (more_runs what.Exit refl none_run) } } }) scene in
-    (all.counts k).hooks
-
--- a session as it opens, where a shelf has two hooks: one of word 7 that has never run, and one of word 9 that ran 4 times
-at_first : Moment
-unfolding opening
-at_first = record {
-  scene = record {
-    session = opening;
-    around = record {
-      kinds = [];
-      shelf = record { fresh = record { word = 7; runs = 0 } ∷ record { word = 9; runs = 4 } ∷ []; spent = []; out = 0 };
-      pinned = [];
-      locked = [];
-      space = 1000000;
-      descriptors = 10;
-    };
-  };
-  calls = 0;
-  fail = 0;
-}
-
--- A hook of the context of a command of its own runs when the command ends.
-alone : Turn
-unfolding opening at_first turn elements_of does does_all recovered created stats
-alone = turn None (Some (command.Work (work.Contexts (context.OnReset (codes "CurTransactionContext"))))) at_first
-
-alone_counts : (callbacks_of 7 alone.events ≡ 1) × (registered_of 7 alone.events ≡ 1) × (runs_of 7 (all_hooks alone.moment.scene) ≡ 1) × (hooks_of 7 (used_hooks alone.moment.scene) ≡ 1)
-unfolding opening at_first turn elements_of does does_all recovered alone created stats
-alone_counts = (refl, refl, refl, refl)
-
--- A hook of the topmost context waits, and runs when the session ends.
-waits : Turn
-unfolding opening at_first turn elements_of does does_all recovered alone created stats
-waits = turn None (Some (command.Work (work.Contexts (context.OnReset (codes "TopMemoryContext"))))) alone.moment
-
-waits_counts : (callbacks_of 9 waits.events ≡ 0) × (registered_of 9 waits.events ≡ 1) × (runs_of 9 (all_hooks waits.moment.scene) ≡ 4) × (hooks_of 9 (used_hooks waits.moment.scene) ≡ 1)
-unfolding opening at_first turn elements_of does does_all recovered alone waits created stats
-waits_counts = (refl, refl, refl, refl)
-
-ends_counts : (callbacks_of 9 (exited waits.moment.scene).events ≡ 1) × (runs_of 9 (all_hooks (exited waits.moment.scene).scene) ≡ 5) × (runs_of 7 (all_hooks (exited waits.moment.scene).scene) ≡ 1)
-unfolding opening at_first turn elements_of does does_all recovered alone waits exited created stats
-ends_counts = (refl, refl, refl)
+exited_counts_hooks scene k = grind (arith, nat_tests, exit_follows KeepsCount all_counts, all_counts, more_runs What.Exit refl none_run, none_run)

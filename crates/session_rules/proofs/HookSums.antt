@@ -1,9 +1,8 @@
 -- Sums over hooks that wait, where contexts go, come, change and move, and the callbacks that are said then.
 use Rattle.session_rules.proofs.Base.{◌≡◌, ℕ, ◌+◌, ◌-◌, ◌^◌, min, Bool, true, false, cond, if◌then◌else◌, Option, Some, None, List, [], ◌∷◌, ◌++◌, map, refl, ap, arith, ◌==◌, option_map_or, sum_by, sum_by-append, sum_by-cons, nat_tests}
 use Rattle.session_rules.proofs.Below.{What, Empty, Node, Once, at, changed, children, subtree, with_children, sum_of, Hook, ran, Context, Contexts, Ended, callbacks, cleared, cleared_alone, emptied, gone, gone_events, waiting}
-use Rattle.pgs_step.specs.declared.events.What.TheVariants as what
+use Rattle.session_rules.proofs.Rules.{callbacks_of, hooks_of, is_callback, is_registered, registered_of, runs_of}
 use Rattle.context_rules.specs.Ends as ends
-use Rattle.session_rules.specs.HookCounts.{callbacks_of, hooks_of, is_callback, is_registered, registered_of, runs_of}
 use Rattle.session_rules.proofs.Forests.{once_emptied, sum_changed, sum_emptied, sum_left}
 
 -- a hook that runs counts one more
@@ -24,19 +23,15 @@ hooks_ran n (h ∷ hs) =
 
 -- events that say nothing of hooks
 abbrev pub is_of_hooks : What → Bool
-is_of_hooks (what.Callback word context) = true
-is_of_hooks (what.Hook word context) = true
+is_of_hooks (What.Callback word context) = true
+is_of_hooks (What.Hook word context) = true
 is_of_hooks other = false
 
 no_callback : (n : ℕ) (x : What) → is_of_hooks x ≡ false → is_callback n x ≡ false
-no_callback n (what.Callback word context) h = absurd (cc h)
-no_callback n (what.Hook word context) h = refl
-no_callback n other h = refl
+no_callback n x h = grind (arith, nat_tests)
 
 no_hook : (n : ℕ) (x : What) → is_of_hooks x ≡ false → is_registered n x ≡ false
-no_hook n (what.Callback word context) h = refl
-no_hook n (what.Hook word context) h = absurd (cc h)
-no_hook n other h = refl
+no_hook n x h = grind (arith, nat_tests)
 
 pub callbacks_cons : (n : ℕ) (x : What) (xs : List What) → callbacks_of n (x ∷ xs) ≡ cond (is_callback n x) 1 0 + callbacks_of n xs
 callbacks_cons n x xs = sum_by-cons (λ y. cond (is_callback n y) 1 0) x xs
@@ -76,13 +71,13 @@ callbacks_run : (m : ℕ) (hooks : List Hook) → Runs hooks (callbacks m hooks)
 callbacks_run m [] = none_run
 callbacks_run m (h ∷ hs) =
     let k : Runs hs (callbacks m hs) = callbacks_run m hs in record {
-      callbacks = λ n. omega (arith, callbacks_cons n (what.Callback h.word m) (callbacks m hs), sum_by-cons (λ (hook : Hook). cond (hook.word == n) 1 0) h hs, k.callbacks n);
-      others = λ n. omega (arith, registered_cons n (what.Callback h.word m) (callbacks m hs), k.others n);
+      callbacks = λ n. omega (arith, callbacks_cons n (What.Callback h.word m) (callbacks m hs), sum_by-cons (λ (hook : Hook). cond (hook.word == n) 1 0) h hs, k.callbacks n);
+      others = λ n. omega (arith, registered_cons n (What.Callback h.word m) (callbacks m hs), k.others n);
     }
 
 gone_run : (t : Contexts) → Runs (waiting t) (gone_events t)
 gone_run Empty = none_run
-gone_run (Node n c below beside) = both_run (gone_run below) (both_run (callbacks_run n c.hooks) (more_runs (what.Delete n) refl (gone_run beside)))
+gone_run (Node n c below beside) = both_run (gone_run below) (both_run (callbacks_run n c.hooks) (more_runs (What.Delete n) refl (gone_run beside)))
 
 -- Contexts that end: what is said is that their hooks run, and any sum over the hooks that wait is parted between those that run and those
 -- that still wait.
@@ -92,24 +87,17 @@ module _ (g : Hook → ℕ) where
 
   pub sum_waiting : (t : Contexts) → sum_by g (waiting t) ≡ sum_of of_context t
   sum_waiting Empty = refl
-  sum_waiting (Node n c below beside) =
-      omega (arith, sum_by-append g, sum_waiting below, sum_waiting beside)
+  sum_waiting (Node n c below beside) = grind (arith, nat_tests, sum_by-append, sum_waiting below, sum_waiting beside)
 
 pub record Parts (t : Contexts) (e : Ended) : Type 0 where
   pub said : Runs e.hooks e.events
   pub sums : (g : Hook → ℕ) → sum_by g (waiting e.contexts) + sum_by g e.hooks ≡ sum_by g (waiting t)
 
 pub parts_gone : (n : ℕ) (t : Contexts) → Once t → Parts t (gone n t)
-parts_gone n t o = record {
-  said = gone_run (subtree n t);
-  sums = λ g. omega (arith, sum_left (of_context g) n t o, sum_waiting g t, sum_waiting g (subtree n t), sum_waiting g (gone n t).contexts);
-}
+parts_gone n t o = grind (arith, nat_tests, gone_run (subtree n t), sum_left, sum_waiting)
 
 pub parts_children : (n : ℕ) (t : Contexts) → Once t → Parts t (ends.children_gone n t)
-parts_children n t o = record {
-  said = gone_run (children n t);
-  sums = λ g. omega (arith, sum_emptied (of_context g) n t o, sum_waiting g t, sum_waiting g (children n t), sum_waiting g (with_children n Empty t));
-}
+parts_children n t o = grind (arith, nat_tests, gone_run (children n t), sum_emptied, sum_waiting)
 
 parts_nothing : (t : Contexts) → Parts t (ends.unchanged t)
 parts_nothing t = record { said = none_run; sums = λ g. omega arith }
@@ -123,10 +111,10 @@ parts_alone n t o = go (at n t) refl
       sums = λ g. omega (arith, sum_changed (of_context g) n emptied c t o e, sum_waiting g t, sum_waiting g (changed n emptied t));
     })
       where
-        both_last : (d : Context) → Runs d.hooks (callbacks n d.hooks ++ (what.Reset n ∷ []))
+        both_last : (d : Context) → Runs d.hooks (callbacks n d.hooks ++ (What.Reset n ∷ []))
         both_last d = record {
-          callbacks = λ m. omega (arith, callbacks_both m (callbacks n d.hooks) (what.Reset n ∷ []), (callbacks_run n d.hooks).callbacks m);
-          others = λ m. omega (arith, registered_both m (callbacks n d.hooks) (what.Reset n ∷ []), (callbacks_run n d.hooks).others m);
+          callbacks = λ m. omega (arith, callbacks_both m (callbacks n d.hooks) (What.Reset n ∷ []), (callbacks_run n d.hooks).callbacks m);
+          others = λ m. omega (arith, registered_both m (callbacks n d.hooks) (What.Reset n ∷ []), (callbacks_run n d.hooks).others m);
         }
     by_use c false e u = rw u (parts_nothing t)
 
@@ -135,10 +123,7 @@ parts_alone n t o = go (at n t) refl
     go (Some c) e = by_use c c.used e refl
 
 parts_both : (t : Contexts) (a b : Ended) → Parts t a → Parts a.contexts b → Parts t (ends.and_then a b)
-parts_both t a b x y = record {
-  said = both_run x.said y.said;
-  sums = λ g. omega (arith, x.sums g, y.sums g, sum_by-append g a.hooks b.hooks);
-}
+parts_both t a b x y = grind (arith, nat_tests, both_run x.said y.said, sum_by-append)
 
 pub parts_cleared : (n : ℕ) (t : Contexts) → Once t → Parts t (cleared n t)
 parts_cleared n t o =

@@ -1,11 +1,9 @@
 -- Hooks that wait are counted, and so are those of the shelf.
 use Rattle.session_rules.proofs.Base.{◌≡◌, ◌≢◌, ℕ, ◌+◌, ◌≤◌, List, [], ◌∷◌, ◌++◌, Some, cond, refl, arith, ◌==◌, if◌then◌else◌, All-nil, All-head, All-tail, eq-eqb, ne_eqb, sum_by-cons, nat_tests}
-use Rattle.session_rules.proofs.Below.{What, Empty, Once, at, put, changed, moved, Moves, sum_moved, ShelfState, held, taken, Context, Contexts, reparented, Ended, waiting, handed_in}
-use Rattle.session_rules.proofs.Rules.{first_of, AreHooks}
-use Rattle.reset_callbacks.specs.Hook.{Hook, Lacks, AreDistinct}
-use Rattle.session_rules.specs.HookCounts.{HooksCounted, hooks_of}
+use Rattle.session_rules.proofs.Below.{What, Empty, Once, at, put, changed, moved, Moves, sum_moved, ShelfState, held, taken, Context, Contexts, reparented, Ended, waiting, handed_in, Hook, Lacks, AreDistinct}
+use Rattle.session_rules.proofs.Rules.{first_of, AreHooks, HooksCounted, hooks_of}
 use Rattle.session_rules.proofs.ContextsKept.{by_reparented}
-use Rattle.session_rules.proofs.HookSums.{Parts, none_run, of_context, sum_waiting}
+use Rattle.session_rules.proofs.HookSums.{Parts, none_run, sum_waiting}
 use Rattle.session_rules.proofs.HookSteps.{counted_ended, counted_kept, counted_waits, first_fresh, waiting_changed, waiting_put}
 
 -- how many of these hooks have a word
@@ -33,9 +31,7 @@ distinct_times (x ∷ xs) d w = grind (arith, nat_tests, lacks_times x.word xs d
 
 pub times_distinct : (hs : List Hook) → ((w : ℕ) → word_times w hs ≤ 1) → AreDistinct hs
 times_distinct [] h = tt
-times_distinct (x ∷ xs) h =
-    let own : 1 + word_times x.word xs ≤ 1 = rw (eq-eqb x.word x.word refl) at (h x.word) in
-    (times_lacks x.word xs (omega arith), times_distinct xs (λ w. omega (arith, h w)))
+times_distinct (x ∷ xs) h = grind (arith, nat_tests, eq-eqb x.word x.word refl, times_lacks x.word xs, times_distinct xs)
 
 -- as many as are counted
 times_are : (w : ℕ) (hs : List Hook) → word_times w hs ≡ hooks_of w hs
@@ -68,6 +64,4 @@ hooks_taken n f hook c t x o there more first h = let fresh = first_fresh x.fres
 
 -- a context moves, where that isn't its place already
 pub hooks_reparented : (n p : ℕ) (t : Contexts) (x : ShelfState) → Once t → Moves n p t → AreHooks t x → AreHooks (reparented n p t) x
-hooks_reparented n p t x o w h =
-    by_reparented (λ u. AreHooks u x) n p t h
-    (hooks_counted (counted_kept t (moved n p t) x none_run (λ g. omega (arith, sum_waiting g t, sum_waiting g (moved n p t), sum_moved (of_context g) n p t o w))) h)
+hooks_reparented n p t x o w h = grind (arith, nat_tests, by_reparented, hooks_counted, counted_kept t (moved n p t) x none_run, none_run, sum_waiting, sum_moved)

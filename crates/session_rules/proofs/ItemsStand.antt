@@ -1,29 +1,12 @@
 -- The steps by which the deepest level's owner takes an item and gives one back lead from a session that stands to one that stands.
-use Rattle.session_rules.proofs.Base.{◌≡◌, ◌≢◌, ℕ, ◌+◌, ◌-◌, ◌<◌, ◌≤◌, ◌++◌, find, length, Bool, true, Option, Some, None, List, [], ◌∷◌, refl, sym, ap, ◌∙◌, subst, inl, inr, arith, ◌==◌, if◌then◌else◌, option_map_or, option_and_then, eq-eqb, ne_eqb, nat_tests, All-cons, All-weaker, false, All, codes, is_none, not}
-use Rattle.session_rules.proofs.Below.{Once, has, changed, at_some, has_changed, parent_changed, Item, KindId, Mode, Contexts, table_of, is_of, without_newest, Owner, OwnerTree, forgotten, remembered, IsSound, Empty, Error, created, is_protected, new_context}
-use Rattle.session_rules.proofs.Rules.{LevelState, StandingPlan, buffer_pin, file_kind, first_of, level_owner, plan_reference, snapshot_reference, Scene, Moment, OfLevel, Text, changes, in_order, say, where_there, Keeper, NoOne, TheKind, given_back, item_released, keeper_of, descriptor_given, item_taken, lock_taken, remembers, taken_by, at_kind, at_owner, lock_given_back, does, AreLevels, AreOwners, ArePlans, HasItems, IsItem, IsPlan, IsWorking, Stands, references_of, referred, cache_context, plan_at, unless, plan_becomes, plan_made, AreApart, Differ, IsPlace}
-use Rattle.std.proofs.lemmas.List.{length-map}
-use Rattle.pgs_step.specs.declared.events.What.TheVariants as what
-use Rattle.pgs_command.specs.declared.kinds.ReferenceClass.{ReferenceClass}
-use Rattle.pgs_command.specs.declared.kinds.ReferenceClass.TheVariants.{Relcache}
-use Rattle.pgs_command.specs.Kinds.{class_kind}
-use Rattle.owner_kinds.specs.Kind.{Kind, changed_at, opened}
-use Rattle.owner_kinds.specs.KindTable.{KindTable, IsExtension, row, IsSound as IsSoundTable}
-use Rattle.owner_kinds.proofs.Places.{table-opened}
-use Rattle.owner_items.proofs.Order.{All-without}
-use Rattle.owner_core.proofs.Sounds.{once_of, sound_forgotten, sound_remembered}
-use Rattle.lock_local.specs.Changes as locks
-use Rattle.lock_local.specs.Changes.{acquired}
-use Rattle.session_rules.specs.Elements as element
-use Rattle.session_rules.specs.Lookup.{kind_from, kind_named, newest, plan_changed, owner_in}
+use Rattle.session_rules.proofs.Base.{◌≡◌, ◌≢◌, ℕ, ◌+◌, ◌-◌, ◌<◌, ◌≤◌, ◌++◌, find, length, Bool, true, Option, Some, None, List, [], ◌∷◌, refl, sym, ap, ◌∙◌, subst, inl, arith, ◌==◌, if◌then◌else◌, option_map_or, option_and_then, eq-eqb, ne_eqb, nat_tests, All-cons, All-weaker, false, All, codes, is_none, not, length-map, All-nil, All-head, All-tail, All-push}
+use Rattle.session_rules.proofs.Below.{Once, has, changed, at_some, has_changed, parent_changed, Item, KindId, Mode, Contexts, table_of, is_of, without_newest, Owner, OwnerTree, forgotten, remembered, IsSound, Empty, Error, created, is_protected, new_context, What, ReferenceClass, class_kind, Kind, changed_at, opened, KindTable, IsExtension, row, IsSoundTable, table-opened, All-without, once_of, sound_forgotten, sound_remembered, acquired, CtxKind}
+use Rattle.session_rules.proofs.Rules.{LevelState, StandingPlan, buffer_pin, file_kind, first_of, level_owner, plan_reference, snapshot_reference, Scene, Moment, OfLevel, Text, changes, in_order, say, where_there, Keeper, NoOne, TheKind, given_back, keeper_of, descriptor_given, item_taken, lock_taken, remembers, taken_by, at_kind, at_owner, does, AreLevels, ArePlans, HasItems, IsItem, IsPlan, IsWorking, Stands, references_of, referred, cache_context, plan_at, unless, plan_becomes, plan_made, AreApart, Differ, IsPlace, Element, kind_from, kind_named, newest, plan_changed, owner_in, OwnerRole}
 use Rattle.session_rules.proofs.Kept.{all_changed, levels_stay, no_value, held_forgotten, held_remembered, Split, all_replaced, changed_is, counted_at, plans_replaced, split, IsOther, levels_apart, plans_counted, attached_by, place_spared, portals_by, IsRowOf, own_rows, row_of, row_put, lone_changed, lone_put, Besides, Fits, IsApart, Settles, Spares, besides_of, item_settles, spares_same, with_besides, becomes, Tables, tabled, tables_of, children_put, Stay, contexts_created, has_created, is_unused, new_parent, new_protected, protected_has, stay_created, hooks_put}
 use Rattle.session_rules.proofs.Ending.{begun_changed}
 use Rattle.session_rules.proofs.EndsStand.{stands_tabled}
 use Rattle.session_rules.proofs.StepsStand.{Works, fallible_keeps, fit_working, not_released, nothing_works, besides_step, contexts_step, still_planned, still_portals, Beside, beside_by, nothing_beside}
 use Rattle.session_rules.proofs.NamesStand.{at_name}
-use Rattle.std.proofs.lemmas.List.Elements.{All-nil, All-head, All-tail, All-push}
-use Rattle.any_ctx.specs.declared.any.CtxKind.TheVariants as kind
-use Rattle.session_rules.specs.Elements.{OwnerRole}
 
 -- The items of one owner change, and each is of a known kind; plans, their contexts and tables change with them.
 pub items_step : (s : Scene) (n serial : ℕ) (f : Owner → Owner) (x : Besides) → Stands s → IsWorking s.session.levels → ((o : Owner) → (f o).begun ≡ o.begun) → ((o : Owner) → HasItems (table_of s.around.kinds) o → HasItems (table_of s.around.kinds) (f o))
@@ -43,15 +26,7 @@ items_step s n serial f x h working begun known sound same fits spares =
           (λ m i prot. spares.same m (levels_apart s.session.levels t o s.session.plans s.session.current h.levels h.plans.each m i) prot)
           (λ m i u. record { there = has_changed m n f o ∙ u; parent = parent_changed m n f o }) h.levels;
       fit = fit_working s.session.levels t x.contexts o y s.session.current s.session.current working h.fit;
-      owners = subst (λ (kinds : KindTable). AreOwners kinds y s.session.next_owner serial s.session.levels s.session.portals) (sym same) (record {
-        sound = sound;
-        each = λ m u. elim (h.owners.each m (sym (has_changed m n f o) ∙ u)) [
-          | inl i ↦ inl i
-          | inr k ↦ elim k [ inl p ↦ inr (inl p) | inr r ↦ absurd (not_released s.session.levels m o working r) ]
-        ];
-        begun = λ m u. absurd (not_released s.session.levels m o working (h.owners.begun m (sym (begun_changed m n f o begun) ∙ u)));
-        items = all_changed (HasItems (table_of s.around.kinds)) n f o known h.owners.items;
-      });
+      owners = grind (arith, nat_tests, has_changed, not_released s.session.levels, begun_changed, all_changed (HasItems (table_of s.around.kinds)) n f o known h.owners.items);
       kinds = subst (λ (kinds : KindTable). IsSoundTable kinds) (sym same) h.kinds;
       portals = portals_by s.session.portals s.session.levels s.session.levels t x.contexts o y s.session.current s.session.current
           (λ p i. record {
@@ -138,7 +113,7 @@ plan_step s n key p h working there stands =
 -- It gives its newest item of a kind and key back.
 pub give_step : (s : Scene) (n : ℕ) (kind : KindId) (key : ℕ) → Stands s → IsWorking s.session.levels → has n s.session.owners ≡ true → (o : Option Item) → newest n kind key s.session ≡ o
     → Works s (where_there o
-    (λ item. in_order (changes (λ session. record session { owners = forgotten n kind key session.owners }) ∷ say (what.Release item n) ∷ given_back item ∷ [])) s).scene
+    (λ item. in_order (changes (λ session. record session { owners = forgotten n kind key session.owners }) ∷ say (What.Release item n) ∷ given_back item ∷ [])) s).scene
 give_step s n kind key h working there None e = nothing_works s h
 give_step s n kind key h working there (Some item) e =
     let o : OwnerTree = s.session.owners in
@@ -161,16 +136,13 @@ owner_there (level ∷ levels) t x n l e = (l.0.owner n e).there
 
 -- a reference is an item of a known kind that nothing but owners keeps count of
 pub class_unkept : (class : ReferenceClass) → keeper_of (class_kind class) ≡ NoOne
-class_unkept Relcache = refl
-class_unkept other = refl
+class_unkept class = grind (arith, nat_tests)
 
 pub class_other : (class : ReferenceClass) → (class_kind class).0 ≢ 5
-class_other Relcache = λ z. absurd (omega (arith, z))
-class_other other = λ z. absurd (omega (arith, z))
+class_other class = grind (arith, nat_tests)
 
 pub class_item : (kinds : KindTable) (class : ReferenceClass) (key serial : ℕ) → IsItem kinds (record { kind = class_kind class; key = key; serial = serial })
-class_item kinds Relcache key serial = record { kind = inl (record { from = omega arith; to = omega arith }); buffer = λ e. absurd (omega (arith, e)) }
-class_item kinds other key serial = record { kind = inl (record { from = omega arith; to = omega arith }); buffer = λ e. absurd (omega (arith, e)) }
+class_item kinds class key serial = grind (arith, nat_tests)
 
 -- so are a registered snapshot and a file
 pub snapshot_item : (kinds : KindTable) (snapshot serial : ℕ) → IsItem kinds (record { kind = snapshot_reference; key = snapshot; serial = serial })
@@ -205,7 +177,7 @@ module _ (w : Option ℕ) (moment : Moment) (h : Stands moment.scene) (working :
   -- an item that nothing but owners keeps count of, and a lock
   module _ (role : OwnerRole) (held : (n : ℕ) → owner_in role moment.scene.session ≡ Some n → has n moment.scene.session.owners ≡ true) where
     pub take_beside : (kind : KindId) (key : ℕ) → keeper_of kind ≡ NoOne → kind.0 ≢ 5 → ((serial : ℕ) → IsItem (table_of moment.scene.around.kinds) (record { kind = kind; key = key; serial = serial }))
-        → Beside moment.scene (does w (element.Take role kind key) moment).moment.scene
+        → Beside moment.scene (does w (Element.Take role kind key) moment).moment.scene
     unfolding does
     take_beside kind key unkept ne is =
         fallible_keeps (Beside moment.scene) w moment _ (at_owner role (λ owner. item_taken owner kind key)) (nothing_beside moment.scene h)
@@ -213,7 +185,7 @@ module _ (w : Option ℕ) (moment : Moment) (h : Stands moment.scene) (working :
         (λ n e. subst (Beside moment.scene) (sym (ap (λ (k : Keeper). (in_order (taken_by k key ∷ remembers n kind key ∷ []) moment.scene).scene) unkept))
         (beside_by moment.scene _ refl refl (other_step moment.scene n kind key (tables_of moment.scene) h working (held n e) ne is refl))))
 
-    pub lock_beside : (object : ℕ) (mode : Mode) → Beside moment.scene (does w (element.TakeLock role object mode) moment).moment.scene
+    pub lock_beside : (object : ℕ) (mode : Mode) → Beside moment.scene (does w (Element.TakeLock role object mode) moment).moment.scene
     unfolding does
     lock_beside object mode =
         fallible_keeps (Beside moment.scene) w moment _ (at_owner role (lock_taken object mode)) (nothing_beside moment.scene h)
@@ -221,14 +193,14 @@ module _ (w : Option ℕ) (moment : Moment) (h : Stands moment.scene) (working :
         (λ n e. beside_by moment.scene _ refl refl (stands_tabled (record (tables_of moment.scene) { locks = acquired n object mode moment.scene.session.locks }) moment.scene refl h)))
 
   pub take_works : (kind : KindId) (key : ℕ) → keeper_of kind ≡ NoOne → kind.0 ≢ 5 → ((serial : ℕ) → IsItem (table_of moment.scene.around.kinds) (record { kind = kind; key = key; serial = serial }))
-      → Works moment.scene (does w (element.Take OfLevel kind key) moment).moment.scene
+      → Works moment.scene (does w (Element.Take OfLevel kind key) moment).moment.scene
   take_works kind key unkept ne is = (take_beside OfLevel there kind key unkept ne is).works
 
-  pub pin_works : (key : ℕ) → key < 1024 → Works moment.scene (does w (element.Take OfLevel buffer_pin key) moment).moment.scene
+  pub pin_works : (key : ℕ) → key < 1024 → Works moment.scene (does w (Element.Take OfLevel buffer_pin key) moment).moment.scene
   pin_works key small = take_works buffer_pin key refl (λ z. absurd (omega (arith, z))) (λ serial. record { kind = inl (record { from = omega arith; to = omega arith }); buffer = λ _. small })
 
   -- the owner takes a reference to a plan that stands
-  pub take_plan_works : (key : ℕ) (p : StandingPlan) → plan_at key moment.scene.session.plans ≡ Some p → Works moment.scene (does w (element.Take OfLevel plan_reference key) moment).moment.scene
+  pub take_plan_works : (key : ℕ) (p : StandingPlan) → plan_at key moment.scene.session.plans ≡ Some p → Works moment.scene (does w (Element.Take OfLevel plan_reference key) moment).moment.scene
   unfolding does
   take_plan_works key p stands =
       fallible_keeps (Works moment.scene) w moment _ (at_owner OfLevel (λ owner. item_taken owner plan_reference key)) (nothing_works moment.scene h)
@@ -236,14 +208,12 @@ module _ (w : Option ℕ) (moment : Moment) (h : Stands moment.scene) (working :
       (λ n e. record { stands = plan_step moment.scene n key p h working (there n e) stands; levels = refl; at_rest = λ r. r }))
 
   -- a file gets a descriptor
-  pub touch_works : (file : ℕ) → Works moment.scene (does w (element.Touch file) moment).moment.scene
+  pub touch_works : (file : ℕ) → Works moment.scene (does w (Element.Touch file) moment).moment.scene
   unfolding does
-  touch_works file =
-      fallible_keeps (Works moment.scene) w moment _ (descriptor_given file) (nothing_works moment.scene h)
-      (λ _. record { stands = stands_tabled (tables_of (descriptor_given file moment.scene).scene) moment.scene refl h; levels = refl; at_rest = λ r. r })
+  touch_works file = grind (arith, nat_tests, fallible_keeps, nothing_works, stands_tabled)
 
   -- the owner takes a file
-  pub file_works : (file : ℕ) → Works moment.scene (does w (element.Take OfLevel file_kind file) moment).moment.scene
+  pub file_works : (file : ℕ) → Works moment.scene (does w (Element.Take OfLevel file_kind file) moment).moment.scene
   unfolding does
   file_works file =
       let x : Tables = tables_of (descriptor_given file moment.scene).scene in
@@ -251,11 +221,9 @@ module _ (w : Option ℕ) (moment : Moment) (h : Stands moment.scene) (working :
       (λ _. at_name (Works moment.scene) (level_owner moment.scene.session) (λ owner. item_taken owner file_kind file) moment.scene (nothing_works moment.scene h)
       (λ n e. record { stands = other_step moment.scene n file_kind file x h working (there n e) (λ z. absurd (omega (arith, z))) (file_item (table_of moment.scene.around.kinds) file) refl; levels = refl; at_rest = λ r. r }))
 
-  pub give_back_works : (kind : KindId) (key : ℕ) → Works moment.scene (does w (element.GiveBack kind key) moment).moment.scene
+  pub give_back_works : (kind : KindId) (key : ℕ) → Works moment.scene (does w (Element.GiveBack kind key) moment).moment.scene
   unfolding does
-  give_back_works kind key =
-      at_name (Works moment.scene) (level_owner moment.scene.session) (λ owner. item_released owner kind key) moment.scene (nothing_works moment.scene h)
-      (λ n e. give_step moment.scene n kind key h working (there n e) (newest n kind key moment.scene.session) refl)
+  give_back_works kind key = grind (arith, nat_tests, at_name, nothing_works, give_step, there)
 
   -- the owner takes an item of an extension kind
   pub extension_works : (kind : KindId) (key n : ℕ) → IsExtension (table_of moment.scene.around.kinds) kind → level_owner moment.scene.session ≡ Some n
@@ -263,15 +231,12 @@ module _ (w : Option ℕ) (moment : Moment) (h : Stands moment.scene) (working :
   extension_works kind key n extension e =
       let x : Tables = record (tables_of moment.scene) { kinds = changed_at (kind.0 - 16) (opened key) moment.scene.around.kinds } in
       let same : table_of x.kinds ≡ table_of moment.scene.around.kinds = table-opened moment.scene.around.kinds (kind.0 - 16) key in
-      let is : (serial : ℕ) → IsItem (table_of moment.scene.around.kinds) (record { kind = kind; key = key; serial = serial }) = λ serial. record {
-        kind = inr extension;
-        buffer = λ is. absurd (omega (arith, is, extension.from));
-      } in
+      let is : (serial : ℕ) → IsItem (table_of moment.scene.around.kinds) (record { kind = kind; key = key; serial = serial }) = grind (arith, nat_tests) in
       subst (Works moment.scene)
       (sym (ap (λ (k : Keeper). (in_order (taken_by k key ∷ remembers n kind key ∷ []) moment.scene).scene) (extension_keeps kind extension.from)))
       (record { stands = other_step moment.scene n kind key x h working (there n e) (λ z. absurd (omega (arith, z, extension.from))) is same; levels = refl; at_rest = λ r. r })
 
-  pub take_named_works : (name : Text) (key : ℕ) → Works moment.scene (does w (element.TakeNamed name key) moment).moment.scene
+  pub take_named_works : (name : Text) (key : ℕ) → Works moment.scene (does w (Element.TakeNamed name key) moment).moment.scene
   unfolding does
   take_named_works name key =
       fallible_keeps (Works moment.scene) w moment _ (at_kind name (λ kind. at_owner OfLevel (λ owner. item_taken owner kind key))) (nothing_works moment.scene h)
@@ -280,19 +245,14 @@ module _ (w : Option ℕ) (moment : Moment) (h : Stands moment.scene) (working :
       (λ n e. extension_works kind key n (named_extension name moment.scene.around.kinds kind named) e)))
 
   -- it gives its newest item of an extension kind back
-  pub give_back_named_works : (name : Text) (key : ℕ) → Works moment.scene (does w (element.GiveBackNamed name key) moment).moment.scene
+  pub give_back_named_works : (name : Text) (key : ℕ) → Works moment.scene (does w (Element.GiveBackNamed name key) moment).moment.scene
   unfolding does
-  give_back_named_works name key =
-      at_name (Works moment.scene) (kind_named name moment.scene.around.kinds) (λ kind. at_owner OfLevel (λ owner. item_released owner kind key)) moment.scene (nothing_works moment.scene h)
-      (λ kind named. at_name (Works moment.scene) (level_owner moment.scene.session) (λ owner. item_released owner kind key) moment.scene (nothing_works moment.scene h)
-      (λ n e. give_step moment.scene n kind key h working (there n e) (newest n kind key moment.scene.session) refl))
+  give_back_named_works name key = grind (arith, nat_tests, at_name, nothing_works, give_step, there)
 
   -- the owner gives a lock back
-  pub unlock_works : (object : ℕ) (mode : Mode) → Works moment.scene (does w (element.Unlock object mode) moment).moment.scene
+  pub unlock_works : (object : ℕ) (mode : Mode) → Works moment.scene (does w (Element.Unlock object mode) moment).moment.scene
   unfolding does
-  unlock_works object mode =
-      at_name (Works moment.scene) (level_owner moment.scene.session) (lock_given_back object mode) moment.scene (nothing_works moment.scene h)
-      (λ n e. record { stands = stands_tabled (record (tables_of moment.scene) { locks = locks.given_back n object mode moment.scene.session.locks }) moment.scene refl h; levels = refl; at_rest = λ r. r })
+  unlock_works object mode = grind (arith, nat_tests, at_name, nothing_works, stands_tabled)
 
 -- a plan more
 pub pushed_apart : (plans : List StandingPlan) (new : StandingPlan) → All (λ plan. Differ plan new) plans → AreApart plans → AreApart (plans ++ (new ∷ []))
@@ -320,17 +280,17 @@ made_step s n h working free =
     let new : StandingPlan = record { number = n; context = next; discarded = false; references = 0 } in
     let guarded : is_protected cache_context t ≡ true = (h.contexts.own cache_context (omega arith) (omega arith)).protected in
     let there : has cache_context t ≡ true = protected_has cache_context t guarded in
-    let u : Contexts = created cache_context next name kind.Small true t in
-    let stay : Stay t u = stay_created t next h.contexts cache_context name kind.Small true in
+    let u : Contexts = created cache_context next name CtxKind.Small true t in
+    let stay : Stay t u = stay_created t next h.contexts cache_context name CtxKind.Small true in
     let newer : (m : ℕ) → has m t ≡ true → m ≢ next = λ m have z. omega (arith, z, h.contexts.below m have) in
     let still : ArePlans s.session.plans u s.session.current (referred s.session.owners) =
     still_planned s u h stay
-    (λ m k. lone_put m cache_context next (new_context name kind.Small true) Empty t (λ z. omega (arith, z, k.own)) (newer m (protected_has m t k.protected)) refl k.lone) in
+    (λ m k. lone_put m cache_context next (new_context name CtxKind.Small true) Empty t (λ z. omega (arith, z, k.own)) (newer m (protected_has m t k.protected)) refl k.lone) in
     let own : IsPlan new u s.session.current = record {
-      protected = new_protected t next h.contexts cache_context name kind.Small there;
-      parent = new_parent t next h.contexts cache_context name kind.Small true there;
+      protected = new_protected t next h.contexts cache_context name CtxKind.Small there;
+      parent = new_parent t next h.contexts cache_context name CtxKind.Small true there;
       own = h.contexts.room;
-      lone = children_put cache_context next (new_context name kind.Small true) Empty t h.contexts.once there (is_unused t next h.contexts);
+      lone = children_put cache_context next (new_context name CtxKind.Small true) Empty t h.contexts.once there (is_unused t next h.contexts);
       other = newer s.session.current h.current;
       kept = λ e. absurd (cc e);
     } in
@@ -341,17 +301,17 @@ made_step s n h working free =
     let ne = numbers k d below in
     record { number = λ z. ne (sym z); context = λ z. newer _ (protected_has _ t i.protected) (sym z) } in
     contexts_step s h working u (next + 1) s.session.current s.around.shelf (s.session.plans ++ (new ∷ []))
-    (contexts_created t next h.contexts cache_context name kind.Small true there (λ _. guarded))
+    (contexts_created t next h.contexts cache_context name CtxKind.Small true there (λ _. guarded))
     stay
-    (has_created t next h.contexts s.session.current cache_context name kind.Small true h.current)
-    (hooks_put cache_context next (new_context name kind.Small true) t s.around.shelf h.contexts.once refl h.hooks)
+    (has_created t next h.contexts s.session.current cache_context name CtxKind.Small true h.current)
+    (hooks_put cache_context next (new_context name CtxKind.Small true) t s.around.shelf h.contexts.once refl h.hooks)
     (record {
       each = All-push (λ plan. IsPlan plan u s.session.current) s.session.plans new still.each own;
       apart = pushed_apart s.session.plans new differ still.apart;
       counted = λ m. pushed_counted s.session.plans new m refl ∙ still.counted m;
     })
     (still_portals s u h stay
-    (λ m expr k. row_put t h.contexts.once m expr s.session.current k cache_context next (new_context name kind.Small true) Empty (λ z. omega (arith, z, k.own)) (newer m (protected_has m t k.protected)) refl
+    (λ m expr k. row_put t h.contexts.once m expr s.session.current k cache_context next (new_context name CtxKind.Small true) Empty (λ z. omega (arith, z, k.own)) (newer m (protected_has m t k.protected)) refl
     (λ e q z.
     let r : IsRowOf e m t = row_of e m t s.session.current h.contexts.once (subst (λ (o : Option ℕ). IsPlace m o t s.session.current) q k) in
     own_rows t next h.contexts cache_context (omega arith) (omega arith) e m k.own r.parent (sym z))))
@@ -368,23 +328,16 @@ dropped_step s n p h working stands =
 
 -- what the checks say
 pub is_new : (o : Option StandingPlan) (error : Error) → unless (is_none o) error ≡ None → o ≡ None
-is_new None error e = refl
-is_new (Some p) error e = absurd (cc e)
+is_new o error e = grind (arith, nat_tests)
 
 pub is_standing : (o : Option StandingPlan) (error : Error) → unless (option_map_or (λ p. not p.discarded) o false) error ≡ None → (p : StandingPlan) × (o ≡ Some p)
-is_standing None error e = absurd (cc e)
-is_standing (Some p) error e = (p, refl)
+is_standing o error e = grind (arith, nat_tests)
 
 module _ (w : Option ℕ) (moment : Moment) (h : Stands moment.scene) (working : IsWorking moment.scene.session.levels) where
-  pub make_plan_works : (n : ℕ) → plan_at n moment.scene.session.plans ≡ None → Works moment.scene (does w (element.MakePlan n) moment).moment.scene
+  pub make_plan_works : (n : ℕ) → plan_at n moment.scene.session.plans ≡ None → Works moment.scene (does w (Element.MakePlan n) moment).moment.scene
   unfolding does
-  make_plan_works n free =
-      fallible_keeps (Works moment.scene) w moment _ (plan_made n) (nothing_works moment.scene h) (λ _. record { stands = made_step moment.scene n h working free; levels = refl; at_rest = λ r. r })
+  make_plan_works n free = grind (arith, nat_tests, fallible_keeps, nothing_works, made_step)
 
-  pub drop_plan_works : (n : ℕ) → Works moment.scene (does w (element.DropPlan n) moment).moment.scene
+  pub drop_plan_works : (n : ℕ) → Works moment.scene (does w (Element.DropPlan n) moment).moment.scene
   unfolding does
-  drop_plan_works n = go (plan_at n moment.scene.session.plans) refl
-    where
-      go : (o : Option StandingPlan) → plan_at n moment.scene.session.plans ≡ o → Works moment.scene (where_there o (λ p. plan_becomes (record p { discarded = true })) moment.scene).scene
-      go None e = nothing_works moment.scene h
-      go (Some p) e = dropped_step moment.scene n p h working e
+  drop_plan_works n = grind (arith, nat_tests, nothing_works, dropped_step)

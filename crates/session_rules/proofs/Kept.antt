@@ -1,5 +1,5 @@
 -- The lemmas on contexts, owners, levels, plans and portals that the proofs above them take.
-pub use Rattle.session_rules.proofs.ContextsKept.{IsSame, Stay, contexts_changed, contexts_created, contexts_emptied, contexts_level_gone, has_created, is_unused, new_empty, new_parent, new_protected, nothing_left, off_outside, protected_has, same_emptied, same_removed, stay_changed, stay_created, stay_same, top_protected}
+pub use Rattle.session_rules.proofs.ContextsKept.{IsSame, Stay, contexts_changed, contexts_created, contexts_emptied, contexts_level_gone, has_created, is_unused, new_empty, new_parent, new_protected, nothing_left, off_outside, protected_has, same_emptied, same_removed, stay_changed, stay_created, stay_same, top_protected, apart, contexts_alone, contexts_children_gone, contexts_gone, contexts_reparented, has_alone, has_reparented, moves_by, stay_alone, stay_children_gone, stay_gone, stay_on, stay_reparented, by_alone, by_reparented}
 pub use Rattle.session_rules.proofs.Forests.{at_left, at_put, at_put_other, children_put, has_emptied, has_left, has_put_other, once_left, parent_left, parent_put, parent_put_other}
 pub use Rattle.session_rules.proofs.Guarded.{all_changed, all_moved, all_put, all_removed}
 pub use Rattle.session_rules.proofs.HeldItems.{held_created, held_forgotten, held_moved, held_remembered, held_removed}

@@ -1,11 +1,7 @@
 -- Laws over events: what one owes for the least parts of what a session does.
 use Rattle.session_rules.proofs.Base.{◌≡◌, ℕ, ◌≤◌, Bool, true, false, List, [], ◌∷◌, ◌++◌, Option, Some, None}
-use Rattle.session_rules.proofs.Below.{What, KindId, Phase, Mode, Hook, CtxKind, freed, written}
-use Rattle.session_rules.proofs.Rules.{LevelState, OpenPortal, StandingPlan, Moment, Scene, Element, Text, plan_at, Ended, children_gone, context_cleared, context_cleared_alone, context_gone, portal_becomes, portal_gone, say, switched, item_released, owner_gone, owner_moved, phase_released, plan_becomes, context_made, owner_made, plan_made, portal_made, chunk_resized, descriptor_given, hook_waits, item_taken, lock_taken, memory_taken, snapshot_pushed, stack_lowered, stack_popped, Done, does}
-use Rattle.pgs_step.specs.declared.events.What.TheVariants as what
-use Rattle.context_rules.specs.Reports.{report}
-use Rattle.session_rules.specs.Elements as e
-use Rattle.session_rules.specs.Parts.{context_moved, contexts_become, lock_given_back, snapshot_popped, tells}
+use Rattle.session_rules.proofs.Below.{What, KindId, Phase, Mode, Hook, CtxKind, freed, written, report}
+use Rattle.session_rules.proofs.Rules.{LevelState, OpenPortal, StandingPlan, Moment, Scene, Element, Text, plan_at, Ended, children_gone, context_cleared, context_cleared_alone, context_gone, portal_becomes, portal_gone, say, switched, item_released, owner_gone, owner_moved, phase_released, plan_becomes, context_made, owner_made, plan_made, portal_made, chunk_resized, descriptor_given, hook_waits, item_taken, lock_taken, memory_taken, snapshot_pushed, stack_lowered, stack_popped, Done, does, context_moved, contexts_become, lock_given_back, snapshot_popped, tells}
 
 -- what a law says of a scene, the scene behind it, and the events between the two
 abbrev pub Law : Type 1
@@ -25,21 +21,21 @@ pub record Follows (R : Law) (s : Scene) (done : Done) : Type 0 where
 
 -- a word that an element says, and a word on a level
 abbrev pub is_word : What → Bool
-is_word (what.Row name row value) = true
-is_word (what.Fetched name rows) = true
-is_word (what.Bytes name place bytes) = true
-is_word (what.Buffer buffer sessions) = true
-is_word (what.Stat counts) = true
-is_word what.AlreadyInTransaction = true
-is_word what.NotInTransaction = true
-is_word what.Ok = true
+is_word (What.Row name row value) = true
+is_word (What.Fetched name rows) = true
+is_word (What.Bytes name place bytes) = true
+is_word (What.Buffer buffer sessions) = true
+is_word (What.Stat counts) = true
+is_word What.AlreadyInTransaction = true
+is_word What.NotInTransaction = true
+is_word What.Ok = true
 is_word other = false
 
 abbrev pub is_level_word : What → Bool
-is_level_word (what.BeginLevel level) = true
-is_level_word (what.CommitLevel level) = true
-is_level_word (what.AbortLevel level) = true
-is_level_word (what.CleanupLevel level) = true
+is_level_word (What.BeginLevel level) = true
+is_level_word (What.CommitLevel level) = true
+is_level_word (What.AbortLevel level) = true
+is_level_word (What.CleanupLevel level) = true
 is_level_word other = false
 
 -- a portal that changes so keeps its context, and is of no deeper level
@@ -109,51 +105,51 @@ pub record MoveLeaves (R : Law) : Type 0 where
 
 -- what a law owes apart for what is made and used, and for the two elements that change contexts and their hooks
 abbrev pub OwesMakes : Law → Option ℕ → Element → Moment → Type 0
-OwesMakes R w (e.InTurn name x) m = OwesMakes R w x m
-OwesMakes R w (e.MakeContext new) m = Follows R m.scene (does w (e.MakeContext new) m)
-OwesMakes R w (e.MakeOwner role) m = Follows R m.scene (does w (e.MakeOwner role) m)
-OwesMakes R w (e.MakePlan plan) m = Follows R m.scene (does w (e.MakePlan plan) m)
-OwesMakes R w (e.TakeLock role object mode) m = Follows R m.scene (does w (e.TakeLock role object mode) m)
-OwesMakes R w (e.Unlock object mode) m = Follows R m.scene (does w (e.Unlock object mode) m)
-OwesMakes R w (e.Touch file) m = Follows R m.scene (does w (e.Touch file) m)
-OwesMakes R w (e.PushSnapshot snapshot) m = Follows R m.scene (does w (e.PushSnapshot snapshot) m)
-OwesMakes R w (e.Register name) m = Follows R m.scene (does w (e.Register name) m)
-OwesMakes R w (e.Reparent name parent) m = Follows R m.scene (does w (e.Reparent name parent) m)
+OwesMakes R w (Element.InTurn name x) m = OwesMakes R w x m
+OwesMakes R w (Element.MakeContext new) m = Follows R m.scene (does w (Element.MakeContext new) m)
+OwesMakes R w (Element.MakeOwner role) m = Follows R m.scene (does w (Element.MakeOwner role) m)
+OwesMakes R w (Element.MakePlan plan) m = Follows R m.scene (does w (Element.MakePlan plan) m)
+OwesMakes R w (Element.TakeLock role object mode) m = Follows R m.scene (does w (Element.TakeLock role object mode) m)
+OwesMakes R w (Element.Unlock object mode) m = Follows R m.scene (does w (Element.Unlock object mode) m)
+OwesMakes R w (Element.Touch file) m = Follows R m.scene (does w (Element.Touch file) m)
+OwesMakes R w (Element.PushSnapshot snapshot) m = Follows R m.scene (does w (Element.PushSnapshot snapshot) m)
+OwesMakes R w (Element.Register name) m = Follows R m.scene (does w (Element.Register name) m)
+OwesMakes R w (Element.Reparent name parent) m = Follows R m.scene (does w (Element.Reparent name parent) m)
 OwesMakes R w other m = Unit {0}
 
 -- besides, for items that are taken and for ends
 abbrev pub OwesEnds : Law → Option ℕ → Element → Moment → Type 0
-OwesEnds R w (e.InTurn name x) m = OwesEnds R w x m
-OwesEnds R w (e.Take role kind key) m = Follows R m.scene (does w (e.Take role kind key) m)
-OwesEnds R w (e.TakeNamed name key) m = Follows R m.scene (does w (e.TakeNamed name key) m)
-OwesEnds R w (e.EndPortal name) m = Follows R m.scene (does w (e.EndPortal name) m)
-OwesEnds R w e.CommitTop m = Follows R m.scene (does w e.CommitTop m)
-OwesEnds R w e.Subcommit m = Follows R m.scene (does w e.Subcommit m)
-OwesEnds R w e.Abort m = Follows R m.scene (does w e.Abort m)
-OwesEnds R w e.Cleanup m = Follows R m.scene (does w e.Cleanup m)
+OwesEnds R w (Element.InTurn name x) m = OwesEnds R w x m
+OwesEnds R w (Element.Take role kind key) m = Follows R m.scene (does w (Element.Take role kind key) m)
+OwesEnds R w (Element.TakeNamed name key) m = Follows R m.scene (does w (Element.TakeNamed name key) m)
+OwesEnds R w (Element.EndPortal name) m = Follows R m.scene (does w (Element.EndPortal name) m)
+OwesEnds R w Element.CommitTop m = Follows R m.scene (does w Element.CommitTop m)
+OwesEnds R w Element.Subcommit m = Follows R m.scene (does w Element.Subcommit m)
+OwesEnds R w Element.Abort m = Follows R m.scene (does w Element.Abort m)
+OwesEnds R w Element.Cleanup m = Follows R m.scene (does w Element.Cleanup m)
 OwesEnds R w x m = OwesMakes R w x m
 
 -- besides, for levels and the newest snapshot: each element that the leaves don't make up
 abbrev pub Owes : Law → Option ℕ → Element → Moment → Type 0
-Owes R w (e.InTurn name x) m = Owes R w x m
-Owes R w (e.MakeLevel name implicit) m = Follows R m.scene (does w (e.MakeLevel name implicit) m)
-Owes R w e.LevelStands m = Follows R m.scene (does w e.LevelStands m)
-Owes R w e.PopSnapshot m = Follows R m.scene (does w e.PopSnapshot m)
+Owes R w (Element.InTurn name x) m = Owes R w x m
+Owes R w (Element.MakeLevel name implicit) m = Follows R m.scene (does w (Element.MakeLevel name implicit) m)
+Owes R w Element.LevelStands m = Follows R m.scene (does w Element.LevelStands m)
+Owes R w Element.PopSnapshot m = Follows R m.scene (does w Element.PopSnapshot m)
 Owes R w x m = OwesEnds R w x m
 
 -- of these the two alone that change contexts and their hooks
 abbrev pub OwesMoves : Law → Option ℕ → Element → Moment → Type 0
-OwesMoves R w (e.InTurn name x) m = OwesMoves R w x m
-OwesMoves R w (e.Register name) m = Follows R m.scene (does w (e.Register name) m)
-OwesMoves R w (e.Reparent name parent) m = Follows R m.scene (does w (e.Reparent name parent) m)
+OwesMoves R w (Element.InTurn name x) m = OwesMoves R w x m
+OwesMoves R w (Element.Register name) m = Follows R m.scene (does w (Element.Register name) m)
+OwesMoves R w (Element.Reparent name parent) m = Follows R m.scene (does w (Element.Reparent name parent) m)
 OwesMoves R w other m = Unit {0}
 
 -- An element says no more than a word by itself. Where `usual` is true it registers no hook and moves no context either.
 abbrev pub IsSpoken : Bool → Element → Type 0
-IsSpoken usual (e.Says event) = is_word event ≡ true
-IsSpoken usual (e.InTurn name x) = IsSpoken usual x
-IsSpoken usual (e.Register name) = usual ≡ false
-IsSpoken usual (e.Reparent name parent) = usual ≡ false
+IsSpoken usual (Element.Says event) = is_word event ≡ true
+IsSpoken usual (Element.InTurn name x) = IsSpoken usual x
+IsSpoken usual (Element.Register name) = usual ≡ false
+IsSpoken usual (Element.Reparent name parent) = usual ≡ false
 IsSpoken usual other = Unit {0}
 
 abbrev pub AreSpoken : Bool → List Element → Type 0

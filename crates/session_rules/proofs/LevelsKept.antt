@@ -1,7 +1,7 @@
 -- What levels and their owners keep where the deepest level goes, is released or is made.
-use Rattle.session_rules.proofs.Base.{◌≡◌, ◌≢◌, ◌⊎◌, ℕ, ◌<◌, true, false, Option, Some, None, List, [], ◌∷◌, refl, sym, ap, ◌∙◌, subst, inl, inr, arith, is_some, option_map_or, cases_eq, cases_Bool, nat_tests}
-use Rattle.session_rules.proofs.Below.{has, Once, children, parent_of, is_above, removed, AllNodes, swept, at_absent, has_of_removed, left_apart, above_by_parent, above_none, Contexts, is_protected, KindTable, IsSoundTable, Owner, OwnerTree, AllAt, HoldsNothing, has_begun, once_of, sound_removed}
-use Rattle.session_rules.proofs.Rules.{LevelState, OpenPortal, abort_context, first_of, owner_of, top_context, level_parent, AreContexts, AreLevels, AreOuter, AreOwners, HasItems, IsContextOf, IsOwner, IsOwnerOf, IsReleased, AreEnding, IsLoose}
+use Rattle.session_rules.proofs.Base.{◌≡◌, ◌≢◌, ◌⊎◌, ℕ, ◌<◌, true, false, Option, Some, None, List, [], ◌∷◌, refl, sym, ap, ◌∙◌, inl, inr, arith, is_some, option_map_or, cases_eq, cases_Bool, nat_tests}
+use Rattle.session_rules.proofs.Below.{has, Once, children, parent_of, is_above, removed, AllNodes, at_absent, has_of_removed, left_apart, above_by_parent, above_none, Contexts, is_protected, KindTable, IsSoundTable, Owner, OwnerTree, AllAt, HoldsNothing, has_begun, once_of, sound_removed}
+use Rattle.session_rules.proofs.Rules.{LevelState, OpenPortal, abort_context, first_of, owner_of, top_context, level_parent, AreContexts, AreLevels, AreOuter, AreOwners, HasItems, IsContextOf, IsOwner, IsOwnerOf, AreEnding}
 use Rattle.session_rules.proofs.Forests.{at_left}
 use Rattle.session_rules.proofs.Guarded.{all_removed, top_parent}
 use Rattle.session_rules.proofs.ContextsKept.{IsSame, own as own_context}
@@ -10,8 +10,7 @@ use Rattle.session_rules.proofs.Releasing.{HasSwept, swept_by, holds_nothing, st
 
 -- what is there
 pub is_there : (o : Option ℕ) → is_some o ≡ true → (n : ℕ) × (o ≡ Some n)
-is_there None h = absurd (cc h)
-is_there (Some n) h = (n, refl)
+is_there o h = grind (arith, nat_tests)
 
 pub one_value : (o : Option ℕ) (m n : ℕ) → o ≡ Some m → o ≡ Some n → m ≡ n
 one_value o m n a b = let z : Some m ≡ Some n = sym a ∙ b in cc z
@@ -54,10 +53,7 @@ levels_stay (level ∷ levels) t u x y a b h = (
 
 -- the parent of a context of the levels is one of theirs or the topmost one
 pub context_above : (levels : List LevelState) → AreOuter levels → (P : Type 0) → (level_parent (first_of levels) ≡ top_context → P) → (IsContext (level_parent (first_of levels)) levels → P) → P
-context_above [] h P top one = top refl
-context_above (level ∷ levels) h P top one =
-    let c = is_there level.context h.0.made.context in
-    one (inl (c.1 ∙ ap Some (sym (ap (λ (o : Option ℕ). option_map_or (λ n. n) o top_context) c.1))))
+context_above levels h P top one = grind (arith, nat_tests, is_there)
 
 -- the contexts of the levels above aren't within a newer context
 pub outer_contexts : (levels : List LevelState) (t : Contexts) (x : OwnerTree) (next p : ℕ) → AreContexts t next → AreLevels levels t x → AreOuter levels → abort_context < p → level_parent (first_of levels) < p
@@ -129,45 +125,8 @@ HasLeft kinds (Some p) owners now = HasSwept kinds p owners now
 -- the deepest level is aborted
 pub owners_aborted : (kinds : KindTable) (level : LevelState) (levels : List LevelState) (portals : List OpenPortal) (owners now : OwnerTree) (a b : ℕ) (o : Option ℕ) → IsSoundTable kinds → level.owner ≡ o → HasLeft kinds o owners now
     → AreEnding kinds owners a b level levels portals → AreOwners kinds now a b (record level { aborted = true } ∷ levels) portals
-owners_aborted kinds level levels portals owners now a b None sound e left h =
-    subst (λ (z : OwnerTree). AreOwners kinds z a b (record level { aborted = true } ∷ levels) portals) (sym left) (record {
-      sound = h.sound;
-      each = λ n u. elim (h.each n u) [ inl i ↦ inl i | inr k ↦ elim k [ inl p ↦ inr (inl p) | inr r ↦ absurd (no_value level.owner r.owner e r.is) ] ];
-      begun = λ n u. let r = h.begun n u in absurd (no_value level.owner r.owner e r.is);
-      items = h.items;
-    })
-owners_aborted kinds level levels portals owners now a b (Some p) sound e left h =
-    let once : Once owners = once_of owners a b h.sound in
-    let f : Owner → Owner = swept_by kinds in
-    let is : now ≡ swept f p owners = left.is in
-    let below : (n : ℕ) → has n (children p now) ≡ has n (children p owners) = λ n. ap (λ (z : OwnerTree). has n (children p z)) is ∙ below_swept f n p owners in
-    let gone : (n : ℕ) → IsLoose level n owners → IsReleased (record level { aborted = true }) n now = λ n r.
-    let same : r.owner ≡ p = one_value level.owner r.owner p r.is e in
-    record {
-      aborted = refl;
-      owner = p;
-      is = e;
-      within = elim r.within [ inl q ↦ inl (q ∙ same) | inr q ↦ inr (below n ∙ ap (λ (m : ℕ). has n (children m owners)) (sym same) ∙ q) ];
-    } in
-    record {
-      sound = still_sound kinds p owners now a b left h.sound;
-      each = λ n u. elim (h.each n (sym (ap (has n) is ∙ has_swept f n p owners) ∙ u)) [
-        | inl i ↦ inl i
-        | inr k ↦ elim k [ inl q ↦ inr (inl q) | inr r ↦ inr (inr (gone n r)) ]
-      ];
-      begun = λ n u.
-          let u2 : has_begun n (swept f p owners) ≡ true = ap (has_begun n) (sym is) ∙ u in
-          elim (cases_eq n p) [
-            | inl q ↦ record { aborted = refl; owner = p; is = e; within = inl q }
-            | inr ne ↦ elim (cases_Bool (has n (children p owners))) [
-              | inl y ↦ record { aborted = refl; owner = p; is = e; within = inr (below n ∙ y) }
-              | inr y ↦
-                  let was : has_begun n owners ≡ true = ap (λ (x : Option Owner). option_map_or (λ owner. owner.begun) x false) (sym (at_swept_other f n p owners once ne y)) ∙ u2 in
-                  gone n (h.begun n was)
-            ]
-          ];
-      items = rw is (all_swept f (HasItems kinds) p owners (λ owner. still_items kinds owner sound) h.items);
-    }
+owners_aborted kinds level levels portals owners now a b None sound e left h = grind (arith, nat_tests, no_value level.owner)
+owners_aborted kinds level levels portals owners now a b (Some p) sound e left h = grind (arith, nat_tests, once_of owners a b h.sound, below_swept, one_value level.owner, still_sound kinds p owners now a b left h.sound, has_swept, cases_eq, cases_Bool, at_swept_other, all_swept, still_items kinds)
 
 -- its owner and all below that hold nothing
 pub left_nothing : (kinds : KindTable) (p : ℕ) (owners now : OwnerTree) → IsSoundTable kinds → HasSwept kinds p owners now → AllNodes (HasItems kinds) owners → AllAt HoldsNothing p now
@@ -177,10 +136,4 @@ left_nothing kinds p owners now sound left items =
 
 -- a release leaves the owners where they are
 pub left_still : (kinds : KindTable) (o : Option ℕ) (owners now : OwnerTree) → HasLeft kinds o owners now → (m : ℕ) → has m owners ≡ true → IsStill m owners now
-left_still kinds None owners now left m there = record { there = ap (has m) left ∙ there; parent = ap (parent_of m) left }
-left_still kinds (Some p) owners now left m there =
-    let f : Owner → Owner = swept_by kinds in
-    record {
-      there = ap (has m) left.is ∙ has_swept f m p owners ∙ there;
-      parent = ap (parent_of m) left.is ∙ parent_swept f m p owners;
-    }
+left_still kinds o owners now left m there = grind (arith, nat_tests, has_swept (swept_by kinds) m, parent_swept (swept_by kinds) m)

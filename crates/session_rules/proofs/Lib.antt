@@ -3,12 +3,6 @@ pub mod Below
 pub mod Rules
 pub mod LaterLemmas
 pub mod Setting
-pub mod RowsOfLevels
-pub mod RowsOfContexts
-pub mod RowsOfResources
-pub mod RowsOfPortals
-pub mod RowsOfRuns
-pub mod RowsOfAsking
 pub mod LawfulRows
 pub mod Forests
 pub mod Guarded

@@ -1,18 +1,7 @@
 -- What the sessions of a run have locked is what all of them together hold: a session sees of it what the others hold, in order.
-use Rattle.session_rules.proofs.Base.{◌≡◌, ◌≢◌, ℕ, zero, suc, ◌+◌, ◌≤◌, Bool, true, false, ◌&&◌, ◌||◌, cond, nat_eq, nat_lt, List, [], ◌∷◌, ◌++◌, length, map, Some, inl, inr, refl, ap, sym, subst, ◌∙◌, arith, All, slice_get, ◌⊎◌, flat_map, nat_tests}
-use Rattle.session_rules.proofs.Below.{Mode}
-use Rattle.session_rules.proofs.Rules.{SessionState}
-use Rattle.std.proofs.lemmas.Bool.{true≢false, eqb-true, eq-eqb, cases_Bool, cases_eq}
-use Rattle.std.proofs.lemmas.List.Elements.{All-nil, All-head, All-tail, All-weaker, All-append, All-map}
-use Rattle.std.proofs.lemmas.List.Folds.{list_any-append, list_any_none}
-use Rattle.pgs_step.specs.Mode.{mode_number}
-use Rattle.lock_shared.specs.declared.shared_locks.Holding.{Holding}
-use Rattle.lock_shared.specs.Holdings.{is_holding, holds}
-use Rattle.lock_shared.specs.Ranked.{IsRanked, beside, ranks_before}
-use Rattle.lock_shared.proofs.HoldingLemmas.{holding_parts}
-use Rattle.lock_shared.proofs.BesideLemmas.{beside_unique}
-use Rattle.lock_local.specs.Locks.{Lock, AreLocks, IsInOrder, comes_before, has_owner, is_held, is_lock}
-use Rattle.session_rules.specs.World.{holdings, others}
+use Rattle.session_rules.proofs.Base.{◌≡◌, ◌≢◌, ℕ, zero, suc, ◌+◌, ◌≤◌, Bool, true, false, ◌&&◌, ◌||◌, cond, nat_eq, nat_lt, List, [], ◌∷◌, ◌++◌, length, map, Some, inl, inr, refl, ap, sym, ◌∙◌, arith, All, slice_get, ◌⊎◌, flat_map, nat_tests, true≢false, eqb-true, eq-eqb, cases_Bool, cases_eq, All-nil, All-head, All-tail, All-weaker, All-append, All-map, list_any-append, list_any_none}
+use Rattle.session_rules.proofs.Below.{Mode, mode_number, Holding, is_holding, holds, IsRanked, beside, ranks_before, holding_parts, beside_unique, Lock, AreLocks, IsInOrder, comes_before, has_owner, is_held, is_lock}
+use Rattle.session_rules.proofs.Rules.{SessionState, holdings, others}
 
 -- a lock as a session of this number holds it
 abbrev held_as : ℕ → Lock → Holding
@@ -26,10 +15,7 @@ own_holds n (l ∷ ls) o m s owned same =
     ∙ ap (λ b. (is_lock o m l && has_owner l) || b) (own_holds n ls o m s (All-tail (λ l. has_owner l ≡ true) l ls owned) same)
 
 not_of : (h : Holding) (o : ℕ) (m : Mode) (s : ℕ) → h.session ≢ s → is_holding o m s h ≡ false
-not_of h o m s other = elim (cases_Bool (is_holding o m s h)) as (λ _. is_holding o m s h ≡ false) [
-  | inl e ↦ absurd (other (holding_parts o m s h e).2)
-  | inr e ↦ e
-]
+not_of h o m s other = grind (arith, nat_tests, cases_Bool (is_holding o m s h), holding_parts o m s h)
 
 none_of : (hs : List Holding) (o : ℕ) (m : Mode) (s : ℕ) → All (λ h. h.session ≢ s) hs → holds hs o m s ≡ false
 none_of hs o m s all = list_any_none (is_holding o m s) hs (All-weaker (λ h. h.session ≢ s) (λ h. is_holding o m s h ≡ false) (λ h other. not_of h o m s other) hs all)
@@ -152,13 +138,4 @@ locked_holds n k (s ∷ ss) shared a o m i other from =
 
 -- what a session sees of what the others have locked
 pub locked_is : (n : ℕ) (ss : List SessionState) (shared : List Holding) → AreLocked 1 ss shared → ((o : ℕ) (m : Mode) → holds shared o m 0 ≡ false) → flat_map holdings (others n 1 ss) ≡ beside n shared
-locked_is n ss shared a none =
-    beside_unique n (locked_from n 1 ss) shared (locked_ranked n 1 ss shared a)
-    (λ o m s same. none_of (locked_from n 1 ss) o m s (subst (λ (j : ℕ). All (λ h. h.session ≢ j) (locked_from n 1 ss)) (sym same) (but_one n 1 ss)))
-    (λ o m s other. by_number s (cases_eq s 0) o m other)
-  where
-    by_number : (s : ℕ) → (s ≡ 0) ⊎ (s ≢ 0) → (o : ℕ) (m : Mode) → s ≢ n → holds (locked_from n 1 ss) o m s ≡ holds shared o m s
-    by_number s (inl is) o m other =
-        none_of (locked_from n 1 ss) o m s (All-weaker (λ h. 1 ≤ h.session) (λ h. h.session ≢ s) (λ h l same. omega (arith, l, same, is)) (locked_from n 1 ss) (from_number n 1 ss))
-        ∙ sym (ap (λ (j : ℕ). holds shared o m j) is ∙ none o m)
-    by_number s (inr ne) o m other = locked_holds n 1 ss shared a o m s other (omega (arith, ne))
+locked_is n ss shared a none = grind (arith, nat_tests, beside_unique, locked_ranked, none_of, but_one, cases_eq, from_number, locked_holds)

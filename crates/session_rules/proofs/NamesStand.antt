@@ -1,20 +1,11 @@
 -- The steps on contexts of a name lead from a session that stands to one that stands.
-use Rattle.session_rules.proofs.Base.{◌≡◌, ◌≢◌, ◌⊎◌, ℕ, ◌+◌, Bool, true, false, Option, Some, None, List, [], ◌∷◌, ◌++◌, refl, sym, ap, ◌∙◌, subst, inl, inr, arith, ◌==◌, reverse, if◌then◌else◌, codes, option_map, option_and_then, eq-eqb, both_ways, or_parts, nat_tests}
-use Rattle.session_rules.proofs.Below.{Empty, Node, Once, children, has, is_above, moved, removed, with_children, Moves, apart_of, at_absent, at_some, has_changed, Hook, taken, CtxKind, Context, Contexts, created, is_protected, new_context, reparented, OwnerTree, is_text, Apart}
-use Rattle.session_rules.proofs.Rules.{LevelState, SessionState, cache_context, context_of, first_of, last_of, level_context, top_context, Scene, Moment, Text, context_named, context_made, new_context_made, at_context, context_moved, hook_registered, hook_waits, does, AreContexts, AreHooks, AreLevels, IsPlace, IsRow, IsWorking, Stands, referred}
-use Rattle.std.proofs.lemmas.List.{reverse-append}
+use Rattle.session_rules.proofs.Base.{◌≡◌, ◌≢◌, ◌⊎◌, ℕ, ◌+◌, Bool, true, false, Option, Some, None, List, [], ◌∷◌, ◌++◌, refl, sym, ap, ◌∙◌, subst, inl, inr, arith, ◌==◌, reverse, if◌then◌else◌, codes, option_map, eq-eqb, both_ways, or_parts, nat_tests, reverse-append}
+use Rattle.session_rules.proofs.Below.{Empty, Node, Once, children, has, is_above, removed, with_children, Moves, apart_of, at_absent, at_some, has_changed, Hook, taken, CtxKind, Context, Contexts, created, is_protected, new_context, reparented, OwnerTree, is_text, registered, is_within, set_parent_refusal, TreeError, Protected, Cycle}
+use Rattle.session_rules.proofs.Rules.{LevelState, SessionState, cache_context, context_of, first_of, last_of, level_context, top_context, Scene, Moment, Text, context_named, context_made, new_context_made, at_context, context_moved, hook_waits, does, AreContexts, AreHooks, AreLevels, IsPlace, IsRow, IsWorking, Stands, referred, Check, Element, NewContext, Ended, of_contexts, children_gone, context_cleared, context_cleared_alone, context_gone, switched, where_there, failure, refusal_at, tree_error}
+use Rattle.session_rules.proofs.Kept.{has_emptied, has_left, once_left, hooks_ended, hooks_put, hooks_taken, hooks_reparented, parts_alone, parts_children, parts_cleared, parts_gone, IsContext, no_value, one_value, lone_changed, lone_emptied, lone_left, lone_moved, lone_put, IsCached, levels_other, own_other, plans_current, place_current, place_level, place_own, place_same, portals_moved, row_changed, row_emptied, row_free, row_left, row_put, Stay, apart, contexts_alone, contexts_changed, contexts_children_gone, contexts_created, contexts_gone, contexts_reparented, has_alone, has_created, has_reparented, moves_by, protected_has, same_removed, stay_alone, stay_changed, stay_children_gone, stay_created, stay_gone, stay_on, stay_reparented, stay_same, top_protected, by_alone, by_reparented}
 use Rattle.context_rules.specs.Contexts as rules
-use Rattle.context_rules.specs.Chunks.{registered}
 use Rattle.context_rules.specs.Ends as ends
-use Rattle.context_rules.specs.Refusals.{delete_refusal, is_within, reset_refusal, set_parent_refusal}
 use Rattle.context_rules.specs.Refusals as refusals
-use Rattle.context_rules.specs.declared.errors.TreeError.{TreeError}
-use Rattle.context_rules.specs.declared.errors.TreeError.TheVariants.{Protected, InUse, Cycle}
-use Rattle.session_rules.specs.Elements as element
-use Rattle.session_rules.specs.Acts.{Ended, of_contexts, children_gone, context_cleared, context_cleared_alone, context_gone, switched, where_there}
-use Rattle.session_rules.specs.Checks.{failure, refusal_at, tree_error}
-use Rattle.session_rules.proofs.Kept.{has_emptied, has_left, once_left, hooks_ended, hooks_put, hooks_taken, hooks_reparented, parts_alone, parts_children, parts_cleared, parts_gone, IsContext, no_value, one_value, lone_changed, lone_emptied, lone_left, lone_moved, lone_put, IsCached, levels_other, own_other, plans_current, place_current, place_level, place_own, place_same, portals_moved, row_changed, row_emptied, row_free, row_left, row_put}
-use Rattle.session_rules.proofs.ContextsKept.{Stay, apart, contexts_alone, contexts_changed, contexts_children_gone, contexts_created, contexts_gone, contexts_reparented, has_alone, has_created, has_reparented, moves_by, protected_has, same_removed, stay_alone, stay_changed, stay_children_gone, stay_created, stay_gone, stay_on, stay_reparented, stay_same, top_protected, by_alone, by_reparented}
 use Rattle.session_rules.proofs.StepsStand.{Works, contexts_step, fallible_keeps, nothing_works, still_planned, still_portals, beside_by}
 
 -- the context of the first level of a list that is put together
@@ -28,10 +19,7 @@ in_both (x ∷ xs) ys n i = grind (arith, nat_tests, in_both xs ys n)
 
 in_reverse : (levels : List LevelState) (n : ℕ) → IsContext n (reverse levels) → IsContext n levels
 in_reverse [] n i = i
-in_reverse (level ∷ levels) n i = elim (in_both (reverse levels) (level ∷ []) n (subst (IsContext n) (reverse-append (level ∷ []) levels) i)) [
-  | inl j ↦ inr (in_reverse levels n j)
-  | inr j ↦ elim j [ inl e ↦ inl e | inr k ↦ absurd k ]
-]
+in_reverse (level ∷ levels) n i = grind (arith, nat_tests, in_both (reverse levels) (level ∷ []) n (subst (IsContext n) (reverse-append (level ∷ []) levels) i), reverse-append (level ∷ []) levels, in_reverse levels n)
 
 -- a level's context is there
 level_there : (levels : List LevelState) (t : Contexts) (x : OwnerTree) (n : ℕ) → AreLevels levels t x → IsContext n levels → has n t ≡ true
@@ -59,27 +47,16 @@ leads_to P name s n e top cache level script =
 
 -- It is there.
 pub named_there : (name : Text) (s : Scene) (n : ℕ) → Stands s → context_named name s.session ≡ Some n → has n s.session.contexts ≡ true
-named_there name s n h e =
-    leads_to (has n s.session.contexts ≡ true) name s.session n e
-    (λ z. ap (λ (m : ℕ). has m s.session.contexts) (sym z) ∙ protected_has top_context s.session.contexts (top_protected s.session.contexts s.session.next_context h.contexts))
-    (λ z. ap (λ (m : ℕ). has m s.session.contexts) (sym z) ∙ protected_has cache_context s.session.contexts (h.contexts.own cache_context (omega arith) (omega arith)).protected)
-    (λ i. level_there s.session.levels s.session.contexts s.session.owners n h.levels i)
-    (λ q. script_there name s.session.contexts n q)
+named_there name s n h e = grind (arith, nat_tests, leads_to (has n s.session.contexts ≡ true) name s.session n e, protected_has top_context s.session.contexts (top_protected s.session.contexts s.session.next_context h.contexts), protected_has cache_context s.session.contexts, top_protected s.session.contexts s.session.next_context h.contexts, level_there s.session.levels s.session.contexts s.session.owners n h.levels, script_there name s.session.contexts n)
 
 -- a context of the script is none of the session's own
 script_free : (name : Text) (t : Contexts) (n : ℕ) → Once t → rules.context_named name t ≡ Some n → is_protected n t ≡ false
 script_free name Empty n o e = refl
-script_free name (Node k c below beside) n o e =
-    let apart : Apart k below beside = apart_of k c below beside o in
-    grind (arith, nat_tests, script_there name below n, script_there name beside n, apart.apart_back n, at_absent n below, at_some n below, script_free name below n apart.once_below, script_free name beside n apart.once_beside)
+script_free name (Node k c below beside) n o e = grind (arith, nat_tests, apart_of k c below beside o, script_there name below n, script_there name beside n, at_absent n below, at_some n below, script_free name below n, script_free name beside n)
 
 -- A context that a name leads to isn't that of a plan.
 pub named_other : (name : Text) (s : Scene) (n : ℕ) → Stands s → context_named name s.session ≡ Some n → (m : ℕ) → IsCached m s.session.contexts → n ≢ m
-named_other name s n h e m k =
-    leads_to (n ≢ m) name s.session n e
-    (λ z. own_other n (omega (arith, z)) s.session.contexts m k) (λ z. own_other n (omega (arith, z)) s.session.contexts m k)
-    (λ i. levels_other s.session.levels s.session.contexts s.session.owners h.levels n i m k)
-    (λ q z. both_ways (is_protected n s.session.contexts) (script_free name s.session.contexts n h.contexts.once q) (ap (λ (j : ℕ). is_protected j s.session.contexts) z ∙ k.protected))
+named_other name s n h e m k = grind (arith, nat_tests, leads_to (n ≢ m) name s.session n e, own_other n, levels_other s.session.levels s.session.contexts s.session.owners h.levels n, both_ways (is_protected n s.session.contexts), script_free name s.session.contexts n h.contexts.once)
 
 -- nor is it that of a portal or of one row
 pub named_place : (name : Text) (s : Scene) (n : ℕ) → Stands s → context_named name s.session ≡ Some n → (m : ℕ) (expr : Option ℕ) → IsPlace m expr s.session.contexts s.session.current → IsPlace m expr s.session.contexts n
@@ -100,8 +77,7 @@ row_alone t once k m expr current h = by_alone (λ u. IsRow expr (children m u))
 
 row_reparented : (m : ℕ) (expr : Option ℕ) (n p : ℕ) (t : Contexts) (next current : ℕ) → AreContexts t next → Moves n p t → m ≢ n → has m (children n t) ≡ false → is_protected n t ≡ false → IsPlace m expr t p → IsPlace m expr t current
     → IsRow expr (children m (reparented n p t))
-row_reparented m expr n p t next current contexts moves ne out free named k =
-    grind (arith, nat_tests, at_some n t moves.node, place_same m expr t (removed n t) current (same_removed t next contexts m n (ne, out) k.protected) (row_left t contexts.once m expr current k n ne out (row_free t contexts.once n free m expr current k)) k, same_removed t next contexts m n (ne, out) k.protected, row_left t contexts.once m expr current k n ne out (row_free t contexts.once n free m expr current k), row_free t contexts.once n free m expr current k, moved n p t, row_put (removed n t) (once_left n t contexts.once) m expr current, once_left n t contexts.once, by_reparented)
+row_reparented m expr n p t next current contexts moves ne out free named k = grind (arith, nat_tests, at_some n t moves.node, place_same m expr t (removed n t) current (same_removed t next contexts m n (ne, out) k.protected) (row_left t contexts.once m expr current k n ne out (row_free t contexts.once n free m expr current k)) k, same_removed t next contexts m n (ne, out) k.protected, row_left t contexts.once m expr current k n ne out (row_free t contexts.once n free m expr current k), row_free t contexts.once n free m expr current k, row_put (removed n t) (once_left n t contexts.once) m expr current, once_left n t contexts.once, by_reparented)
 
 -- a node without children has none behind a reset, nor where another one moves
 lone_alone : (m n : ℕ) (t : Contexts) → children m t ≡ Empty → children m (ends.cleared_alone n t).contexts ≡ Empty
@@ -112,22 +88,17 @@ lone_reparented m n p t once moves other ne out e = by_reparented (λ u. childre
 
 -- what the checks say
 no_error : (o : Option TreeError) → option_map tree_error o ≡ None → o ≡ None
-no_error None e = refl
-no_error (Some x) e = let z : Some (tree_error x) ≡ None = e in absurd (cc z)
+no_error o e = grind (arith, nat_tests)
 
 pub both_none : (a b : Bool) (x y : TreeError) → refusals.first_of (refusals.where_so a x) (refusals.where_so b y) ≡ None → (a ≡ false) × (b ≡ false)
-both_none true b x y e = absurd (cc e)
-both_none false true x y e = absurd (cc e)
-both_none false false x y e = (refl, refl)
+both_none a b x y e = grind (arith, nat_tests)
 
 pub checked : (name : Text) (s : SessionState) (refusal : ℕ → Option TreeError) (n : ℕ) → context_named name s ≡ Some n → refusal_at name s refusal ≡ None → refusal n ≡ None
-checked name s refusal n is e =
-    no_error (refusal n) (ap (λ (o : Option ℕ). option_map tree_error (option_and_then refusal o)) (sym is) ∙ e)
+checked name s refusal n is e = grind (arith, nat_tests, no_error (refusal n))
 
 -- an act on a context that a name leads to
 pub at_name : {A : Type 0} (P : Scene → Type 0) (o : Option A) (act : A → Scene → Ended) (s : Scene) → P s → ((n : A) → o ≡ Some n → P (act n s).scene) → P (where_there o act s).scene
-at_name P None act s before behind = before
-at_name P (Some n) act s before behind = behind n refl
+at_name P o act s before behind = grind (arith, nat_tests)
 
 -- what became of contexts
 ended_step : (s : Scene) → Stands s → IsWorking s.session.levels → (ended : ends.Ended) → AreContexts ended.contexts s.session.next_context → Stay s.session.contexts ended.contexts → has s.session.current ended.contexts ≡ true
@@ -216,7 +187,7 @@ waits_step s n hook h working there first =
 
 -- Each element on contexts of a name, behind its checks.
 module _ (w : Option ℕ) (moment : Moment) (h : Stands moment.scene) (working : IsWorking moment.scene.session.levels) where
-  pub switch_works : (name : Text) → Works moment.scene (does w (element.Switch name) moment).moment.scene
+  pub switch_works : (name : Text) → Works moment.scene (does w (Element.Switch name) moment).moment.scene
   unfolding does
   switch_works name =
       at_name (Works moment.scene) (context_named name moment.scene.session) switched moment.scene (nothing_works moment.scene h)
@@ -227,55 +198,36 @@ module _ (w : Option ℕ) (moment : Moment) (h : Stands moment.scene) (working :
       (portals_moved moment.scene.session.portals moment.scene.session.levels moment.scene.session.contexts moment.scene.session.contexts moment.scene.session.owners moment.scene.session.current n
       (λ m expr k. named_place name moment.scene n h e m expr k) h.portals))).works)
 
-  pub delete_works : (name : Text) → failure (element.MayDelete name) moment.scene ≡ None → Works moment.scene (does w (element.Delete name) moment).moment.scene
+  pub delete_works : (name : Text) → failure (Check.MayDelete name) moment.scene ≡ None → Works moment.scene (does w (Element.Delete name) moment).moment.scene
   unfolding does
-  delete_works name ok =
-      at_name (Works moment.scene) (context_named name moment.scene.session) context_gone moment.scene (nothing_works moment.scene h)
-      (λ n e.
-      let b = both_none (is_protected n moment.scene.session.contexts) (is_within n moment.scene.session.current moment.scene.session.contexts) Protected InUse
-      (checked name moment.scene.session (λ m. delete_refusal m moment.scene.session.current moment.scene.session.contexts) n e ok) in
-      record { stands = gone_step moment.scene n h working b.0 b.1; levels = refl; at_rest = λ r. r })
+  delete_works name ok = grind (arith, nat_tests, at_name, nothing_works, both_none, checked name, gone_step)
 
-  pub delete_children_works : (name : Text) → failure (element.MayReset name) moment.scene ≡ None → Works moment.scene (does w (element.DeleteChildren name) moment).moment.scene
+  pub delete_children_works : (name : Text) → failure (Check.MayReset name) moment.scene ≡ None → Works moment.scene (does w (Element.DeleteChildren name) moment).moment.scene
   unfolding does
-  delete_children_works name ok =
-      at_name (Works moment.scene) (context_named name moment.scene.session) children_gone moment.scene (nothing_works moment.scene h)
-      (λ n e.
-      let b = both_none (is_protected n moment.scene.session.contexts) (is_above n moment.scene.session.current moment.scene.session.contexts) Protected InUse
-      (checked name moment.scene.session (λ m. reset_refusal m moment.scene.session.current moment.scene.session.contexts) n e ok) in
-      record { stands = children_step moment.scene n h working b.0 b.1; levels = refl; at_rest = λ r. r })
+  delete_children_works name ok = grind (arith, nat_tests, at_name, nothing_works, both_none, checked name, children_step)
 
-  pub reset_works : (name : Text) → failure (element.MayReset name) moment.scene ≡ None → Works moment.scene (does w (element.Reset name) moment).moment.scene
+  pub reset_works : (name : Text) → failure (Check.MayReset name) moment.scene ≡ None → Works moment.scene (does w (Element.Reset name) moment).moment.scene
   unfolding does
-  reset_works name ok =
-      at_name (Works moment.scene) (context_named name moment.scene.session) context_cleared moment.scene (nothing_works moment.scene h)
-      (λ n e.
-      let b = both_none (is_protected n moment.scene.session.contexts) (is_above n moment.scene.session.current moment.scene.session.contexts) Protected InUse
-      (checked name moment.scene.session (λ m. reset_refusal m moment.scene.session.current moment.scene.session.contexts) n e ok) in
-      record { stands = cleared_step moment.scene n h working b.0 b.1; levels = refl; at_rest = λ r. r })
+  reset_works name ok = grind (arith, nat_tests, at_name, nothing_works, both_none, checked name, cleared_step)
 
-  pub reset_only_works : (name : Text) → Works moment.scene (does w (element.ResetOnly name) moment).moment.scene
+  pub reset_only_works : (name : Text) → Works moment.scene (does w (Element.ResetOnly name) moment).moment.scene
   unfolding does
-  reset_only_works name =
-      at_name (Works moment.scene) (context_named name moment.scene.session) context_cleared_alone moment.scene (nothing_works moment.scene h)
-      (λ n e. record { stands = alone_step moment.scene n h working; levels = refl; at_rest = λ r. r })
+  reset_only_works name = grind (arith, nat_tests, at_name, nothing_works, alone_step)
 
-  pub reparent_works : (name parent : Text) → failure (element.MayMove name parent) moment.scene ≡ None → Works moment.scene (does w (element.Reparent name parent) moment).moment.scene
+  pub reparent_works : (name parent : Text) → failure (Check.MayMove name parent) moment.scene ≡ None → Works moment.scene (does w (Element.Reparent name parent) moment).moment.scene
   unfolding does
   reparent_works name parent ok =
       at_name (Works moment.scene) (context_named name moment.scene.session) (λ n. at_context parent (context_moved n)) moment.scene (nothing_works moment.scene h)
       (λ n e. at_name (Works moment.scene) (context_named parent moment.scene.session) (context_moved n) moment.scene (nothing_works moment.scene h)
       (λ p q.
-      let may : set_parent_refusal n p moment.scene.session.contexts ≡ None =
-      ap (option_and_then (λ (m : ℕ). set_parent_refusal n m moment.scene.session.contexts)) (sym q)
-      ∙ checked name moment.scene.session (λ m. option_and_then (λ k. set_parent_refusal m k moment.scene.session.contexts) (context_named parent moment.scene.session)) n e ok in
+      let may : set_parent_refusal n p moment.scene.session.contexts ≡ None = grind (arith, nat_tests, checked name moment.scene.session) in
       let b = both_none (is_protected n moment.scene.session.contexts) (is_within n p moment.scene.session.contexts) Protected Cycle may in
       record { stands = moved_step moment.scene n p h working (named_there name moment.scene n h e) (named_there parent moment.scene p h q) b.0 b.1 (named_other parent moment.scene p h q) (named_place parent moment.scene p h q); levels = refl; at_rest = λ r. r }))
 
-  pub make_script_context_works : (name parent : Text) (kind : CtxKind) → Works moment.scene (does w (element.MakeContext (element.ScriptContext name parent kind)) moment).moment.scene
+  pub make_script_context_works : (name parent : Text) (kind : CtxKind) → Works moment.scene (does w (Element.MakeContext (NewContext.ScriptContext name parent kind)) moment).moment.scene
   unfolding does
   make_script_context_works name parent kind =
-      fallible_keeps (Works moment.scene) w moment _ (new_context_made (element.ScriptContext name parent kind)) (nothing_works moment.scene h)
+      fallible_keeps (Works moment.scene) w moment _ (new_context_made (NewContext.ScriptContext name parent kind)) (nothing_works moment.scene h)
       (λ _. at_name (Works moment.scene) (context_named parent moment.scene.session) (λ p. context_made p name false kind) moment.scene (nothing_works moment.scene h)
       (λ p e.
       let t : Contexts = moment.scene.session.contexts in
@@ -298,13 +250,6 @@ module _ (w : Option ℕ) (moment : Moment) (h : Stands moment.scene) (working :
         at_rest = λ r. r;
       }))
 
-  pub register_works : (name : Text) → Works moment.scene (does w (element.Register name) moment).moment.scene
+  pub register_works : (name : Text) → Works moment.scene (does w (Element.Register name) moment).moment.scene
   unfolding does
-  register_works name =
-      fallible_keeps (Works moment.scene) w moment _ (hook_registered name) (nothing_works moment.scene h)
-      (λ _. at_name (Works moment.scene) (context_named name moment.scene.session) (λ n. where_there (first_of moment.scene.around.shelf.fresh) (hook_waits n)) moment.scene (nothing_works moment.scene h)
-      (λ n e. at_hook n (named_there name moment.scene n h e) (first_of moment.scene.around.shelf.fresh) refl))
-    where
-      at_hook : (n : ℕ) → has n moment.scene.session.contexts ≡ true → (o : Option Hook) → first_of moment.scene.around.shelf.fresh ≡ o → Works moment.scene (where_there o (hook_waits n) moment.scene).scene
-      at_hook n there None e = nothing_works moment.scene h
-      at_hook n there (Some hook) e = record { stands = waits_step moment.scene n hook h working there e; levels = refl; at_rest = λ r. r }
+  register_works name = grind (arith, nat_tests, fallible_keeps, nothing_works, at_name, named_there name, waits_step)

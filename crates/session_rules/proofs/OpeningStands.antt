@@ -1,7 +1,7 @@
 -- A session that opens stands.
-use Rattle.session_rules.proofs.Base.{◌≡◌, ℕ, zero, suc, ◌≤◌, ◌<◌, true, [], refl, arith, nat_tests, All-nil}
-use Rattle.session_rules.proofs.Below.{Empty, Once, has, AreDistinct, table_of}
-use Rattle.session_rules.proofs.Rules.{abort_context, opening, Around, AreContexts, IsAtRest, IsOfSession, IsPlan, IsPortal, StandsBetweenLines}
+use Rattle.session_rules.proofs.Base.{◌≡◌, ℕ, ◌≤◌, ◌<◌, true, arith, nat_tests}
+use Rattle.session_rules.proofs.Below.{Once, has, AreDistinct, table_of}
+use Rattle.session_rules.proofs.Rules.{abort_context, opening, Around, AreContexts, IsOfSession, StandsBetweenLines}
 use Rattle.reset_callbacks.specs.ShelfState as shelf
 use Rattle.context_rules.specs.Opening as contexts
 use Rattle.owner_kinds.specs.KindTable.{IsSound}
@@ -13,13 +13,7 @@ first_below : (n : ℕ) → has n contexts.opening ≡ true → n < 6
 first_below n h = grind (arith, nat_tests)
 
 first_own : (n : ℕ) → 1 < n → n ≤ abort_context → IsOfSession n contexts.opening
-first_own zero l u = absurd (omega arith)
-first_own (suc zero) l u = absurd (omega arith)
-first_own (suc (suc zero)) l u = record { protected = refl; parent = refl }
-first_own (suc (suc (suc zero))) l u = record { protected = refl; parent = refl }
-first_own (suc (suc (suc (suc zero)))) l u = record { protected = refl; parent = refl }
-first_own (suc (suc (suc (suc (suc zero))))) l u = record { protected = refl; parent = refl }
-first_own (suc (suc (suc (suc (suc (suc n)))))) l u = absurd (omega arith)
+first_own n l u = grind (arith, nat_tests)
 
 first_contexts : AreContexts contexts.opening 6
 first_contexts = grind (arith, nat_tests, first_once, first_below, first_own)
@@ -27,24 +21,4 @@ first_contexts = grind (arith, nat_tests, first_once, first_below, first_own)
 -- A session that opens stands, where the hooks of the shelf differ and the kinds are sound.
 pub opening_stands : (around : Around) → AreDistinct (shelf.held around.shelf) → IsSound (table_of around.kinds) → StandsBetweenLines (record { session = opening; around = around })
 unfolding opening
-opening_stands around differ sound = record {
-  stands = record {
-    contexts = first_contexts;
-    current = refl;
-    hooks = record { out = omega arith; words = differ };
-    levels = tt;
-    fit = refl;
-    owners = record {
-      sound = record { numbers = λ n. omega arith; serials = λ n. omega arith; few = omega arith };
-      each = λ n u. absurd (cc u);
-      begun = λ n u. absurd (cc u);
-      items = tt;
-    };
-    kinds = sound;
-    portals = record { each = All-nil (λ p. IsPortal p [] contexts.opening Empty 1); different = tt };
-    plans = record { each = All-nil (λ plan. IsPlan plan contexts.opening 1); apart = tt; counted = λ n. refl };
-    snapshots = tt;
-  };
-  open_levels = tt;
-  at_rest = All-nil IsAtRest;
-}
+opening_stands around differ sound = grind (arith, nat_tests, first_contexts)

@@ -1,8 +1,7 @@
 -- Elements, recoveries and ends say no ERROR event of themselves, nor that the session ends.
-use Rattle.session_rules.proofs.Base.{◌≡◌, ℕ, Bool, true, false, not, List, [], ◌∷◌, Option, refl}
+use Rattle.session_rules.proofs.Base.{◌≡◌, ℕ, Bool, true, false, not, List, [], ◌∷◌, Option, refl, arith, nat_tests}
 use Rattle.session_rules.proofs.Below.{What}
 use Rattle.session_rules.proofs.Rules.{is_aborted, Moment, Scene, Element, context_gone, for_each, in_order, where_so, given_up, level_rolled_back, does_all}
-use Rattle.pgs_step.specs.declared.events.What.TheVariants as what
 use Rattle.session_rules.proofs.Leaves.{AreSpoken, EndLeaves, Follows, MakeLeaves, MoveLeaves, is_level_word, is_word, runs_anyhow}
 use Rattle.session_rules.proofs.Walk.{moves_owed, run_follows}
 use Rattle.session_rules.proofs.WalkEnds.{all_owed, levels_follow, recovery_follows}
@@ -11,19 +10,15 @@ use Rattle.session_rules.proofs.Sight.{Sight, end_leaves_of, hook_waits_so, item
 
 -- an event that is neither
 abbrev pub is_ordinary : What → Bool
-is_ordinary (what.Error error) = false
-is_ordinary what.Exit = false
+is_ordinary (What.Error error) = false
+is_ordinary What.Exit = false
 is_ordinary other = true
 
 word_ordinary : (event : What) → is_word event ≡ true → is_ordinary event ≡ true
-word_ordinary (what.Error error) h = absurd (cc h)
-word_ordinary what.Exit h = absurd (cc h)
-word_ordinary other h = refl
+word_ordinary event h = grind (arith, nat_tests)
 
 level_ordinary : (event : What) → is_level_word event ≡ true → is_ordinary event ≡ true
-level_ordinary (what.Error error) h = absurd (cc h)
-level_ordinary what.Exit h = absurd (cc h)
-level_ordinary other h = refl
+level_ordinary event h = grind (arith, nat_tests)
 
 -- the law that all are such ones
 pub record SaysOrdinary (s t : Scene) (events : List What) : Type 0 where

@@ -1,13 +1,11 @@
 -- Portals pass to the level above where the deepest one is merged into it.
-use Rattle.session_rules.proofs.Base.{◌≡◌, ◌≢◌, ◌⊎◌, ℕ, ◌+◌, ◌-◌, ◌≤◌, Bool, true, false, Option, Some, None, List, [], ◌∷◌, ◌++◌, length, refl, sym, ap, ◌∙◌, subst, inl, inr, arith, ◌==◌, option_map_or, cases_eq, cases_Bool, eq-eqb, eqb-true, eqb-false, ne_eqb, nat_tests}
-use Rattle.session_rules.proofs.Below.{Once, has, moved, Moves, Contexts, table_of, Owner, OwnerTree, once_of, sound_moved, Forest, Empty, Node, times, at, children, parent_of, put, removed, at_moved}
-use Rattle.session_rules.proofs.Rules.{LevelState, OpenPortal, first_of, owner_of, plan_reference, Scene, portal_changed, for_each, in_order, portal_becomes, where_so, where_there, owner_moved, portal_passed, AreLevels, AreOuter, ArePlans, HasItems, IsAtRest, IsAtWork, IsAttached, IsDead, IsLive, IsOwner, IsPortal, owner_at, referred, AreEnding, Ending, IsLoose}
-use Rattle.portal_store.specs.Portal.{lowered}
+use Rattle.session_rules.proofs.Base.{◌≡◌, ◌≢◌, ◌⊎◌, ℕ, ◌+◌, ◌-◌, ◌≤◌, true, false, Option, Some, None, List, [], ◌∷◌, ◌++◌, length, refl, sym, ap, ◌∙◌, subst, inl, inr, arith, option_map_or, cases_eq, cases_Bool, eq-eqb, eqb-true, eqb-false, ne_eqb, nat_tests}
+use Rattle.session_rules.proofs.Below.{Once, has, moved, Moves, Contexts, table_of, Owner, OwnerTree, once_of, sound_moved, Forest, Empty, Node, times, at, children, parent_of, put, removed, at_moved, at_some, children_absent, has_none, has_some, parent_stays, removed_has, times_moved, times_none, times_some, children_in, once_children}
+use Rattle.session_rules.proofs.Rules.{LevelState, OpenPortal, first_of, owner_of, plan_reference, Scene, portal_changed, for_each, in_order, portal_becomes, owner_moved, portal_passed, AreLevels, AreOuter, ArePlans, HasItems, IsAtRest, IsAtWork, IsAttached, IsDead, IsLive, IsOwner, IsPortal, owner_at, referred, AreEnding, Ending, IsLoose}
 use Rattle.session_rules.proofs.Kept.{all_moved, stay_same, held_moved, is_there, levels_stay, no_value, one_value, depth_outer, depth_small, depth_still, plans_counted, Changes, changed_one, owner_beside, owner_here, owner_split, attached_by, children_put, has_left, has_put_other, once_left, parent_left, parent_put, parent_put_other, children_left, lone_moved}
+use Rattle.portal_store.specs.Portal.{lowered}
 use Rattle.session_rules.proofs.Ending.{Leads, each_goes, parts_of, with_parts}
 use Rattle.session_rules.proofs.Replacing.{IsBeside, first_of_rest, replaced, replaced_leads, kept_owners}
-use Rattle.forest.proofs.Trees.{at_some, children_absent, has_none, has_some, parent_stays, removed_has, times_moved, times_none, times_some}
-use Rattle.forest.proofs.Walks.{children_in, once_children}
 
 module _ {A : Type 0} where
   same_has : (m : ℕ) (t u : Forest A) → times m u ≡ times m t → has m u ≡ has m t
@@ -16,8 +14,7 @@ module _ {A : Type 0} where
   -- what is below a node is so still where another one comes
   put_above : (m lo q o : ℕ) (a : A) (t : Forest A) → lo ≢ o → m ≢ o → has m (children lo t) ≡ true → has m (children lo (put q o a Empty t)) ≡ true
   put_above m lo q o a Empty ne other h = absurd (cc h)
-  put_above m lo q o a (Node k b below beside) ne other h =
-      grind (arith, nat_tests, has_put_other m q o a Empty below other refl, has_put_other lo q o a Empty below ne refl, put_above m lo q o a below ne other, put_above m lo q o a beside ne other)
+  put_above m lo q o a (Node k b below beside) ne other h = grind (arith, nat_tests, has_put_other m q o a Empty below other refl, has_put_other lo q o a Empty below ne refl, put_above m lo q o a below ne other, put_above m lo q o a beside ne other)
 
   -- A node without children moves.
   pub record HasMoved (o q : ℕ) (t : Forest A) : Type 0 where
@@ -47,10 +44,7 @@ module _ {A : Type 0} where
         parent = rw a.1 (parent_put q o a.0 (children o t) (removed o t) left there gone);
         lone_other = λ m other ne f. lone_moved m o q t once w other ne (out m) f;
         lone = rw a.1 (children_put q o a.0 (children o t) (removed o t) left there gone ∙ e);
-        above = λ m lo ne other h.
-            let kept : has m (children lo (removed o t)) ≡ true = ap (has m) (children_left lo o t once ne (out lo)) ∙ has_left m o (children lo t) (once_children lo t once) other (inner m lo) ∙ h in
-            let put_in : has m (children lo (put q o a.0 Empty (removed o t))) ≡ true = put_above m lo q o a.0 (removed o t) ne other kept in
-            rw a.1 (subst (λ (sub : Forest A). has m (children lo (put q o a.0 sub (removed o t))) ≡ true) (sym e) put_in);
+        above = grind (arith, nat_tests, children_left, has_left, once_children, put_above);
       }
 
 -- owners that are left to the deepest level still are
@@ -60,17 +54,14 @@ loose_moved level m o q x h away other l = grind (arith, nat_tests)
 -- where a portal's owner moves to an owner of these levels
 module _ (levels : List LevelState) (o q : ℕ) (t : Contexts) (x : OwnerTree) (current : ℕ) (m : HasMoved o q x) where
   pub levels_moved : (IsOwner o levels → ⊥) → AreLevels levels t x → AreLevels levels t (moved o q x)
-  levels_moved other l =
-      levels_stay levels t t x (moved o q x) (λ k i prot. stay_same t k prot)
-      (λ k i there. record { there = m.has_same k ∙ there; parent = m.parent_other k (λ z. other (subst (λ (j : ℕ). IsOwner j levels) z i)) }) l
+  levels_moved other l = grind (arith, nat_tests, levels_stay, stay_same)
 
   pub portal_moved : (p r : OpenPortal) → p.owner ≡ Some o → IsBeside p r → IsOwner q levels → IsPortal r levels t x current → IsPortal r levels t (moved o q x) current
   portal_moved p r e b i k = grind (arith, nat_tests, attached_by, moved o q x)
 
 pub plans_owner_moved : (s : Scene) (o q : ℕ) → Once s.session.owners → Moves o q s.session.owners → ArePlans s.session.plans s.session.contexts s.session.current (referred s.session.owners)
     → ArePlans s.session.plans s.session.contexts s.session.current (referred (moved o q s.session.owners))
-plans_owner_moved s o q once w h =
-    plans_counted s.session.plans s.session.contexts s.session.current (referred s.session.owners) (referred (moved o q s.session.owners)) (λ m. sym (held_moved plan_reference m o q s.session.owners once w)) h
+plans_owner_moved s o q once w h = grind (arith, nat_tests, plans_counted s.session.plans s.session.contexts s.session.current (referred s.session.owners) (referred (moved o q s.session.owners)), held_moved plan_reference)
 
 -- bounds of the levels of a portal
 pub record IsBounded (p : OpenPortal) (depth : ℕ) : Type 0 where
@@ -101,9 +92,7 @@ module _ (level : LevelState) (levels : List LevelState) (some : 1 ≤ length le
   passed_line p line = grind (arith, nat_tests, depth)
 
   pub passed_live : (p : OpenPortal) → AreOuter levels → IsLive p (level ∷ levels) ⊎ IsDead p (level ∷ levels) → IsLive (passed p) levels
-  passed_live p outer s =
-      let b : IsBounded p depth = bounded p (level ∷ levels) s in
-      grind (arith, nat_tests, depth, bounded p (level ∷ levels) s, lowered_most depth p.active b.active, lowered_some depth p.created, lowered_within depth p.created p.active b.within b.active, depth_outer levels outer, passed_line p)
+  passed_live p outer s = grind (arith, nat_tests, bounded p, lowered_most, lowered_some, lowered_within, depth_outer, passed_line p)
 
   pub changes_passed : (p : OpenPortal) → Changes p (passed p)
   changes_passed p = record { name = refl; context = λ n e. e; owner = λ n e. e }
@@ -113,21 +102,13 @@ module _ (level : LevelState) (levels : List LevelState) (some : 1 ≤ length le
   above_is q e = grind (arith, nat_tests, owner_at)
 
   pub above_owner : (q : ℕ) → owner_of (first_of levels) ≡ Some q → IsOwner q levels
-  above_owner q e = go levels e
-    where
-      go : (ls : List LevelState) → owner_of (first_of ls) ≡ Some q → IsOwner q ls
-      go [] e = absurd (no_value None q refl e)
-      go (l ∷ ls) e = inl e
+  above_owner q e = grind (arith, nat_tests, no_value)
 
   pub above_made : AreOuter levels → (q : ℕ) × (owner_of (first_of levels) ≡ Some q)
   above_made outer = grind (arith, nat_tests, is_there)
 
   pub above_there : (t : Contexts) (x : OwnerTree) (q : ℕ) → AreLevels levels t x → owner_of (first_of levels) ≡ Some q → has q x ≡ true
-  above_there t x q l e = go levels l e
-    where
-      go : (ls : List LevelState) → AreLevels ls t x → owner_of (first_of ls) ≡ Some q → has q x ≡ true
-      go [] l e = absurd (no_value None q refl e)
-      go (a ∷ ls) l e = (l.0.owner q e).there
+  above_there t x q l e = grind (arith, nat_tests, no_value)
 
   -- without a move
   pub plain : (p : OpenPortal) (front back : List OpenPortal) (s : Scene) → Ending level levels levels front (p ∷ back) s → (p.created ≡ depth → p.owner ≡ None)
@@ -138,20 +119,7 @@ module _ (level : LevelState) (levels : List LevelState) (some : 1 ≤ length le
       let portals : List OpenPortal = portal_changed p.name passed s.session.portals in
       let is : portals ≡ front ++ (q ∷ back) = ap (portal_changed p.name passed) h.are ∙ changed_one p passed front back h.different in
       let lower : (n : ℕ) → p.owner ≡ Some n → p.created ≢ depth = λ n e z. no_value p.owner n (none z) e in
-      let own : IsPortal q levels s.session.contexts s.session.owners s.session.current = record {
-        place = i.place;
-        made = i.made;
-        owner = λ n e.
-            let a : IsAttached n p.created (level ∷ levels) s.session.owners = i.owner n e in
-            let ne : p.created ≢ depth = lower n e in
-            record {
-              there = a.there;
-              parent = a.parent ∙ rw (ne_eqb (length levels + 1) p.created (λ z. ne (sym z ∙ omega arith)), ne_eqb p.created depth ne) refl;
-              lone = a.lone;
-              other = λ j. a.other (inr j);
-            };
-        stage = inl (passed_live p h.outer i.stage);
-      } in
+      let own : IsPortal q levels s.session.contexts s.session.owners s.session.current = grind (arith, nat_tests, ne_eqb (length levels + 1) p.created, ne_eqb p.created depth, passed_live p h.outer i.stage) in
       let owners : AreEnding (table_of s.around.kinds) s.session.owners s.session.next_owner s.session.next_serial level levels (front ++ (q ∷ back)) = kept_owners level levels levels p q front back s h (λ n e. e) in
       let e : Ending level levels levels (front ++ (q ∷ [])) back (with_parts (record (parts_of s) { portals = front ++ (q ∷ back) }) s) =
       replaced level levels levels p q front back s s.session.contexts s.session.owners s.around.shelf h (changes_passed p) h.contexts h.hooks h.all owners h.plans (λ r b d. d.portal) (λ r b k. k) own
@@ -178,22 +146,9 @@ module _ (level : LevelState) (levels : List LevelState) (some : 1 ≤ length le
       let portals : List OpenPortal = portal_changed p.name passed s.session.portals in
       let is : portals ≡ front ++ (new ∷ back) = ap (portal_changed p.name passed) h.are ∙ changed_one p passed front back h.different in
       let number : lowered depth p.created ≡ depth - 1 = rw (eq-eqb p.created depth deep) (omega (arith, deep)) in
-      let own : IsPortal new levels t y s.session.current = record {
-        place = i.place;
-        made = i.made;
-        owner = λ n e. subst (λ (j : ℕ). IsAttached j (lowered depth p.created) levels y) (one_value p.owner o n owned e) (record {
-          there = m.has_same o ∙ a.there;
-          parent = m.parent ∙ sym (above_is q up) ∙ ap (λ (k : ℕ). owner_at k levels) (sym number);
-          lone = m.lone;
-          other = λ j. a.other (inr j);
-        });
-        stage = inl (passed_live p h.outer i.stage);
-      } in
+      let own : IsPortal new levels t y s.session.current = grind (arith, nat_tests, one_value p.owner o, above_is q up, passed_live p h.outer i.stage) in
       let off : (lo : ℕ) → level.owner ≡ Some lo → lo ≢ o = λ lo e z. a.other (inl (e ∙ ap Some z)) in
-      let active : level.aborted ≡ false = elim i.stage [
-        | inl l ↦ not_aborted p l deep
-        | inr d ↦ absurd (no_value p.owner o d.owner owned)
-      ] in
+      let active : level.aborted ≡ false = grind (arith, nat_tests, no_value p.owner o) in
       let owners : AreEnding (table_of s.around.kinds) y no ns level levels (front ++ (new ∷ back)) = record {
         sound = sound_moved o q x no ns h.owners.sound;
         each = λ n u. elim (cases_eq n o) [
@@ -223,26 +178,7 @@ module _ (level : LevelState) (levels : List LevelState) (some : 1 ≤ length le
       ]
 
   pub passed_leads : (p : OpenPortal) (front back : List OpenPortal) (s : Scene) → Ending level levels levels front (p ∷ back) s → Leads level levels levels back s (portal_passed depth (owner_of (first_of levels)) p s).scene
-  passed_leads p front back s h = by_level (p.created == depth) refl
-    where
-      up : (q : ℕ) × (owner_of (first_of levels) ≡ Some q)
-      up = above_made h.outer
-
-      with_owner : p.created ≡ depth → (o q : ℕ) → owner_of (first_of levels) ≡ Some q → p.owner ≡ Some o
-          → Leads level levels levels back s (in_order (where_there (owner_of (first_of levels)) (owner_moved o) ∷ portal_becomes p.name passed ∷ []) s).scene
-      with_owner deep o q e owned =
-          subst (λ (c : Option ℕ). Leads level levels levels back s (in_order (where_there c (owner_moved o) ∷ portal_becomes p.name passed ∷ []) s).scene) (sym e)
-          (moves p front back s o q h deep owned e)
-
-      by_owner : p.created ≡ depth → (c : Option ℕ) → p.owner ≡ c
-          → Leads level levels levels back s (in_order (where_there c (λ owner. where_there (owner_of (first_of levels)) (owner_moved owner)) ∷ portal_becomes p.name passed ∷ []) s).scene
-      by_owner deep None e = plain p front back s h (λ _. e)
-      by_owner deep (Some o) e = let q = above_made h.outer in with_owner deep o q.0 q.1 e
-
-      by_level : (b : Bool) → (p.created == depth) ≡ b
-          → Leads level levels levels back s (in_order (where_so b (where_there p.owner (λ owner. where_there (owner_of (first_of levels)) (owner_moved owner))) ∷ portal_becomes p.name passed ∷ []) s).scene
-      by_level true e = by_owner (eqb-true p.created depth e) p.owner refl
-      by_level false e = plain p front back s h (λ z. absurd (eqb-false p.created depth e z))
+  passed_leads p front back s h = grind (arith, nat_tests, above_made h.outer, moves p front back s, plain p front back s h, eqb-true p.created, eqb-false p.created)
 
   pub all_passed : (ps : List OpenPortal) (s : Scene) → Ending level levels levels [] ps s → Leads level levels levels [] s (for_each (portal_passed depth (owner_of (first_of levels))) ps s).scene
   all_passed ps s h = each_goes level levels levels (portal_passed depth (owner_of (first_of levels))) passed_leads ps [] s h

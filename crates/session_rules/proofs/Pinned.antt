@@ -1,9 +1,6 @@
 -- How many sessions of a run pin each buffer: a session sees of it how many others do.
-use Rattle.session_rules.proofs.Base.{◌≡◌, ℕ, zero, suc, ◌+◌, ◌-◌, ◌<◌, Bool, true, false, cond, nat_eq, Some, List, [], ◌∷◌, map, refl, sym, ap, ◌∙◌, arith, if◌then◌else◌, slice_get, slice_index, sum_by, range_with_len, eqb-true, eqb-false, sum_by-cons}
-use Rattle.session_rules.proofs.Rules.{SessionState, buffer_pin}
-use Rattle.std.proofs.lemmas.List.FromFn.{get_or-map-range_with_len}
-use Rattle.session_rules.specs.Counts.{holds}
-use Rattle.session_rules.specs.World.{Numbered, for_buffers, others, pinning_among}
+use Rattle.session_rules.proofs.Base.{◌≡◌, ℕ, zero, suc, ◌+◌, ◌-◌, ◌<◌, Bool, true, false, cond, nat_eq, Some, List, [], ◌∷◌, map, refl, sym, ap, ◌∙◌, arith, if◌then◌else◌, slice_get, slice_index, sum_by, range_with_len, eqb-true, eqb-false, sum_by-cons, get_or-map-range_with_len}
+use Rattle.session_rules.proofs.Rules.{SessionState, buffer_pin, holds, Numbered, for_buffers, others, pinning_among}
 
 -- 1 for a session that pins a buffer
 abbrev pub pinned_once : ℕ → SessionState → ℕ

@@ -1,5 +1,5 @@
 -- The contexts of plans among those of levels, and what plans keep where other contexts change.
-use Rattle.session_rules.proofs.Base.{◌≡◌, ◌≢◌, ℕ, ◌≤◌, ◌<◌, true, false, Option, Some, List, [], ◌∷◌, sym, ap, ◌∙◌, inl, arith, unwrap_or, All, option_map_or, All-weaker, nat_tests}
+use Rattle.session_rules.proofs.Base.{◌≡◌, ◌≢◌, ℕ, ◌≤◌, ◌<◌, true, false, Option, Some, List, [], ◌∷◌, sym, ap, ◌∙◌, inl, arith, unwrap_or, All, option_map_or, nat_tests}
 use Rattle.session_rules.proofs.Below.{Empty, has, children, parent_of, removed, above_by_parent, Contexts, is_protected, OwnerTree}
 use Rattle.session_rules.proofs.Rules.{LevelState, StandingPlan, abort_context, cache_context, context_of, first_of, top_context, level_parent, AreContexts, AreLevels, AreOuter, ArePlans, IsPlan}
 use Rattle.session_rules.proofs.ContextsKept.{IsSame, own_outside, same_removed}
@@ -14,19 +14,13 @@ pub record IsCached (m : ℕ) (contexts : Contexts) : Type 0 where
   pub own : abort_context < m
   pub lone : children m contexts ≡ Empty
 
-abbrev pub cached : (plan : StandingPlan) (t : Contexts) (current : ℕ) → IsPlan plan t current → IsCached plan.context t
-cached plan t current i = record { protected = i.protected; parent = i.parent; own = i.own; lone = i.lone }
-
 -- another context is the current one
 pub plans_current : (plans : List StandingPlan) (t : Contexts) (a b : ℕ) (c : ℕ → ℕ) → ((m : ℕ) → IsCached m t → b ≢ m) → ArePlans plans t a c → ArePlans plans t b c
-plans_current plans t a b c other h =
-    search (All-weaker (λ plan. IsPlan plan t a) (λ plan. IsPlan plan t b) (λ plan i. search (other plan.context (cached plan t a i))) plans h.each)
+plans_current plans t a b c other h = grind (arith, nat_tests)
 
 -- contexts change
 pub plans_moved : (plans : List StandingPlan) (t u : Contexts) (current : ℕ) (c : ℕ → ℕ) → ((m : ℕ) → IsCached m t → IsSame m t u × (children m u ≡ Empty)) → ArePlans plans t current c → ArePlans plans u current c
-plans_moved plans t u current c stay h =
-    search (All-weaker (λ plan. IsPlan plan t current) (λ plan. IsPlan plan u current)
-    (λ plan i. let s = stay plan.context (cached plan t current i) in search (s, s.0.parent ∙ i.parent)) plans h.each)
+plans_moved plans t u current c stay h = grind (arith, nat_tests)
 
 -- references are counted in another way
 pub plans_counted : (plans : List StandingPlan) (t : Contexts) (current : ℕ) (c d : ℕ → ℕ) → ((m : ℕ) → c m ≡ d m) → ArePlans plans t current c → ArePlans plans t current d
@@ -43,12 +37,10 @@ some_is a b e = cc e
 -- a level's context isn't that of a plan
 pub levels_other : (levels : List LevelState) (t : Contexts) (x : OwnerTree) → AreLevels levels t x → (n : ℕ) → IsContext n levels → (m : ℕ) → IsCached m t → n ≢ m
 levels_other [] t x l n i m c = absurd i
-levels_other (level ∷ levels) t x l n i m c =
-    grind (arith, nat_tests, above_other levels t x l.1, some_is (level_parent (first_of levels)) cache_context, levels_other levels t x l.1 n)
+levels_other (level ∷ levels) t x l n i m c = grind (arith, nat_tests, above_other levels t x l.1, some_is (level_parent (first_of levels)) cache_context, levels_other levels t x l.1 n)
 
 pub levels_apart : (levels : List LevelState) (t : Contexts) (x : OwnerTree) (plans : List StandingPlan) (current : ℕ) → AreLevels levels t x → All (λ plan. IsPlan plan t current) plans → (n : ℕ) → IsContext n levels → IsApart n plans
-levels_apart levels t x plans current l each n i =
-    All-weaker (λ plan. IsPlan plan t current) (λ plan. n ≢ plan.context) (λ plan p. levels_other levels t x l n i plan.context (cached plan t current p)) plans each
+levels_apart levels t x plans current l each n i = grind (arith, nat_tests, levels_other levels t x l n i)
 
 -- the session's own contexts aren't
 pub own_other : (n : ℕ) → n ≤ abort_context → (t : Contexts) (m : ℕ) → IsCached m t → n ≢ m

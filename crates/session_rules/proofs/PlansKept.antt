@@ -2,7 +2,7 @@
 use Rattle.session_rules.proofs.Base.{◌≡◌, ◌≢◌, ℕ, ◌≤◌, ◌<◌, true, false, Some, List, [], ◌∷◌, ◌++◌, refl, sym, ap, ◌∙◌, subst, inl, inr, ◌==◌, All, cases_eq, cases_Bool, eqb-true, eq-eqb, ne_eqb, both_ways, All-nil, All-cons, All-head, All-tail, All-weaker, arith, nat_tests}
 use Rattle.session_rules.proofs.Below.{Empty, has, children, parent_of, removed, Contexts, is_protected}
 use Rattle.session_rules.proofs.Rules.{StandingPlan, abort_context, cache_context, plan_at, plan_changed, plans_but, AreApart, AreContexts, ArePlans, Differ, IsPlan, references_of}
-use Rattle.session_rules.proofs.ContextsKept.{IsSame, same_removed}
+use Rattle.session_rules.proofs.ContextsKept.{same_removed}
 use Rattle.session_rules.proofs.Lone.{lone_left}
 
 abbrev pub IsOther : ℕ → StandingPlan → Type 0
@@ -70,31 +70,25 @@ apart_without p (x ∷ xs) back h = (all_without (Differ x) p xs back h.0, apart
 -- the other plans have other contexts
 apart_others : (p : StandingPlan) (front back : List StandingPlan) → AreApart (front ++ (p ∷ back)) → All (λ q. q.context ≢ p.context) (front ++ back)
 apart_others p [] back h = All-weaker (Differ p) (λ q. q.context ≢ p.context) (λ q d. d.context) back h.0
-apart_others p (x ∷ xs) back h =
-    let d : Differ x p = all_middle (Differ x) p xs back h.0 in
-    All-cons (λ q. q.context ≢ p.context) x (xs ++ back) (λ z. d.context (sym z)) (apart_others p xs back h.1)
+apart_others p (x ∷ xs) back h = grind (arith, nat_tests, all_middle (Differ x) p xs back h.0, apart_others p xs back h.1)
 
 -- the plan changes, or goes
 changed_others : (n : ℕ) (change : StandingPlan → StandingPlan) (xs : List StandingPlan) → All (IsOther n) xs → plan_changed n change xs ≡ xs
 changed_others n change [] h = refl
-changed_others n change (x ∷ xs) h =
-    rw (ne_eqb x.number n (All-head (IsOther n) x xs h)) (ap (λ (ys : List StandingPlan). x ∷ ys) (changed_others n change xs (All-tail (IsOther n) x xs h)))
+changed_others n change (x ∷ xs) h = grind (arith, nat_tests, ne_eqb x.number n (All-head (IsOther n) x xs h), changed_others n change xs (All-tail (IsOther n) x xs h))
 
 pub changed_is : (n : ℕ) (change : StandingPlan → StandingPlan) (p : StandingPlan) (front back : List StandingPlan) → p.number ≡ n → All (IsOther n) front → All (IsOther n) back
     → plan_changed n change (front ++ (p ∷ back)) ≡ front ++ (change p ∷ back)
 changed_is n change p [] back e f b = rw (eq-eqb p.number n e) (ap (λ (ys : List StandingPlan). change p ∷ ys) (changed_others n change back b))
-changed_is n change p (x ∷ xs) back e f b =
-    rw (ne_eqb x.number n (All-head (IsOther n) x xs f)) (ap (λ (ys : List StandingPlan). x ∷ ys) (changed_is n change p xs back e (All-tail (IsOther n) x xs f) b))
+changed_is n change p (x ∷ xs) back e f b = grind (arith, nat_tests, ne_eqb x.number n (All-head (IsOther n) x xs f), changed_is n change p xs back e (All-tail (IsOther n) x xs f) b)
 
 but_others : (n : ℕ) (xs : List StandingPlan) → All (IsOther n) xs → plans_but n xs ≡ xs
 but_others n [] h = refl
-but_others n (x ∷ xs) h =
-    rw (ne_eqb x.number n (All-head (IsOther n) x xs h)) (ap (λ (ys : List StandingPlan). x ∷ ys) (but_others n xs (All-tail (IsOther n) x xs h)))
+but_others n (x ∷ xs) h = grind (arith, nat_tests, ne_eqb x.number n (All-head (IsOther n) x xs h), but_others n xs (All-tail (IsOther n) x xs h))
 
 pub but_is : (n : ℕ) (p : StandingPlan) (front back : List StandingPlan) → p.number ≡ n → All (IsOther n) front → All (IsOther n) back → plans_but n (front ++ (p ∷ back)) ≡ front ++ back
 but_is n p [] back e f b = rw (eq-eqb p.number n e) (but_others n back b)
-but_is n p (x ∷ xs) back e f b =
-    rw (ne_eqb x.number n (All-head (IsOther n) x xs f)) (ap (λ (ys : List StandingPlan). x ∷ ys) (but_is n p xs back e (All-tail (IsOther n) x xs f) b))
+but_is n p (x ∷ xs) back e f b = grind (arith, nat_tests, ne_eqb x.number n (All-head (IsOther n) x xs f), but_is n p xs back e (All-tail (IsOther n) x xs f) b)
 
 -- how many references are counted then
 none_counted : (n : ℕ) (xs : List StandingPlan) → All (IsOther n) xs → references_of n xs ≡ 0
@@ -129,14 +123,7 @@ plans_replaced plans t current c d n p q h s number context kept now others =
         kept = kept;
       }) was.each;
       apart = apart_replaced p q s.front s.back number context was.apart;
-      counted = λ m. elim (cases_eq n m) [
-        | inl e ↦ ap (λ (k : ℕ). references_of k (s.front ++ (q ∷ s.back))) (sym e) ∙ counted_at n q s.front s.back (number ∙ s.number) s.before ∙ sym now ∙ ap d e
-        | inr ne ↦
-            counted_other m q s.front s.back (λ z. ne (sym s.number ∙ sym number ∙ z))
-            ∙ sym (counted_other m p s.front s.back (λ z. ne (sym s.number ∙ z)))
-            ∙ was.counted m
-            ∙ sym (others m ne)
-      ];
+      counted = grind (arith, nat_tests, cases_eq n, counted_at n q s.front s.back, counted_other);
     }
 
 -- A plan goes, with its context.
@@ -149,14 +136,7 @@ plans_without plans t next current c d n p contexts h s now others =
     let stands : All (λ x. IsPlan x t current) (s.front ++ s.back) = all_without (λ x. IsPlan x t current) p s.front s.back was.each in
     let differ : All (λ x. x.context ≢ p.context) (s.front ++ s.back) = apart_others p s.front s.back was.apart in
     record {
-      each = λ k x below.
-          let i : IsPlan _ t current = stands k x below in
-          let ne = differ k x below in
-          let same : IsSame _ t (removed p.context t) = same_removed t next contexts _ p.context (ne, out _) i.protected in
-          search (same.parent ∙ i.parent, lone_left _ p.context t contexts.once ne (out _) i.lone);
+      each = grind (arith, nat_tests, same_removed t next contexts, lone_left);
       apart = apart_without p s.front s.back was.apart;
-      counted = λ m. elim (cases_eq n m) [
-        | inl e ↦ ap (λ (k : ℕ). references_of k (s.front ++ s.back)) (sym e) ∙ none_without n s.front s.back s.before s.behind ∙ sym now ∙ ap d e
-        | inr ne ↦ sym (counted_other m p s.front s.back (λ z. ne (sym s.number ∙ z))) ∙ was.counted m ∙ sym (others m ne)
-      ];
+      counted = grind (arith, nat_tests, cases_eq n, none_without n s.front s.back s.before s.behind, counted_other);
     }

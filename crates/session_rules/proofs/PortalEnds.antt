@@ -1,10 +1,7 @@
 -- A portal ends within its level: a session that stands leads to one that stands, where portals are at rest.
-use Rattle.session_rules.proofs.Base.{◌≡◌, ◌≢◌, ℕ, Bool, true, false, Option, Some, None, List, [], ◌∷◌, ◌++◌, refl, sym, ap, ◌∙◌, subst, inl, inr, All, option_map_or, All-append, All-cons, All-head, All-tail, All-weaker}
-use Rattle.session_rules.proofs.Below.{Once, has, children, removed, has_of_removed, left_apart, KindId, Contexts, gone, KindTable, IsSoundTable, table_of, Owner, OwnerTree, has_begun, once_of, sound_removed}
-use Rattle.session_rules.proofs.Rules.{LevelState, OpenPortal, buffer_pin, relcache_reference, snapshot_reference, Scene, Moment, does, portal_changed, portal_named, portals_but, Text, context_gone, in_order, portal_gone, where_so, where_there, item_released, owner_gone, owner_released}
-use Rattle.session_rules.specs.Elements as element
-use Rattle.session_rules.specs.Portals.{executor_ended, is_ready, portal_ended, portal_owner_ended}
-use Rattle.session_rules.specs.Standing.{AreContexts, AreLevels, AreOwners, ArePortals, HasItems, IsAtRest, IsAttached, IsLive, IsOfPortal, IsOwner, IsPlace, IsPlan, IsPortal, IsWorking, Stands, referred}
+use Rattle.session_rules.proofs.Base.{◌≡◌, ◌≢◌, ℕ, Bool, true, false, Option, Some, None, List, [], ◌∷◌, ◌++◌, refl, sym, ap, ◌∙◌, subst, inl, inr, All, All-append, All-cons, All-head, All-tail, All-weaker, arith, nat_tests}
+use Rattle.session_rules.proofs.Below.{Once, has, children, removed, has_of_removed, left_apart, KindId, Contexts, gone, KindTable, IsSoundTable, table_of, OwnerTree, once_of, sound_removed}
+use Rattle.session_rules.proofs.Rules.{LevelState, OpenPortal, buffer_pin, relcache_reference, snapshot_reference, Scene, Moment, does, portal_changed, portal_named, portals_but, Text, context_gone, in_order, portal_gone, where_so, where_there, item_released, owner_gone, owner_released, Element, executor_ended, is_ready, portal_ended, portal_owner_ended, AreContexts, AreLevels, AreOwners, ArePortals, HasItems, IsAtRest, IsAttached, IsLive, IsOfPortal, IsOwner, IsPlace, IsPlan, IsPortal, IsWorking, Stands, referred}
 use Rattle.session_rules.proofs.Kept.{at_left, has_left, parent_left, all_removed, contexts_level_gone, hooks_ended, parts_gone, begun_has, levels_stay, no_value, one_value, Fits, HasSettled, besides_of, release_settles, with_besides, swept_by, with_owners, removed_swept, lone_left, all_back, all_front, but_one, different_changed, different_without, others_back, others_front, owner_beside, owner_split, rests_becomes, rests_but, attached_by, place_spared, levels_apart, plans_counted}
 use Rattle.session_rules.proofs.EndsStand.{left_count}
 use Rattle.session_rules.proofs.Ending.{Beside, below_place, beside_removed, levels_beside, places_beside, plans_beside}
@@ -19,9 +16,7 @@ module _ (name : Text) (p : OpenPortal) where
   owner_in s h working e o q = ((this_portal s h working name p (named_in name p s.session.portals e)).owner o q).there
 
   pub one_item : (s z : Scene) → IsWorking s.session.levels → portal_named name s.session.portals ≡ Some p → LeavesPortals s z → (o : ℕ) → p.owner ≡ Some o → (kind : KindId) (key : ℕ) → LeavesPortals s (item_released o kind key z).scene
-  one_item s z working e b o q kind key =
-      let now : IsWorking z.session.levels = subst IsWorking (sym b.works.levels) working in
-      then_beside s z (item_released o kind key z).scene b (item_beside z o kind key b.works.stands now (owner_in z b.works.stands now (ap (portal_named name) b.portals ∙ e) o q))
+  one_item s z working e b o q kind key = grind (arith, nat_tests, then_beside s z (item_released o kind key z).scene b, item_beside z o kind key b.works.stands, owner_in z b.works.stands)
 
   pub executor_beside : (s : Scene) → Stands s → IsWorking s.session.levels → portal_named name s.session.portals ≡ Some p → LeavesPortals s (executor_ended p s).scene
   executor_beside s h working e = go p.owner refl
@@ -191,11 +186,7 @@ owner_ends s name p o h working e owns =
               | inr r ↦ absurd (not_released ls m x working r)
             ])
           ];
-      begun = λ m v.
-          let left : has m y ≡ true = begun_has m y v in
-          let w = left_apart m o x once a.there left in
-          let then_begun : has_begun m x ≡ true = ap (λ (c : Option Owner). option_map_or (λ owner. owner.begun) c false) (sym (at_left m o x once w.0 w.1)) ∙ v in
-          absurd (not_released ls m x working (h.owners.begun m then_begun));
+      begun = grind (arith, nat_tests, begun_has, left_apart, at_left, not_released ls);
       items = all_removed (HasItems kinds) o x h.owners.items;
     } in
     let z : Scene = record (with_besides g.besides s) { session = record (with_besides g.besides s).session { owners = y; portals = portals } } in
@@ -213,10 +204,7 @@ owner_ends s name p o h working e owns =
         fit = fit_working ls t u x y cur cur working h.fit;
         kinds = subst (λ (k : KindTable). IsSoundTable k) (sym g.same) h.kinds;
         owners = subst (λ (k : KindTable). AreOwners k y count serial ls portals) (sym g.same) (subst (λ (ps : List OpenPortal). AreOwners kinds y count serial ls ps) (sym is) owned);
-        portals = subst (λ (ps : List OpenPortal). ArePortals ps ls u y cur) (sym is) (record {
-          each = each;
-          different = different_changed p (unowned p) n.front n.back (record { name = refl; context = λ k f. f; owner = λ k f. absurd (cc f) }) was.different;
-        });
+        portals = grind (arith, nat_tests, different_changed p (unowned p) n.front n.back);
         plans = plans_counted g.besides.plans u cur (referred g.owners) (referred y) (left_count kinds (Some o) x g.owners count serial h.kinds g.swept h.owners.items h.owners.sound) g.fits.plans;
         snapshots = h.snapshots;
       };
@@ -229,8 +217,7 @@ owner_ends s name p o h working e owns =
 -- what goes then with it
 pub ended_same : (name : Text) (c : Option ℕ) (w : Scene) (ps : List OpenPortal) → portals_but name ps ≡ portals_but name w.session.portals
     → (in_order (where_there c context_gone ∷ portal_gone name ∷ []) (record w { session = record w.session { portals = ps } })).scene ≡ (in_order (where_there c context_gone ∷ portal_gone name ∷ []) w).scene
-ended_same name None w ps e = ap (λ (qs : List OpenPortal). record w { session = record w.session { portals = qs } }) e
-ended_same name (Some n) w ps e = ap (λ (qs : List OpenPortal). record (context_gone n w).scene { session = record (context_gone n w).scene.session { portals = qs } }) e
+ended_same name c w ps e = grind (arith, nat_tests)
 
 pub rest_works : (s t : Scene) (name : Text) (p : OpenPortal) → Stands s → IsWorking s.session.levels → portal_named name s.session.portals ≡ Some p → HasEnded s t name p
     → Works s (in_order (where_there p.context context_gone ∷ portal_gone p.name ∷ []) t).scene
@@ -241,9 +228,7 @@ rest_works s t name p h working e x =
     let now : IsWorking z.session.levels = subst IsWorking (sym x.levels) working in
     let end : Works z (in_order (where_there p.context context_gone ∷ portal_gone p.name ∷ []) z).scene = gone_works z name (unowned p) x.stands now x.named refl in
     let here : portals_but p.name s.session.portals ≡ n.front ++ n.back = ap (portals_but p.name) n.is ∙ but_one p n.front n.back was.different in
-    let there : portals_but p.name z.session.portals ≡ n.front ++ n.back =
-    ap (portals_but p.name) (x.portals ∙ changes_in s h working name p n unowned)
-    ∙ but_one (unowned p) n.front n.back (different_changed p (unowned p) n.front n.back (record { name = refl; context = λ k f. f; owner = λ k f. absurd (cc f) }) was.different) in
+    let there : portals_but p.name z.session.portals ≡ n.front ++ n.back = grind (arith, nat_tests, changes_in s h working name p n unowned, but_one (unowned p) n.front n.back, different_changed p (unowned p) n.front n.back) in
     let same : (in_order (where_there p.context context_gone ∷ portal_gone p.name ∷ []) t).scene ≡ (in_order (where_there p.context context_gone ∷ portal_gone p.name ∷ []) z).scene =
     ap (λ (w : Scene). (in_order (where_there p.context context_gone ∷ portal_gone p.name ∷ []) w).scene) x.is ∙ ended_same p.name p.context z s.session.portals (here ∙ sym there) in
     subst (Works s) (sym same) (record {
@@ -274,7 +259,7 @@ portal_ended_works s name p h working e rests = by_state (is_ready p.state) refl
     by_state true q = by_owner (executor_ended p s).scene (executor_beside name p s h working e) p.owner refl
 
 -- The element, where portals are at rest.
-pub end_portal_works : (w : Option ℕ) (moment : Moment) → Stands moment.scene → IsWorking moment.scene.session.levels → All IsAtRest moment.scene.session.portals → (name : Text) → Works moment.scene (does w (element.EndPortal name) moment).moment.scene
+pub end_portal_works : (w : Option ℕ) (moment : Moment) → Stands moment.scene → IsWorking moment.scene.session.levels → All IsAtRest moment.scene.session.portals → (name : Text) → Works moment.scene (does w (Element.EndPortal name) moment).moment.scene
 unfolding does
 end_portal_works w moment h working at_rest name = go (portal_named name moment.scene.session.portals) refl
   where

@@ -1,7 +1,7 @@
 -- What lists of portals keep where one of them changes or goes.
 use Rattle.session_rules.proofs.Base.{◌≡◌, ◌≢◌, ◌⊎◌, ℕ, false, Some, List, [], ◌∷◌, ◌++◌, refl, sym, ap, ◌∙◌, inl, inr, All, false_from_ne_true, All-nil, All-cons, All-head, All-tail, All-weaker, Bool, true, arith, if◌then◌else◌, both_ways, cases_Bool, nat_tests}
-use Rattle.session_rules.proofs.Rules.{OpenPortal, portal_changed, portals_but, AreDifferent, AreOther, IsOfPortal, LevelState, Text, IsAtRest, IsDead, IsLive, IsPortal}
 use Rattle.session_rules.proofs.Below.{is_text, is_text-means, is_text-same, Contexts, OwnerTree}
+use Rattle.session_rules.proofs.Rules.{OpenPortal, portal_changed, portals_but, AreDifferent, AreOther, IsOfPortal, LevelState, Text, IsAtRest, IsDead, IsLive, IsPortal}
 use Rattle.session_rules.proofs.PlansKept.{all_replaced, all_without}
 use Rattle.session_rules.proofs.Stacked.{depth_still}
 
@@ -62,13 +62,11 @@ IsNamedOther p q = q.name ≢ p.name
 
 changed_none : (p : OpenPortal) (f : OpenPortal → OpenPortal) (xs : List OpenPortal) → All (IsNamedOther p) xs → portal_changed p.name f xs ≡ xs
 changed_none p f [] h = refl
-changed_none p f (x ∷ xs) h =
-    rw (other_name p x (All-head (IsNamedOther p) x xs h)) (ap (λ (ys : List OpenPortal). x ∷ ys) (changed_none p f xs (All-tail (IsNamedOther p) x xs h)))
+changed_none p f (x ∷ xs) h = grind (arith, nat_tests, other_name p x (All-head (IsNamedOther p) x xs h), changed_none p f xs (All-tail (IsNamedOther p) x xs h))
 
 but_none : (p : OpenPortal) (xs : List OpenPortal) → All (IsNamedOther p) xs → portals_but p.name xs ≡ xs
 but_none p [] h = refl
-but_none p (x ∷ xs) h =
-    rw (other_name p x (All-head (IsNamedOther p) x xs h)) (ap (λ (ys : List OpenPortal). x ∷ ys) (but_none p xs (All-tail (IsNamedOther p) x xs h)))
+but_none p (x ∷ xs) h = grind (arith, nat_tests, other_name p x (All-head (IsNamedOther p) x xs h), but_none p xs (All-tail (IsNamedOther p) x xs h))
 
 named_back : (p : OpenPortal) (front back : List OpenPortal) → AreDifferent (front ++ (p ∷ back)) → All (IsNamedOther p) back
 named_back p front back h = All-weaker (AreOther p) (IsNamedOther p) (λ q o. o.name) back (others_back p front back h)
@@ -155,8 +153,7 @@ pub rests_beside : (name : Text) (ps : List OpenPortal) → All IsAtRest ps → 
 rests_beside name ps h = All-weaker IsAtRest (RestsBeside name) (λ p r _. r) ps h
 
 pub beside_becomes : (name : Text) (f : OpenPortal → OpenPortal) (ps : List OpenPortal) → ((p : OpenPortal) → (f p).name ≡ p.name) → All (RestsBeside name) ps → All (RestsBeside name) (portal_changed name f ps)
-beside_becomes name f ps keeps h =
-    all_becomes name f (RestsBeside name) (RestsBeside name) ps (λ p y r n. absurd (both_ways (is_text p.name name) (sym (ap (λ (k : Text). is_text k name) (keeps p)) ∙ n) y)) (λ p _ r. r) h
+beside_becomes name f ps keeps h = grind (arith, nat_tests, all_becomes name f (RestsBeside name) (RestsBeside name) ps, both_ways)
 
 -- and then that one
 pub beside_rests : (name : Text) (f : OpenPortal → OpenPortal) (ps : List OpenPortal) → ((p : OpenPortal) → IsAtRest (f p)) → All (RestsBeside name) ps → All IsAtRest (portal_changed name f ps)

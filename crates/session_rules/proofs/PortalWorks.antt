@@ -1,36 +1,22 @@
 -- The elements of portals lead from a session that stands to one that stands, with its levels as they were.
 use Rattle.session_rules.proofs.Base.{◌≡◌, ◌≢◌, ℕ, true, false, Option, Some, None, List, [], ◌∷◌, length, refl, sym, ap, ◌∙◌, subst, inl, inr, option_and_then, arith, nat_tests}
-use Rattle.session_rules.proofs.Below.{has, Error, Item, KindId, Mode, ScanStep, table_of, without, forgotten}
-use Rattle.session_rules.proofs.Rules.{OpenPortal, buffer_pin, Scene, Moment, Check, Element, InPortal, InRow, OfPortal, Text, newest, portal_changed, portal_named, changes, context_cleared_alone, in_order, nothing, portal_becomes, say, where_there, Done, Keeper, NoOne, TheDescriptors, TheKind, ThePlans, given_back, item_released, keeper_of, left_to, scan_part, scanned, does, failing_turn, IsAtRest, IsFetched, IsItem, IsWorking, Stands}
-use Rattle.pgs_step.specs.declared.events.What.TheVariants as what
-use Rattle.portal_store.specs.declared.portal.PortalState.TheVariants as portal
-use Rattle.exec_core.specs.declared.steps.ScanStep.TheVariants as step
+use Rattle.session_rules.proofs.Below.{has, Error, KindId, Mode, ScanStep, table_of, PortalState}
+use Rattle.session_rules.proofs.Rules.{OpenPortal, Scene, Moment, Check, Element, InPortal, InRow, OfPortal, Text, newest, portal_changed, portal_named, in_order, nothing, portal_becomes, where_there, Done, Keeper, NoOne, item_released, keeper_of, left_to, scan_part, scanned, does, failing_turn, IsAtRest, IsFetched, IsItem, IsWorking, Stands}
+use Rattle.session_rules.proofs.Kept.{rests_becomes}
 use Rattle.exec_core.specs.Turn.{taken}
-use Rattle.session_rules.specs.Elements as element
 use Rattle.session_rules.proofs.ItemsStand.{give_step, lock_beside, take_beside}
 use Rattle.session_rules.proofs.NamesStand.{alone_step}
-use Rattle.session_rules.proofs.Kept.{rests_becomes}
 use Rattle.session_rules.proofs.StepsStand.{Works, fallible_keeps, nothing_works, alloc_beside, beside_by}
 use Rattle.session_rules.proofs.PortalsStand.{Named, active_portal, named_changed, named_in, scan_portal, state_portal, this_portal}
 pub use Rattle.session_rules.proofs.StepsStand.{Beside, nothing_beside}
 
 -- what is given back leaves the portals
 pub given_portals : (keeper : Keeper) (key : ℕ) (s : Scene) → (left_to keeper key s).scene.session.portals ≡ s.session.portals
-given_portals NoOne key s = refl
-given_portals ThePlans key s = grind (arith, nat_tests)
-given_portals TheDescriptors key s = grind (arith, nat_tests, without key)
-given_portals (TheKind place) key s = refl
+given_portals keeper key s = grind (arith, nat_tests)
 
 -- an owner gives an item back
 pub item_beside : (s : Scene) (o : ℕ) (kind : KindId) (key : ℕ) → Stands s → IsWorking s.session.levels → has o s.session.owners ≡ true → Beside s (item_released o kind key s).scene
-item_beside s o kind key h working there = record {
-  works = give_step s o kind key h working there (newest o kind key s.session) refl;
-  portals = go (newest o kind key s.session);
-}
-  where
-    go : (i : Option Item) → (where_there i (λ item. in_order (changes (λ session. record session { owners = forgotten o kind key session.owners }) ∷ say (what.Release item o) ∷ given_back item ∷ [])) s).scene.session.portals ≡ s.session.portals
-    go None = refl
-    go (Some item) = given_portals (keeper_of item.kind) item.key (record s { session = record s.session { owners = forgotten o kind key s.session.owners } })
+item_beside s o kind key h working there = grind (arith, nat_tests, give_step s o kind key h working there (newest o kind key s.session) refl, given_portals)
 
 pub then_beside : (a b c : Scene) → Beside a b → Beside b c → Beside a c
 then_beside a b c x y = record { works = record { stands = y.works.stands; levels = y.works.levels ∙ x.works.levels; at_rest = λ r. y.works.at_rest (x.works.at_rest r) }; portals = y.portals ∙ x.portals }
@@ -42,8 +28,7 @@ none_changed name f (p ∷ ps) e = grind (arith, nat_tests, none_changed name f 
 
 -- a portal changes, where one has the name
 pub becomes_works : (s : Scene) (name : Text) (f : OpenPortal → OpenPortal) → Stands s → ((p : OpenPortal) → IsAtRest p → IsAtRest (f p)) → ((p : OpenPortal) → portal_named name s.session.portals ≡ Some p → Stands (portal_becomes name f s).scene) → Works s (portal_becomes name f s).scene
-becomes_works s name f h rests named =
-    grind (arith, nat_tests, none_changed name f s.session.portals, nothing_works s h, rests_becomes name f s.session.portals rests)
+becomes_works s name f h rests named = grind (arith, nat_tests, none_changed name f s.session.portals, nothing_works s h, rests_becomes name f s.session.portals rests)
 
 -- a step of a turn of the portal of a name
 pub record Turns (name : Text) (s z : Scene) : Type 0 where
@@ -51,23 +36,20 @@ pub record Turns (name : Text) (s z : Scene) : Type 0 where
   pub fetched : IsFetched name s → IsFetched name z
 
 pub beside_turns : (name : Text) (s z : Scene) → Beside s z → Turns name s z
-beside_turns name s z b = record {
-  works = b.works;
-  fetched = λ f p e. f p (sym (ap (portal_named name) b.portals) ∙ e) ∙ sym (ap length b.works.levels);
-}
+beside_turns name s z b = grind (arith, nat_tests)
 
 pub becomes_fetched : (s : Scene) (name : Text) (f : OpenPortal → OpenPortal) → ((p : OpenPortal) → (f p).name ≡ p.name) → ((p : OpenPortal) → portal_named name s.session.portals ≡ Some p → (f p).active ≡ length s.session.levels)
     → IsFetched name (portal_becomes name f s).scene
 becomes_fetched s name f keeps active q e = grind (arith, nat_tests, none_changed name f s.session.portals, named_changed name)
 
 -- where it fails, its line is at work on it
-pub failed_stands : (s : Scene) (name : Text) → Stands s → IsWorking s.session.levels → IsFetched name s → Stands (portal_becomes name (λ p. record p { state = portal.Failed }) s).scene
+pub failed_stands : (s : Scene) (name : Text) → Stands s → IsWorking s.session.levels → IsFetched name s → Stands (portal_becomes name (λ p. record p { state = PortalState.Failed }) s).scene
 failed_stands s name h working fetched = go (portal_named name s.session.portals) refl
   where
-    go : (o : Option OpenPortal) → portal_named name s.session.portals ≡ o → Stands (portal_becomes name (λ p. record p { state = portal.Failed }) s).scene
+    go : (o : Option OpenPortal) → portal_named name s.session.portals ≡ o → Stands (portal_becomes name (λ p. record p { state = PortalState.Failed }) s).scene
     go None e =
-        subst (λ (ps : List OpenPortal). Stands (record s { session = record s.session { portals = ps } })) (sym (none_changed name (λ p. record p { state = portal.Failed }) s.session.portals e)) h
-    go (Some p) e = state_portal s h working name p (named_in name p s.session.portals e) portal.Failed (inr (fetched p e, λ z. absurd (cc z)))
+        subst (λ (ps : List OpenPortal). Stands (record s { session = record s.session { portals = ps } })) (sym (none_changed name (λ p. record p { state = PortalState.Failed }) s.session.portals e)) h
+    go (Some p) e = state_portal s h working name p (named_in name p s.session.portals e) PortalState.Failed (inr (fetched p e, λ z. absurd (cc z)))
 
 -- what a step of a turn led to
 pub record Turned (name : Text) (s : Scene) (done : Done) : Type 0 where
@@ -80,72 +62,54 @@ module _ (w : Option ℕ) (moment : Moment) (h : Stands moment.scene) (working :
   there p e o q = ((this_portal moment.scene h working name p (named_in name p moment.scene.session.portals e)).owner o q).there
 
   pub owner_named : (o : ℕ) → option_and_then (λ (p : OpenPortal). p.owner) (portal_named name moment.scene.session.portals) ≡ Some o → has o moment.scene.session.owners ≡ true
-  owner_named o e = go (portal_named name moment.scene.session.portals) refl e
-    where
-      go : (c : Option OpenPortal) → portal_named name moment.scene.session.portals ≡ c → option_and_then (λ (p : OpenPortal). p.owner) c ≡ Some o → has o moment.scene.session.owners ≡ true
-      go None q f = absurd (cc f)
-      go (Some p) q f = there p q o f
+  owner_named o e = grind (arith, nat_tests, there)
 
-  pub portal_enlarges : Beside moment.scene (does w (element.Enlarge (OfPortal name)) moment).moment.scene
+  pub portal_enlarges : Beside moment.scene (does w (Element.Enlarge (OfPortal name)) moment).moment.scene
   unfolding does
   portal_enlarges = fallible_keeps (Beside moment.scene) w moment None nothing (nothing_beside moment.scene h) (λ _. nothing_beside moment.scene h)
 
-  pub portal_locks : (object : ℕ) (mode : Mode) → Beside moment.scene (does w (element.TakeLock (OfPortal name) object mode) moment).moment.scene
+  pub portal_locks : (object : ℕ) (mode : Mode) → Beside moment.scene (does w (Element.TakeLock (OfPortal name) object mode) moment).moment.scene
   unfolding does
   portal_locks object mode = lock_beside w moment h working (OfPortal name) owner_named object mode
 
   pub portal_takes : (kind : KindId) (key : ℕ) → keeper_of kind ≡ NoOne → kind.0 ≢ 5 → ((serial : ℕ) → IsItem (table_of moment.scene.around.kinds) (record { kind = kind; key = key; serial = serial }))
-      → Beside moment.scene (does w (element.Take (OfPortal name) kind key) moment).moment.scene
+      → Beside moment.scene (does w (Element.Take (OfPortal name) kind key) moment).moment.scene
   unfolding does
   portal_takes kind key unkept ne is = take_beside w moment h working (OfPortal name) owner_named kind key unkept ne is
 
-  pub portal_allocates : (title : Option Text) (bytes : ℕ) → Beside moment.scene (does w (element.Alloc (InPortal name) title bytes false) moment).moment.scene
+  pub portal_allocates : (title : Option Text) (bytes : ℕ) → Beside moment.scene (does w (Element.Alloc (InPortal name) title bytes false) moment).moment.scene
   unfolding does
   portal_allocates title bytes = alloc_beside w moment h working (InPortal name) title bytes false
 
-  pub row_allocates : (title : Option Text) (bytes : ℕ) → Beside moment.scene (does w (element.Alloc (InRow name) title bytes false) moment).moment.scene
+  pub row_allocates : (title : Option Text) (bytes : ℕ) → Beside moment.scene (does w (Element.Alloc (InRow name) title bytes false) moment).moment.scene
   unfolding does
   row_allocates title bytes = alloc_beside w moment h working (InRow name) title bytes false
 
-  pub check_beside : (check : Check) → Beside moment.scene (does w (element.Checks check) moment).moment.scene
+  pub check_beside : (check : Check) → Beside moment.scene (does w (Element.Checks check) moment).moment.scene
   unfolding does
   check_beside check = grind (arith, nat_tests)
 
-  pub begins_works : Works moment.scene (does w (element.FetchBegins name) moment).moment.scene
+  pub begins_works : Works moment.scene (does w (Element.FetchBegins name) moment).moment.scene
   unfolding does
   begins_works =
       becomes_works moment.scene name (λ p. record p { active = length moment.scene.session.levels }) h (λ p r. r)
       (λ p e. active_portal moment.scene h working name p (named_in name p moment.scene.session.portals e))
 
-  pub begins_fetched : IsFetched name (does w (element.FetchBegins name) moment).moment.scene
+  pub begins_fetched : IsFetched name (does w (Element.FetchBegins name) moment).moment.scene
   unfolding does
   begins_fetched = becomes_fetched moment.scene name (λ p. record p { active = length moment.scene.session.levels }) (λ p. refl) (λ p e. refl)
 
-  pub ready_works : Works moment.scene (does w (element.PortalReady name) moment).moment.scene
+  pub ready_works : Works moment.scene (does w (Element.PortalReady name) moment).moment.scene
   unfolding does
   ready_works =
-      becomes_works moment.scene name (λ p. record p { state = portal.Ready }) h (λ p r unready. absurd (cc unready))
-      (λ p e. state_portal moment.scene h working name p (named_in name p moment.scene.session.portals e) portal.Ready (inl (λ unready. absurd (cc unready))))
+      becomes_works moment.scene name (λ p. record p { state = PortalState.Ready }) h (λ p r unready. absurd (cc unready))
+      (λ p e. state_portal moment.scene h working name p (named_in name p moment.scene.session.portals e) PortalState.Ready (inl (λ unready. absurd (cc unready))))
 
   -- what a step of a scan does by itself
   pub part_beside : (s : Scene) (st : ScanStep) (p : OpenPortal) → Stands s → IsWorking s.session.levels → ((o : ℕ) → p.owner ≡ Some o → has o s.session.owners ≡ true) → Beside s (scan_part st p s).scene
-  part_beside s step.Reset p k work own = go p.expr
-    where
-      go : (o : Option ℕ) → Beside s (where_there o context_cleared_alone s).scene
-      go None = nothing_beside s k
-      go (Some n) = beside_by s _ refl refl (alone_step s n k work)
-  part_beside s (step.Unpin page) p k work own = go p.owner refl
-    where
-      go : (o : Option ℕ) → p.owner ≡ o → Beside s (where_there o (λ owner. item_released owner buffer_pin page) s).scene
-      go None e = nothing_beside s k
-      go (Some n) e = item_beside s n buffer_pin page k work (own n e)
-  part_beside s (step.Row row value) p k work own = nothing_beside s k
-  part_beside s (step.Pin page) p k work own = nothing_beside s k
-  part_beside s (step.Bad row) p k work own = nothing_beside s k
-  part_beside s step.Alloc p k work own = nothing_beside s k
-  part_beside s step.End p k work own = nothing_beside s k
+  part_beside s st p k work own = grind (arith, nat_tests, nothing_beside s k, beside_by s, alone_step s, item_beside s)
 
-  pub scan_turns : (st : ScanStep) → Turns name moment.scene (does w (element.Scans name st) moment).moment.scene
+  pub scan_turns : (st : ScanStep) → Turns name moment.scene (does w (Element.Scans name st) moment).moment.scene
   unfolding does
   scan_turns st = go (portal_named name moment.scene.session.portals) refl
     where
@@ -173,7 +137,7 @@ module _ (w : Option ℕ) (moment : Moment) (h : Stands moment.scene) (working :
           }))
 
   -- an element of a turn
-  pub turned : (x : Element) → IsFetched name moment.scene → Turns name moment.scene (does w x moment).moment.scene → Turned name moment.scene (does w (element.InTurn name x) moment)
+  pub turned : (x : Element) → IsFetched name moment.scene → Turns name moment.scene (does w x moment).moment.scene → Turned name moment.scene (does w (Element.InTurn name x) moment)
   unfolding does
   turned x fetched turns = go (does w x moment).refusal refl
     where

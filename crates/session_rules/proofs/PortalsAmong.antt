@@ -1,9 +1,7 @@
 -- The contexts and owners of portals among those of levels, and what portals keep where others change.
-use Rattle.session_rules.proofs.Base.{◌≡◌, ◌≢◌, ℕ, ◌≤◌, ◌<◌, true, false, Option, Some, None, List, [], ◌∷◌, refl, sym, ap, ◌∙◌, subst, inl, arith, All, option_map_or, both_ways, eq-eqb, All-weaker, nat_tests}
-use Rattle.session_rules.proofs.Below.{Empty, Node, Once, has, at, children, parent_of, put, removed, changed, with_children, Context, Contexts, is_protected, OwnerTree}
+use Rattle.session_rules.proofs.Base.{◌≡◌, ◌≢◌, ℕ, ◌≤◌, ◌<◌, true, false, Option, Some, None, List, [], ◌∷◌, refl, sym, ◌∙◌, subst, inl, arith, All, option_map_or, both_ways, eq-eqb, All-weaker, nat_tests}
+use Rattle.session_rules.proofs.Below.{Empty, Once, has, at, children, parent_of, put, removed, changed, with_children, Context, Contexts, is_protected, OwnerTree, at_children, children_changed, children_in, parent_in}
 use Rattle.session_rules.proofs.Rules.{LevelState, OpenPortal, StandingPlan, abort_context, cache_context, first_of, portals_context, top_context, level_parent, AreContexts, AreLevels, AreOuter, ArePortals, IsAttached, IsOwner, IsPlace, IsPlan, IsPortal, IsRow, owner_at}
-use Rattle.forest.proofs.Moved.{at_children}
-use Rattle.forest.proofs.Walks.{children_changed, children_in, parent_in}
 use Rattle.session_rules.proofs.Guarded.{top_parent}
 use Rattle.session_rules.proofs.ContextsKept.{IsSame, own}
 use Rattle.session_rules.proofs.LevelsKept.{IsContext, no_value}
@@ -18,11 +16,7 @@ pub record IsRowOf (e c : ℕ) (t : Contexts) : Type 0 where
   pub lone : children e t ≡ Empty
 
 pub row_of : (e c : ℕ) (t : Contexts) (current : ℕ) → Once t → IsPlace c (Some e) t current → IsRowOf e c t
-row_of e c t current once h =
-    let row : Context = h.row.0 in
-    let below : children c t ≡ Node e row Empty Empty = h.row.1 in
-    let there : has e (children c t) ≡ true = rw (below, eq-eqb e e refl) refl in
-    grind (arith, nat_tests, parent_in e c t once there, at_children e c t once there, children_in e c t once there)
+row_of e c t current once h = grind (arith, nat_tests, eq-eqb e e refl, parent_in e c t once, at_children e c t once, children_in e c t once)
 
 -- a level's context isn't below one of the session's own but the topmost one
 pub off_above : (levels : List LevelState) (t : Contexts) (x : OwnerTree) → AreLevels levels t x → (b : ℕ) → 1 < b → b ≤ abort_context → level_parent (first_of levels) ≢ b
@@ -34,8 +28,7 @@ some_is a b e = cc e
 
 pub off_levels : (levels : List LevelState) (t : Contexts) (x : OwnerTree) → AreLevels levels t x → (n : ℕ) → IsContext n levels → (m b : ℕ) → 1 < b → b ≤ abort_context → parent_of m t ≡ Some b → n ≢ m
 off_levels [] t x l n i m b low high p = absurd i
-off_levels (level ∷ levels) t x l n i m b low high p =
-    grind (arith, nat_tests, off_above levels t x l.1 b low high, some_is (level_parent (first_of levels)) b, off_levels levels t x l.1 n)
+off_levels (level ∷ levels) t x l n i m b low high p = grind (arith, nat_tests, off_above levels t x l.1 b low high, some_is (level_parent (first_of levels)) b, off_levels levels t x l.1 n)
 
 -- the parent of a level's context isn't a portal's
 pub levels_up : (levels : List LevelState) (t : Contexts) (x : OwnerTree) → AreLevels levels t x → (c : ℕ) → abort_context < c → parent_of c t ≡ Some portals_context → level_parent (first_of levels) ≢ c
@@ -49,13 +42,11 @@ levels_up (level ∷ levels) t x l c own p = go level.context refl
 -- a level's context isn't that of one row
 pub off_rows : (levels : List LevelState) (t : Contexts) (x : OwnerTree) → AreLevels levels t x → (n : ℕ) → IsContext n levels → (e c : ℕ) → abort_context < c → parent_of c t ≡ Some portals_context → parent_of e t ≡ Some c → n ≢ e
 off_rows [] t x l n i e c own up p = absurd i
-off_rows (level ∷ levels) t x l n i e c own up p =
-    grind (arith, nat_tests, levels_up levels t x l.1 c own up, some_is (level_parent (first_of levels)) c, off_rows levels t x l.1 n)
+off_rows (level ∷ levels) t x l n i e c own up p = grind (arith, nat_tests, levels_up levels t x l.1 c own up, some_is (level_parent (first_of levels)) c, off_rows levels t x l.1 n)
 
 -- nor is one of the session's own
 pub own_rows : (t : Contexts) (next : ℕ) → AreContexts t next → (n : ℕ) → 1 ≤ n → n ≤ abort_context → (e c : ℕ) → abort_context < c → parent_of e t ≡ Some c → n ≢ e
-own_rows t next h n low small e c own_c p =
-    grind (arith, nat_tests, no_value (parent_of e t) c, top_parent own top_context t h.once h.rooted, some_is top_context c)
+own_rows t next h n low small e c own_c p = grind (arith, nat_tests, no_value (parent_of e t) c, top_parent own top_context t h.once h.rooted, some_is top_context c)
 
 -- each portal is as it was
 pub portals_by : (ps : List OpenPortal) (ls ms : List LevelState) (t u : Contexts) (x y : OwnerTree) (a b : ℕ) → ((p : OpenPortal) → IsPortal p ls t x a → IsPortal p ms u y b) → ArePortals ps ls t x a → ArePortals ps ms u y b
@@ -89,9 +80,7 @@ place_plans n expr t current plans h a each = grind (arith, nat_tests, some_is p
 
 -- portals where only contexts of plans go
 pub place_spared : (x y : Besides) (a : ℕ) → Spares x y → All (λ plan. IsPlan plan x.contexts a) x.plans → (n : ℕ) (expr : Option ℕ) (current : ℕ) → IsPlace n expr x.contexts current → IsPlace n expr y.contexts current
-place_spared x y a spares each n expr current h =
-    let apart : IsApart n x.plans = place_plans n expr x.contexts current x.plans h a each in
-    place_same n expr x.contexts y.contexts current (spares.same n apart h.protected) (subst (IsRow expr) (sym (spares.kids n h.own apart)) h.row) h
+place_spared x y a spares each n expr current h = grind (arith, nat_tests, place_plans n expr x.contexts current x.plans h a each, place_same n expr x.contexts y.contexts current)
 
 -- another context is the current one
 pub place_current : (n : ℕ) (expr : Option ℕ) (t : Contexts) (a b : ℕ) → b ≢ n → ((e : ℕ) → expr ≡ Some e → b ≢ e) → IsPlace n expr t a → IsPlace n expr t b
@@ -121,15 +110,8 @@ pub off_parent : (levels : List LevelState) (t : Contexts) (x : OwnerTree) → A
 off_parent levels t x l o m p own = levels_up levels t x l m own p
 
 pub row_parent_off : (levels : List LevelState) (t : Contexts) (x : OwnerTree) (next : ℕ) → AreContexts t next → AreLevels levels t x → (e c : ℕ) → abort_context < c → parent_of c t ≡ Some portals_context → parent_of e t ≡ Some c → level_parent (first_of levels) ≢ e
-row_parent_off [] t x next h l e c own up p = own_rows t next h top_context (omega arith) (omega arith) e c own p
-row_parent_off (level ∷ levels) t x next h l e c own up p = go level.context refl
-  where
-    go : (o : Option ℕ) → level.context ≡ o → option_map_or (λ n. n) o top_context ≢ e
-    go None q = own_rows t next h top_context (omega arith) (omega arith) e c own p
-    go (Some n) q = off_rows (level ∷ levels) t x l n (inl q) e c own up p
+row_parent_off levels t x next h l e c own up p = grind (arith, nat_tests, own_rows t next h top_context, off_rows)
 
 -- an unprotected context isn't that of one row
 pub row_free : (t : Contexts) → Once t → (k : ℕ) → is_protected k t ≡ false → (n : ℕ) (expr : Option ℕ) (current : ℕ) → IsPlace n expr t current → (e : ℕ) → expr ≡ Some e → e ≢ k
-row_free t once k free n expr current h e q z =
-    let r : IsRowOf e n t = row_of e n t current once (subst (λ (o : Option ℕ). IsPlace n o t current) q h) in
-    both_ways (is_protected k t) free (ap (λ (j : ℕ). is_protected j t) (sym z) ∙ r.protected)
+row_free t once k free n expr current h e q z = grind (arith, nat_tests, row_of e n t current once, both_ways (is_protected k t) free)

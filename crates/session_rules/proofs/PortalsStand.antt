@@ -1,14 +1,10 @@
 -- The steps of a portal lead from a session that stands to one that stands.
-use Rattle.session_rules.proofs.Base.{◌≡◌, ◌≢◌, ◌⊎◌, ℕ, ◌+◌, ◌≤◌, ◌<◌, true, false, Option, Some, None, List, [], ◌∷◌, ◌++◌, length, refl, sym, ap, ◌∙◌, subst, inl, inr, arith, ◌==◌, ◌||◌, All, codes, option_map_or, option_and_then, cases_eq, cases_Bool, both_ways, eq-eqb, or_parts, All-nil, All-cons, All-head, All-tail, All-append, All-weaker, nat_tests}
-use Rattle.session_rules.proofs.Below.{Forest, Empty, Node, Once, at, has, children, parent_of, put, size, Apart, apart_of, Contexts, created, is_protected, new_context, table_of, Owner, OwnerTree, has_begun, once_of, fresh, sound_created, new_scan, Scan, is_text, is_text-means, is_text-same}
-use Rattle.session_rules.proofs.Rules.{LevelState, OpenPortal, cache_context, first_of, level_owner, plan_reference, portals_context, Scene, OfPortal, PortalContext, Text, portal_changed, portal_named, in_order, portal_becomes, context_made, new_context_made, new_owner_made, owner_made, portal_made}
-use Rattle.portal_store.specs.declared.portal.PortalState.TheVariants as portal
-use Rattle.any_ctx.specs.declared.any.CtxKind.TheVariants as kind
+use Rattle.session_rules.proofs.Base.{◌≡◌, ◌≢◌, ◌⊎◌, ℕ, ◌+◌, ◌≤◌, ◌<◌, true, false, Option, Some, None, List, [], ◌∷◌, ◌++◌, length, refl, sym, ap, ◌∙◌, subst, inl, inr, arith, ◌==◌, ◌||◌, All, codes, option_and_then, cases_eq, cases_Bool, both_ways, eq-eqb, or_parts, All-nil, All-cons, All-head, All-tail, All-append, All-weaker, nat_tests}
+use Rattle.session_rules.proofs.Below.{Forest, Empty, Node, Once, at, has, children, parent_of, put, size, apart_of, Contexts, created, is_protected, new_context, table_of, OwnerTree, once_of, fresh, sound_created, new_scan, Scan, is_text, is_text-means, is_text-same, PortalState, CtxKind}
+use Rattle.session_rules.proofs.Rules.{LevelState, OpenPortal, cache_context, first_of, level_owner, plan_reference, portals_context, Scene, OfPortal, PortalContext, Text, portal_changed, portal_named, in_order, portal_becomes, context_made, new_context_made, new_owner_made, owner_made, portal_made, WasReleased, AreContexts, AreDifferent, AreHooks, AreLevels, AreOther, AreOwners, ArePlans, ArePortals, IsAtRest, IsAtWork, IsDead, IsLive, IsOfPortal, IsOwner, IsPlace, IsPortal, IsWorking, Stands, active_depth, owner_at, referred}
+use Rattle.session_rules.proofs.Kept.{children_put, has_put_other, Stay, contexts_created, has_created, is_unused, new_parent, new_protected, protected_has, stay_created, stay_same, held_created, hooks_put, levels_stay, no_value, one_value, lone_put, plans_counted, Changes, all_back, all_front, changed_one, different_new, different_changed, different_owned, others_back, others_front, owner_beside, owner_here, owner_split, IsRowOf, attached_by, own_rows, place_same, row_of, row_put, depth_small, depth_working}
 use Rattle.owner_core.specs.Owners as owners
 use Rattle.session_rules.proofs.ItemsStand.{owner_there}
-use Rattle.portal_store.specs.declared.portal.PortalState.{PortalState}
-use Rattle.session_rules.specs.Standing.{WasReleased, AreContexts, AreDifferent, AreHooks, AreLevels, AreOther, AreOwners, ArePlans, ArePortals, IsAtRest, IsAtWork, IsAttached, IsDead, IsLive, IsOfPortal, IsOwner, IsPlace, IsPortal, IsWorking, Stands, active_depth, owner_at, referred}
-use Rattle.session_rules.proofs.Kept.{children_put, has_put_other, Stay, contexts_created, has_created, is_unused, new_parent, new_protected, protected_has, stay_created, stay_same, held_created, hooks_put, levels_stay, no_value, one_value, lone_put, plans_counted, Changes, all_back, all_front, changed_one, different_new, different_changed, different_owned, others_back, others_front, owner_beside, owner_here, owner_split, IsRowOf, attached_by, own_rows, place_same, row_of, row_put, depth_small, depth_working}
 use Rattle.session_rules.proofs.StepsStand.{IsNewOwner, fit_working, new_owner_is, not_released, still_planned}
 
 -- the portal of a name among the others
@@ -36,13 +32,11 @@ named_changed name p f (q ∷ qs) keeps e = grind (arith, nat_tests, named_chang
 
 -- in a level where steps are taken each portal is live
 pub live_here : (p : OpenPortal) (levels : List LevelState) → IsWorking levels → IsLive p levels ⊎ IsDead p levels → IsLive p levels
-live_here p [] working s = absurd working
-live_here p (level ∷ levels) working s = elim s [ inl l ↦ l | inr d ↦ absurd (both_ways level.aborted working.unaborted d.aborted) ]
+live_here p levels working s = grind (arith, nat_tests, both_ways)
 
 -- how deep it is there
 pub depth_here : (levels : List LevelState) → IsWorking levels → (active_depth levels ≡ length levels) × (1 ≤ length levels)
-depth_here [] working = absurd working
-depth_here (level ∷ levels) working = (depth_working level levels working ∙ omega arith, omega arith)
+depth_here levels working = grind (arith, nat_tests, depth_working)
 
 -- A portal changes, and contexts and owners with it.
 pub portal_step : (s : Scene) (p q : OpenPortal) (front back : List OpenPortal) (u : Contexts) (next : ℕ) (y : OwnerTree) (count : ℕ) → Stands s → IsWorking s.session.levels → s.session.portals ≡ front ++ (p ∷ back)
@@ -85,10 +79,7 @@ module _ (s : Scene) (h : Stands s) (working : IsWorking s.session.levels) (name
   this_live = live_here p s.session.levels working this_portal.stage
 
   pub changes_in : (f : OpenPortal → OpenPortal) → portal_changed name f s.session.portals ≡ n.front ++ (f p ∷ n.back)
-  changes_in f =
-      ap (λ (k : Text). portal_changed k f s.session.portals) (sym n.titled)
-      ∙ ap (portal_changed p.name f) n.is
-      ∙ changed_one p f n.front n.back split_portals.different
+  changes_in f = grind (arith, nat_tests, changed_one, split_portals)
 
   -- whose owner is whose then
   pub same_owners : (q : OpenPortal) → ((k : ℕ) → p.owner ≡ Some k → q.owner ≡ Some k) → AreOwners (table_of s.around.kinds) s.session.owners s.session.next_owner s.session.next_serial s.session.levels (n.front ++ (q ∷ n.back))
@@ -122,37 +113,25 @@ module _ (s : Scene) (h : Stands s) (working : IsWorking s.session.levels) (name
       let q : OpenPortal = f p in
       let guarded : is_protected portals_context t ≡ true = (h.contexts.own portals_context (omega arith) (omega arith)).protected in
       let there : has portals_context t ≡ true = protected_has portals_context t guarded in
-      let u : Contexts = created portals_context next title kind.Small true t in
-      let stay : Stay t u = stay_created t next h.contexts portals_context title kind.Small true in
+      let u : Contexts = created portals_context next title CtxKind.Small true t in
+      let stay : Stay t u = stay_created t next h.contexts portals_context title CtxKind.Small true in
       let newer : (m : ℕ) → has m t ≡ true → m ≢ next = λ m have z. omega (arith, z, h.contexts.below m have) in
       let i = this_portal in
       let off : (m : ℕ) (expr : Option ℕ) → IsPlace m expr t cur → IsPlace m expr u cur = λ m expr k.
       place_same m expr t u cur (stay m k.protected)
-      (row_put t h.contexts.once m expr cur k portals_context next (new_context title kind.Small true) Empty (λ z. omega (arith, z, k.own)) (newer m (protected_has m t k.protected)) refl
+      (row_put t h.contexts.once m expr cur k portals_context next (new_context title CtxKind.Small true) Empty (λ z. omega (arith, z, k.own)) (newer m (protected_has m t k.protected)) refl
       (λ e f z.
       let r : IsRowOf e m t = row_of e m t cur h.contexts.once (subst (λ (o : Option ℕ). IsPlace m o t cur) f k) in
       own_rows t next h.contexts portals_context (omega arith) (omega arith) e m k.own r.parent (sym z))) k in
       let other : (r : OpenPortal) → IsPortal r s.session.levels t s.session.owners cur → IsPortal r s.session.levels u s.session.owners cur = λ r k.
       record { place = λ m e. off m r.expr (k.place m e); made = k.made; owner = k.owner; stage = k.stage } in
-      let own : IsPortal q s.session.levels u s.session.owners cur = record {
-        place = λ m e. subst (λ (j : ℕ). IsPlace j p.expr u cur) (one_value (Some next) next m refl e) (subst (λ (o : Option ℕ). IsPlace next o u cur) (sym (i.made none)) (record {
-          protected = new_protected t next h.contexts portals_context title kind.Small there;
-          parent = new_parent t next h.contexts portals_context title kind.Small true there;
-          own = h.contexts.room;
-          row = children_put portals_context next (new_context title kind.Small true) Empty t h.contexts.once there (is_unused t next h.contexts);
-          other = newer cur h.current;
-          apart = λ z. absurd (cc z);
-        }));
-        made = λ z. absurd (cc z);
-        owner = i.owner;
-        stage = inl (record { some = this_live.some; within = this_live.within; active = this_live.active; line = this_live.line });
-      } in
+      let own : IsPortal q s.session.levels u s.session.owners cur = grind (arith, nat_tests, one_value (Some next) next, new_protected t next h.contexts portals_context title CtxKind.Small there, new_parent t next h.contexts portals_context title CtxKind.Small true there, children_put portals_context next (new_context title CtxKind.Small true) Empty t h.contexts.once there (is_unused t next h.contexts), is_unused t next h.contexts, this_live) in
       let fresh_context : (r : OpenPortal) → IsPortal r s.session.levels t s.session.owners cur → (m : ℕ) → r.context ≡ Some m → m ≢ next = λ r k m e. newer m (protected_has m t (k.place m e).protected) in
       portal_step s p q n.front n.back u (next + 1) s.session.owners s.session.next_owner h working n.is
-      (contexts_created t next h.contexts portals_context title kind.Small true there (λ _. guarded)) stay
-      (has_created t next h.contexts cur portals_context title kind.Small true h.current)
-      (hooks_put portals_context next (new_context title kind.Small true) t s.around.shelf h.contexts.once refl h.hooks)
-      (still_planned s u h stay (λ m k. lone_put m portals_context next (new_context title kind.Small true) Empty t (λ z. omega (arith, z, k.own)) (newer m (protected_has m t k.protected)) refl k.lone))
+      (contexts_created t next h.contexts portals_context title CtxKind.Small true there (λ _. guarded)) stay
+      (has_created t next h.contexts cur portals_context title CtxKind.Small true h.current)
+      (hooks_put portals_context next (new_context title CtxKind.Small true) t s.around.shelf h.contexts.once refl h.hooks)
+      (still_planned s u h stay (λ m k. lone_put m portals_context next (new_context title CtxKind.Small true) Empty t (λ z. omega (arith, z, k.own)) (newer m (protected_has m t k.protected)) refl k.lone))
       (levels_stay s.session.levels t u s.session.owners s.session.owners (λ m j prot. stay m prot) (λ m j w. record { there = w; parent = refl }) h.levels)
       (same_owners q (λ k e. e))
       (different_new p q n.front n.back next refl (λ k e. e) (λ m e. one_value (Some next) m next e refl)
@@ -165,9 +144,7 @@ module _ (s : Scene) (h : Stands s) (working : IsWorking s.session.levels) (name
 -- a new node is the first below its parent
 pub put_here : {A : Type 0} (q m : ℕ) (a : A) (t : Forest A) → Once t → has q t ≡ true → has m t ≡ false → children q (put q m a Empty t) ≡ Node m a Empty (children q t)
 put_here q m a Empty o h u = absurd (cc h)
-put_here q m a (Node k b below beside) o h u =
-    let apart : Apart k below beside = apart_of k b below beside o in
-    grind (arith, nat_tests, apart_of k b below beside o, or_parts (k == m) (has m below || has m beside) u, or_parts (has m below) (has m beside), has_put_other q q m a Empty below, put_here q m a below apart.once_below, put_here q m a beside apart.once_beside)
+put_here q m a (Node k b below beside) o h u = grind (arith, nat_tests, apart_of k b below beside o, or_parts (k == m) (has m below || has m beside) u, or_parts (has m below) (has m beside), has_put_other q q m a Empty below, put_here q m a below, put_here q m a beside)
 
 -- a level's owner is there
 pub owners_there : (levels : List LevelState) (t : Contexts) (x : OwnerTree) (m : ℕ) → AreLevels levels t x → IsOwner m levels → has m x ≡ true
@@ -204,17 +181,7 @@ module _ (s : Scene) (h : Stands s) (working : IsWorking s.session.levels) (name
       let a = k.owner m e in
       attached_by m r.created ls ls x y (λ w. new.had m (other m a.there) ∙ w) (new.parents m (other m a.there))
       (new.lone m (other m a.there) (λ j g z. a.other (subst (λ (v : ℕ). IsOwner v ls) (one_value (Some lo) lo j refl g ∙ sym z) up.1))) refl (λ j. j) a) in
-      let own : IsPortal q ls t y cur = record {
-        place = i.place;
-        made = i.made;
-        owner = λ m e. subst (λ (j : ℕ). IsAttached j p.created ls y) (one_value (Some count) count m refl e) (record {
-          there = new.there;
-          parent = new.parent ∙ sym up.0 ∙ ap (λ (k : ℕ). owner_at k ls) (sym deep);
-          lone = new.alone;
-          other = λ j. both_ways (has count x) unused (owners_there ls t x count h.levels j);
-        });
-        stage = inl (record { some = l.some; within = l.within; active = l.active; line = inr (omega (arith, l.within, l.active, depth_small ls, deep), λ _. deep) });
-      } in
+      let own : IsPortal q ls t y cur = grind (arith, nat_tests, one_value (Some count) count, both_ways (has count x) unused, owners_there ls t x count h.levels, depth_small ls) in
       let was : ArePortals (n.front ++ (p ∷ n.back)) ls t x cur = split_portals s h working name p n in
       let owned : AreOwners (table_of s.around.kinds) y (count + 1) b ls (n.front ++ (q ∷ n.back)) = record {
         sound = sound_created (Some lo) x count b h.owners.sound few;
@@ -228,15 +195,7 @@ module _ (s : Scene) (h : Stands s) (working : IsWorking s.session.levels) (name
             ])
           ]
         ];
-        begun = λ m u. elim (cases_eq m count) [
-          | inl e ↦
-              let z : option_map_or (λ (owner : Owner). owner.begun) (at count y) false ≡ true = ap (λ (k : ℕ). has_begun k y) (sym e) ∙ u in
-              let w : false ≡ true = rw new.idle at z in
-              absurd (cc w)
-          | inr ne ↦
-              let z : has_begun m x ≡ true = ap (λ (c : Option Owner). option_map_or (λ owner. owner.begun) c false) (sym (new.others m ne)) ∙ u in
-              absurd (not_released ls m x working (h.owners.begun m z))
-        ];
+        begun = grind (arith, nat_tests, cases_eq, not_released ls);
         items = new.items (table_of s.around.kinds) h.owners.items;
       } in
       let off : All (λ r. (m : ℕ) → r.owner ≡ Some m → m ≢ count) (n.front ++ (p ∷ n.back)) =
@@ -250,7 +209,7 @@ module _ (s : Scene) (h : Stands s) (working : IsWorking s.session.levels) (name
       subst (λ (o : Option ℕ). Stands (in_order (owner_made o ∷ portal_becomes name f ∷ []) s).scene) (sym is_lo) result
 
   -- It gets the context of one row.
-  pub row_portal : (c : ℕ) → p.context ≡ Some c → p.expr ≡ None → Stands (in_order (context_made c (codes "ExprContext") true kind.Small ∷ portal_becomes name (λ r. record r { expr = Some s.session.next_context }) ∷ []) s).scene
+  pub row_portal : (c : ℕ) → p.context ≡ Some c → p.expr ≡ None → Stands (in_order (context_made c (codes "ExprContext") true CtxKind.Small ∷ portal_becomes name (λ r. record r { expr = Some s.session.next_context }) ∷ []) s).scene
   row_portal c at_c none =
       let t : Contexts = s.session.contexts in
       let next : ℕ = s.session.next_context in
@@ -263,8 +222,8 @@ module _ (s : Scene) (h : Stands s) (working : IsWorking s.session.levels) (name
       let i = this_portal s h working name p n in
       let place : IsPlace c None t cur = subst (λ (o : Option ℕ). IsPlace c o t cur) none (i.place c at_c) in
       let there : has c t ≡ true = protected_has c t place.protected in
-      let u : Contexts = created c next title kind.Small true t in
-      let stay : Stay t u = stay_created t next h.contexts c title kind.Small true in
+      let u : Contexts = created c next title CtxKind.Small true t in
+      let stay : Stay t u = stay_created t next h.contexts c title CtxKind.Small true in
       let newer : (m : ℕ) → has m t ≡ true → m ≢ next = λ m have z. omega (arith, z, h.contexts.below m have) in
       let was : ArePortals (n.front ++ (p ∷ n.back)) ls t x cur = split_portals s h working name p n in
       let others : (r : OpenPortal) → IsPortal r ls t x cur → AreOther r p ⊎ AreOther p r → IsPortal r ls u x cur = λ r k o. record {
@@ -272,7 +231,7 @@ module _ (s : Scene) (h : Stands s) (working : IsWorking s.session.levels) (name
             let pl : IsPlace m r.expr t cur = k.place m e in
             let ne : m ≢ c = λ z. elim o [ inl d ↦ d.context m (at_c ∙ ap Some (sym z)) e | inr d ↦ d.context m e (at_c ∙ ap Some (sym z)) ] in
             place_same m r.expr t u cur (stay m pl.protected)
-            (row_put t h.contexts.once m r.expr cur pl c next (new_context title kind.Small true) Empty ne (newer m (protected_has m t pl.protected)) refl
+            (row_put t h.contexts.once m r.expr cur pl c next (new_context title CtxKind.Small true) Empty ne (newer m (protected_has m t pl.protected)) refl
             (λ v g z.
             let w : IsRowOf v m t = row_of v m t cur h.contexts.once (subst (λ (j : Option ℕ). IsPlace m j t cur) g pl) in
             let same : m ≡ portals_context = let e2 : Some m ≡ Some portals_context = sym w.parent ∙ ap (λ (j : ℕ). parent_of j t) z ∙ place.parent in cc e2 in
@@ -281,24 +240,12 @@ module _ (s : Scene) (h : Stands s) (working : IsWorking s.session.levels) (name
         owner = k.owner;
         stage = k.stage;
       } in
-      let own : IsPortal q ls u x cur = record {
-        place = λ m e. subst (λ (j : ℕ). IsPlace j (Some next) u cur) (one_value p.context c m at_c e) (record {
-          protected = (stay c place.protected).protected;
-          parent = (stay c place.protected).parent ∙ place.parent;
-          own = place.own;
-          row = (new_context title kind.Small true, put_here c next (new_context title kind.Small true) t h.contexts.once there (is_unused t next h.contexts) ∙ ap (Node next (new_context title kind.Small true) Empty) place.row, refl);
-          other = place.other;
-          apart = λ z. newer cur h.current (sym (one_value (Some next) next cur refl z));
-        });
-        made = λ z. absurd (no_value p.context c z at_c);
-        owner = i.owner;
-        stage = inl (let l : IsLive p ls = this_live s h working name p n in record { some = l.some; within = l.within; active = l.active; line = l.line });
-      } in
+      let own : IsPortal q ls u x cur = grind (arith, nat_tests, one_value p.context c, one_value (Some next) next cur refl, put_here c next (new_context title CtxKind.Small true) t h.contexts.once there (is_unused t next h.contexts), is_unused t next h.contexts, no_value p.context c, this_live s h working name p n) in
       portal_step s p q n.front n.back u (next + 1) x s.session.next_owner h working n.is
-      (contexts_created t next h.contexts c title kind.Small true there (λ _. place.protected)) stay
-      (has_created t next h.contexts cur c title kind.Small true h.current)
-      (hooks_put c next (new_context title kind.Small true) t s.around.shelf h.contexts.once refl h.hooks)
-      (still_planned s u h stay (λ m k. lone_put m c next (new_context title kind.Small true) Empty t
+      (contexts_created t next h.contexts c title CtxKind.Small true there (λ _. place.protected)) stay
+      (has_created t next h.contexts cur c title CtxKind.Small true h.current)
+      (hooks_put c next (new_context title CtxKind.Small true) t s.around.shelf h.contexts.once refl h.hooks)
+      (still_planned s u h stay (λ m k. lone_put m c next (new_context title CtxKind.Small true) Empty t
       (λ z. let e2 : Some cache_context ≡ Some portals_context = sym k.parent ∙ ap (λ (j : ℕ). parent_of j t) z ∙ place.parent in let e3 : cache_context ≡ portals_context = cc e2 in absurd (omega (arith, e3)))
       (newer m (protected_has m t k.protected)) refl k.lone))
       (levels_stay ls t u x x (λ m j prot. stay m prot) (λ m j w. record { there = w; parent = refl }) h.levels)
@@ -338,13 +285,8 @@ new_names name (q ∷ qs) e p named c o = elim (cases_Bool (is_text q.name name)
 pub made_portal : (s : Scene) (name : Text) (object rows : ℕ) (bad : Option ℕ) → Stands s → IsWorking s.session.levels → portal_named name s.session.portals ≡ None → Stands (portal_made name object rows bad s).scene
 made_portal s name object rows bad h working free =
     let d = depth_here s.session.levels working in
-    let p : OpenPortal = record { name = name; context = None; expr = None; owner = None; scan = new_scan object rows bad; created = length s.session.levels; active = length s.session.levels; state = portal.New } in
-    let own : IsPortal p s.session.levels s.session.contexts s.session.owners s.session.current = record {
-      place = λ n e. absurd (cc e);
-      made = λ _. refl;
-      owner = λ n e. absurd (cc e);
-      stage = inl (record { some = d.1; within = omega arith; active = omega (arith, d.0); line = inl (λ _. refl) });
-    } in
+    let p : OpenPortal = record { name = name; context = None; expr = None; owner = None; scan = new_scan object rows bad; created = length s.session.levels; active = length s.session.levels; state = PortalState.New } in
+    let own : IsPortal p s.session.levels s.session.contexts s.session.owners s.session.current = grind (arith, nat_tests) in
     let each : (n : ℕ) → has n s.session.owners ≡ true → IsOwner n s.session.levels ⊎ (IsOfPortal n (p ∷ s.session.portals) ⊎ WasReleased n s.session.levels s.session.owners) =
     λ n u. elim (h.owners.each n u) [ inl i ↦ inl i | inr k ↦ inr (elim k [ inl j ↦ inl (inr j) | inr r ↦ inr r ]) ] in
     search (All-cons (λ r. IsPortal r s.session.levels s.session.contexts s.session.owners s.session.current) p s.session.portals own h.portals.each, new_names name s.session.portals free p refl refl refl)

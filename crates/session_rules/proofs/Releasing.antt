@@ -1,13 +1,7 @@
 -- What a release leaves: the owners without their items, and of all else only what tables count.
-use Rattle.session_rules.proofs.Base.{◌≡◌, ◌≢◌, ℕ, ◌<◌, ◌≤◌, Bool, true, false, Option, List, [], ◌∷◌, length, slice_get, All, refl, sym, ap, ◌∙◌, subst, inl, inr, arith, zero, suc, ◌-◌, not, filter, unwrap_or, if◌then◌else◌, option_map}
-use Rattle.session_rules.proofs.Below.{Item, Phase, BeforeLocks, Locks, AfterLocks, swept, Kind, table_of, Owner, OwnerTree, HoldsNothing, own_released, released, IsSound, sound_released, Lock}
+use Rattle.session_rules.proofs.Base.{◌≡◌, ◌≢◌, ℕ, ◌<◌, ◌≤◌, Bool, true, false, Option, List, [], ◌∷◌, length, slice_get, All, refl, arith, zero, suc, ◌-◌, not, filter, unwrap_or, if◌then◌else◌, option_map, cases_Bool, le-ltb, lt-ltb, ne_eqb, All-nil, All-head, All-tail, All-filter, nat_tests}
+use Rattle.session_rules.proofs.Below.{Item, Phase, BeforeLocks, Locks, AfterLocks, swept, Kind, Owner, OwnerTree, HoldsNothing, own_released, released, IsSound, sound_released, Lock, KindTable, built_in_rows, row_of, IsSoundTable, IsPlace, KindRow, is_of_phase, is_phase}
 use Rattle.session_rules.proofs.Rules.{Scene, HasItems, IsItem}
-use Rattle.std.proofs.lemmas.Bool.{cases_Bool, le-ltb, lt-ltb, ne_eqb}
-use Rattle.std.proofs.lemmas.List.Elements.{All-nil, All-head, All-tail, All-filter}
-use Rattle.owner_kinds.specs.KindTable.{KindTable, built_in_rows, row_of, IsSound as IsSoundTable}
-use Rattle.owner_kinds.specs.Place.{IsPlace}
-use Rattle.owner_kinds.specs.declared.kind_row.KindRow.{KindRow}
-use Rattle.owner_items.specs.Next.{is_of_phase, is_phase}
 use Rattle.session_rules.proofs.Swept.{both_swept}
 
 -- what tables count besides owners
@@ -28,12 +22,6 @@ tables_of scene = record { locks = scene.session.locks; recent = scene.session.r
 abbrev pub with_owners : OwnerTree → Scene → Scene
 with_owners owners scene = record scene { session = record scene.session { owners = owners } }
 
--- one phase, by the kinds of the scene
-record HasPhase (kinds : KindTable) (owner : ℕ) (phase : Phase) (s t : Scene) : Type 0 where
-  tables : Tables
-  same : table_of tables.kinds ≡ table_of s.around.kinds
-  is : t ≡ with_owners (released kinds phase owner s.session.owners) (tabled tables s)
-
 -- what the three phases leave of an owner
 abbrev pub swept_by : KindTable → Owner → Owner
 swept_by kinds owner = own_released kinds AfterLocks (own_released kinds Locks (own_released kinds BeforeLocks owner))
@@ -46,9 +34,7 @@ pub record HasSwept (kinds : KindTable) (p : ℕ) (owners now : OwnerTree) : Typ
 -- the three phases as one
 pub released_swept : (kinds : KindTable) (p : ℕ) (owners : OwnerTree)
     → released kinds AfterLocks p (released kinds Locks p (released kinds BeforeLocks p owners)) ≡ swept (swept_by kinds) p owners
-released_swept kinds p owners =
-    ap (released kinds AfterLocks p) (both_swept (own_released kinds BeforeLocks) (own_released kinds Locks) p owners)
-    ∙ both_swept (λ (x : Owner). own_released kinds Locks (own_released kinds BeforeLocks x)) (own_released kinds AfterLocks) p owners
+released_swept kinds p owners = grind (arith, nat_tests, both_swept (own_released kinds BeforeLocks) (own_released kinds Locks) p owners, both_swept)
 
 -- what isn't released before the locks is released behind them
 abbrev IsLast : KindTable → ℕ → ℕ → ℕ → Type 0
@@ -61,9 +47,7 @@ abbrev in_phase : Phase → Option KindRow → Bool
 in_phase phase o = unwrap_or (option_map (is_phase phase) (option_map (λ r. r.phase) o)) false
 
 last_phase : (phase : Phase) → phase ≢ Locks → is_phase BeforeLocks phase ≡ false → is_phase AfterLocks phase ≡ true
-last_phase BeforeLocks other e = sym e
-last_phase Locks other e = absurd (other refl)
-last_phase AfterLocks other e = refl
+last_phase phase other e = grind (arith, nat_tests)
 
 last_of_rows : (rows : List KindRow) (i : ℕ) → All IsPlace rows → i < length rows → in_phase BeforeLocks (slice_get rows i) ≡ false → in_phase AfterLocks (slice_get rows i) ≡ true
 last_of_rows [] i places within e = absurd (omega arith)
@@ -76,13 +60,10 @@ are_apart [] = true
 are_apart (r ∷ rs) = if is_phase Locks r.phase then false else are_apart rs
 
 own_last : (phase : Phase) (rest : Bool) → (if is_phase Locks phase then false else rest) ≡ true → is_phase BeforeLocks phase ≡ false → is_phase AfterLocks phase ≡ true
-own_last BeforeLocks rest apart e = sym e
-own_last Locks rest apart e = absurd (cc apart)
-own_last AfterLocks rest apart e = refl
+own_last phase rest apart e = grind (arith, nat_tests)
 
 rest_apart : (phase : Phase) (rest : Bool) → (if is_phase Locks phase then false else rest) ≡ true → rest ≡ true
-rest_apart Locks rest apart = absurd (cc apart)
-rest_apart other rest apart = apart
+rest_apart phase rest apart = grind (arith, nat_tests)
 
 last_of_own : (rows : List KindRow) (i : ℕ) → are_apart rows ≡ true → i < length rows → in_phase BeforeLocks (slice_get rows i) ≡ false → in_phase AfterLocks (slice_get rows i) ≡ true
 last_of_own [] i apart within e = absurd (omega arith)
@@ -91,28 +72,19 @@ last_of_own (r ∷ rs) (suc i) apart within e = last_of_own rs i (rest_apart r.p
 
 last_of_built_in : (kinds : KindTable) (key serial k : ℕ) → 1 ≤ k → k ≤ length built_in_rows → IsLast kinds key serial k
 unfolding row_of
-last_of_built_in kinds key serial k l u =
-    rw (lt-ltb k 16 (omega (arith, u)), ne_eqb k 0 (λ e. absurd (omega (arith, e, l)))) (last_of_own built_in_rows (k - 1) refl (omega (arith, l, u)))
+last_of_built_in kinds key serial k l u = grind (arith, nat_tests, lt-ltb k 16, ne_eqb k 0, last_of_own built_in_rows (k - 1) refl)
 
 last_of_kinds : (kinds : KindTable) (key serial k : ℕ) → IsSoundTable kinds → 16 ≤ k → k - 16 < length kinds.rows → IsLast kinds key serial k
 unfolding row_of
 last_of_kinds kinds key serial k sound high within = rw (le-ltb k 16 high) (last_of_rows kinds.rows (k - 16) sound.places within)
 
 released_last : (kinds : KindTable) (item : Item) → IsSoundTable kinds → IsItem kinds item → is_of_phase kinds BeforeLocks item ≡ false → is_of_phase kinds AfterLocks item ≡ true
-released_last kinds item sound is e = elim is.kind [
-  | inl own ↦ last_of_built_in kinds item.key item.serial item.kind.0 own.from own.to e
-  | inr extension ↦ last_of_kinds kinds item.key item.serial item.kind.0 sound extension.from extension.placed e
-]
+released_last kinds item sound is e = grind (arith, nat_tests, last_of_built_in kinds item.key item.serial item.kind.0, last_of_kinds kinds item.key item.serial item.kind.0 sound)
 
 none_left : (kinds : KindTable) (items : List Item) → IsSoundTable kinds → All (IsItem kinds) items
     → filter (λ item. not (is_of_phase kinds AfterLocks item)) (filter (λ item. not (is_of_phase kinds BeforeLocks item)) items) ≡ []
 none_left kinds [] sound h = refl
-none_left kinds (item ∷ items) sound h =
-    let rest = none_left kinds items sound (All-tail (IsItem kinds) item items h) in
-    elim (cases_Bool (is_of_phase kinds BeforeLocks item)) [
-      | inl y ↦ rw y rest
-      | inr y ↦ rw (y, released_last kinds item sound (All-head (IsItem kinds) item items h) y) rest
-    ]
+none_left kinds (item ∷ items) sound h = grind (arith, nat_tests, none_left kinds items sound (All-tail (IsItem kinds) item items h), cases_Bool (is_of_phase kinds BeforeLocks item), released_last kinds item sound (All-head (IsItem kinds) item items h))
 
 pub holds_nothing : (kinds : KindTable) (owner : Owner) → IsSoundTable kinds → HasItems kinds owner → HoldsNothing (swept_by kinds owner)
 holds_nothing kinds owner sound h = none_left kinds owner.items sound h
@@ -127,8 +99,4 @@ phase_items kinds BeforeLocks owner h = All-filter (λ item. not (is_of_phase ki
 phase_items kinds AfterLocks owner h = All-filter (λ item. not (is_of_phase kinds AfterLocks item)) (IsItem kinds) owner.items h
 
 pub still_sound : (kinds : KindTable) (p : ℕ) (owners now : OwnerTree) (next_owner next_serial : ℕ) → HasSwept kinds p owners now → IsSound owners next_owner next_serial → IsSound now next_owner next_serial
-still_sound kinds p owners now next_owner next_serial s h =
-    subst (λ (z : OwnerTree). IsSound z next_owner next_serial) (sym s.phases)
-    (sound_released kinds AfterLocks p (released kinds Locks p (released kinds BeforeLocks p owners)) next_owner next_serial
-    (sound_released kinds Locks p (released kinds BeforeLocks p owners) next_owner next_serial
-    (sound_released kinds BeforeLocks p owners next_owner next_serial h)))
+still_sound kinds p owners now next_owner next_serial s h = grind (arith, nat_tests, sound_released kinds AfterLocks p (released kinds Locks p (released kinds BeforeLocks p owners)) next_owner next_serial, sound_released kinds Locks p (released kinds BeforeLocks p owners) next_owner next_serial, sound_released kinds BeforeLocks p owners next_owner next_serial h)

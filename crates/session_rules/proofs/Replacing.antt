@@ -1,5 +1,5 @@
 -- A portal becomes another one, or goes, where the deepest level ends.
-use Rattle.session_rules.proofs.Base.{◌≡◌, ℕ, ◌+◌, ◌≤◌, Bool, true, false, Option, Some, None, List, [], ◌∷◌, ◌++◌, append_assoc, length, refl, sym, ◌∙◌, subst, inl, inr, arith, ◌==◌, All, eqb-true, eqb-false, ne_eqb, All-nil, All-cons, All-head, All-tail, All-append, ◌⊎◌, nat_tests}
+use Rattle.session_rules.proofs.Base.{◌≡◌, ℕ, ◌+◌, ◌≤◌, Bool, true, false, Option, Some, None, List, [], ◌∷◌, ◌++◌, append_assoc, length, refl, sym, subst, inl, inr, arith, ◌==◌, All, eqb-true, eqb-false, ne_eqb, All-nil, All-cons, All-head, All-tail, All-append, ◌⊎◌, nat_tests}
 use Rattle.session_rules.proofs.Below.{Once, has, below_parent, ShelfState, Contexts, table_of, OwnerTree, once_of}
 use Rattle.session_rules.proofs.Rules.{LevelState, OpenPortal, buffer_pin, relcache_reference, snapshot_reference, Scene, Ended, context_gone, for_each, in_order, portal_gone, where_so, where_there, item_released, executor_ended, is_ready, portal_closed, AreContexts, AreDifferent, AreHooks, AreLevels, AreOther, ArePlans, IsAttached, IsLive, IsPortal, active_depth, referred, AreEnding, Ending, IsAway, IsDone, IsLoose, IsOwner, IsOfPortal}
 use Rattle.session_rules.proofs.Kept.{no_value, depth_outer, depth_small, depth_still, Changes, different_changed, others_back, others_front, owner_split, owner_here, owner_beside, rests_aborted, attached_by}
@@ -63,17 +63,11 @@ module _ (level : LevelState) (levels done : List LevelState) where
   -- An act makes it so.
   pub replaced_leads : (front back : List OpenPortal) (q : OpenPortal) (s : Scene) (x : Parts) → x.portals ≡ front ++ (q ∷ back) → table_of x.kinds ≡ table_of s.around.kinds
       → Ending level levels done (front ++ (q ∷ [])) back (with_parts (record x { portals = front ++ (q ∷ back) }) s) → Leads level levels done back s (with_parts x s)
-  replaced_leads front back q s x is same e = record {
-    front = front ++ (q ∷ []);
-    goes = record { parts = x; same = same; is = refl; ending = subst (λ (ps : List OpenPortal). Ending level levels done (front ++ (q ∷ [])) back (with_parts (record x { portals = ps }) s)) (sym is) e };
-  }
+  replaced_leads front back q s x is same e = grind (arith, nat_tests)
 
   -- A portal is done as it is.
   pub kept : (p : OpenPortal) (front back : List OpenPortal) (s : Scene) → Ending level levels done front (p ∷ back) s → IsPortal p done s.session.contexts s.session.owners s.session.current → IsAway level p → Ending level levels done (front ++ (p ∷ [])) back s
-  kept p front back s h own away =
-      let e : Ending level levels done (front ++ (p ∷ [])) back (with_parts (record (parts_of s) { portals = front ++ (p ∷ back) }) s) =
-      replaced p p front back s s.session.contexts s.session.owners s.around.shelf h (record { name = refl; context = λ n e. e; owner = λ n e. e }) h.contexts h.hooks h.all h.owners h.plans (λ r b d. d.portal) (λ r b i. i) own away in
-      subst (λ (ps : List OpenPortal). Ending level levels done (front ++ (p ∷ [])) back (with_parts (record (parts_of s) { portals = ps }) s)) (sym h.are) e
+  kept p front back s h own away = grind (arith, nat_tests, replaced p p front back s s.session.contexts s.session.owners s.around.shelf h)
 
   pub first_of_rest : (p : OpenPortal) (front back : List OpenPortal) (s : Scene) → Ending level levels done front (p ∷ back) s → IsPortal p (level ∷ levels) s.session.contexts s.session.owners s.session.current
   first_of_rest p front back s h = All-head (λ q. IsPortal q (level ∷ levels) s.session.contexts s.session.owners s.session.current) p back h.rest
@@ -159,16 +153,7 @@ module _ (level : LevelState) (levels : List LevelState) (aborted : level.aborte
       go false e =
           let i = first_of_rest level levels levels p front back s h in
           let ne = eqb-false p.created (length (level ∷ levels)) e in
-          let now : IsPortal p levels s.session.contexts s.session.owners s.session.current = record {
-            place = i.place;
-            made = i.made;
-            owner = λ n q. attached_by n p.created (level ∷ levels) levels s.session.owners s.session.owners (λ w. w) refl (λ w. w)
-                (sym (rw (ne_eqb (length levels + 1) p.created (λ z. ne (sym z ∙ omega arith))) refl)) (λ j. inr j) (i.owner n q);
-            stage = elim i.stage [
-              | inl l ↦ inl (record { some = l.some; within = l.within; active = omega (arith, l.active, depth_still level levels aborted, depth_outer levels h.outer); line = inl (rests_aborted p level levels aborted i.stage) })
-              | inr d ↦ absurd (ne d.created)
-            ];
-          } in
+          let now : IsPortal p levels s.session.contexts s.session.owners s.session.current = grind (arith, nat_tests, attached_by, ne_eqb (length levels + 1) p.created, depth_still level levels aborted, depth_outer levels h.outer, rests_aborted p level levels aborted i.stage) in
           record {
             front = front ++ (p ∷ []);
             goes = goes_nothing level levels levels (front ++ (p ∷ [])) back s (kept level levels levels p front back s h now (λ n q z. (i.owner n q).other (inl z)));

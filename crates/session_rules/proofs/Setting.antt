@@ -1,10 +1,10 @@
--- How the scripts of these files are run.
-use Rattle.session_rules.proofs.Base.{ℕ, List, [], ◌∷◌, map, codes, Option, None}
+-- How scripts are run where they are computed.
+use Rattle.session_rules.proofs.Base.{ℕ, List, [], ◌∷◌, map, codes}
 use Rattle.session_rules.proofs.Below.{BeforeLocks, AfterLocks, Kind, ShelfState, row_of, conflicts, up8, granted, grown, doubled, is_reserved}
-use Rattle.session_rules.proofs.Rules.{Options, opening, elements_of, does, does_all, recovered, exited, turn, course_by, transcript_by, transcript}
+use Rattle.session_rules.proofs.Rules.{Options, opening, elements_of, does, does_all, recovered, exited, turn, course_by, transcript_by}
 use Rattle.std.specs.Fmt.{digits}
 use Rattle.hex.specs.Hex.{decode_pairs, encode_with}
-use Rattle.pgs_step.specs.Text.{kind_name, error_text, text_of, what_text}
+use Rattle.pgs_step.specs.Text.{kind_name, error_text}
 use Rattle.pgs_command.specs.Lines.{read_line}
 use Rattle.pgs_command.specs.Table.{command_of, transaction_rows, context_rows, chunk_rows, item_rows, lock_rows, snapshot_rows, plan_rows, portal_rows, tell_rows}
 use Rattle.pgs_command.specs.Values.{number_between, name_of, kind_of, class_of, mode_of, bytes_of}
@@ -13,9 +13,6 @@ use Rattle.any_ctx.specs.SetLedger as set
 use Rattle.any_ctx.specs.SlabLedger as slab
 use Rattle.any_ctx.specs.GenerationLedger as generation
 use Rattle.any_ctx.specs.BumpLedger as bump
-use Rattle.session_rules.specs.Asked.{asked, asked_all, asked_by, asked_by_turn}
-use Rattle.session_rules.specs.Modes.{generated, swept, whole_run, made_script}
-use Rattle.session_rules.specs.Transcript.{text_of_transcript}
 
 -- one session, with as much space and as many descriptors as a run has by default
 abbrev pub options : Options
@@ -31,18 +28,7 @@ kinds =
 abbrev pub hooks : ShelfState
 hooks = record { fresh = map (λ word. record { word = word; runs = 0 }) (1 ∷ 2 ∷ 3 ∷ 4 ∷ 5 ∷ 6 ∷ 7 ∷ 8 ∷ []); spent = []; out = 0 }
 
--- the text of the transcript of a script, where a fallible call, if any, is refused for want of memory
-abbrev pub told_wanting : Option ℕ → Options → List (List ℕ) → List ℕ
-told_wanting w options script = text_of_transcript (codes "conn" ∷ codes "handle" ∷ []) (transcript w options kinds hooks script)
-
-abbrev pub told : Options → List (List ℕ) → List ℕ
-told options script = told_wanting None options script
-
--- the last lines of a session that has no other contexts by then
-abbrev pub gone : List ℕ
-gone = codes "1 delete c5\n1 delete c4\n1 delete c3\n1 delete c2\n1 delete c1\n1 exit\n"
-
 -- a row that unfolds this name unfolds all that a script is computed by
 unfoldable pub all_rules : ℕ
-unfolding text_of what_text kind_name error_text digits decode_pairs encode_with read_line command_of transaction_rows context_rows chunk_rows item_rows lock_rows snapshot_rows plan_rows portal_rows tell_rows words_of number_between opening elements_of does does_all recovered exited turn course_by transcript_by name_of kind_of is_reserved class_of mode_of bytes_of conflicts row_of up8 granted grown doubled set.created set.stats set.take set.take_class set.take_own set.chunk_limit set.limit_class set.class_of set.class_up_to set.cut_off set.reused set.from_new set.block_size set.halved set.halved_by set.renewed set.cut_up set.cut_rest set.with_own set.give set.without_own set.resize set.resize_class set.resize_block slab.created slab.free_chunks slab.per_block slab.serve slab.stats slab.stride slab.take generation.chosen generation.created generation.cut generation.cut_off generation.emptied generation.freed_shared generation.give generation.lessened generation.stats generation.take generation.take_cut generation.take_from bump.created bump.cut_off bump.stats bump.take bump.take_cut asked asked_all asked_by asked_by_turn generated swept whole_run made_script
+unfolding kind_name error_text digits decode_pairs encode_with read_line command_of transaction_rows context_rows chunk_rows item_rows lock_rows snapshot_rows plan_rows portal_rows tell_rows words_of number_between opening elements_of does does_all recovered exited turn course_by transcript_by name_of kind_of is_reserved class_of mode_of bytes_of conflicts row_of up8 granted grown doubled set.created set.stats set.take set.take_class set.take_own set.chunk_limit set.limit_class set.class_of set.class_up_to set.cut_off set.reused set.from_new set.block_size set.halved set.halved_by set.renewed set.cut_up set.cut_rest set.with_own set.give set.without_own set.resize set.resize_class set.resize_block slab.created slab.free_chunks slab.per_block slab.serve slab.stats slab.stride slab.take generation.chosen generation.created generation.cut generation.cut_off generation.emptied generation.freed_shared generation.give generation.lessened generation.stats generation.take generation.take_cut generation.take_from bump.created bump.cut_off bump.stats bump.take bump.take_cut
 all_rules = 0

@@ -1,11 +1,8 @@
 -- What a release leaves of plans, contexts and tables: each plan counts the references that owners still hold, and one that has to go
 -- is gone with its context.
 use Rattle.session_rules.proofs.Base.{◌≡◌, ◌≢◌, ℕ, ◌+◌, ◌-◌, ◌≤◌, ◌<◌, Bool, true, false, Option, Some, None, List, [], ◌∷◌, ◌++◌, refl, sym, ap, ◌∙◌, subst, arith, ◌==◌, ◌&&◌, nat_lt, if◌then◌else◌, All, option_map_or, eq-eqb, eqb-true, eqb-false, ne_eqb, nat_tests}
-use Rattle.session_rules.proofs.Below.{Item, Phase, BeforeLocks, Locks, AfterLocks, Once, has, children, parent_of, removed, ShelfState, Contexts, is_protected, gone, handed_in, KindTable, table_of, is_of, OwnerTree, released, IsSound, Step, Said, GivesBack, ReleasesLocks, PassesLocks, ReleasesAllLocks, release_steps, once_of, sound_released, Lock, is_among, without, removed_absent}
-use Rattle.session_rules.proofs.Rules.{StandingPlan, abort_context, cache_context, plan_reference, Scene, plan_at, plan_changed, plans_but, Ended, for_each, where_so, where_there, NoOne, ThePlans, TheDescriptors, TheKind, given_back, left_to, owner_released, phase_released, plan_becomes, plan_left, plan_settled, plan_stays, step_done, AreContexts, AreHooks, ArePlans, IsPlan, referred, references_of}
-use Rattle.pgs_step.specs.declared.events.What.TheVariants as what
-use Rattle.owner_kinds.specs.Kind.{Kind, changed_at, closed}
-use Rattle.owner_kinds.proofs.Places.{table-closed}
+use Rattle.session_rules.proofs.Below.{Item, Phase, BeforeLocks, Locks, AfterLocks, Once, has, children, parent_of, removed, ShelfState, Contexts, is_protected, gone, handed_in, KindTable, table_of, is_of, OwnerTree, released, IsSound, Step, Said, GivesBack, ReleasesLocks, PassesLocks, ReleasesAllLocks, release_steps, once_of, sound_released, Lock, removed_absent, Kind, table-closed}
+use Rattle.session_rules.proofs.Rules.{StandingPlan, abort_context, cache_context, plan_reference, Scene, plan_at, plan_changed, plans_but, for_each, where_there, NoOne, ThePlans, TheDescriptors, TheKind, given_back, left_to, owner_released, phase_released, plan_becomes, plan_left, plan_settled, plan_stays, step_done, AreContexts, AreHooks, ArePlans, IsPlan, referred, references_of}
 use Rattle.lock_local.specs.Changes as locks
 use Rattle.session_rules.proofs.ContextsKept.{IsSame, contexts_level_gone, off_outside, same_removed}
 use Rattle.session_rules.proofs.Lone.{children_left}
@@ -59,23 +56,10 @@ pub record Spares (x y : Besides) : Type 0 where
   pub fewer : (m : ℕ) → IsApart m x.plans → IsApart m y.plans
 
 pub spares_same : (x y : Besides) → y.contexts ≡ x.contexts → y.plans ≡ x.plans → Spares x y
-spares_same x y c p = record {
-  there = λ m a u. ap (has m) c ∙ u;
-  same = λ m a prot. subst (λ (t : Contexts). IsSame m x.contexts t) (sym c) (record { protected = prot; parent = refl });
-  kids = λ m big a. ap (children m) c;
-  fewer = λ m a. subst (IsApart m) (sym p) a;
-}
+spares_same x y c p = grind (arith, nat_tests)
 
 pub spares_both : (x y z : Besides) → Spares x y → Spares y z → Spares x z
-spares_both x y z a b = record {
-  there = λ m p u. b.there m (a.fewer m p) (a.there m p u);
-  same = λ m p prot.
-      let v : IsSame m x.contexts y.contexts = a.same m p prot in
-      let w : IsSame m y.contexts z.contexts = b.same m (a.fewer m p) v.protected in
-      record { protected = w.protected; parent = w.parent ∙ v.parent };
-  kids = λ m big p. b.kids m big (a.fewer m p) ∙ a.kids m big p;
-  fewer = λ m p. b.fewer m (a.fewer m p);
-}
+spares_both x y z a b = grind (arith, nat_tests)
 
 -- a scene changed in nothing but that, and what it is then fits these numbers of references
 pub record Settles (times : ℕ → ℕ) (s t : Scene) : Type 0 where
@@ -86,15 +70,7 @@ pub record Settles (times : ℕ → ℕ) (s t : Scene) : Type 0 where
   pub spares : Spares (besides_of s) besides
 
 pub settles_both : (c d : ℕ → ℕ) (s t z : Scene) → Settles c s t → ((x : Besides) → t ≡ with_besides x s → Fits s.session.next_context s.session.current c x → Settles d (with_besides x s) z) → Settles d s z
-settles_both c d s t z a next =
-    let b : Settles d (with_besides a.besides s) z = next a.besides a.is a.fits in
-    record {
-      besides = b.besides;
-      same = b.same ∙ a.same;
-      is = b.is;
-      fits = b.fits;
-      spares = spares_both (besides_of s) a.besides b.besides a.spares b.spares;
-    }
+settles_both c d s t z a next = grind (arith, nat_tests, spares_both)
 
 module _ (s : Scene) (c d : ℕ → ℕ) (h : Fits s.session.next_context s.session.current c (besides_of s)) where
   -- a plan stands, with one reference less
@@ -102,20 +78,12 @@ module _ (s : Scene) (c d : ℕ → ℕ) (h : Fits s.session.next_context s.sess
       → Settles d s (plan_stays q s).scene
   stays n p q w number context kept now others =
       let plans : List StandingPlan = plan_changed q.number (λ old. q) s.session.plans in
-      let is : plans ≡ w.front ++ (q ∷ w.back) =
-      ap (λ (k : ℕ). plan_changed k (λ old. q) s.session.plans) (number ∙ w.number)
-      ∙ ap (plan_changed n (λ old. q)) w.is
-      ∙ changed_is n (λ old. q) p w.front w.back w.number w.before w.behind in
+      let is : plans ≡ w.front ++ (q ∷ w.back) = grind (arith, nat_tests, changed_is n) in
       record {
         besides = record (besides_of s) { plans = plans };
         same = refl;
         is = refl;
-        fits = record {
-          contexts = h.contexts;
-          hooks = h.hooks;
-          plans = subst (λ (x : List StandingPlan). ArePlans x s.session.contexts s.session.current d) (sym is)
-              (plans_replaced s.session.plans s.session.contexts s.session.current c d n p q h.plans w number context kept now others);
-        };
+        fits = grind (arith, nat_tests, plans_replaced s.session.plans s.session.contexts s.session.current c d n p q h.plans w number context kept now others);
         spares = record {
           there = λ m a u. u;
           same = λ m a prot. record { protected = prot; parent = refl };
@@ -141,14 +109,7 @@ module _ (s : Scene) (c d : ℕ → ℕ) (h : Fits s.session.next_context s.sess
         besides = record (besides_of s) { plans = plans; contexts = removed k t; shelf = handed_in (gone k t).hooks s.around.shelf };
         same = refl;
         is = refl;
-        fits = record {
-          contexts = contexts_level_gone t s.session.next_context h.contexts k (subst (λ (j : ℕ). abort_context < j) (sym context) own.own);
-          hooks = hooks_ended t (gone k t) s.around.shelf (parts_gone k t h.contexts.once) h.hooks;
-          plans =
-              subst (λ (x : List StandingPlan). ArePlans x (removed k t) s.session.current d) (sym is)
-              (subst (λ (j : ℕ). ArePlans (w.front ++ w.back) (removed j t) s.session.current d) (sym context)
-              (plans_without s.session.plans t s.session.next_context s.session.current c d n p h.contexts h.plans w none others));
-        };
+        fits = grind (arith, nat_tests, contexts_level_gone t s.session.next_context h.contexts k, hooks_ended t (gone k t) s.around.shelf (parts_gone k t h.contexts.once) h.hooks, parts_gone k t h.contexts.once, plans_without s.session.plans t s.session.next_context s.session.current c d n p h.contexts h.plans w none others);
         spares = record {
           there = λ m a u. has_left m k t h.contexts.once (other m a) (out m) ∙ u;
           same = λ m a prot. same_removed t s.session.next_context h.contexts m k (other m a, out m) prot;
@@ -162,22 +123,7 @@ module _ (s : Scene) (c d : ℕ → ℕ) (h : Fits s.session.next_context s.sess
 
   -- a plan is as it is given
   pub becomes : (n : ℕ) (p q : StandingPlan) → plan_at n s.session.plans ≡ Some p → q.number ≡ p.number → q.context ≡ p.context → d n ≡ q.references → ((m : ℕ) → n ≢ m → d m ≡ c m) → Settles d s (plan_becomes q s).scene
-  becomes n p q there number context now others = go (q.discarded && (q.references == 0)) refl
-    where
-      w : Split n p s.session.plans
-      w = split n p s.session.plans h.plans.apart there
-
-      none : (a : Bool) → (a && (q.references == 0)) ≡ true → q.references ≡ 0
-      none true e = eqb-true q.references 0 e
-      none false e = absurd (cc e)
-
-      some : (a : Bool) → (a && (q.references == 0)) ≡ false → a ≡ true → 1 ≤ q.references
-      some true e f = let ne = eqb-false q.references 0 e in omega (arith, ne)
-      some false e f = absurd (cc f)
-
-      go : (b : Bool) → (q.discarded && (q.references == 0)) ≡ b → Settles d s (elim b as (λ _. Ended) [ true ↦ plan_settled q s | false ↦ plan_stays q s ]).scene
-      go true e = goes n p q w number context (now ∙ none q.discarded e) others
-      go false e = stays n p q w number context (some q.discarded e) now others
+  becomes n p q there number context now others = grind (arith, nat_tests, split n p, eqb-true q.references 0, eqb-false q.references 0, goes n p q, stays n p q)
 
   -- a reference to a plan is given back
   pub leaves : (n : ℕ) → ((m : ℕ) → c m ≡ (if n == m then 1 else 0) + d m) → Settles d s (plan_left n s).scene
@@ -213,20 +159,11 @@ module _ (s : Scene) (d : ℕ → ℕ) (h : Fits s.session.next_context s.sessio
   }
 
   pub closes : (key : ℕ) → Settles d s (left_to TheDescriptors key s).scene
-  closes key = go (is_among key s.session.recent)
-    where
-      go : (b : Bool) → Settles d s (where_so b (λ scene. record {
-        scene = record scene { session = record scene.session { recent = without key scene.session.recent } };
-        events = what.DescriptorClosed key ∷ [];
-      }) s).scene
-      go true = settles_tables s.session.locks (without key s.session.recent) s.around.kinds refl
-      go false = settles_nothing
+  closes key = grind (arith, nat_tests, settles_tables, settles_nothing)
 
   -- an item that isn't a reference to a plan
   pub other_left : (a b : Bool) (place key : ℕ) → Settles d s (left_to (if a then TheDescriptors else (if b then NoOne else TheKind place)) key s).scene
-  other_left true b place key = closes key
-  other_left false true place key = settles_nothing
-  other_left false false place key = settles_tables s.session.locks s.session.recent (changed_at place (closed key) s.around.kinds) (table-closed s.around.kinds place key)
+  other_left a b place key = grind (arith, nat_tests, closes key, settles_nothing, settles_tables, table-closed)
 
 pub fewer : (s : Scene) (c d : ℕ → ℕ) → ((m : ℕ) → c m ≡ d m) → Fits s.session.next_context s.session.current c (besides_of s) → Fits s.session.next_context s.session.current d (besides_of s)
 fewer s c d same h = grind (arith, nat_tests)
@@ -267,23 +204,7 @@ pub record HasPhase (kinds : KindTable) (owner : ℕ) (phase : Phase) (s t : Sce
 
 pub phase_settles : (kinds : KindTable) (commit top : Bool) (owner : ℕ) (phase : Phase) (s : Scene) → Once s.session.owners → Fits s.session.next_context s.session.current (referred s.session.owners) (besides_of s) → table_of s.around.kinds ≡ kinds
     → HasPhase kinds owner phase s (phase_released commit top owner phase s).scene
-phase_settles kinds commit top owner phase s once h e =
-    let x : OwnerTree = s.session.owners in
-    let table : KindTable = table_of s.around.kinds in
-    let steps : List Step = release_steps table phase commit top owner x in
-    let left : ℕ → ℕ = referred (released table phase owner x) in
-    let start : Fits s.session.next_context s.session.current (λ m. gives plan_reference m steps + left m) (besides_of s) =
-    fewer s (referred x) (λ m. gives plan_reference m steps + left m) (λ m. sym (gives_phase plan_reference m table phase commit top owner x once)) h in
-    let all : Settles left s (for_each step_done steps s).scene = steps_settle steps s left start in
-    record {
-      besides = all.besides;
-      same = all.same;
-      is =
-          ap (λ (z : Scene). with_owners (released table phase owner z.session.owners) z) all.is
-          ∙ ap (λ (k : KindTable). with_owners (released k phase owner x) (with_besides all.besides s)) e;
-      fits = subst (λ (k : KindTable). Fits s.session.next_context s.session.current (referred (released k phase owner x)) all.besides) e all.fits;
-      spares = all.spares;
-    }
+phase_settles kinds commit top owner phase s once h e = grind (arith, nat_tests, gives plan_reference, fewer s (referred s.session.owners), gives_phase plan_reference, steps_settle (release_steps (table_of s.around.kinds) phase commit top owner s.session.owners) s (referred (released (table_of s.around.kinds) phase owner s.session.owners)))
 
 -- an owner is released
 pub record HasSettled (p : ℕ) (s t : Scene) : Type 0 where

@@ -1,17 +1,7 @@
 -- Laws that see some parts of a scene alone, and to which some events say nothing: they have the leaves that change other parts.
-use Rattle.session_rules.proofs.Base.{◌≡◌, ℕ, ◌-◌, Bool, true, false, if◌then◌else◌, List, [], ◌∷◌, ◌++◌, codes, Option, Some, None, refl, ◌==◌, ◌&&◌, length, take}
-use Rattle.session_rules.proofs.Below.{What, Item, KindId, Phase, Mode, CtxKind, changed, children, subtree, Hook, ShelfState, zeros, Context, Contexts, is_among, Lock, Kind, OwnerTree, released, Active}
-use Rattle.session_rules.proofs.Rules.{Scene, Text, plan_at, changes, children_gone, context_cleared, context_cleared_alone, context_gone, in_order, portal_becomes, say, where_there, context_moved, lock_given_back, snapshot_popped, stack_lowered, stack_popped}
-use Rattle.chunk_header.specs.declared.Stats.{Stats}
-use Rattle.pgs_step.specs.declared.events.What.TheVariants as what
-use Rattle.any_ctx.specs.declared.any.CtxKind.TheVariants as kind
-use Rattle.forest.specs.Walk.{order_at}
-use Rattle.context_report.specs.declared.Total.{Total}
-use Rattle.context_report.specs.Lines.{last_of, line_of}
-use Rattle.session_rules.specs.State.{LevelState, OpenPortal, StandingPlan, cache_context, last_of as last_snapshot}
-use Rattle.session_rules.specs.Releases.{Keeper, NoOne, TheDescriptors, TheKind, ThePlans, descriptor_left, given_back, item_released, keeper_of, key_left, owner_gone, owner_moved, phase_released, plan_becomes, plan_left, plan_settled, plan_stays}
-use Rattle.session_rules.specs.Making.{context_made, held, left as bytes_left, owner_made, plan_made}
-use Rattle.session_rules.specs.Taking.{descriptor_given, files, hook_waits, item_taken, lock_taken, remembers, snapshot_pushed, taken_by}
+use Rattle.session_rules.proofs.Base.{◌≡◌, ℕ, ◌-◌, Bool, true, false, if◌then◌else◌, List, [], ◌∷◌, ◌++◌, codes, Option, Some, None, refl, ◌==◌, ◌&&◌, length, take, arith, nat_tests}
+use Rattle.session_rules.proofs.Below.{What, Item, KindId, Phase, Mode, CtxKind, changed, children, subtree, Hook, ShelfState, zeros, Context, Contexts, is_among, Lock, Kind, OwnerTree, released, Active, Stats, order_at, Total, last_of, line_of}
+use Rattle.session_rules.proofs.Rules.{Scene, Text, plan_at, changes, children_gone, context_cleared, context_cleared_alone, context_gone, in_order, portal_becomes, say, where_there, context_moved, lock_given_back, snapshot_popped, stack_lowered, stack_popped, LevelState, OpenPortal, StandingPlan, cache_context, last_of as last_snapshot, Keeper, NoOne, TheDescriptors, TheKind, ThePlans, descriptor_left, given_back, item_released, keeper_of, key_left, owner_gone, owner_moved, phase_released, plan_becomes, plan_left, plan_settled, plan_stays, context_made, held, left as bytes_left, owner_made, plan_made, descriptor_given, files, hook_waits, item_taken, lock_taken, remembers, snapshot_pushed, taken_by}
 use Rattle.session_rules.proofs.Leaves.{Acts, EndLeaves, Keeps, Law, Leaves, LevelLeaves, is_level_word, is_word}
 use Rattle.session_rules.proofs.Chunked.{LeavesHooks, by_allocated, by_freed, by_resized, by_written}
 use Rattle.session_rules.proofs.ReleaseSteps.{ItemGoes, LockLeaves, OwnerLeaves, item_given_back, item_releases, phase_keeps}
@@ -93,99 +83,43 @@ pub record KeyLeaves (R : Law) : Type 0 where
 
 module _ (sees : Part → Bool) (s : Scene) where
   same_all : Same sees s s
-  same_all = record { so = go }
-    where
-      go : (part : Part) → sees part ≡ true → IsSame part s s
-      go of_levels h = refl
-      go other h = refl
+  same_all = grind (arith, nat_tests)
 
   but_levels : sees of_levels ≡ false → (levels : List LevelState) → Same sees s (record s { session = record s.session { levels = levels } })
-  but_levels h0 levels = record { so = go }
-    where
-      go : (part : Part) → sees part ≡ true → IsSame part s (record s { session = record s.session { levels = levels } })
-      go of_levels h = absurd (cc (h0, h))
-      go other h = refl
+  but_levels h0 levels = grind (arith, nat_tests)
 
   but_portals : sees of_portals ≡ false → (portals : List OpenPortal) → Same sees s (record s { session = record s.session { portals = portals } })
-  but_portals h0 portals = record { so = go }
-    where
-      go : (part : Part) → sees part ≡ true → IsSame part s (record s { session = record s.session { portals = portals } })
-      go of_portals h = absurd (cc (h0, h))
-      go other h = refl
+  but_portals h0 portals = grind (arith, nat_tests)
 
   but_plans : sees of_plans ≡ false → (plans : List StandingPlan) → Same sees s (record s { session = record s.session { plans = plans } })
-  but_plans h0 plans = record { so = go }
-    where
-      go : (part : Part) → sees part ≡ true → IsSame part s (record s { session = record s.session { plans = plans } })
-      go of_plans h = absurd (cc (h0, h))
-      go other h = refl
+  but_plans h0 plans = grind (arith, nat_tests)
 
   but_contexts : sees of_contexts ≡ false → sees of_next_context ≡ false → sees of_shelf ≡ false → (contexts : Contexts) (n : ℕ) (shelf : ShelfState) → Same sees s (record { session = record s.session { contexts = contexts; next_context = n }; around = record s.around { shelf = shelf } })
-  but_contexts h0 h1 h2 contexts n shelf = record { so = go }
-    where
-      go : (part : Part) → sees part ≡ true → IsSame part s (record { session = record s.session { contexts = contexts; next_context = n }; around = record s.around { shelf = shelf } })
-      go of_contexts h = absurd (cc (h0, h))
-      go of_next_context h = absurd (cc (h1, h))
-      go of_shelf h = absurd (cc (h2, h))
-      go other h = refl
+  but_contexts h0 h1 h2 contexts n shelf = grind (arith, nat_tests)
 
   but_owners : sees of_owners ≡ false → (owners : OwnerTree) → Same sees s (record s { session = record s.session { owners = owners } })
-  but_owners h0 owners = record { so = go }
-    where
-      go : (part : Part) → sees part ≡ true → IsSame part s (record s { session = record s.session { owners = owners } })
-      go of_owners h = absurd (cc (h0, h))
-      go other h = refl
+  but_owners h0 owners = grind (arith, nat_tests)
 
   but_new_owner : sees of_owners ≡ false → sees of_next_owner ≡ false → (owners : OwnerTree) (n : ℕ) → Same sees s (record s { session = record s.session { owners = owners; next_owner = n } })
-  but_new_owner h0 h1 owners n = record { so = go }
-    where
-      go : (part : Part) → sees part ≡ true → IsSame part s (record s { session = record s.session { owners = owners; next_owner = n } })
-      go of_owners h = absurd (cc (h0, h))
-      go of_next_owner h = absurd (cc (h1, h))
-      go other h = refl
+  but_new_owner h0 h1 owners n = grind (arith, nat_tests)
 
   but_new_item : sees of_owners ≡ false → sees of_next_serial ≡ false → (owners : OwnerTree) (n : ℕ) → Same sees s (record s { session = record s.session { owners = owners; next_serial = n } })
-  but_new_item h0 h1 owners n = record { so = go }
-    where
-      go : (part : Part) → sees part ≡ true → IsSame part s (record s { session = record s.session { owners = owners; next_serial = n } })
-      go of_owners h = absurd (cc (h0, h))
-      go of_next_serial h = absurd (cc (h1, h))
-      go other h = refl
+  but_new_item h0 h1 owners n = grind (arith, nat_tests)
 
   but_locks : sees of_locks ≡ false → (locks : List Lock) → Same sees s (record s { session = record s.session { locks = locks } })
-  but_locks h0 locks = record { so = go }
-    where
-      go : (part : Part) → sees part ≡ true → IsSame part s (record s { session = record s.session { locks = locks } })
-      go of_locks h = absurd (cc (h0, h))
-      go other h = refl
+  but_locks h0 locks = grind (arith, nat_tests)
 
   but_recent : sees of_recent ≡ false → (recent : List ℕ) → Same sees s (record s { session = record s.session { recent = recent } })
-  but_recent h0 recent = record { so = go }
-    where
-      go : (part : Part) → sees part ≡ true → IsSame part s (record s { session = record s.session { recent = recent } })
-      go of_recent h = absurd (cc (h0, h))
-      go other h = refl
+  but_recent h0 recent = grind (arith, nat_tests)
 
   but_snapshots : sees of_snapshots ≡ false → (snapshots : List Active) → Same sees s (record s { session = record s.session { snapshots = snapshots } })
-  but_snapshots h0 snapshots = record { so = go }
-    where
-      go : (part : Part) → sees part ≡ true → IsSame part s (record s { session = record s.session { snapshots = snapshots } })
-      go of_snapshots h = absurd (cc (h0, h))
-      go other h = refl
+  but_snapshots h0 snapshots = grind (arith, nat_tests)
 
   but_kinds : sees of_kinds ≡ false → (kinds : List Kind) → Same sees s (record s { around = record s.around { kinds = kinds } })
-  but_kinds h0 kinds = record { so = go }
-    where
-      go : (part : Part) → sees part ≡ true → IsSame part s (record s { around = record s.around { kinds = kinds } })
-      go of_kinds h = absurd (cc (h0, h))
-      go other h = refl
+  but_kinds h0 kinds = grind (arith, nat_tests)
 
   but_current : (n : ℕ) → Same sees s (record s { session = record s.session { current = n } })
-  but_current n = record { so = go }
-    where
-      go : (part : Part) → sees part ≡ true → IsSame part s (record s { session = record s.session { current = n } })
-      go of_levels h = refl
-      go other h = refl
+  but_current n = grind (arith, nat_tests)
 
 module _ (sees : Part → Bool) (P : What → Bool) (R : Law) (o : Sight sees P R) where
   pub none_so : (s : Scene) → R s s []
@@ -199,23 +133,23 @@ module _ (sees : Part → Bool) (P : What → Bool) (R : Law) (o : Sight sees P 
     unseen : (s : Scene) (t : Contexts) (n : ℕ) (hooks : ShelfState) {events : List What} → AreSaid P events → R s (record { session = record s.session { contexts = t; next_context = n }; around = record s.around { shelf = hooks } }) events
     unseen s t n hooks said = o.aside s _ (but_contexts sees s contexts next_context shelf t n hooks) said
 
-    pub goes : ((word n : ℕ) → P (what.Callback word n) ≡ true) → ((n : ℕ) → P (what.Delete n) ≡ true) → (n : ℕ) → Keeps R (context_gone n)
+    pub goes : ((word n : ℕ) → P (What.Callback word n) ≡ true) → ((n : ℕ) → P (What.Delete n) ≡ true) → (n : ℕ) → Keeps R (context_gone n)
     goes called deleted n = record { so = λ s. unseen s _ _ _ (said_gone called deleted (subtree n s.session.contexts)) }
 
-    pub children_go : ((word n : ℕ) → P (what.Callback word n) ≡ true) → ((n : ℕ) → P (what.Delete n) ≡ true) → (n : ℕ) → Keeps R (children_gone n)
+    pub children_go : ((word n : ℕ) → P (What.Callback word n) ≡ true) → ((n : ℕ) → P (What.Delete n) ≡ true) → (n : ℕ) → Keeps R (children_gone n)
     children_go called deleted n = record { so = λ s. unseen s _ _ _ (said_gone called deleted (children n s.session.contexts)) }
 
-    pub makes_context : ((n parent : ℕ) (name : Text) → P (what.Create n name parent) ≡ true) → (parent : ℕ) (name : Text) (protected : Bool) (kind : CtxKind) → Keeps R (context_made parent name protected kind)
+    pub makes_context : ((n parent : ℕ) (name : Text) → P (What.Create n name parent) ≡ true) → (parent : ℕ) (name : Text) (protected : Bool) (kind : CtxKind) → Keeps R (context_made parent name protected kind)
     makes_context created parent name protected kind = record { so = λ s. unseen s _ _ _ (said_one _ (created s.session.next_context parent name)) }
 
-    pub hook_waits_so : ((word n : ℕ) → P (what.Hook word n) ≡ true) → (n : ℕ) (hook : Hook) → Keeps R (hook_waits n hook)
+    pub hook_waits_so : ((word n : ℕ) → P (What.Hook word n) ≡ true) → (n : ℕ) (hook : Hook) → Keeps R (hook_waits n hook)
     hook_waits_so hooked n hook = record { so = λ s. unseen s _ _ _ (said_one _ (hooked hook.word n)) }
 
-    pub moves_context : ((n parent : ℕ) → P (what.Move n parent) ≡ true) → (n parent : ℕ) → Keeps R (context_moved n parent)
+    pub moves_context : ((n parent : ℕ) → P (What.Move n parent) ≡ true) → (n parent : ℕ) → Keeps R (context_moved n parent)
     moves_context moved n parent = record { so = λ s. unseen s _ _ _ (said_moved moved n parent s.session.contexts) }
 
     -- no context is seen
-    pub unseen_contexts : ((word n : ℕ) → P (what.Callback word n) ≡ true) → ((n : ℕ) → P (what.Delete n) ≡ true) → ((n : ℕ) → P (what.Reset n) ≡ true) → ContextLeaves R
+    pub unseen_contexts : ((word n : ℕ) → P (What.Callback word n) ≡ true) → ((n : ℕ) → P (What.Delete n) ≡ true) → ((n : ℕ) → P (What.Reset n) ≡ true) → ContextLeaves R
     unseen_contexts called deleted reset = record {
       gone = goes called deleted;
       children = children_go called deleted;
@@ -229,36 +163,36 @@ module _ (sees : Part → Bool) (P : What → Bool) (R : Law) (o : Sight sees P 
     owners_so : (s : Scene) (t : OwnerTree) {events : List What} → AreSaid P events → R s (record s { session = record s.session { owners = t } }) events
     owners_so s t said = o.aside s _ (but_owners sees s owners t) said
 
-    pub item_goes : ((item : Item) (n : ℕ) → P (what.Release item n) ≡ true) → ItemGoes R
+    pub item_goes : ((item : Item) (n : ℕ) → P (What.Release item n) ≡ true) → ItemGoes R
     item_goes said n kind key item s is = owners_so s _ (said_one _ (said item n))
 
-    pub item_comes : sees of_next_serial ≡ false → ((item : Item) (n : ℕ) → P (what.Acquire item n) ≡ true) → (n : ℕ) (kind : KindId) (key : ℕ) → Keeps R (remembers n kind key)
+    pub item_comes : sees of_next_serial ≡ false → ((item : Item) (n : ℕ) → P (What.Acquire item n) ≡ true) → (n : ℕ) (kind : KindId) (key : ℕ) → Keeps R (remembers n kind key)
     item_comes serial acquired n kind key = record { so = λ s. o.aside s _ (but_new_item sees s owners serial _ _) (said_one _ (acquired _ n)) }
 
-    pub unseen_owners : ((item : Item) (n : ℕ) → P (what.Release item n) ≡ true) → ((item : Item) (n : ℕ) → P (what.NotClosed item n) ≡ true) → ((n : ℕ) (kind : KindId) (key : ℕ) → Keeps R (remembers n kind key)) → OwnerLeaves R
+    pub unseen_owners : ((item : Item) (n : ℕ) → P (What.Release item n) ≡ true) → ((item : Item) (n : ℕ) → P (What.NotClosed item n) ≡ true) → ((n : ℕ) (kind : KindId) (key : ℕ) → Keeps R (remembers n kind key)) → OwnerLeaves R
     unseen_owners said warns remembered = record {
-      releasing = λ item n. says (what.Release item n) (said item n);
-      warned = λ item n s. o.aside s s (same_all sees s) (said_more (warns item n) (said_one (what.Release item n) (said item n)));
+      releasing = λ item n. says (What.Release item n) (said item n);
+      warned = λ item n s. o.aside s s (same_all sees s) (said_more (warns item n) (said_one (What.Release item n) (said item n)));
       remembered = remembered;
       swept = λ kinds phase n s. owners_so s _ said_none;
     }
 
-    pub owner_goes : ((n : ℕ) → P (what.OwnerGone n) ≡ true) → (n : ℕ) → Keeps R (owner_gone n)
-    owner_goes gone n = record { so = λ s. owners_so s _ (said_map (λ (k : ℕ). what.OwnerGone k) gone (order_at n s.session.owners)) }
+    pub owner_goes : ((n : ℕ) → P (What.OwnerGone n) ≡ true) → (n : ℕ) → Keeps R (owner_gone n)
+    owner_goes gone n = record { so = λ s. owners_so s _ (said_map (λ (k : ℕ). What.OwnerGone k) gone (order_at n s.session.owners)) }
 
-    pub owner_moves : ((n parent : ℕ) → P (what.MoveOwner n parent) ≡ true) → (n parent : ℕ) → Keeps R (owner_moved n parent)
+    pub owner_moves : ((n parent : ℕ) → P (What.MoveOwner n parent) ≡ true) → (n parent : ℕ) → Keeps R (owner_moved n parent)
     owner_moves moved n parent = record { so = λ s. owners_so s _ (said_one _ (moved n parent)) }
 
-    pub owner_makes : sees of_next_owner ≡ false → ((n : ℕ) → P (what.Owner n) ≡ true) → ((n parent : ℕ) → P (what.OwnerIn n parent) ≡ true) → (parent : Option ℕ) → Keeps R (owner_made parent)
+    pub owner_makes : sees of_next_owner ≡ false → ((n : ℕ) → P (What.Owner n) ≡ true) → ((n parent : ℕ) → P (What.OwnerIn n parent) ≡ true) → (parent : Option ℕ) → Keeps R (owner_made parent)
     owner_makes next_owner made made_in None = record { so = λ s. o.aside s _ (but_new_owner sees s owners next_owner _ _) (said_one _ (made s.session.next_owner)) }
     owner_makes next_owner made made_in (Some parent) = record { so = λ s. o.aside s _ (but_new_owner sees s owners next_owner _ _) (said_one _ (made_in s.session.next_owner parent)) }
 
   -- no lock is seen
-  module _ (off : sees of_locks ≡ false) (unlocked : (object : ℕ) (mode : Mode) (count owner : ℕ) → P (what.ReleaseLock object mode count owner) ≡ true) where
+  module _ (off : sees of_locks ≡ false) (unlocked : (object : ℕ) (mode : Mode) (count owner : ℕ) → P (What.ReleaseLock object mode count owner) ≡ true) where
     locks_so : (s : Scene) (locks : List Lock) {events : List What} → AreSaid P events → R s (record s { session = record s.session { locks = locks } }) events
     locks_so s locks said = o.aside s _ (but_locks sees s off locks) said
 
-    pub unseen_locks : ((object : ℕ) (mode : Mode) (count from to : ℕ) → P (what.PassLock object mode count from to) ≡ true) → LockLeaves R
+    pub unseen_locks : ((object : ℕ) (mode : Mode) (count from to : ℕ) → P (What.PassLock object mode count from to) ≡ true) → LockLeaves R
     unseen_locks passed = record {
       let_go = λ owner. record { so = λ s. locks_so s _ (said_lock_releases unlocked owner s.session.locks) };
       passed = λ from to. record { so = λ s. locks_so s _ (said_lock_passes passed from to s.session.locks) };
@@ -268,18 +202,18 @@ module _ (sees : Part → Bool) (P : What → Bool) (R : Law) (o : Sight sees P 
     pub unlocks : (object : ℕ) (mode : Mode) (n : ℕ) → Keeps R (lock_given_back object mode n)
     unlocks object mode n = record { so = λ s. locks_so s _ (said_one _ (unlocked object mode 1 n)) }
 
-    pub locks_one : ((object : ℕ) (mode : Mode) (owner : ℕ) → P (what.AcquireLock object mode owner) ≡ true) → (object : ℕ) (mode : Mode) (n : ℕ) → Keeps R (lock_taken object mode n)
+    pub locks_one : ((object : ℕ) (mode : Mode) (owner : ℕ) → P (What.AcquireLock object mode owner) ≡ true) → (object : ℕ) (mode : Mode) (n : ℕ) → Keeps R (lock_taken object mode n)
     locks_one locked object mode n = record { so = λ s. locks_so s _ (said_one _ (locked object mode n)) }
 
   -- no descriptor is seen
-  pub unseen_files : sees of_recent ≡ false → ((file : ℕ) → P (what.DescriptorOpened file) ≡ true) → ((file : ℕ) → P (what.DescriptorClosed file) ≡ true) → FileLeaves R
+  pub unseen_files : sees of_recent ≡ false → ((file : ℕ) → P (What.DescriptorOpened file) ≡ true) → ((file : ℕ) → P (What.DescriptorClosed file) ≡ true) → FileLeaves R
   unseen_files off opened closed = record {
     used = λ file. record { so = λ s. o.aside s _ (but_recent sees s off _) (said_touch opened closed file (files s)) };
     closed = λ file. record { so = λ s. left file s (is_among file s.session.recent) refl };
   }
     where
       left : (file : ℕ) (s : Scene) (b : Bool) → is_among file s.session.recent ≡ b → R s (descriptor_left file s).scene (descriptor_left file s).events
-      left file s true is = rw is (o.aside s _ (but_recent sees s off _) (said_one (what.DescriptorClosed file) (closed file)))
+      left file s true is = rw is (o.aside s _ (but_recent sees s off _) (said_one (What.DescriptorClosed file) (closed file)))
       left file s false is = rw is (none_so s)
 
   -- no active snapshot is seen
@@ -287,7 +221,7 @@ module _ (sees : Part → Bool) (P : What → Bool) (R : Law) (o : Sight sees P 
     stack_so : (s : Scene) (snapshots : List Active) {events : List What} → AreSaid P events → R s (record s { session = record s.session { snapshots = snapshots } }) events
     stack_so s snapshots said = o.aside s _ (but_snapshots sees s off snapshots) said
 
-    pub unseen_stack : ((snapshot : ℕ) → P (what.Pop snapshot) ≡ true) → StackLeaves R
+    pub unseen_stack : ((snapshot : ℕ) → P (What.Pop snapshot) ≡ true) → StackLeaves R
     unseen_stack popped = record {
       popped = record { so = λ s. pops s (last_snapshot s.session.snapshots) };
       stack_gone = λ level. record { so = λ s. stack_so s _ (said_pops popped level s.session.snapshots) };
@@ -295,13 +229,13 @@ module _ (sees : Part → Bool) (P : What → Bool) (R : Law) (o : Sight sees P 
     }
       where
         pops : (s : Scene) (entry : Option Active)
-            → R s (where_there entry (λ entry. in_order (changes (λ session. record session { snapshots = take (length session.snapshots - 1) session.snapshots }) ∷ say (what.Pop entry.snapshot) ∷ [])) s).scene
-            (where_there entry (λ entry. in_order (changes (λ session. record session { snapshots = take (length session.snapshots - 1) session.snapshots }) ∷ say (what.Pop entry.snapshot) ∷ [])) s).events
+            → R s (where_there entry (λ entry. in_order (changes (λ session. record session { snapshots = take (length session.snapshots - 1) session.snapshots }) ∷ say (What.Pop entry.snapshot) ∷ [])) s).scene
+            (where_there entry (λ entry. in_order (changes (λ session. record session { snapshots = take (length session.snapshots - 1) session.snapshots }) ∷ say (What.Pop entry.snapshot) ∷ [])) s).events
         pops s None = none_so s
-        pops s (Some entry) = stack_so s _ (said_one (what.Pop entry.snapshot) (popped entry.snapshot))
+        pops s (Some entry) = stack_so s _ (said_one (What.Pop entry.snapshot) (popped entry.snapshot))
 
-    pub pushes : ((snapshot : ℕ) → P (what.Push snapshot) ≡ true) → (snapshot : ℕ) → Keeps R (snapshot_pushed snapshot)
-    pushes pushed snapshot = record { so = λ s. stack_so s _ (said_one (what.Push snapshot) (pushed snapshot)) }
+    pub pushes : ((snapshot : ℕ) → P (What.Push snapshot) ≡ true) → (snapshot : ℕ) → Keeps R (snapshot_pushed snapshot)
+    pushes pushed snapshot = record { so = λ s. stack_so s _ (said_one (What.Push snapshot) (pushed snapshot)) }
 
   -- no extension kind is seen
   pub unseen_keys : sees of_kinds ≡ false → KeyLeaves R
@@ -322,7 +256,7 @@ module _ (sees : Part → Bool) (P : What → Bool) (R : Law) (o : Sight sees P 
     places name n = record { so = λ s. portals_so s _ }
 
     pub plans_one : ((parent : ℕ) (name : Text) (protected : Bool) (kind : CtxKind) → Keeps R (context_made parent name protected kind)) → (plan : ℕ) → Keeps R (plan_made plan)
-    plans_one made plan = record { so = λ s. o.both (plans_so s _) (o.both ((made cache_context (codes "CachedPlan") true kind.Small).so _) (none_so _)) }
+    plans_one made plan = record { so = λ s. o.both (plans_so s _) (o.both ((made cache_context (codes "CachedPlan") true CtxKind.Small).so _) (none_so _)) }
 
     module _ (gone : (n : ℕ) → Keeps R (context_gone n)) (children : (n : ℕ) → Keeps R (children_gone n)) where
       pub acts_of : Acts R

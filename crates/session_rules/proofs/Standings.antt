@@ -1,18 +1,13 @@
 -- What callers take from a session that stands.
-use Rattle.session_rules.proofs.Base.{◌≡◌, ℕ, ◌≤◌, true, false, List, [], ◌∷◌, All, ap, ◌∙◌, inl, inr, arith, cases_eq, both_ways, false_from_ne_true, All-nil, All-cons, All-head, All-tail, nat_tests}
-use Rattle.session_rules.proofs.Below.{Empty, Node, has, AllNodes, Item, table_of, OwnerTree, has_begun}
+use Rattle.session_rules.proofs.Base.{◌≡◌, ℕ, ◌≤◌, true, false, List, [], ◌∷◌, All, arith, cases_eq, both_ways, false_from_ne_true, All-nil, nat_tests}
+use Rattle.session_rules.proofs.Below.{Empty, Node, has, AllNodes, Item, table_of, OwnerTree, has_begun, IsKind, KindTable}
 use Rattle.session_rules.proofs.Rules.{LevelState, SessionState, abort_context, top_context, Around, Scene, AreHooks, HasItems, IsItem, Stands, StandsBetweenLines}
-use Rattle.owner_kinds.specs.KindTable.{IsKind, KindTable}
 use Rattle.session_rules.proofs.Kept.{protected_has, top_protected}
 use Rattle.session_rules.proofs.EndsStand.{settled}
 
 -- The session's own contexts are there.
 pub own_there : (scene : Scene) → Stands scene → (n : ℕ) → 1 ≤ n → n ≤ abort_context → has n scene.session.contexts ≡ true
-own_there scene h n l u =
-    elim (cases_eq n top_context) [
-      | inl e ↦ ap (λ (m : ℕ). has m scene.session.contexts) e ∙ protected_has top_context scene.session.contexts (top_protected scene.session.contexts scene.session.next_context h.contexts)
-      | inr ne ↦ protected_has n scene.session.contexts (h.contexts.own n (omega arith) u).protected
-    ]
+own_there scene h n l u = grind (arith, nat_tests, cases_eq n top_context, protected_has top_context scene.session.contexts (top_protected scene.session.contexts scene.session.next_context h.contexts), protected_has n scene.session.contexts, top_protected scene.session.contexts scene.session.next_context h.contexts)
 
 -- The release of an active level's owner hasn't begun.
 pub not_begun : (level : LevelState) (levels : List LevelState) (s : Scene) (n : ℕ) → Stands (settled (level ∷ levels) s) → level.aborted ≡ false → has_begun n s.session.owners ≡ false
@@ -21,8 +16,7 @@ not_begun level levels s n h active = false_from_ne_true (has_begun n s.session.
 -- All items are of kinds that the table knows.
 kinds_known : (table : KindTable) (items : List Item) → All (IsItem table) items → All (λ item. IsKind table item.kind) items
 kinds_known table [] h = All-nil (λ (item : Item). IsKind table item.kind)
-kinds_known table (item ∷ items) h =
-    All-cons (λ (item : Item). IsKind table item.kind) item items (All-head (IsItem table) item items h).kind (kinds_known table items (All-tail (IsItem table) item items h))
+kinds_known table (item ∷ items) h = grind (arith, nat_tests, kinds_known table items)
 
 pub items_known : (table : KindTable) (owners : OwnerTree) → AllNodes (HasItems table) owners → AllNodes (λ owner. All (λ item. IsKind table item.kind) owner.items) owners
 items_known table Empty h = tt

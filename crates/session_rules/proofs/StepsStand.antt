@@ -1,31 +1,15 @@
 -- The steps of commands lead from a session that stands to one that stands.
-use Rattle.session_rules.proofs.Base.{◌≡◌, ◌≢◌, ℕ, ◌+◌, ◌<◌, ◌≤◌, ◌⊎◌, ◌++◌, length, Bool, true, false, Option, Some, None, List, [], ◌∷◌, refl, sym, ap, ◌∙◌, subst, inl, inr, arith, ◌==◌, All, if◌then◌else◌, Result, Ok, Err, option_map_or, All-nil, All-weaker, nat_tests}
-use Rattle.session_rules.proofs.Below.{Empty, has, Once, at, children, parent_of, put, changed, size, AllNodes, has_at, times_some, has_changed, Error, Active, ShelfState, taken, KindTable, IsSoundTable, table_of, once_of, fresh, sound_created}
-use Rattle.session_rules.proofs.Rules.{LevelState, OpenPortal, StandingPlan, deepest_changed, first_of, owner_of, plan_reference, top_context, Scene, Moment, LevelContext, OfLevel, Text, memory_in, aborted, cleaned_up, committed, subcommitted, does, Ended, changes, in_order, nothing, say, switched, where_there, chunk_resized, memory_taken, snapshot_pushed, level_stands, fallible, is_call, refused_call}
-use Rattle.std.proofs.lemmas.Bool.{cases_eq, eq-eqb, ne_eqb, both_ways}
-use Rattle.forest.proofs.Neighbours.{parent_absent}
-use Rattle.chunk_header.specs.declared.CtxError.{CtxError}
-use Rattle.chunk_header.specs.Answers.{Taken}
-use Rattle.any_ctx.specs.Ledgers.{Ledger, Place}
-use Rattle.any_ctx.specs.declared.any.CtxKind.TheVariants as kind
-use Rattle.context_rules.specs.Contexts as rules
-use Rattle.context_rules.specs.Contexts.{Chunk, Context, Contexts, Found, created, found, is_protected, new_context}
-use Rattle.context_rules.specs.Chunks.{allocated, freed, from_ok, resized, served, with_chunk, without, written, zeros}
-use Rattle.owner_core.specs.Owners.{Owner, OwnerTree, has_begun, items_of}
-use Rattle.owner_core.specs.Owners as owners
-use Rattle.owner_core.specs.Sound.{IsSound}
-use Rattle.session_rules.specs.Elements as element
-use Rattle.session_rules.specs.Making.{held, left, level_context_name, level_made, level_parent, limit, new_context_made, new_owner_made}
-use Rattle.session_rules.specs.Standing.{IsLevel, IsOfPortal, AreContexts, AreHooks, AreLevels, AreOuter, AreOwners, ArePlans, ArePortals, AreStacked, FitLevels, HasItems, IsActive, IsAtRest, IsContextOf, IsDead, IsDeepest, IsFresh, IsItem, IsLive, IsMade, IsOpen, IsOwner, IsOwnerOf, IsPlace, IsPlan, IsPortal, IsReleased, IsRow, IsWorking, Stands, WasReleased, active_depth, owner_at, referred}
+use Rattle.session_rules.proofs.Base.{◌≡◌, ◌≢◌, ℕ, ◌+◌, ◌<◌, ◌≤◌, ◌⊎◌, ◌++◌, length, Bool, true, false, Option, Some, None, List, [], ◌∷◌, refl, sym, ap, ◌∙◌, subst, inl, inr, arith, ◌==◌, All, if◌then◌else◌, All-weaker, nat_tests, cases_eq, eq-eqb, ne_eqb, both_ways}
+use Rattle.session_rules.proofs.Below.{Empty, has, Once, at, children, parent_of, put, changed, size, AllNodes, has_at, times_some, has_changed, Error, Active, ShelfState, KindTable, IsSoundTable, table_of, once_of, fresh, sound_created, parent_absent, Ledger, CtxKind, Chunk, Context, Contexts, created, found, is_protected, new_context, allocated, freed, resized, written, zeros, Owner, OwnerTree, has_begun, IsSound}
+use Rattle.session_rules.proofs.Rules.{LevelState, OpenPortal, StandingPlan, deepest_changed, first_of, owner_of, plan_reference, Scene, Moment, LevelContext, OfLevel, Text, memory_in, aborted, cleaned_up, committed, subcommitted, does, Ended, changes, in_order, nothing, say, switched, where_there, chunk_resized, memory_taken, snapshot_pushed, level_stands, fallible, is_call, refused_call, Element, held, left, level_context_name, level_made, level_parent, limit, new_context_made, new_owner_made, IsLevel, IsOfPortal, AreContexts, AreHooks, AreLevels, AreOuter, AreOwners, ArePlans, ArePortals, AreStacked, FitLevels, HasItems, IsActive, IsAtRest, IsDead, IsDeepest, IsFresh, IsLive, IsMade, IsOpen, IsOwner, IsOwnerOf, IsPlace, IsPlan, IsPortal, IsReleased, IsRow, IsWorking, Stands, WasReleased, active_depth, owner_at, referred, MemoryRole}
 use Rattle.session_rules.proofs.Kept.{at_put, at_put_other, children_put, has_put_other, parent_put, parent_put_other, all_put, Stay, contexts_changed, contexts_created, has_created, new_empty, new_parent, new_protected, protected_has, stay_changed, stay_created, stay_same, top_protected, hooks_changed, hooks_put, depth_small, depth_working, stacked_pushed, stacked_taken, stacked_within, lone_changed, lone_put, held_created, Besides, Fits, Spares, besides_of, with_besides, IsCached, levels_apart, levels_other, parent_apart, plans_counted, plans_current, plans_moved, IsRowOf, attached_by, off_parent, place_level, place_same, place_spared, portals_by, portals_moved, row_changed, row_of, row_parent_off, row_put, is_there, levels_stay, no_value, one_value}
+use Rattle.context_rules.specs.Chunks.{without}
+use Rattle.owner_core.specs.Owners as owners
 use Rattle.session_rules.proofs.EndsStand.{Leaves, deepest_active, aborted_stands, cleaned_up_stands, committed_stands, is_settled, settled, subcommitted_leaves}
-use Rattle.session_rules.specs.Elements.{MemoryRole}
 
 -- a refused call changes nothing but the count
 pub not_refused : (a b : Bool) (x y : Error) (own : Option Error) → (if a then Some x else (if b then Some y else own)) ≡ None → own ≡ None
-not_refused true b x y own e = absurd (cc e)
-not_refused false true x y own e = absurd (cc e)
-not_refused false false x y own e = e
+not_refused a b x y own e = grind (arith, nat_tests)
 
 pub own_refusal : (w : Option ℕ) (fail call : ℕ) (own : Option Error) → refused_call w fail call own ≡ None → own ≡ None
 own_refusal w fail call own e = not_refused (call == fail) (is_call w call) _ _ own e
@@ -54,38 +38,28 @@ pub nothing_beside : (s : Scene) → Stands s → Beside s s
 nothing_beside s h = beside_by s s refl refl h
 
 pub fit_working : (levels : List LevelState) (t u : Contexts) (x y : OwnerTree) (a b : ℕ) → IsWorking levels → FitLevels levels t x a → FitLevels levels u y b
-fit_working [] t u x y a b w h = absurd w
-fit_working (level ∷ levels) t u x y a b w h = (deepest_active level u y b w, h.1)
+fit_working levels t u x y a b w h = grind (arith, nat_tests, deepest_active)
 
 pub not_released_outer : (levels : List LevelState) (n : ℕ) (x : OwnerTree) → AreOuter levels → WasReleased n levels x → ⊥
-not_released_outer [] n x h r = r
-not_released_outer (level ∷ levels) n x h r = both_ways level.aborted h.0.unaborted r.aborted
+not_released_outer levels n x h r = grind (arith, nat_tests, both_ways)
 
 pub not_released : (levels : List LevelState) (n : ℕ) (x : OwnerTree) → IsWorking levels → WasReleased n levels x → ⊥
-not_released [] n x h r = r
-not_released (level ∷ levels) n x h r = both_ways level.aborted h.unaborted r.aborted
+not_released levels n x h r = grind (arith, nat_tests, both_ways)
 
 -- The contexts of a session change, the protected ones stay, and the current one and the plans are other ones.
 pub contexts_step : (s : Scene) → Stands s → IsWorking s.session.levels → (u : Contexts) (next current : ℕ) (x : ShelfState) (plans : List StandingPlan) → AreContexts u next → Stay s.session.contexts u → has current u ≡ true → AreHooks u x
     → ArePlans plans u current (referred s.session.owners) → ArePortals s.session.portals s.session.levels u s.session.owners current
     → Stands (record s { session = record s.session { contexts = u; next_context = next; current = current; plans = plans }; around = record s.around { shelf = x } })
-contexts_step s h working u next current x plans c stay there hooks planned open_portals =
-    search (
-      levels_stay s.session.levels s.session.contexts u s.session.owners s.session.owners (λ m i prot. stay m prot) (λ m i there. record { there = there; parent = refl }) h.levels,
-      fit_working s.session.levels s.session.contexts u s.session.owners s.session.owners s.session.current current working h.fit,
-    )
+contexts_step s h working u next current x plans c stay there hooks planned open_portals = grind (arith, nat_tests, levels_stay s.session.levels s.session.contexts u s.session.owners s.session.owners, fit_working s.session.levels s.session.contexts u s.session.owners s.session.owners s.session.current current working h.fit)
 
 -- the plans where no plan's context gets a child
 pub still_planned : (s : Scene) (u : Contexts) → Stands s → Stay s.session.contexts u → ((m : ℕ) → IsCached m s.session.contexts → children m u ≡ Empty) → ArePlans s.session.plans u s.session.current (referred s.session.owners)
-still_planned s u h stay lone =
-    plans_moved s.session.plans s.session.contexts u s.session.current (referred s.session.owners) (λ m k. (stay m k.protected, lone m k)) h.plans
+still_planned s u h stay lone = grind (arith, nat_tests, plans_moved s.session.plans s.session.contexts u s.session.current (referred s.session.owners))
 
 -- the portals where each row is as it was
 pub still_portals : (s : Scene) (u : Contexts) → Stands s → Stay s.session.contexts u → ((n : ℕ) (expr : Option ℕ) → IsPlace n expr s.session.contexts s.session.current → IsRow expr (children n u))
     → ArePortals s.session.portals s.session.levels u s.session.owners s.session.current
-still_portals s u h stay rows =
-    portals_moved s.session.portals s.session.levels s.session.contexts u s.session.owners s.session.current s.session.current
-    (λ n expr i. place_same n expr s.session.contexts u s.session.current (stay n i.protected) (rows n expr i) i) h.portals
+still_portals s u h stay rows = grind (arith, nat_tests, portals_moved s.session.portals s.session.levels s.session.contexts u s.session.owners s.session.current s.session.current, place_same)
 
 -- Plans, their contexts and tables change.
 pub besides_step : (s : Scene) (x : Besides) → Stands s → IsWorking s.session.levels → table_of x.kinds ≡ table_of s.around.kinds → Fits s.session.next_context s.session.current (referred s.session.owners) x → Spares (besides_of s) x
@@ -110,11 +84,7 @@ stack_works s stack h stacked = record { stands = search; levels = refl; at_rest
 -- a snapshot is pushed in a level
 pub push_stacked : (levels : List LevelState) (snapshot : ℕ) (stack : List Active) → IsWorking levels → AreStacked 1 (active_depth levels) stack
     → AreStacked 1 (active_depth levels) (stack ++ (record { snapshot = snapshot; level = length levels } ∷ []))
-push_stacked [] snapshot stack working h = absurd working
-push_stacked (level ∷ levels) snapshot stack working h =
-    let most : ℕ = active_depth (level ∷ levels) in
-    let is : most ≡ length (level ∷ levels) = depth_working level levels working ∙ omega arith in
-    subst (λ (n : ℕ). AreStacked 1 most (stack ++ (record { snapshot = snapshot; level = n } ∷ []))) is (stacked_pushed 1 most snapshot stack (omega (arith, is)) h)
+push_stacked levels snapshot stack working h = grind (arith, nat_tests, depth_working, stacked_pushed 1)
 
 -- a change of the contexts alone
 pub record KeepsContexts (t u : Contexts) (next : ℕ) : Type 0 where
@@ -147,11 +117,7 @@ kept_step s h working u k =
 
 -- chunks
 pub keeps_allocated : (t : Contexts) (next n left : ℕ) (name : Option (List ℕ)) (bytes : ℕ) (known : List ℕ) → AreContexts t next → KeepsContexts t (allocated n left name bytes known t) next
-keeps_allocated t next n left name bytes known h = go (served n left bytes t)
-  where
-    go : (r : Result (Taken Ledger Place) CtxError) → KeepsContexts t (from_ok (λ taken. changed n (with_chunk name bytes known taken) t) t r) next
-    go (Ok taken) = keeps_changed t next n (with_chunk name bytes known taken) h (λ c. refl) (λ c. refl) (λ c _ e. absurd (cc e))
-    go (Err e) = keeps_same t next h
+keeps_allocated t next n left name bytes known h = grind (arith, nat_tests, keeps_changed t next n, keeps_same t next h)
 
 pub fresh_chunks : (c : Context) (g : List Chunk → List Chunk) (ledger : Ledger) → g [] ≡ [] → IsFresh c → IsFresh (record c { ledger = ledger; chunks = g c.chunks })
 fresh_chunks c g ledger e fresh unused = let w = fresh unused in (ap g w.0 ∙ e, w.1)
@@ -160,8 +126,7 @@ pub keeps_freed : (t : Contexts) (next : ℕ) (name : List ℕ) → AreContexts 
 keeps_freed t next name h = grind (arith, nat_tests, found name t, without name, keeps_changed t next, fresh_chunks, keeps_same t next h)
 
 pub keeps_resized : (t : Contexts) (next held limit : ℕ) (name : List ℕ) (bytes : ℕ) → AreContexts t next → KeepsContexts t (resized held limit name bytes t) next
-keeps_resized t next held limit name bytes h =
-    grind (arith, nat_tests, found name t, keeps_changed t next, fresh_chunks, keeps_same t next h)
+keeps_resized t next held limit name bytes h = grind (arith, nat_tests, keeps_changed t next, fresh_chunks, keeps_same t next h)
 
 pub keeps_written : (t : Contexts) (next : ℕ) (name : List ℕ) (place : ℕ) (bytes : List ℕ) → AreContexts t next → KeepsContexts t (written name place bytes t) next
 keeps_written t next name place bytes h = grind (arith, nat_tests, found name t, keeps_same t next h, keeps_changed t next, fresh_chunks)
@@ -172,14 +137,12 @@ stacked_above_it levels stack h = stacked_within 1 (length levels) 1 (active_dep
 
 -- no portal is one of an aborted level where none is
 pub not_dead : (p : OpenPortal) (levels : List LevelState) → AreOuter levels → IsDead p levels → ⊥
-not_dead p [] outer d = let z : false ≡ true = d.aborted in absurd (cc z)
-not_dead p (level ∷ levels) outer d = both_ways level.aborted outer.0.unaborted d.aborted
+not_dead p levels outer d = grind (arith, nat_tests, both_ways)
 
 -- a portal stays where a level is pushed
 pub pushed_portal : (new : LevelState) (levels : List LevelState) (t : Contexts) (x : OwnerTree) (current : ℕ) (p : OpenPortal) → new.starting ≡ true → new.owner ≡ None → AreOuter levels → IsAtRest p → IsPortal p levels t x current
     → IsPortal p (new ∷ levels) t x current
-pushed_portal new levels t x current p starting none outer rests i =
-    grind (arith, nat_tests, depth_small levels, attached_by, no_value new.owner, not_dead p levels outer)
+pushed_portal new levels t x current p starting none outer rests i = grind (arith, nat_tests, depth_small levels, attached_by, no_value new.owner, not_dead p levels outer)
 
 -- a portal where the deepest level changes and keeps its owner
 pub same_portal : (old new : LevelState) (levels : List LevelState) (t u : Contexts) (x : OwnerTree) (a b : ℕ) (p : OpenPortal) → new.owner ≡ old.owner → (IsLive p (old ∷ levels) → IsLive p (new ∷ levels)) → new.aborted ≡ old.aborted
@@ -200,19 +163,8 @@ pub level_made_stands : (name : Option Text) (implicit : Bool) (s : Scene) → S
 level_made_stands name implicit s h at_rest outer alone =
     let new : LevelState = record { name = name; context = None; owner = None; implicit = implicit; aborted = false; starting = true } in
     let level : IsLevel new s.session.levels s.session.contexts s.session.owners = record { context = λ n e. absurd (cc e); owner = λ n e. absurd (cc e); implicit = alone } in
-    let deepest : IsDeepest new s.session.contexts s.session.owners s.session.current = record {
-      made = λ e. absurd (cc e);
-      empty = λ n _ e. absurd (cc e);
-      alone = λ n _ e. absurd (cc e);
-      idle = λ n _ e. absurd (cc e);
-      released = λ n _ e. absurd (cc e);
-      at_abort = λ e. absurd (cc e);
-      open_level = λ e. absurd (cc e);
-    } in
-    let each : (n : ℕ) → has n s.session.owners ≡ true → IsOwner n (new ∷ s.session.levels) ⊎ (IsOfPortal n s.session.portals ⊎ IsReleased new n s.session.owners) = λ n u. elim (h.owners.each n u) [
-      | inl i ↦ inl (inr i)
-      | inr k ↦ elim k [ inl p ↦ inr (inl p) | inr r ↦ absurd (not_released_outer s.session.levels n s.session.owners outer r) ]
-    ] in
+    let deepest : IsDeepest new s.session.contexts s.session.owners s.session.current = grind (arith, nat_tests) in
+    let each : (n : ℕ) → has n s.session.owners ≡ true → IsOwner n (new ∷ s.session.levels) ⊎ (IsOfPortal n s.session.portals ⊎ IsReleased new n s.session.owners) = grind (arith, nat_tests, not_released_outer s.session.levels) in
     let begun : (n : ℕ) → has_begun n s.session.owners ≡ true → IsReleased new n s.session.owners = λ n u. absurd (not_released_outer s.session.levels n s.session.owners outer (h.owners.begun n u)) in
     let portals : All (λ p. IsPortal p (new ∷ s.session.levels) s.session.contexts s.session.owners s.session.current) s.session.portals =
     λ k r below. pushed_portal new s.session.levels s.session.contexts s.session.owners s.session.current _ refl refl outer (at_rest k r below) (h.portals.each k r below) in
@@ -220,10 +172,7 @@ level_made_stands name implicit s h at_rest outer alone =
 
 -- the parent of a new context of a level is there, and protected
 pub parent_protected : (levels : List LevelState) (t : Contexts) (x : OwnerTree) (next : ℕ) → AreContexts t next → AreLevels levels t x → AreOuter levels → is_protected (level_parent (first_of levels)) t ≡ true
-parent_protected [] t x next h l o = top_protected t next h
-parent_protected (level ∷ levels) t x next h l o =
-    let c = is_there level.context o.0.made.context in
-    ap (λ (z : Option ℕ). is_protected (option_map_or (λ n. n) z top_context) t) c.1 ∙ (l.0.context c.0 c.1).protected
+parent_protected levels t x next h l o = grind (arith, nat_tests, top_protected t next h, is_there)
 
 -- The context of a level that is being started is made.
 pub level_context_stands : (level : LevelState) (levels : List LevelState) (s : Scene) → level.starting ≡ true → level.context ≡ None → Stands (settled (level ∷ levels) s)
@@ -238,53 +187,22 @@ level_context_stands level levels s starting none h =
     let outer : AreOuter levels = h.fit.1 in
     let guarded : is_protected p t ≡ true = parent_protected levels t x next c h.levels.1 outer in
     let there : has p t ≡ true = protected_has p t guarded in
-    let u : Contexts = created p next name kind.Default true t in
-    let stay : Stay t u = stay_created t next c p name kind.Default true in
+    let u : Contexts = created p next name CtxKind.Default true t in
+    let stay : Stay t u = stay_created t next c p name CtxKind.Default true in
     let rest : AreLevels levels u x =
     levels_stay levels t u x x (λ m i prot. stay m prot) (λ m i there. record { there = there; parent = refl }) h.levels.1 in
     record {
-      contexts = contexts_created t next c p name kind.Default true there (λ _. guarded);
-      current = has_created t next c s.session.current p name kind.Default true h.current;
-      hooks = hooks_put p next (new_context name kind.Default true) t s.around.shelf c.once refl h.hooks;
-      levels = (
-        record {
-          context = λ n e. subst (λ (m : ℕ). IsContextOf m levels u) (one_value (Some next) next n refl e) (record {
-            protected = new_protected t next c p name kind.Default there;
-            parent = new_parent t next c p name kind.Default true there;
-            newer = c.below p there;
-            own = c.room;
-          });
-          owner = λ n e. let o : IsOwnerOf n levels x = h.levels.0.owner n e in o;
-          implicit = h.levels.0.implicit;
-        },
-        rest,
-      );
-      fit = (
-        record {
-          made = λ e. absurd (both_ways level.starting e starting);
-          empty = λ n _ e. subst (λ (m : ℕ). rules.is_empty m u ≡ true) (one_value (Some next) next n refl e) (new_empty t next c p name kind.Default true there);
-          alone = h.fit.0.alone;
-          idle = h.fit.0.idle;
-          released = h.fit.0.released;
-          at_abort = h.fit.0.at_abort;
-          open_level = λ a. let o : IsOpen level = h.fit.0.open_level a in record { started = o.started; block = o.block };
-        },
-        outer,
-      );
-      owners = record {
-        sound = h.owners.sound;
-        each = λ n u. elim (h.owners.each n u) [
-          | inl i ↦ inl i
-          | inr k ↦ inr (elim k [ inl p ↦ inl p | inr r ↦ inr (record { aborted = r.aborted; owner = r.owner; is = r.is; within = r.within }) ])
-        ];
-        begun = λ n u. let r : IsReleased level n x = h.owners.begun n u in record { aborted = r.aborted; owner = r.owner; is = r.is; within = r.within };
-        items = h.owners.items;
-      };
+      contexts = contexts_created t next c p name CtxKind.Default true there (λ _. guarded);
+      current = has_created t next c s.session.current p name CtxKind.Default true h.current;
+      hooks = hooks_put p next (new_context name CtxKind.Default true) t s.around.shelf c.once refl h.hooks;
+      levels = grind (arith, nat_tests, one_value (Some next) next, new_protected t next c p name CtxKind.Default there, new_parent t next c p name CtxKind.Default true there);
+      fit = grind (arith, nat_tests, both_ways level.starting, one_value (Some next) next, new_empty t next c p name CtxKind.Default true there);
+      owners = grind (arith, nat_tests);
       kinds = h.kinds;
       portals = portals_by s.session.portals (level ∷ levels) (record level { context = Some next } ∷ levels) t u x x s.session.current s.session.current
           (λ q i. same_portal level (record level { context = Some next }) levels t u x s.session.current s.session.current q refl (λ l. record { some = l.some; within = l.within; active = l.active; line = l.line }) refl
           (λ n expr k. place_same n expr t u s.session.current (stay n k.protected)
-          (row_put t c.once n expr s.session.current k p next (new_context name kind.Default true) Empty
+          (row_put t c.once n expr s.session.current k p next (new_context name CtxKind.Default true) Empty
           (λ z. off_parent levels t x h.levels.1 outer n k.parent k.own (sym z)) (λ z. omega (arith, z, c.below n (protected_has n t k.protected))) refl
           (λ e q z.
           let r : IsRowOf e n t = row_of e n t s.session.current c.once (subst (λ (o : Option ℕ). IsPlace n o t s.session.current) q k) in
@@ -292,7 +210,7 @@ level_context_stands level levels s starting none h =
       plans = plans_moved s.session.plans t u s.session.current (referred x)
           (λ m k. (
             stay m k.protected,
-            lone_put m p next (new_context name kind.Default true) Empty t (λ z. parent_apart levels t x h.levels.1 outer m k (sym z)) (λ z. omega (arith, z, c.below m (protected_has m t k.protected))) refl k.lone,
+            lone_put m p next (new_context name CtxKind.Default true) Empty t (λ z. parent_apart levels t x h.levels.1 outer m k (sym z)) (λ z. omega (arith, z, c.below m (protected_has m t k.protected))) refl k.lone,
           )) h.plans;
       snapshots = h.snapshots;
     }
@@ -317,30 +235,8 @@ pub record IsNewOwner (o : Option ℕ) (n : ℕ) (x y : OwnerTree) : Type 0 wher
   pub items : (kinds : KindTable) → AllNodes (HasItems kinds) x → AllNodes (HasItems kinds) y
 
 pub new_owner_is : (o : Option ℕ) (n : ℕ) (x : OwnerTree) → Once x → has n x ≡ false → ((p : ℕ) → o ≡ Some p → has p x ≡ true) → IsNewOwner o n x (owners.created o n x)
-new_owner_is None n x once new there = record {
-  there = rw (eq-eqb n n refl) refl;
-  parent = parent_absent n x new;
-  alone = rw (eq-eqb n n refl) refl;
-  idle = rw (eq-eqb n n refl) refl;
-  others = λ m ne. rw (ne_eqb n m (λ e. ne (sym e))) refl;
-  had = λ m ne. rw (ne_eqb n m (λ e. ne (sym e))) refl;
-  parents = λ m ne. refl;
-  lone = λ m ne off e. rw (ne_eqb n m (λ z. ne (sym z))) e;
-  items = λ kinds h. (All-nil (IsItem kinds), tt, h);
-}
-new_owner_is (Some p) n x once new there =
-    let u : has p x ≡ true = there p refl in
-    record {
-      there = has_at n (put p n new_owner Empty x) new_owner (at_put p n new_owner Empty x once u new);
-      parent = parent_put p n new_owner Empty x once u new;
-      alone = children_put p n new_owner Empty x once u new;
-      idle = at_put p n new_owner Empty x once u new;
-      others = λ m ne. at_put_other m p n new_owner Empty x ne refl;
-      had = λ m ne. has_put_other m p n new_owner Empty x ne refl;
-      parents = λ m ne. parent_put_other m p n new_owner Empty x ne refl;
-      lone = λ m ne off e. lone_put m p n new_owner Empty x (off p refl) ne refl e;
-      items = λ kinds h. all_put (HasItems kinds) p n new_owner Empty x (All-nil (IsItem kinds)) tt h;
-    }
+new_owner_is None n x once new there = grind (arith, nat_tests, eq-eqb n n refl, parent_absent n x new, ne_eqb n)
+new_owner_is (Some p) n x once new there = grind (arith, nat_tests, has_at n (put p n new_owner Empty x) new_owner, at_put p n new_owner Empty x once, parent_put p n new_owner Empty x once, children_put p n new_owner Empty x once, at_put_other, has_put_other, parent_put_other, lone_put, all_put)
 
 -- a portal isn't one of a level that is being started
 pub created_below : (level : LevelState) (levels : List LevelState) → level.starting ≡ true → (level.aborted ≡ true → IsOpen level) → (p : OpenPortal) → IsLive p (level ∷ levels) ⊎ IsDead p (level ∷ levels) → p.created ≤ length levels
@@ -366,9 +262,7 @@ level_owner_stands level levels s starting none few h =
     let parent_there : (p : ℕ) → owner_of (first_of levels) ≡ Some p → has p x ≡ true = above_there levels t x h.levels.1 in
     let new : IsNewOwner o n x y = new_owner_is o n x once unused parent_there in
     let other : (m : ℕ) → has m x ≡ true → m ≢ n = λ m u e. both_ways (has n x) unused (ap (λ (k : ℕ). has k x) (sym e) ∙ u) in
-    let rest : AreLevels levels t y =
-    levels_stay levels t t x y (λ m i prot. stay_same t m prot)
-    (λ m i u. let ne : m ≢ n = other m u in record { there = new.had m ne ∙ u; parent = new.parents m ne }) h.levels.1 in
+    let rest : AreLevels levels t y = grind (arith, nat_tests, levels_stay levels t t x y, stay_same t) in
     record {
       contexts = h.contexts;
       current = h.current;
@@ -385,37 +279,11 @@ level_owner_stands level levels s starting none few h =
         },
         rest,
       );
-      fit = (
-        record {
-          made = λ e. absurd (both_ways level.starting e starting);
-          empty = h.fit.0.empty;
-          alone = λ m _ e. subst (λ (k : ℕ). children k y ≡ Empty) (one_value (Some n) n m refl e) new.alone;
-          idle = λ m _ e. subst (λ (k : ℕ). items_of k y ≡ []) (one_value (Some n) n m refl e) (ap (λ (z : Option Owner). option_map_or (λ owner. owner.items) z []) new.idle);
-          released = λ m a e. absurd (both_ways level.starting (h.fit.0.open_level a).started starting);
-          at_abort = h.fit.0.at_abort;
-          open_level = λ a. let z : IsOpen level = h.fit.0.open_level a in record { started = z.started; block = z.block };
-        },
-        outer,
-      );
+      fit = grind (arith, nat_tests, both_ways level.starting, one_value (Some n) n);
       owners = record {
         sound = sound_created o x n b h.owners.sound few;
-        each = λ m u. elim (cases_eq m n) [
-          | inl e ↦ inl (inl (ap Some (sym e)))
-          | inr ne ↦ elim (h.owners.each m (sym (new.had m ne) ∙ u)) [
-            | inl i ↦ elim i [ inl q ↦ absurd (no_value level.owner m none q) | inr j ↦ inl (inr j) ]
-            | inr k ↦ elim k [ inl p ↦ inr (inl p) | inr r ↦ absurd (no_value level.owner r.owner none r.is) ]
-          ]
-        ];
-        begun = λ m u. elim (cases_eq m n) [
-          | inl e ↦
-              let z : option_map_or (λ (owner : Owner). owner.begun) (at n y) false ≡ true = ap (λ (k : ℕ). has_begun k y) (sym e) ∙ u in
-              let w : false ≡ true = rw new.idle at z in
-              absurd (cc w)
-          | inr ne ↦
-              let z : has_begun m x ≡ true = ap (λ (q : Option Owner). option_map_or (λ owner. owner.begun) q false) (sym (new.others m ne)) ∙ u in
-              let r = h.owners.begun m z in
-              absurd (no_value level.owner r.owner none r.is)
-        ];
+        each = grind (arith, nat_tests, cases_eq, no_value level.owner);
+        begun = grind (arith, nat_tests, cases_eq, no_value level.owner);
         items = new.items (table_of s.around.kinds) h.owners.items;
       };
       kinds = h.kinds;
@@ -423,17 +291,8 @@ level_owner_stands level levels s starting none few h =
           (λ q i. record {
             place = i.place;
             made = i.made;
-            owner = λ m e.
-                let a = i.owner m e in
-                let small : q.created ≤ length levels = created_below level levels starting h.fit.0.open_level q i.stage in
-                attached_by m q.created (level ∷ levels) (record level { owner = Some n } ∷ levels) x y (λ u. new.had m (other m u) ∙ u) (new.parents m (other m a.there))
-                (λ u. new.lone m (other m a.there) (λ p f z. a.other (inr (subst (λ (k : ℕ). IsOwner k levels) (sym z) (first_is levels p f)))) u)
-                (rw (ne_eqb (length levels + 1) q.created (λ z. omega (arith, z, small))) refl)
-                (λ j. elim j [ inl f ↦ absurd (both_ways (has n x) unused (ap (λ (k : ℕ). has k x) (one_value (Some n) n m refl f) ∙ a.there)) | inr k ↦ inr k ]) a;
-            stage = elim i.stage [
-              | inl l ↦ inl (record { some = l.some; within = l.within; active = l.active; line = l.line })
-              | inr d ↦ inr (record { aborted = d.aborted; created = d.created; within = d.within; active = d.active; failed = d.failed; owner = d.owner; expr = d.expr })
-            ];
+            owner = grind (arith, nat_tests, created_below level levels starting h.fit.0.open_level q i.stage, attached_by, first_is levels, ne_eqb (length levels + 1) q.created, both_ways (has n x) unused, one_value (Some n) n);
+            stage = grind (arith, nat_tests);
           }) h.portals;
       plans = plans_counted s.session.plans t s.session.current (referred x) (referred y) (λ m. sym (held_created plan_reference m o n x)) h.plans;
       snapshots = h.snapshots;
@@ -462,15 +321,7 @@ level_stands_stands level levels s active made h =
       hooks = h.hooks;
       levels = (record { context = h.levels.0.context; owner = h.levels.0.owner; implicit = h.levels.0.implicit }, h.levels.1);
       fit = (deepest_active now s.session.contexts x c.0 working, h.fit.1);
-      owners = record {
-        sound = h.owners.sound;
-        each = λ n u. elim (h.owners.each n u) [
-          | inl i ↦ inl i
-          | inr k ↦ inr (elim k [ inl p ↦ inl p | inr r ↦ inr (record { aborted = r.aborted; owner = r.owner; is = r.is; within = r.within }) ])
-        ];
-        begun = λ n u. let r : IsReleased level n x = h.owners.begun n u in record { aborted = r.aborted; owner = r.owner; is = r.is; within = r.within };
-        items = h.owners.items;
-      };
+      owners = grind (arith, nat_tests);
       kinds = h.kinds;
       portals = portals_by s.session.portals (level ∷ levels) (now ∷ levels) s.session.contexts s.session.contexts x x s.session.current c.0
           (λ q i. same_portal level now levels s.session.contexts s.session.contexts x s.session.current c.0 q refl
@@ -483,9 +334,7 @@ level_stands_stands level levels s active made h =
 
 -- a scene that stands is settled
 pub settled_as : (P : Scene → Type 0) (scene : Scene) (levels : List LevelState) → Stands scene → scene.session.levels ≡ levels → (Stands (settled levels scene) → P (settled levels scene)) → P scene
-settled_as P scene levels h e all =
-    let is : scene ≡ settled levels scene = is_settled scene h ∙ ap (λ (ls : List LevelState). settled ls scene) e in
-    subst P (sym is) (all (subst Stands is h))
+settled_as P scene levels h e all = grind (arith, nat_tests, is_settled scene h)
 
 -- a limit that wasn't reached
 pub below_limit : (most n : ℕ) → limit most n ≡ None → n < most
@@ -493,63 +342,62 @@ below_limit most n e = grind (arith, nat_tests)
 
 -- Each element, whatever call is refused.
 module _ (w : Option ℕ) (moment : Moment) (h : Stands moment.scene) where
-  pub commit_stands : (level : LevelState) → moment.scene.session.levels ≡ level ∷ [] → Leaves [] (does w element.CommitTop moment).moment.scene
+  pub commit_stands : (level : LevelState) → moment.scene.session.levels ≡ level ∷ [] → Leaves [] (does w Element.CommitTop moment).moment.scene
   unfolding does
   commit_stands level is =
       settled_as (λ (z : Scene). Leaves [] (committed z).scene) moment.scene (level ∷ []) h is (λ k. committed_stands level moment.scene k)
 
-  pub merge_stands : (level : LevelState) (levels : List LevelState) → moment.scene.session.levels ≡ level ∷ levels → 1 ≤ length levels → All IsAtRest moment.scene.session.portals → Leaves levels (does w element.Subcommit moment).moment.scene
+  pub merge_stands : (level : LevelState) (levels : List LevelState) → moment.scene.session.levels ≡ level ∷ levels → 1 ≤ length levels → All IsAtRest moment.scene.session.portals → Leaves levels (does w Element.Subcommit moment).moment.scene
   unfolding does
   merge_stands level levels is some at_rest =
       settled_as (λ (z : Scene). Leaves levels (subcommitted z).scene) moment.scene (level ∷ levels) h is (λ k. subcommitted_leaves level levels moment.scene some at_rest k)
 
   pub abort_stands : (level : LevelState) (levels : List LevelState) → moment.scene.session.levels ≡ level ∷ levels → level.aborted ≡ false → IsOpen level
-      → Leaves (record level { aborted = true } ∷ levels) (does w element.Abort moment).moment.scene
+      → Leaves (record level { aborted = true } ∷ levels) (does w Element.Abort moment).moment.scene
   unfolding does
-  abort_stands level levels is active open_level =
-      settled_as (λ (z : Scene). Leaves (record level { aborted = true } ∷ levels) (aborted z).scene) moment.scene (level ∷ levels) h is (λ k. aborted_stands level levels moment.scene active open_level k)
+  abort_stands level levels is active open_level = grind (arith, nat_tests, settled_as, aborted_stands level levels)
 
-  pub cleanup_stands : (level : LevelState) (levels : List LevelState) → moment.scene.session.levels ≡ level ∷ levels → level.aborted ≡ true → Leaves levels (does w element.Cleanup moment).moment.scene
+  pub cleanup_stands : (level : LevelState) (levels : List LevelState) → moment.scene.session.levels ≡ level ∷ levels → level.aborted ≡ true → Leaves levels (does w Element.Cleanup moment).moment.scene
   unfolding does
   cleanup_stands level levels is gone =
       settled_as (λ (z : Scene). Leaves levels (cleaned_up z).scene) moment.scene (level ∷ levels) h is (λ k. cleaned_up_stands level levels moment.scene gone k)
 
-  pub enlarge_works : Works moment.scene (does w (element.Enlarge OfLevel) moment).moment.scene
+  pub enlarge_works : Works moment.scene (does w (Element.Enlarge OfLevel) moment).moment.scene
   unfolding does
   enlarge_works = fallible_keeps (Works moment.scene) w moment None nothing (nothing_works moment.scene h) (λ _. nothing_works moment.scene h)
 
-  pub pop_works : Works moment.scene (does w element.PopSnapshot moment).moment.scene
+  pub pop_works : Works moment.scene (does w Element.PopSnapshot moment).moment.scene
   unfolding does
   pop_works = grind (arith, nat_tests, in_order, say, nothing_works moment.scene h, stack_works moment.scene, stacked_taken)
 
   -- in an active level
   module _ (working : IsWorking moment.scene.session.levels) where
-    pub push_works : (snapshot : ℕ) → Works moment.scene (does w (element.PushSnapshot snapshot) moment).moment.scene
+    pub push_works : (snapshot : ℕ) → Works moment.scene (does w (Element.PushSnapshot snapshot) moment).moment.scene
     unfolding does
     push_works snapshot =
         fallible_keeps (Works moment.scene) w moment None (snapshot_pushed snapshot) (nothing_works moment.scene h)
         (λ _. stack_works moment.scene (moment.scene.session.snapshots ++ (record { snapshot = snapshot; level = length moment.scene.session.levels } ∷ [])) h
         (push_stacked moment.scene.session.levels snapshot moment.scene.session.snapshots working h.snapshots))
 
-    pub free_works : (name : Text) → Works moment.scene (does w (element.FreeChunk name) moment).moment.scene
+    pub free_works : (name : Text) → Works moment.scene (does w (Element.FreeChunk name) moment).moment.scene
     unfolding does
     free_works name =
         (beside_by moment.scene _ refl refl (kept_step moment.scene h working (freed name moment.scene.session.contexts) (keeps_freed moment.scene.session.contexts moment.scene.session.next_context name h.contexts))).works
 
-    pub put_works : (name : Text) (from : ℕ) (bytes : List ℕ) → Works moment.scene (does w (element.Put name from bytes) moment).moment.scene
+    pub put_works : (name : Text) (from : ℕ) (bytes : List ℕ) → Works moment.scene (does w (Element.Put name from bytes) moment).moment.scene
     unfolding does
     put_works name from bytes =
         (beside_by moment.scene _ refl refl (kept_step moment.scene h working (written name from bytes moment.scene.session.contexts)
         (keeps_written moment.scene.session.contexts moment.scene.session.next_context name from bytes h.contexts))).works
 
-    pub realloc_works : (name : Text) (bytes : ℕ) → Works moment.scene (does w (element.Realloc name bytes) moment).moment.scene
+    pub realloc_works : (name : Text) (bytes : ℕ) → Works moment.scene (does w (Element.Realloc name bytes) moment).moment.scene
     unfolding does
     realloc_works name bytes =
         fallible_keeps (Works moment.scene) w moment _ (chunk_resized name bytes) (nothing_works moment.scene h)
         (λ _. (beside_by moment.scene _ refl refl (kept_step moment.scene h working (resized (held moment.scene.session) moment.scene.around.space name bytes moment.scene.session.contexts)
         (keeps_resized moment.scene.session.contexts moment.scene.session.next_context (held moment.scene.session) moment.scene.around.space name bytes h.contexts))).works)
 
-    pub alloc_beside : (role : MemoryRole) (name : Option Text) (bytes : ℕ) (zeroed : Bool) → Beside moment.scene (does w (element.Alloc role name bytes zeroed) moment).moment.scene
+    pub alloc_beside : (role : MemoryRole) (name : Option Text) (bytes : ℕ) (zeroed : Bool) → Beside moment.scene (does w (Element.Alloc role name bytes zeroed) moment).moment.scene
     unfolding does
     alloc_beside role name bytes zeroed =
         fallible_keeps (Beside moment.scene) w moment _ (λ scene. where_there (memory_in role scene.session) (memory_taken name bytes zeroed) scene) (nothing_beside moment.scene h) (λ _. memory (memory_in role moment.scene.session))

@@ -1,6 +1,6 @@
 -- A node of a forest, and all below it, with other data.
 use Rattle.session_rules.proofs.Base.{◌≡◌, ◌≢◌, ℕ, false, refl, option_map, arith, nat_tests}
-use Rattle.session_rules.proofs.Below.{Forest, Empty, Node, has, Once, at, children, is_root, parent_of, removed, subtree, AllNodes, all_changed, swept, Apart, apart_of, at_absent}
+use Rattle.session_rules.proofs.Below.{Forest, Empty, Node, has, Once, at, children, is_root, parent_of, removed, subtree, AllNodes, all_changed, swept, apart_of, at_absent}
 use Rattle.session_rules.proofs.Guarded.{all_children, all_at}
 
 module _ {A : Type 0} (f : A → A) where
@@ -26,8 +26,7 @@ module _ {A : Type 0} (f : A → A) where
 
   pub parent_swept : (m n : ℕ) (t : Forest A) → parent_of m (swept f n t) ≡ parent_of m t
   parent_swept m n Empty = refl
-  parent_swept m n (Node k a below beside) =
-      grind (arith, root_all m below, has_all m below, parent_all m below, root_swept m n below, has_swept m n below, parent_swept m n below, parent_swept m n beside)
+  parent_swept m n (Node k a below beside) = grind (arith, nat_tests, root_all m below, has_all m below, parent_all m below, root_swept m n below, has_swept m n below, parent_swept m n below, parent_swept m n beside)
 
   pub removed_swept : (n : ℕ) (t : Forest A) → removed n (swept f n t) ≡ removed n t
   removed_swept n Empty = refl
@@ -50,9 +49,7 @@ module _ {A : Type 0} (f : A → A) where
 
   pub at_swept_other : (m n : ℕ) (t : Forest A) → Once t → m ≢ n → has m (children n t) ≡ false → at m (swept f n t) ≡ at m t
   at_swept_other m n Empty o ne u = refl
-  at_swept_other m n (Node k a below beside) o ne u =
-      let apart : Apart k below beside = apart_of k a below beside o in
-      grind (arith, nat_tests, at_absent m below, at_absent m (all_changed f below), has_all m below, unswept n below, unswept n beside, apart.apart n, at_swept_other m n below apart.once_below ne, at_swept_other m n beside apart.once_beside ne)
+  at_swept_other m n (Node k a below beside) o ne u = grind (arith, nat_tests, apart_of k a below beside o, at_absent m below, at_absent m (all_changed f below), all_changed f below, has_all m below, unswept n below, unswept n beside, at_swept_other m n below, at_swept_other m n beside)
 
   module _ (P Q : A → Type 0) (so : (a : A) → P a → Q (f a)) where
     all_all : (t : Forest A) → AllNodes P t → AllNodes Q (all_changed f t)

@@ -1,42 +1,7 @@
 -- Commands lead from a session between two lines to one between two lines.
-use Rattle.session_rules.proofs.Base.{◌≡◌, ℕ, ◌+◌, ◌≤◌, ◌<◌, Bool, true, false, Option, Some, None, List, [], ◌∷◌, ◌++◌, refl, sym, ap, ◌∙◌, subst, inl, arith, All, zero, suc, ◌-◌, ◌&&◌, ◌==◌, not, length, map, codes, is_none, is_some, replicate, nat_lt, if◌then◌else◌, option_and_then, option_map_or, le-ltb, ltb-true, All-cons, flat_map, nat_tests}
-use Rattle.session_rules.proofs.Below.{Error, What, size, Scan, ScanStep, table_of, Command, is_text-same, KindId}
-use Rattle.session_rules.proofs.Rules.{LevelState, OpenPortal, SessionState, buffer_pin, file_kind, is_aborted, level_owner, plan_reference, relcache_reference, snapshot_reference, Scene, Moment, Check, Element, InCurrent, InPortal, InRow, LevelContext, OfLevel, OfPortal, PortalContext, RowContext, Text, Ended, in_order, nothing, portal_becomes, where_there, level_stands, failure, unless, Done, fallible, refused_call, unless_refused, context_made, level_made, new_context_made, new_owner_made, portal_made, does, does_all, then_done, line_elements, turn, turn_of, AreOpen, AreOuter, FitLevels, IsActive, IsAtRest, IsFetched, IsOpen, IsWorking, Stands, StandsBetweenLines}
-use Rattle.pgs_step.specs.declared.errors.Error.TheVariants as error
-use Rattle.pgs_step.specs.declared.events.What.TheVariants as what
-use Rattle.pgs_command.specs.declared.commands.Command.TheVariants as command
-use Rattle.pgs_command.specs.declared.commands.TransactionCommand.{TransactionCommand}
-use Rattle.pgs_command.specs.declared.commands.TransactionCommand.TheVariants as transaction
-use Rattle.pgs_command.specs.declared.commands.Work.{Work}
-use Rattle.pgs_command.specs.declared.commands.Work.TheVariants as work
-use Rattle.pgs_command.specs.declared.commands.ContextCommand.{ContextCommand}
-use Rattle.pgs_command.specs.declared.commands.ContextCommand.TheVariants as context
-use Rattle.pgs_command.specs.declared.commands.ChunkCommand.{ChunkCommand}
-use Rattle.pgs_command.specs.declared.commands.ChunkCommand.TheVariants as chunk
-use Rattle.pgs_command.specs.declared.commands.ItemCommand.{ItemCommand}
-use Rattle.pgs_command.specs.declared.commands.ItemCommand.TheVariants as item
-use Rattle.pgs_command.specs.declared.commands.LockCommand.{LockCommand}
-use Rattle.pgs_command.specs.declared.commands.LockCommand.TheVariants as lock
-use Rattle.pgs_command.specs.declared.commands.SnapshotCommand.{SnapshotCommand}
-use Rattle.pgs_command.specs.declared.commands.SnapshotCommand.TheVariants as snapshot
-use Rattle.pgs_command.specs.declared.commands.PlanCommand.{PlanCommand}
-use Rattle.pgs_command.specs.declared.commands.PlanCommand.TheVariants as plan
-use Rattle.pgs_command.specs.declared.commands.PortalCommand.{PortalCommand}
-use Rattle.pgs_command.specs.declared.commands.PortalCommand.TheVariants as portal
-use Rattle.pgs_command.specs.declared.commands.TellCommand.{TellCommand}
-use Rattle.pgs_command.specs.declared.commands.TellCommand.TheVariants as tell
-use Rattle.pgs_command.specs.Kinds.{class_kind}
-use Rattle.session_rules.specs.Elements as element
-use Rattle.session_rules.specs.Lookup.{is_named, plan_at, portal_named}
-use Rattle.session_rules.specs.Commands.{at_savepoint, begin, commit, committed_to, elements_of, ends_aborted, in_transaction, is_end, refused, rollback, rolled_back_to, save, savepoint, start, then_ok, transaction_of, unaborted}
-use Rattle.session_rules.specs.Works.{Row, after_turn, portal_steps, chunk_row, context_row, fallible_part, fetch_steps, item_row, lock_row, plan_row, portal_row, row_of, snapshot_row, tell_row, turn_steps, work_of}
-use Rattle.exec_core.specs.declared.steps.ScanStep.TheVariants as step
-use Rattle.exec_core.specs.Turn.{is_bad, is_tenth, new_scan, page_of, page_steps, row_step, row_steps, unpinned}
-use Rattle.exec_core.specs.Turn.{turn as scan_turn}
-use Rattle.portal_store.specs.declared.portal.PortalState.TheVariants as state
-use Rattle.pgs_step.specs.declared.lock_modes.Mode.TheVariants.{AccessShareLock}
-use Rattle.pgs_command.specs.declared.kinds.ReferenceClass.TheVariants.{Relcache}
-use Rattle.any_ctx.specs.declared.any.CtxKind.TheVariants as kind
+use Rattle.session_rules.proofs.Base.{◌≡◌, ℕ, ◌+◌, ◌≤◌, ◌<◌, Bool, true, false, Option, Some, None, List, [], ◌∷◌, ◌++◌, refl, sym, ap, ◌∙◌, subst, inl, arith, All, zero, suc, ◌-◌, ◌&&◌, ◌==◌, not, length, map, codes, is_none, is_some, replicate, nat_lt, if◌then◌else◌, option_and_then, option_map_or, le-ltb, ltb-true, flat_map, nat_tests}
+use Rattle.session_rules.proofs.Below.{Error, What, size, Scan, ScanStep, table_of, Command, is_text-same, KindId, TransactionCommand, Work, ContextCommand, ChunkCommand, ItemCommand, LockCommand, SnapshotCommand, PlanCommand, PortalCommand, TellCommand, class_kind, is_bad, is_tenth, new_scan, page_of, page_steps, row_step, row_steps, unpinned, turn as scan_turn, PortalState, AccessShareLock, Relcache, CtxKind}
+use Rattle.session_rules.proofs.Rules.{LevelState, OpenPortal, SessionState, buffer_pin, file_kind, is_aborted, level_owner, plan_reference, relcache_reference, snapshot_reference, Scene, Moment, Check, Element, InCurrent, InPortal, InRow, LevelContext, OfLevel, OfPortal, PortalContext, RowContext, Text, Ended, in_order, nothing, portal_becomes, where_there, failure, unless, Done, fallible, unless_refused, context_made, level_made, new_context_made, new_owner_made, portal_made, does, does_all, then_done, line_elements, turn, AreOpen, AreOuter, IsActive, IsAtRest, IsFetched, IsOpen, IsWorking, Stands, StandsBetweenLines, plan_at, portal_named, at_savepoint, begin, commit, committed_to, elements_of, ends_aborted, in_transaction, is_end, refused, rollback, rolled_back_to, save, savepoint, start, then_ok, transaction_of, unaborted, Row, after_turn, portal_steps, chunk_row, context_row, fallible_part, fetch_steps, item_row, lock_row, plan_row, portal_row, row_of, snapshot_row, tell_row, work_of}
 use Rattle.session_rules.proofs.Kept.{is_there, RestsBeside, beside_becomes, beside_rests, rests_beside}
 use Rattle.session_rules.proofs.PortalsStand.{context_portal, made_portal, named_changed, named_in, owner_portal, row_portal}
 use Rattle.session_rules.proofs.PortalWorks.{Beside, Turned, Turns, begins_fetched, begins_works, beside_turns, check_beside, portal_allocates, portal_enlarges, portal_locks, portal_takes, ready_works, row_allocates, scan_turns, turned}
@@ -54,15 +19,15 @@ pub record Leads (Q : Scene → Type 0) (done : Done) : Type 0 where
 
 -- What is known of the scene that an element meets, besides that it stands, where the element needs it.
 abbrev pub Asks : Element → Scene → Type 0
-Asks (element.InTurn name x) s = Asks x s
-Asks (element.Take role kind key) s = IsWorking s.session.levels
-Asks (element.TakeNamed name key) s = IsWorking s.session.levels
-Asks (element.Reparent name parent) s = failure (element.MayMove name parent) s ≡ None
-Asks (element.EndPortal name) s = IsWorking s.session.levels × All IsAtRest s.session.portals
-Asks element.CommitTop s = (level : LevelState) × (s.session.levels ≡ level ∷ [])
-Asks element.Subcommit s = (levels : LevelState × List LevelState) × (s.session.levels ≡ levels.0 ∷ levels.1) × (1 ≤ length levels.1) × All IsAtRest s.session.portals
-Asks element.Abort s = (levels : LevelState × List LevelState) × (s.session.levels ≡ levels.0 ∷ levels.1) × (levels.0.aborted ≡ false) × IsOpen levels.0
-Asks element.Cleanup s = (levels : LevelState × List LevelState) × (s.session.levels ≡ levels.0 ∷ levels.1) × (levels.0.aborted ≡ true)
+Asks (Element.InTurn name x) s = Asks x s
+Asks (Element.Take role kind key) s = IsWorking s.session.levels
+Asks (Element.TakeNamed name key) s = IsWorking s.session.levels
+Asks (Element.Reparent name parent) s = failure (Check.MayMove name parent) s ≡ None
+Asks (Element.EndPortal name) s = IsWorking s.session.levels × All IsAtRest s.session.portals
+Asks Element.CommitTop s = (level : LevelState) × (s.session.levels ≡ level ∷ [])
+Asks Element.Subcommit s = (levels : LevelState × List LevelState) × (s.session.levels ≡ levels.0 ∷ levels.1) × (1 ≤ length levels.1) × All IsAtRest s.session.portals
+Asks Element.Abort s = (levels : LevelState × List LevelState) × (s.session.levels ≡ levels.0 ∷ levels.1) × (levels.0.aborted ≡ false) × IsOpen levels.0
+Asks Element.Cleanup s = (levels : LevelState × List LevelState) × (s.session.levels ≡ levels.0 ∷ levels.1) × (levels.0.aborted ≡ true)
 Asks other s = Unit {0}
 
 pub record Meets (x : Element) (s : Scene) : Type 0 where
@@ -124,22 +89,12 @@ runs_nowhere w Q moment h q = record { stands = h; passed = λ _. q; run = tt }
 -- A turn.
 pub turn_leads : (w : Option ℕ) (command : Option Command) (moment : Moment) → Runs w StandsBetweenLines (line_elements command moment.scene.session) moment → StandsBetweenLines (turn w command moment).moment.scene
 unfolding turn
-turn_leads w command moment k =
-    go (does_all w (line_elements command moment.scene.session) moment).refusal refl
-  where
-    go : (r : Option Error) → (does_all w (line_elements command moment.scene.session) moment).refusal ≡ r → StandsBetweenLines (turn_of (does_all w (line_elements command moment.scene.session) moment) r).moment.scene
-    go None e = k.passed e
-    go (Some error) e = recovered_stands error (does_all w (line_elements command moment.scene.session) moment).moment.scene k.stands
+turn_leads w command moment k = grind (arith, nat_tests, recovered_stands)
 
 -- a fallible step
 pub fallible_leads : (Q : Scene → Type 0) (w : Option ℕ) (moment : Moment) (own : Option Error) (act : Scene → Ended) → Stands moment.scene → ((z : Scene) → Q z → Stands z) → (own ≡ None → Q (act moment.scene).scene)
     → Leads Q (fallible w moment own act)
-fallible_leads Q w moment own act before so behind =
-    go (refused_call w moment.fail (moment.calls + 1) own) (own_refusal w moment.fail (moment.calls + 1) own)
-  where
-    go : (r : Option Error) → (r ≡ None → own ≡ None) → Leads Q (unless_refused r (record moment { calls = moment.calls + 1 }) act)
-    go None h = let q : Q (act moment.scene).scene = behind (h refl) in record { stands = so (act moment.scene).scene q; passed = λ _. q }
-    go (Some r) h = record { stands = before; passed = λ e. absurd (cc e) }
+fallible_leads Q w moment own act before so behind = grind (arith, nat_tests, own_refusal w moment.fail (moment.calls + 1) own)
 
 -- a session that stands, with these levels, whose portals are at rest
 pub record At (levels : List LevelState) (scene : Scene) : Type 0 where
@@ -156,10 +111,10 @@ working_at levels scene h at = working_in levels scene h at.are
 module _ (w : Option ℕ) (levels : List LevelState) (Q : Scene → Type 0) where
   -- what a check said holds where an owner got room
   pub behind_room : (check : Check) (xs : List Element) (moment : Moment) → At levels moment.scene → failure check moment.scene ≡ None → ((m : Moment) → At levels m.scene → failure check m.scene ≡ None → Runs w Q xs m)
-      → Runs w Q (element.Enlarge OfLevel ∷ xs) moment
+      → Runs w Q (Element.Enlarge OfLevel ∷ xs) moment
   unfolding does
   behind_room check xs moment at ok next =
-      runs_on w (λ z. At levels z × (failure check z ≡ None)) Q (element.Enlarge OfLevel) xs moment (record { stands = at.stands; asks = tt })
+      runs_on w (λ z. At levels z × (failure check z ≡ None)) Q (Element.Enlarge OfLevel) xs moment (record { stands = at.stands; asks = tt })
       (fallible_leads (λ z. At levels z × (failure check z ≡ None)) w moment None nothing at.stands (λ z q. q.0.stands) (λ _. (at, ok)))
       (λ m p. next m p.0 p.1)
 
@@ -171,7 +126,7 @@ module _ (w : Option ℕ) (levels : List LevelState) (Q : Scene → Type 0) wher
 pub nothing_more : (w : Option ℕ) (levels : List LevelState) (moment : Moment) → At levels moment.scene → Runs w (At levels) [] moment
 nothing_more w levels moment at = runs_nowhere w (At levels) moment at.stands at
 
-pub show_works : (w : Option ℕ) (name : Text) (from n : ℕ) (moment : Moment) → Stands moment.scene → Works moment.scene (does w (element.Show name from n) moment).moment.scene
+pub show_works : (w : Option ℕ) (name : Text) (from n : ℕ) (moment : Moment) → Stands moment.scene → Works moment.scene (does w (Element.Show name from n) moment).moment.scene
 unfolding does
 show_works w name from n moment h = nothing_works moment.scene h
 
@@ -200,8 +155,7 @@ pub record Makes (levels : List LevelState) (name : Text) (context owner : Bool)
   is : IsMaking context owner (length levels) portal
 
 pub no_value_of : (o : Option ℕ) → is_some o ≡ false → o ≡ None
-no_value_of None e = refl
-no_value_of (Some n) e = absurd (cc e)
+no_value_of o e = grind (arith, nat_tests)
 
 module _ (w : Option ℕ) (levels : List LevelState) (active : IsWorking levels) (name : Text) (Q : Scene → Type 0) where
   -- a step that leaves portals as they are
@@ -211,43 +165,30 @@ module _ (w : Option ℕ) (levels : List LevelState) (active : IsWorking levels)
       runs_on w (Makes levels name c o) Q x xs moment (record { stands = k.at.stands; asks = asks })
       (record {
         stands = b.works.stands;
-        passed = λ _. record {
-          at = record { stands = b.works.stands; are = b.works.levels ∙ k.at.are; beside = subst (All (RestsBeside name)) (sym b.portals) k.at.beside };
-          portal = k.portal;
-          named = ap (portal_named name) b.portals ∙ k.named;
-          is = k.is;
-        };
+        passed = grind (arith, nat_tests);
       }) next
 
   pub behind_made : (object rows : ℕ) (bad : Option ℕ) (xs : List Element) (moment : Moment) → At levels moment.scene → portal_named name moment.scene.session.portals ≡ None
-      → ((m : Moment) → Makes levels name false false m.scene → Runs w Q xs m) → Runs w Q (element.MakePortal name object rows bad ∷ xs) moment
+      → ((m : Moment) → Makes levels name false false m.scene → Runs w Q xs m) → Runs w Q (Element.MakePortal name object rows bad ∷ xs) moment
   unfolding does
   behind_made object rows bad xs moment at free next =
-      runs_on w (Makes levels name false false) Q (element.MakePortal name object rows bad) xs moment (record { stands = at.stands; asks = tt })
+      runs_on w (Makes levels name false false) Q (Element.MakePortal name object rows bad) xs moment (record { stands = at.stands; asks = tt })
       (fallible_leads (Makes levels name false false) w moment _ (portal_made name object rows bad) at.stands (λ z q. q.at.stands)
       (λ _. record {
-        at = record {
-          stands = made_portal moment.scene name object rows bad at.stands (working_at levels moment.scene active at) free;
-          are = at.are;
-          beside = All-cons (RestsBeside name) _ moment.scene.session.portals (λ _ _. refl) (rests_beside name moment.scene.session.portals at.at_rest);
-        };
-        portal = record { name = name; context = None; expr = None; owner = None; scan = new_scan object rows bad; created = length moment.scene.session.levels; active = length moment.scene.session.levels; state = state.New };
+        at = grind (arith, nat_tests, made_portal moment.scene name object rows bad at.stands (working_at levels moment.scene active at) free, working_at levels moment.scene active, rests_beside name moment.scene.session.portals at.at_rest);
+        portal = record { name = name; context = None; expr = None; owner = None; scan = new_scan object rows bad; created = length moment.scene.session.levels; active = length moment.scene.session.levels; state = PortalState.New };
         named = rw (is_text-same name) refl;
         is = record { has_context = refl; has_owner = refl; expr = refl; created = ap length at.are };
       })) next
 
   pub behind_context : (xs : List Element) (moment : Moment) → Makes levels name false false moment.scene → ((m : Moment) → Makes levels name true false m.scene → Runs w Q xs m)
-      → Runs w Q (element.MakeContext (PortalContext name) ∷ xs) moment
+      → Runs w Q (Element.MakeContext (PortalContext name) ∷ xs) moment
   unfolding does
   behind_context xs moment k next =
-      runs_on w (Makes levels name true false) Q (element.MakeContext (PortalContext name)) xs moment (record { stands = k.at.stands; asks = tt })
+      runs_on w (Makes levels name true false) Q (Element.MakeContext (PortalContext name)) xs moment (record { stands = k.at.stands; asks = tt })
       (fallible_leads (Makes levels name true false) w moment _ (new_context_made (PortalContext name)) k.at.stands (λ z q. q.at.stands)
       (λ _. record {
-        at = record {
-          stands = context_portal moment.scene k.at.stands (working_in levels moment.scene active k.at.are) name k.portal (named_in name k.portal moment.scene.session.portals k.named) (no_value_of k.portal.context k.is.has_context);
-          are = k.at.are;
-          beside = beside_becomes name (λ p. record p { context = Some moment.scene.session.next_context }) moment.scene.session.portals (λ q. refl) k.at.beside;
-        };
+        at = grind (arith, nat_tests, context_portal moment.scene k.at.stands (working_in levels moment.scene active k.at.are) name k.portal (named_in name k.portal moment.scene.session.portals k.named) (no_value_of k.portal.context k.is.has_context), working_in levels moment.scene active k.at.are, named_in name k.portal moment.scene.session.portals k.named, no_value_of k.portal.context k.is.has_context, beside_becomes name);
         portal = record k.portal { context = Some moment.scene.session.next_context };
         named = named_changed name k.portal (λ p. record p { context = Some moment.scene.session.next_context }) moment.scene.session.portals (λ q. refl) k.named;
         is = record { has_context = refl; has_owner = k.is.has_owner; expr = k.is.expr; created = k.is.created };
@@ -257,19 +198,14 @@ module _ (w : Option ℕ) (levels : List LevelState) (active : IsWorking levels)
   level_owned moment at = grind (arith, nat_tests, working_in levels moment.scene active at.are, is_there)
 
   pub behind_owner : (xs : List Element) (moment : Moment) → Makes levels name true false moment.scene → ((m : Moment) → Makes levels name true true m.scene → Runs w Q xs m)
-      → Runs w Q (element.MakeOwner (OfPortal name) ∷ xs) moment
+      → Runs w Q (Element.MakeOwner (OfPortal name) ∷ xs) moment
   unfolding does
   behind_owner xs moment k next =
       let lo = level_owned moment k.at in
-      runs_on w (Makes levels name true true) Q (element.MakeOwner (OfPortal name)) xs moment (record { stands = k.at.stands; asks = tt })
+      runs_on w (Makes levels name true true) Q (Element.MakeOwner (OfPortal name)) xs moment (record { stands = k.at.stands; asks = tt })
       (fallible_leads (Makes levels name true true) w moment _ (new_owner_made (OfPortal name)) k.at.stands (λ z q. q.at.stands)
       (λ room. record {
-        at = record {
-          stands = owner_portal moment.scene k.at.stands (working_in levels moment.scene active k.at.are) name k.portal (named_in name k.portal moment.scene.session.portals k.named) lo.0 lo.1
-              (no_value_of k.portal.owner k.is.has_owner) (k.is.created ∙ sym (ap length k.at.are)) (below_limit 65536 (size moment.scene.session.owners) room);
-          are = k.at.are;
-          beside = beside_becomes name (λ p. record p { owner = Some moment.scene.session.next_owner }) moment.scene.session.portals (λ q. refl) k.at.beside;
-        };
+        at = grind (arith, nat_tests, owner_portal moment.scene k.at.stands (working_in levels moment.scene active k.at.are) name k.portal (named_in name k.portal moment.scene.session.portals k.named) lo.0 lo.1, working_in levels moment.scene active k.at.are, named_in name k.portal moment.scene.session.portals k.named, no_value_of k.portal.owner k.is.has_owner, below_limit 65536 (size moment.scene.session.owners) room, beside_becomes name);
         portal = record k.portal { owner = Some moment.scene.session.next_owner };
         named = named_changed name k.portal (λ p. record p { owner = Some moment.scene.session.next_owner }) moment.scene.session.portals (λ q. refl) k.named;
         is = record { has_context = k.is.has_context; has_owner = refl; expr = k.is.expr; created = k.is.created };
@@ -277,10 +213,10 @@ module _ (w : Option ℕ) (levels : List LevelState) (active : IsWorking levels)
 
   -- the context of one row, and then the portal is ready
   pub behind_row : (xs : List Element) (moment : Moment) → Makes levels name true true moment.scene → ((m : Moment) → Nears levels name m.scene → Runs w Q xs m)
-      → Runs w Q (element.MakeContext (RowContext name) ∷ xs) moment
+      → Runs w Q (Element.MakeContext (RowContext name) ∷ xs) moment
   unfolding does
   behind_row xs moment k next =
-      runs_on w (Nears levels name) Q (element.MakeContext (RowContext name)) xs moment (record { stands = k.at.stands; asks = tt })
+      runs_on w (Nears levels name) Q (Element.MakeContext (RowContext name)) xs moment (record { stands = k.at.stands; asks = tt })
       (fallible_leads (Nears levels name) w moment _ (new_context_made (RowContext name)) k.at.stands (λ z q. q.stands)
       (λ _. record { stands = row_made k; are = row_levels k; beside = row_beside k })) next
     where
@@ -289,14 +225,14 @@ module _ (w : Option ℕ) (levels : List LevelState) (active : IsWorking levels)
           let c = is_there k.portal.context k.is.has_context in
           let is : option_and_then (λ (p : OpenPortal). p.context) (portal_named name moment.scene.session.portals) ≡ Some c.0 = ap (option_and_then (λ (p : OpenPortal). p.context)) k.named ∙ c.1 in
           subst (λ (o : Option ℕ).
-          Stands (where_there o (λ parent. in_order (context_made parent (codes "ExprContext") true kind.Small ∷ portal_becomes name (λ p. record p { expr = Some moment.scene.session.next_context }) ∷ [])) moment.scene).scene) (sym is)
+          Stands (where_there o (λ parent. in_order (context_made parent (codes "ExprContext") true CtxKind.Small ∷ portal_becomes name (λ p. record p { expr = Some moment.scene.session.next_context }) ∷ [])) moment.scene).scene) (sym is)
           (row_portal moment.scene k.at.stands (working_in levels moment.scene active k.at.are) name k.portal (named_in name k.portal moment.scene.session.portals k.named) c.0 c.1 k.is.expr)
 
       row_levels : (k : Makes levels name true true moment.scene) → (new_context_made (RowContext name) moment.scene).scene.session.levels ≡ levels
       row_levels k = go (option_and_then (λ (p : OpenPortal). p.context) (portal_named name moment.scene.session.portals))
         where
           go : (o : Option ℕ)
-              → (where_there o (λ parent. in_order (context_made parent (codes "ExprContext") true kind.Small ∷ portal_becomes name (λ p. record p { expr = Some moment.scene.session.next_context }) ∷ [])) moment.scene).scene.session.levels ≡ levels
+              → (where_there o (λ parent. in_order (context_made parent (codes "ExprContext") true CtxKind.Small ∷ portal_becomes name (λ p. record p { expr = Some moment.scene.session.next_context }) ∷ [])) moment.scene).scene.session.levels ≡ levels
           go None = k.at.are
           go (Some c) = k.at.are
 
@@ -304,21 +240,17 @@ module _ (w : Option ℕ) (levels : List LevelState) (active : IsWorking levels)
       row_beside k = go (option_and_then (λ (p : OpenPortal). p.context) (portal_named name moment.scene.session.portals))
         where
           go : (o : Option ℕ)
-              → All (RestsBeside name) (where_there o (λ parent. in_order (context_made parent (codes "ExprContext") true kind.Small ∷ portal_becomes name (λ p. record p { expr = Some moment.scene.session.next_context }) ∷ [])) moment.scene).scene.session.portals
+              → All (RestsBeside name) (where_there o (λ parent. in_order (context_made parent (codes "ExprContext") true CtxKind.Small ∷ portal_becomes name (λ p. record p { expr = Some moment.scene.session.next_context }) ∷ [])) moment.scene).scene.session.portals
           go None = k.at.beside
           go (Some c) = beside_becomes name (λ p. record p { expr = Some moment.scene.session.next_context }) moment.scene.session.portals (λ q. refl) k.at.beside
 
-  pub ready_leads : (moment : Moment) → Nears levels name moment.scene → Leads (At levels) (does w (element.PortalReady name) moment)
+  pub ready_leads : (moment : Moment) → Nears levels name moment.scene → Leads (At levels) (does w (Element.PortalReady name) moment)
   unfolding does
   ready_leads moment k =
-      let works : Works moment.scene (does w (element.PortalReady name) moment).moment.scene = ready_works w moment k.stands (working_in levels moment.scene active k.are) name in
+      let works : Works moment.scene (does w (Element.PortalReady name) moment).moment.scene = ready_works w moment k.stands (working_in levels moment.scene active k.are) name in
       record {
         stands = works.stands;
-        passed = λ _. record {
-          stands = works.stands;
-          are = works.levels ∙ k.are;
-          at_rest = beside_rests name (λ p. record p { state = state.Ready }) moment.scene.session.portals (λ q unready. absurd (cc unready)) k.beside;
-        };
+        passed = grind (arith, nat_tests, beside_rests name);
       }
 
 -- The portal of a name is fetched from in a session with these levels, whose portals are at rest.
@@ -340,15 +272,12 @@ all_fetch w levels name [] moment k a = runs_nowhere w (Fetches levels name) mom
 all_fetch w levels name (x ∷ xs) moment k a = runs_on w (Fetches levels name) (Fetches levels name) x xs moment (a.0 moment k).0 (a.0 moment k).1 (λ m l. all_fetch w levels name xs m l a.1)
 
 pub fetches_on : (levels : List LevelState) (name : Text) (s z : Scene) → Fetches levels name s → Turns name s z → Fetches levels name z
-fetches_on levels name s z k t = record {
-  at = record { stands = t.works.stands; are = t.works.levels ∙ k.at.are; at_rest = t.works.at_rest k.at.at_rest };
-  fetched = t.fetched k.fetched;
-}
+fetches_on levels name s z k t = grind (arith, nat_tests)
 
 module _ (w : Option ℕ) (levels : List LevelState) (active : IsWorking levels) (name : Text) where
   -- a page that is pinned is one of the buffers
   abbrev IsStep : ScanStep → Type 0
-  IsStep (step.Pin page) = page < 1024
+  IsStep (ScanStep.Pin page) = page < 1024
   IsStep other = Unit {0}
 
   abbrev AreSteps : List ScanStep → Type 0
@@ -360,99 +289,85 @@ module _ (w : Option ℕ) (levels : List LevelState) (active : IsWorking levels)
   both_steps (x ∷ xs) ys a b = (a.0, both_steps xs ys a.1 b)
 
   pub unpinned_steps : (page : Option ℕ) → AreSteps (unpinned page)
-  unpinned_steps None = tt
-  unpinned_steps (Some page) = (tt, tt)
+  unpinned_steps page = grind (arith, nat_tests)
 
   pub page_is : (scan : Scan) → page_of scan < 1024
   page_is scan = omega arith
 
-  pub pages : (b : Bool) (scan : Scan) → AreSteps (if b then unpinned scan.page ++ (step.Pin (page_of scan) ∷ []) else [])
-  pages true scan = both_steps (unpinned scan.page) (step.Pin (page_of scan) ∷ []) (unpinned_steps scan.page) (page_is scan, tt)
-  pages false scan = tt
+  pub pages : (b : Bool) (scan : Scan) → AreSteps (if b then unpinned scan.page ++ (ScanStep.Pin (page_of scan) ∷ []) else [])
+  pages b scan = grind (arith, nat_tests, both_steps (unpinned scan.page) (ScanStep.Pin (page_of scan) ∷ []) (unpinned_steps scan.page) (page_is scan, tt), unpinned_steps scan.page, page_is scan)
 
-  pub rows_are : (b : Bool) (scan : Scan) → AreSteps (if b then step.Bad scan.at ∷ [] else step.Alloc ∷ (row_step scan ∷ []))
-  rows_are true scan = (tt, tt)
-  rows_are false scan = (tt, (tt, tt))
+  pub rows_are : (b : Bool) (scan : Scan) → AreSteps (if b then ScanStep.Bad scan.at ∷ [] else ScanStep.Alloc ∷ (row_step scan ∷ []))
+  rows_are b scan = grind (arith, nat_tests)
 
-  pub turn_is : (b : Bool) (scan : Scan) → AreSteps (if b then unpinned scan.page ++ (step.End ∷ []) else step.Reset ∷ (page_steps scan ++ row_steps scan))
-  turn_is true scan = both_steps (unpinned scan.page) (step.End ∷ []) (unpinned_steps scan.page) (tt, tt)
-  turn_is false scan = (tt, both_steps (page_steps scan) (row_steps scan) (pages (is_tenth scan) scan) (rows_are (is_bad scan) scan))
+  pub turn_is : (b : Bool) (scan : Scan) → AreSteps (if b then unpinned scan.page ++ (ScanStep.End ∷ []) else ScanStep.Reset ∷ (page_steps scan ++ row_steps scan))
+  turn_is b scan = grind (arith, nat_tests, both_steps (unpinned scan.page) (ScanStep.End ∷ []) (unpinned_steps scan.page) (tt, tt), both_steps (page_steps scan) (row_steps scan) (pages (is_tenth scan) scan) (rows_are (is_bad scan) scan), unpinned_steps scan.page, pages (is_tenth scan) scan, rows_are (is_bad scan) scan)
 
   abbrev AllTurn : List Element → Type 0
   AllTurn xs = AllFetch w levels name xs
 
   -- the elements of a step, each in its turn
   pub in_turn : (x : Element) → ((m : Moment) → At levels m.scene → Asks x m.scene) → ((m : Moment) → At levels m.scene → Turns name m.scene (does w x m).moment.scene) → (m : Moment) → Fetches levels name m.scene
-      → Meets (element.InTurn name x) m.scene × Leads (Fetches levels name) (does w (element.InTurn name x) m)
+      → Meets (Element.InTurn name x) m.scene × Leads (Fetches levels name) (does w (Element.InTurn name x) m)
   in_turn x asks turns m k =
-      let t : Turned name m.scene (does w (element.InTurn name x) m) = turned w m k.at.stands (working_at levels m.scene active k.at) name x k.fetched (turns m k.at) in (
+      let t : Turned name m.scene (does w (Element.InTurn name x) m) = turned w m k.at.stands (working_at levels m.scene active k.at) name x k.fetched (turns m k.at) in (
         record { stands = k.at.stands; asks = asks m k.at },
-        record { stands = t.stands; passed = λ none. fetches_on levels name m.scene (does w (element.InTurn name x) m).moment.scene k (t.passed none) },
+        record { stands = t.stands; passed = λ none. fetches_on levels name m.scene (does w (Element.InTurn name x) m).moment.scene k (t.passed none) },
       )
 
   -- and one that leaves the portals as they are
   pub beside_turn : (x : Element) → ((m : Moment) → At levels m.scene → Asks x m.scene) → ((m : Moment) → At levels m.scene → Beside m.scene (does w x m).moment.scene) → (m : Moment) → Fetches levels name m.scene
-      → Meets (element.InTurn name x) m.scene × Leads (Fetches levels name) (does w (element.InTurn name x) m)
+      → Meets (Element.InTurn name x) m.scene × Leads (Fetches levels name) (does w (Element.InTurn name x) m)
   beside_turn x asks beside = in_turn x asks (λ m k. beside_turns name m.scene (does w x m).moment.scene (beside m k))
 
-  pub says_fetched : (event : What) (m : Moment) → Fetches levels name m.scene → Meets (element.Says event) m.scene × Leads (Fetches levels name) (does w (element.Says event) m)
+  pub says_fetched : (event : What) (m : Moment) → Fetches levels name m.scene → Meets (Element.Says event) m.scene × Leads (Fetches levels name) (does w (Element.Says event) m)
   unfolding does
   says_fetched event m k = (record { stands = k.at.stands; asks = tt }, record { stands = k.at.stands; passed = λ _. k })
 
-  pub step_work : (s : ScanStep) → IsStep s → AllTurn (map (element.InTurn name) (element.Scans name s ∷ fallible_part name s))
-  step_work s is = (in_turn (element.Scans name s) (λ m k. tt) (λ m k. scan_turns w m k.stands (working_at levels m.scene active k) name s), parts s is)
+  pub step_work : (s : ScanStep) → IsStep s → AllTurn (map (Element.InTurn name) (Element.Scans name s ∷ fallible_part name s))
+  step_work s is = (in_turn (Element.Scans name s) (λ m k. tt) (λ m k. scan_turns w m k.stands (working_at levels m.scene active k) name s), parts s is)
     where
-      parts : (s : ScanStep) → IsStep s → AllTurn (map (element.InTurn name) (fallible_part name s))
-      parts (step.Pin page) small = (
-        beside_turn (element.Enlarge (OfPortal name)) (λ m k. tt) (λ m k. portal_enlarges w m k.stands (working_at levels m.scene active k) name),
+      parts : (s : ScanStep) → IsStep s → AllTurn (map (Element.InTurn name) (fallible_part name s))
+      parts (ScanStep.Pin page) small = (
+        beside_turn (Element.Enlarge (OfPortal name)) (λ m k. tt) (λ m k. portal_enlarges w m k.stands (working_at levels m.scene active k) name),
         (
-          beside_turn (element.Take (OfPortal name) buffer_pin page) (λ m k. working_at levels m.scene active k)
+          beside_turn (Element.Take (OfPortal name) buffer_pin page) (λ m k. working_at levels m.scene active k)
               (λ m k.
               portal_takes w m k.stands (working_at levels m.scene active k) name buffer_pin page refl (λ z. absurd (omega (arith, z))) (λ serial. record { kind = inl (record { from = omega arith; to = omega arith }); buffer = λ _. small })),
           tt,
         ),
       )
-      parts (step.Bad row) is = (beside_turn (element.Checks (element.Refuse (error.BadRow row))) (λ m k. tt) (λ m k. check_beside w m k.stands (working_at levels m.scene active k) name (element.Refuse (error.BadRow row))), tt)
-      parts step.Alloc is = (beside_turn (element.Alloc (InRow name) None 64 false) (λ m k. tt) (λ m k. row_allocates w m k.stands (working_at levels m.scene active k) name None 64), tt)
-      parts step.Reset is = tt
-      parts (step.Unpin page) is = tt
-      parts (step.Row row value) is = tt
-      parts step.End is = tt
+      parts (ScanStep.Bad row) is = (beside_turn (Element.Checks (Check.Refuse (Error.BadRow row))) (λ m k. tt) (λ m k. check_beside w m k.stands (working_at levels m.scene active k) name (Check.Refuse (Error.BadRow row))), tt)
+      parts ScanStep.Alloc is = (beside_turn (Element.Alloc (InRow name) None 64 false) (λ m k. tt) (λ m k. row_allocates w m k.stands (working_at levels m.scene active k) name None 64), tt)
+      parts ScanStep.Reset is = tt
+      parts (ScanStep.Unpin page) is = tt
+      parts (ScanStep.Row row value) is = tt
+      parts ScanStep.End is = tt
 
-  pub steps_work : (ss : List ScanStep) → AreSteps ss → AllTurn (flat_map (λ s. map (element.InTurn name) (element.Scans name s ∷ fallible_part name s)) ss)
+  pub steps_work : (ss : List ScanStep) → AreSteps ss → AllTurn (flat_map (λ s. map (Element.InTurn name) (Element.Scans name s ∷ fallible_part name s)) ss)
   steps_work [] a = tt
-  steps_work (s ∷ ss) a = both_fetch w levels name (map (element.InTurn name) (element.Scans name s ∷ fallible_part name s)) _ (step_work s a.0) (steps_work ss a.1)
+  steps_work (s ∷ ss) a = both_fetch w levels name (map (Element.InTurn name) (Element.Scans name s ∷ fallible_part name s)) _ (step_work s a.0) (steps_work ss a.1)
 
   pub fetch_work : (count : ℕ) (scan : Scan) (rows : ℕ) → AllTurn (fetch_steps name count scan rows)
-  fetch_work zero scan rows = (says_fetched (what.Fetched name rows), tt)
-  fetch_work (suc count) scan rows =
-      both_fetch w levels name (turn_steps name scan) _ (steps_work (scan_turn scan) (turn_is (scan.at == scan.rows) scan)) (rest (scan.at == scan.rows) (fetch_work count (after_turn scan) (rows + 1)))
-    where
-      rest : (b : Bool) → AllTurn (fetch_steps name count (after_turn scan) (rows + 1)) → AllTurn (elim b as (λ _. List Element) [ true ↦ element.Says (what.Fetched name rows) ∷ [] | false ↦ fetch_steps name count (after_turn scan) (rows + 1) ])
-      rest true more = (says_fetched (what.Fetched name rows), tt)
-      rest false more = more
+  fetch_work zero scan rows = (says_fetched (What.Fetched name rows), tt)
+  fetch_work (suc count) scan rows = grind (arith, nat_tests, both_fetch, steps_work (scan_turn scan) (turn_is (scan.at == scan.rows) scan), turn_is (scan.at == scan.rows) scan, fetch_work count (after_turn scan) (rows + 1), says_fetched)
 
   pub fetch_all : (count : ℕ) (o : Option OpenPortal) → AllTurn (option_map_or (λ portal. fetch_steps name count portal.scan 0) o [])
-  fetch_all count None = tt
-  fetch_all count (Some p) = fetch_work count p.scan 0
+  fetch_all count o = grind (arith, nat_tests, fetch_work count)
 
 pub behind_begin : (w : Option ℕ) (levels : List LevelState) → IsWorking levels → (name : Text) (Q : Scene → Type 0) (xs : List Element) (moment : Moment) → At levels moment.scene → ((m : Moment) → Fetches levels name m.scene → Runs w Q xs m)
-    → Runs w Q (element.FetchBegins name ∷ xs) moment
+    → Runs w Q (Element.FetchBegins name ∷ xs) moment
 behind_begin w levels active name Q xs moment k next =
     let working = working_at levels moment.scene active k in
-    let works : Works moment.scene (does w (element.FetchBegins name) moment).moment.scene = begins_works w moment k.stands working name in
-    runs_on w (Fetches levels name) Q (element.FetchBegins name) xs moment (record { stands = k.stands; asks = tt })
+    let works : Works moment.scene (does w (Element.FetchBegins name) moment).moment.scene = begins_works w moment k.stands working name in
+    runs_on w (Fetches levels name) Q (Element.FetchBegins name) xs moment (record { stands = k.stands; asks = tt })
     (record {
       stands = works.stands;
-      passed = λ _. record {
-        at = record { stands = works.stands; are = works.levels ∙ k.are; at_rest = works.at_rest k.at_rest };
-        fetched = begins_fetched w moment k.stands working name;
-      };
+      passed = grind (arith, nat_tests, begins_fetched w moment k.stands working name);
     }) next
 
 pub is_unnamed : (o : Option OpenPortal) (error : Error) → unless (is_none o) error ≡ None → o ≡ None
-is_unnamed None error e = refl
-is_unnamed (Some p) error e = absurd (cc e)
+is_unnamed o error e = grind (arith, nat_tests)
 
 module _ (w : Option ℕ) (levels : List LevelState) (active : IsWorking levels) where
   pub portal_leads : (name : Text) (object rows : ℕ) (bad : Option ℕ) (moment : Moment) → At levels moment.scene → portal_named name moment.scene.session.portals ≡ None → Runs w (At levels) (portal_steps name object rows bad) moment
@@ -460,16 +375,16 @@ module _ (w : Option ℕ) (levels : List LevelState) (active : IsWorking levels)
       behind_made w levels active name (At levels) object rows bad _ moment at free
       (λ m k. behind_context w levels active name (At levels) _ m k
       (λ m k. behind_owner w levels active name (At levels) _ m k
-      (λ m k. behind_beside w levels active name (At levels) true true (element.TakeLock (OfPortal name) object AccessShareLock) _ m k tt (portal_locks w m k.at.stands (working_in levels m.scene active k.at.are) name object AccessShareLock)
-      (λ m k. behind_beside w levels active name (At levels) true true (element.Enlarge (OfPortal name)) _ m k tt (portal_enlarges w m k.at.stands (working_in levels m.scene active k.at.are) name)
-      (λ m k. behind_beside w levels active name (At levels) true true (element.Take (OfPortal name) relcache_reference object) _ m k (working_in levels m.scene active k.at.are)
+      (λ m k. behind_beside w levels active name (At levels) true true (Element.TakeLock (OfPortal name) object AccessShareLock) _ m k tt (portal_locks w m k.at.stands (working_in levels m.scene active k.at.are) name object AccessShareLock)
+      (λ m k. behind_beside w levels active name (At levels) true true (Element.Enlarge (OfPortal name)) _ m k tt (portal_enlarges w m k.at.stands (working_in levels m.scene active k.at.are) name)
+      (λ m k. behind_beside w levels active name (At levels) true true (Element.Take (OfPortal name) relcache_reference object) _ m k (working_in levels m.scene active k.at.are)
       (portal_takes w m k.at.stands (working_in levels m.scene active k.at.are) name relcache_reference object refl (λ z. absurd (omega (arith, z))) (class_item (table_of m.scene.around.kinds) Relcache object))
-      (λ m k. behind_beside w levels active name (At levels) true true (element.Enlarge (OfPortal name)) _ m k tt (portal_enlarges w m k.at.stands (working_in levels m.scene active k.at.are) name)
-      (λ m k. behind_beside w levels active name (At levels) true true (element.Take (OfPortal name) snapshot_reference object) _ m k (working_in levels m.scene active k.at.are)
+      (λ m k. behind_beside w levels active name (At levels) true true (Element.Enlarge (OfPortal name)) _ m k tt (portal_enlarges w m k.at.stands (working_in levels m.scene active k.at.are) name)
+      (λ m k. behind_beside w levels active name (At levels) true true (Element.Take (OfPortal name) snapshot_reference object) _ m k (working_in levels m.scene active k.at.are)
       (portal_takes w m k.at.stands (working_in levels m.scene active k.at.are) name snapshot_reference object refl (λ z. absurd (omega (arith, z))) (snapshot_item (table_of m.scene.around.kinds) object))
-      (λ m k. behind_beside w levels active name (At levels) true true (element.Alloc (InPortal name) None 200 false) _ m k tt (portal_allocates w m k.at.stands (working_in levels m.scene active k.at.are) name None 200)
+      (λ m k. behind_beside w levels active name (At levels) true true (Element.Alloc (InPortal name) None 200 false) _ m k tt (portal_allocates w m k.at.stands (working_in levels m.scene active k.at.are) name None 200)
       (λ m k. behind_row w levels active name (At levels) _ m k
-      (λ m k. runs_on w (At levels) (At levels) (element.PortalReady name) [] m (record { stands = k.stands; asks = tt }) (ready_leads w levels active name (At levels) m k) (λ m k. nothing_more w levels m k)))))))))))
+      (λ m k. runs_on w (At levels) (At levels) (Element.PortalReady name) [] m (record { stands = k.stands; asks = tt }) (ready_leads w levels active name (At levels) m k) (λ m k. nothing_more w levels m k)))))))))))
 
 -- all these checks pass
 abbrev pub Pass : List Check → Scene → Type 0
@@ -478,19 +393,19 @@ Pass (check ∷ checks) scene = (failure check scene ≡ None) × Pass checks sc
 
 -- A row leads on where its steps do behind checks that pass.
 pub row_leads : (w : Option ℕ) (Q : Scene → Type 0) (checks : List Check) (steps : List Element) (moment : Moment) → Stands moment.scene
-    → (Pass checks moment.scene → Runs w Q steps moment) → Runs w Q (map element.Checks checks ++ steps) moment
+    → (Pass checks moment.scene → Runs w Q steps moment) → Runs w Q (map Element.Checks checks ++ steps) moment
 unfolding does
 row_leads w Q [] steps moment h next = next tt
 row_leads w Q (check ∷ checks) steps moment h next =
-    runs_then w Q (element.Checks check) (map element.Checks checks ++ steps) moment (record { stands = h; asks = tt }) (λ r e. stopped (failure check moment.scene))
+    runs_then w Q (Element.Checks check) (map Element.Checks checks ++ steps) moment (record { stands = h; asks = tt }) (λ r e. stopped (failure check moment.scene))
     (λ none. went_on (failure check moment.scene) refl none (λ e. row_leads w Q checks steps moment h (λ passes. next (e, passes))))
   where
     stopped : (r : Option Error) → Stands (unless_refused r moment nothing).moment.scene
     stopped None = h
     stopped (Some error) = h
 
-    went_on : (r : Option Error) → failure check moment.scene ≡ r → (unless_refused r moment nothing).refusal ≡ None → (failure check moment.scene ≡ None → Runs w Q (map element.Checks checks ++ steps) moment)
-        → Runs w Q (map element.Checks checks ++ steps) (unless_refused r moment nothing).moment
+    went_on : (r : Option Error) → failure check moment.scene ≡ r → (unless_refused r moment nothing).refusal ≡ None → (failure check moment.scene ≡ None → Runs w Q (map Element.Checks checks ++ steps) moment)
+        → Runs w Q (map Element.Checks checks ++ steps) (unless_refused r moment nothing).moment
     went_on None e none rest = rest e
     went_on (Some error) e none rest = absurd (cc none)
 
@@ -502,92 +417,82 @@ module _ (w : Option ℕ) (levels : List LevelState) (active : IsWorking levels)
   by_step : (x : Element) (m : Moment) → At levels m.scene → Asks x m.scene → Works m.scene (does w x m).moment.scene → Runs w (At levels) (x ∷ []) m
   by_step x m k asks works = behind_work w levels (At levels) x [] m k asks works (λ n l. nothing_more w levels n l)
 
-  by_take : (x : Element) (m : Moment) → At levels m.scene → ((n : Moment) → At levels n.scene → Asks x n.scene) → ((n : Moment) → At levels n.scene → Works n.scene (does w x n).moment.scene) → Runs w (At levels) (element.Enlarge OfLevel ∷ x ∷ []) m
-  by_take x m k asks works = behind_work w levels (At levels) (element.Enlarge OfLevel) _ m k tt (enlarge_works w m k.stands) (λ n l. by_step x n l (asks n l) (works n l))
+  by_take : (x : Element) (m : Moment) → At levels m.scene → ((n : Moment) → At levels n.scene → Asks x n.scene) → ((n : Moment) → At levels n.scene → Works n.scene (does w x n).moment.scene) → Runs w (At levels) (Element.Enlarge OfLevel ∷ x ∷ []) m
+  by_take x m k asks works = behind_work w levels (At levels) (Element.Enlarge OfLevel) _ m k tt (enlarge_works w m k.stands) (λ n l. by_step x n l (asks n l) (works n l))
 
   works_in : (m : Moment) → At levels m.scene → IsWorking m.scene.session.levels
   works_in m k = working_at levels m.scene active k
 
-  gives_back : (kind : KindId) (key : ℕ) (m : Moment) → At levels m.scene → Runs w (At levels) (element.GiveBack kind key ∷ []) m
-  gives_back kind key m k = by_step (element.GiveBack kind key) m k tt (give_back_works w m k.stands (works_in m k) kind key)
+  gives_back : (kind : KindId) (key : ℕ) (m : Moment) → At levels m.scene → Runs w (At levels) (Element.GiveBack kind key ∷ []) m
+  gives_back kind key m k = by_step (Element.GiveBack kind key) m k tt (give_back_works w m k.stands (works_in m k) kind key)
 
   contexts_lead : (c : ContextCommand) (m : Moment) → At levels m.scene → Steps (context_row c) m
-  contexts_lead (context.Create name parent kind) m k ok = by_step _ m k tt (make_script_context_works w m k.stands (works_in m k) name parent _)
-  contexts_lead (context.Reset name) m k ok = by_step (element.Reset name) m k tt (reset_works w m k.stands (works_in m k) name ok.1.0)
-  contexts_lead (context.Delete name) m k ok = by_step (element.Delete name) m k tt (delete_works w m k.stands (works_in m k) name ok.1.0)
-  contexts_lead (context.DeleteChildren name) m k ok = by_step (element.DeleteChildren name) m k tt (delete_children_works w m k.stands (works_in m k) name ok.1.0)
-  contexts_lead (context.Reparent name parent) m k ok = by_step (element.Reparent name parent) m k ok.1.1.0 (reparent_works w m k.stands (works_in m k) name parent ok.1.1.0)
-  contexts_lead (context.Switch name) m k ok = by_step (element.Switch name) m k tt (switch_works w m k.stands (works_in m k) name)
-  contexts_lead (context.OnReset name) m k ok = by_step (element.Register name) m k tt (register_works w m k.stands (works_in m k) name)
-  contexts_lead (context.ResetOnly name) m k ok = by_step (element.ResetOnly name) m k tt (reset_only_works w m k.stands (works_in m k) name)
+  contexts_lead (ContextCommand.Create name parent kind) m k ok = by_step _ m k tt (make_script_context_works w m k.stands (works_in m k) name parent _)
+  contexts_lead (ContextCommand.Reset name) m k ok = by_step (Element.Reset name) m k tt (reset_works w m k.stands (works_in m k) name ok.1.0)
+  contexts_lead (ContextCommand.Delete name) m k ok = by_step (Element.Delete name) m k tt (delete_works w m k.stands (works_in m k) name ok.1.0)
+  contexts_lead (ContextCommand.DeleteChildren name) m k ok = by_step (Element.DeleteChildren name) m k tt (delete_children_works w m k.stands (works_in m k) name ok.1.0)
+  contexts_lead (ContextCommand.Reparent name parent) m k ok = by_step (Element.Reparent name parent) m k ok.1.1.0 (reparent_works w m k.stands (works_in m k) name parent ok.1.1.0)
+  contexts_lead (ContextCommand.Switch name) m k ok = by_step (Element.Switch name) m k tt (switch_works w m k.stands (works_in m k) name)
+  contexts_lead (ContextCommand.OnReset name) m k ok = by_step (Element.Register name) m k tt (register_works w m k.stands (works_in m k) name)
+  contexts_lead (ContextCommand.ResetOnly name) m k ok = by_step (Element.ResetOnly name) m k tt (reset_only_works w m k.stands (works_in m k) name)
 
   chunks_lead : (c : ChunkCommand) (m : Moment) → At levels m.scene → Steps (chunk_row c) m
-  chunks_lead (chunk.Alloc name size) m k ok = by_step _ m k tt (alloc_beside w m k.stands (works_in m k) InCurrent (Some name) size false).works
-  chunks_lead (chunk.AllocZeroed name size) m k ok = by_step _ m k tt (alloc_beside w m k.stands (works_in m k) InCurrent (Some name) size true).works
-  chunks_lead (chunk.Realloc name size) m k ok = by_step (element.Realloc name size) m k tt (realloc_works w m k.stands (works_in m k) name size)
-  chunks_lead (chunk.Free name) m k ok = by_step (element.FreeChunk name) m k tt (free_works w m k.stands (works_in m k) name)
-  chunks_lead (chunk.Put name place bytes) m k ok = by_step (element.Put name place bytes) m k tt (put_works w m k.stands (works_in m k) name place bytes)
-  chunks_lead (chunk.Show name place n) m k ok = by_step (element.Show name place n) m k tt (show_works w name place n m k.stands)
+  chunks_lead (ChunkCommand.Alloc name size) m k ok = by_step _ m k tt (alloc_beside w m k.stands (works_in m k) InCurrent (Some name) size false).works
+  chunks_lead (ChunkCommand.AllocZeroed name size) m k ok = by_step _ m k tt (alloc_beside w m k.stands (works_in m k) InCurrent (Some name) size true).works
+  chunks_lead (ChunkCommand.Realloc name size) m k ok = by_step (Element.Realloc name size) m k tt (realloc_works w m k.stands (works_in m k) name size)
+  chunks_lead (ChunkCommand.Free name) m k ok = by_step (Element.FreeChunk name) m k tt (free_works w m k.stands (works_in m k) name)
+  chunks_lead (ChunkCommand.Put name place bytes) m k ok = by_step (Element.Put name place bytes) m k tt (put_works w m k.stands (works_in m k) name place bytes)
+  chunks_lead (ChunkCommand.Show name place n) m k ok = by_step (Element.Show name place n) m k tt (show_works w name place n m k.stands)
 
   items_lead : (c : ItemCommand) (m : Moment) → At levels m.scene → Steps (item_row c) m
-  items_lead (item.Pin buffer) m k ok =
-      by_take (element.Take OfLevel buffer_pin buffer) m k works_in (λ n l. pin_works w n l.stands (works_in n l) buffer (is_buffer buffer (nat_lt buffer 1024) error.NoSuchBuffer refl ok.0))
-  items_lead (item.Open file) m k ok = by_take (element.Take OfLevel file_kind file) m k works_in (λ n l. file_works w n l.stands (works_in n l) file)
-  items_lead (item.Reference class key) m k ok =
-      by_take (element.Take OfLevel (class_kind class) key) m k works_in
+  items_lead (ItemCommand.Pin buffer) m k ok =
+      by_take (Element.Take OfLevel buffer_pin buffer) m k works_in (λ n l. pin_works w n l.stands (works_in n l) buffer (is_buffer buffer (nat_lt buffer 1024) Error.NoSuchBuffer refl ok.0))
+  items_lead (ItemCommand.Open file) m k ok = by_take (Element.Take OfLevel file_kind file) m k works_in (λ n l. file_works w n l.stands (works_in n l) file)
+  items_lead (ItemCommand.Reference class key) m k ok =
+      by_take (Element.Take OfLevel (class_kind class) key) m k works_in
       (λ n l. take_works w n l.stands (works_in n l) (class_kind class) key (class_unkept class) (class_other class) (class_item (table_of n.scene.around.kinds) class key))
-  items_lead (item.Acquire kind key) m k ok = by_take (element.TakeNamed kind key) m k works_in (λ n l. take_named_works w n l.stands (works_in n l) kind key)
-  items_lead (item.Snapshot key) m k ok =
-      by_take (element.Take OfLevel snapshot_reference key) m k works_in
+  items_lead (ItemCommand.Acquire kind key) m k ok = by_take (Element.TakeNamed kind key) m k works_in (λ n l. take_named_works w n l.stands (works_in n l) kind key)
+  items_lead (ItemCommand.Snapshot key) m k ok =
+      by_take (Element.Take OfLevel snapshot_reference key) m k works_in
       (λ n l. take_works w n l.stands (works_in n l) snapshot_reference key refl (λ z. absurd (omega (arith, z))) (snapshot_item (table_of n.scene.around.kinds) key))
-  items_lead (item.Touch file) m k ok = by_step (element.Touch file) m k tt (touch_works w m k.stands (works_in m k) file)
-  items_lead (item.Drop kind key) m k ok = by_step (element.GiveBackNamed kind key) m k tt (give_back_named_works w m k.stands (works_in m k) kind key)
+  items_lead (ItemCommand.Touch file) m k ok = by_step (Element.Touch file) m k tt (touch_works w m k.stands (works_in m k) file)
+  items_lead (ItemCommand.Drop kind key) m k ok = by_step (Element.GiveBackNamed kind key) m k tt (give_back_named_works w m k.stands (works_in m k) kind key)
   items_lead other m k ok = gives_back _ _ m k
 
   locks_lead : (c : LockCommand) (m : Moment) → At levels m.scene → Steps (lock_row c) m
-  locks_lead (lock.Lock object mode) m k ok = by_step (element.TakeLock OfLevel object mode) m k tt (lock_beside w m k.stands (works_in m k) OfLevel (there w m k.stands (works_in m k)) object mode).works
-  locks_lead (lock.Unlock object mode) m k ok = by_step (element.Unlock object mode) m k tt (unlock_works w m k.stands (works_in m k) object mode)
+  locks_lead (LockCommand.Lock object mode) m k ok = by_step (Element.TakeLock OfLevel object mode) m k tt (lock_beside w m k.stands (works_in m k) OfLevel (there w m k.stands (works_in m k)) object mode).works
+  locks_lead (LockCommand.Unlock object mode) m k ok = by_step (Element.Unlock object mode) m k tt (unlock_works w m k.stands (works_in m k) object mode)
 
   snapshots_lead : (c : SnapshotCommand) (m : Moment) → At levels m.scene → Steps (snapshot_row c) m
-  snapshots_lead (snapshot.Push key) m k ok = by_step (element.PushSnapshot key) m k tt (push_works w m k.stands (works_in m k) key)
-  snapshots_lead snapshot.Pop m k ok = by_step element.PopSnapshot m k tt (pop_works w m k.stands)
+  snapshots_lead (SnapshotCommand.Push key) m k ok = by_step (Element.PushSnapshot key) m k tt (push_works w m k.stands (works_in m k) key)
+  snapshots_lead SnapshotCommand.Pop m k ok = by_step Element.PopSnapshot m k tt (pop_works w m k.stands)
 
   plans_lead : (c : PlanCommand) (m : Moment) → At levels m.scene → Steps (plan_row c) m
-  plans_lead (plan.Create number) m k ok = by_step (element.MakePlan number) m k tt (make_plan_works w m k.stands (works_in m k) number (is_new (plan_at number m.scene.session.plans) error.NameTaken ok.0))
-  plans_lead (plan.Reference number) m k ok =
-      behind_room w levels (At levels) (element.IsPlan number) _ m k ok.0
+  plans_lead (PlanCommand.Create number) m k ok = by_step (Element.MakePlan number) m k tt (make_plan_works w m k.stands (works_in m k) number (is_new (plan_at number m.scene.session.plans) Error.NameTaken ok.0))
+  plans_lead (PlanCommand.Reference number) m k ok =
+      behind_room w levels (At levels) (Check.IsPlan number) _ m k ok.0
       (λ n l ok.
-      let p = is_standing (plan_at number n.scene.session.plans) error.NoSuchName ok in
-      by_step (element.Take OfLevel plan_reference number) n l (works_in n l) (take_plan_works w n l.stands (works_in n l) number p.0 p.1))
-  plans_lead (plan.Unreference number) m k ok = gives_back plan_reference number m k
-  plans_lead (plan.Drop number) m k ok = by_step (element.DropPlan number) m k tt (drop_plan_works w m k.stands (works_in m k) number)
+      let p = is_standing (plan_at number n.scene.session.plans) Error.NoSuchName ok in
+      by_step (Element.Take OfLevel plan_reference number) n l (works_in n l) (take_plan_works w n l.stands (works_in n l) number p.0 p.1))
+  plans_lead (PlanCommand.Unreference number) m k ok = gives_back plan_reference number m k
+  plans_lead (PlanCommand.Drop number) m k ok = by_step (Element.DropPlan number) m k tt (drop_plan_works w m k.stands (works_in m k) number)
 
   portals_lead : (c : PortalCommand) (portals : List OpenPortal) (m : Moment) → At levels m.scene → Steps (portal_row c portals) m
-  portals_lead (portal.Open name object rows bad) portals m k ok = portal_leads w levels active name object rows bad m k (is_unnamed (portal_named name m.scene.session.portals) error.PortalTaken ok.0)
-  portals_lead (portal.Fetch name count) portals m k ok =
+  portals_lead (PortalCommand.Open name object rows bad) portals m k ok = portal_leads w levels active name object rows bad m k (is_unnamed (portal_named name m.scene.session.portals) Error.PortalTaken ok.0)
+  portals_lead (PortalCommand.Fetch name count) portals m k ok =
       behind_begin w levels active name (At levels) _ m k
       (λ n l.
       let f : Runs w (Fetches levels name) (option_map_or (λ p. fetch_steps name count p.scan 0) (portal_named name portals) []) n =
       all_fetch w levels name _ n l (fetch_all w levels active name count (portal_named name portals)) in
       record { stands = f.stands; passed = λ none. let q = f.passed none in q.at; run = f.run })
-  portals_lead (portal.End name) portals m k ok = by_step (element.EndPortal name) m k (works_in m k, k.at_rest) (end_portal_works w m k.stands (works_in m k) k.at_rest name)
+  portals_lead (PortalCommand.End name) portals m k ok = by_step (Element.EndPortal name) m k (works_in m k, k.at_rest) (end_portal_works w m k.stands (works_in m k) k.at_rest name)
 
   tells_lead : (c : TellCommand) (m : Moment) → At levels m.scene → Steps (tell_row c) m
   unfolding does
-  tells_lead tell.Report m k ok = by_step element.Report m k tt (nothing_works m.scene k.stands)
-  tells_lead tell.Stat m k ok = by_step element.Stat m k tt (nothing_works m.scene k.stands)
-  tells_lead (tell.Buffer buffer) m k ok = by_step (element.TellBuffer buffer) m k tt (nothing_works m.scene k.stands)
+  tells_lead c m k ok = grind (arith, nat_tests, by_step Element.Report m k tt (nothing_works m.scene k.stands), by_step Element.Stat m k tt (nothing_works m.scene k.stands), by_step, nothing_works m.scene k.stands)
 
   steps_lead : (c : Work) (portals : List OpenPortal) (m : Moment) → At levels m.scene → Steps (row_of c portals) m
-  steps_lead work.Raise portals m k ok = nothing_more w levels m k
-  steps_lead (work.Contexts c) portals m k ok = contexts_lead c m k ok
-  steps_lead (work.Chunks c) portals m k ok = chunks_lead c m k ok
-  steps_lead (work.Items c) portals m k ok = items_lead c m k ok
-  steps_lead (work.Locks c) portals m k ok = locks_lead c m k ok
-  steps_lead (work.Snapshots c) portals m k ok = snapshots_lead c m k ok
-  steps_lead (work.Plans c) portals m k ok = plans_lead c m k ok
-  steps_lead (work.Portals c) portals m k ok = portals_lead c portals m k ok
-  steps_lead (work.Tells c) portals m k ok = tells_lead c m k ok
+  steps_lead c portals m k ok = grind (arith, nat_tests, nothing_more, contexts_lead, chunks_lead, items_lead, locks_lead, snapshots_lead, plans_lead, portals_lead, tells_lead)
 
   -- What is done within a transaction leads on.
   pub work_runs : (c : Work) (session : SessionState) (moment : Moment) → At levels moment.scene → Runs w (At levels) (work_of c session) moment
@@ -622,7 +527,7 @@ pub record HasBegun (name : Option Text) (implicit : Bool) (outer : List LevelSt
   pub levels : scene.session.levels ≡ begun name implicit (Some context) (Some owner) false ∷ outer
 
 module _ (w : Option ℕ) (name : Option Text) (implicit : Bool) (levels : List LevelState) where
-  pub level_leads : (moment : Moment) → At levels moment.scene → AreOuter levels → (implicit ≡ true → levels ≡ []) → Leads (At (begun name implicit None None true ∷ levels)) (does w (element.MakeLevel name implicit) moment)
+  pub level_leads : (moment : Moment) → At levels moment.scene → AreOuter levels → (implicit ≡ true → levels ≡ []) → Leads (At (begun name implicit None None true ∷ levels)) (does w (Element.MakeLevel name implicit) moment)
   unfolding does
   level_leads moment at outer alone =
       fallible_leads (At (begun name implicit None None true ∷ levels)) w moment _ (level_made name implicit) at.stands (λ z q. q.stands)
@@ -632,7 +537,7 @@ module _ (w : Option ℕ) (name : Option Text) (implicit : Bool) (levels : List 
         at_rest = at.at_rest;
       })
 
-  pub context_leads : (moment : Moment) → At (begun name implicit None None true ∷ levels) moment.scene → Leads (HasContext name implicit levels) (does w (element.MakeContext LevelContext) moment)
+  pub context_leads : (moment : Moment) → At (begun name implicit None None true ∷ levels) moment.scene → Leads (HasContext name implicit levels) (does w (Element.MakeContext LevelContext) moment)
   unfolding does
   context_leads moment at =
       fallible_leads (HasContext name implicit levels) w moment _ (new_context_made LevelContext) at.stands (λ z q. q.stands)
@@ -644,7 +549,7 @@ module _ (w : Option ℕ) (name : Option Text) (implicit : Bool) (levels : List 
         levels = refl;
       }))
 
-  pub owner_leads : (moment : Moment) → HasContext name implicit levels moment.scene → Leads (HasOwner name implicit levels) (does w (element.MakeOwner OfLevel) moment)
+  pub owner_leads : (moment : Moment) → HasContext name implicit levels moment.scene → Leads (HasOwner name implicit levels) (does w (Element.MakeOwner OfLevel) moment)
   unfolding does
   owner_leads moment at =
       fallible_leads (HasOwner name implicit levels) w moment _ (new_owner_made OfLevel) at.stands (λ z q. q.stands)
@@ -657,19 +562,9 @@ module _ (w : Option ℕ) (name : Option Text) (implicit : Bool) (levels : List 
         levels = refl;
       }))
 
-  pub stands_leads : (moment : Moment) → HasOwner name implicit levels moment.scene → Leads (HasBegun name implicit levels) (does w element.LevelStands moment)
+  pub stands_leads : (moment : Moment) → HasOwner name implicit levels moment.scene → Leads (HasBegun name implicit levels) (does w Element.LevelStands moment)
   unfolding does
-  stands_leads moment at =
-      let x : HasBegun name implicit levels (level_stands moment.scene).scene =
-      settled_as (λ (z : Scene). HasBegun name implicit levels (level_stands z).scene) moment.scene (begun name implicit (Some at.context) (Some at.owner) true ∷ levels) at.stands at.levels
-      (λ k. record {
-        stands = level_stands_stands (begun name implicit (Some at.context) (Some at.owner) true) levels moment.scene refl (record { context = refl; owner = refl }) k;
-        at_rest = at.at_rest;
-        context = at.context;
-        owner = at.owner;
-        levels = refl;
-      }) in
-      record { stands = x.stands; passed = λ _. x }
+  stands_leads moment at = grind (arith, nat_tests, settled_as, level_stands_stands)
 
   -- a level is begun
   pub start_leads : (moment : Moment) → At levels moment.scene → AreOuter levels → (implicit ≡ true → levels ≡ []) → Runs w (HasBegun name implicit levels) (start name implicit) moment
@@ -685,19 +580,14 @@ begun_active name implicit c o = record { made = record { context = refl; owner 
 
 -- a block was begun
 pub begun_between : (name : Option Text) (levels : List LevelState) (scene : Scene) → AreOuter levels → HasBegun name false levels scene → StandsBetweenLines scene
-begun_between name levels scene outer h = record {
-  stands = h.stands;
-  open_levels = subst AreOpen (sym h.levels) (record { started = refl; block = refl }, outer_open levels outer);
-  at_rest = h.at_rest;
-}
+begun_between name levels scene outer h = grind (arith, nat_tests, outer_open levels outer)
 
 -- what is known between two lines, and of the levels
 pub at_left : (levels : List LevelState) (scene : Scene) → Leaves levels scene → At levels scene
 at_left levels scene h = record { stands = h.between.stands; are = h.are; at_rest = h.between.at_rest }
 
 pub outer_of : (scene : Scene) (level : LevelState) (levels : List LevelState) → Stands scene → scene.session.levels ≡ level ∷ levels → AreOuter levels
-outer_of scene level levels h is =
-    (subst (λ (ls : List LevelState). FitLevels ls scene.session.contexts scene.session.owners scene.session.current) is h.fit).1
+outer_of scene level levels h is = grind (arith, nat_tests)
 
 pub open_of : (scene : Scene) (level : LevelState) (levels : List LevelState) → StandsBetweenLines scene → scene.session.levels ≡ level ∷ levels → IsOpen level
 open_of scene level levels h is = (subst AreOpen is h.open_levels).0
@@ -706,10 +596,9 @@ pub active_of : (scene : Scene) (level : LevelState) (levels : List LevelState) 
 active_of scene level levels h is unaborted = grind (arith, nat_tests, open_of scene level levels h is)
 
 pub only_left : (b : Bool) → (b && true) ≡ false → b ≡ false
-only_left true e = e
-only_left false e = refl
+only_left b e = grind (arith, nat_tests)
 
-pub says_leads : (w : Option ℕ) (event : What) (moment : Moment) → StandsBetweenLines moment.scene → Leads StandsBetweenLines (does w (element.Says event) moment)
+pub says_leads : (w : Option ℕ) (event : What) (moment : Moment) → StandsBetweenLines moment.scene → Leads StandsBetweenLines (does w (Element.Says event) moment)
 unfolding does
 says_leads w event moment h = record { stands = h.stands; passed = λ _. h }
 
@@ -717,18 +606,18 @@ module _ (w : Option ℕ) where
   abbrev Between : List Element → Moment → Type 0
   Between xs moment = Runs w StandsBetweenLines xs moment
 
-  pub between_says : (event : What) (xs : List Element) (moment : Moment) → StandsBetweenLines moment.scene → ((m : Moment) → StandsBetweenLines m.scene → Between xs m) → Between (element.Says event ∷ xs) moment
-  between_says event xs moment h next = runs_on w StandsBetweenLines StandsBetweenLines (element.Says event) xs moment (record { stands = h.stands; asks = tt }) (says_leads w event moment h) next
+  pub between_says : (event : What) (xs : List Element) (moment : Moment) → StandsBetweenLines moment.scene → ((m : Moment) → StandsBetweenLines m.scene → Between xs m) → Between (Element.Says event ∷ xs) moment
+  between_says event xs moment h next = runs_on w StandsBetweenLines StandsBetweenLines (Element.Says event) xs moment (record { stands = h.stands; asks = tt }) (says_leads w event moment h) next
 
   pub between_nothing : (moment : Moment) → StandsBetweenLines moment.scene → Between [] moment
   between_nothing moment h = runs_nowhere w StandsBetweenLines moment h.stands h
 
   pub then_ok_leads : (xs : List Element) (moment : Moment) → Between xs moment → Between (then_ok xs) moment
   then_ok_leads xs moment first =
-      runs_both w StandsBetweenLines StandsBetweenLines xs _ moment first (λ m k. between_says what.Ok [] m k (λ m k. between_nothing m k))
+      runs_both w StandsBetweenLines StandsBetweenLines xs _ moment first (λ m k. between_says What.Ok [] m k (λ m k. between_nothing m k))
 
   pub refused_leads : (Q : Scene → Type 0) (error : Error) (moment : Moment) → Stands moment.scene → Runs w Q (refused error) moment
-  refused_leads Q error moment h = row_leads w Q (element.Refuse error ∷ []) [] moment h (λ passes. absurd (cc passes.0))
+  refused_leads Q error moment h = row_leads w Q (Check.Refuse error ∷ []) [] moment h (λ passes. absurd (cc passes.0))
 
   -- what an end leads to
   pub end_leads : (levels : List LevelState) (done : Done) → Leaves levels done.moment.scene → Leads (Leaves levels) done
@@ -739,19 +628,19 @@ module _ (w : Option ℕ) where
 
   -- a level is rolled back
   pub level_rolled : (level : LevelState) (levels : List LevelState) (moment : Moment) → Leaves (level ∷ levels) moment.scene
-      → Runs w (Leaves levels) (if level.aborted then element.Cleanup ∷ [] else element.Abort ∷ element.Cleanup ∷ []) moment
+      → Runs w (Leaves levels) (if level.aborted then Element.Cleanup ∷ [] else Element.Abort ∷ Element.Cleanup ∷ []) moment
   level_rolled level levels moment h = go level.aborted refl
     where
-      cleans : (old : LevelState) (m : Moment) → old.aborted ≡ true → Leaves (old ∷ levels) m.scene → Runs w (Leaves levels) (element.Cleanup ∷ []) m
+      cleans : (old : LevelState) (m : Moment) → old.aborted ≡ true → Leaves (old ∷ levels) m.scene → Runs w (Leaves levels) (Element.Cleanup ∷ []) m
       cleans old m gone l =
-          runs_on w (Leaves levels) (Leaves levels) element.Cleanup [] m (record { stands = l.between.stands; asks = ((old, levels), l.are, gone) })
-          (end_leads levels (does w element.Cleanup m) (cleanup_stands w m l.between.stands old levels l.are gone)) (λ m k. end_nothing levels m k)
+          runs_on w (Leaves levels) (Leaves levels) Element.Cleanup [] m (record { stands = l.between.stands; asks = ((old, levels), l.are, gone) })
+          (end_leads levels (does w Element.Cleanup m) (cleanup_stands w m l.between.stands old levels l.are gone)) (λ m k. end_nothing levels m k)
 
-      go : (b : Bool) → level.aborted ≡ b → Runs w (Leaves levels) (if b then element.Cleanup ∷ [] else element.Abort ∷ element.Cleanup ∷ []) moment
+      go : (b : Bool) → level.aborted ≡ b → Runs w (Leaves levels) (if b then Element.Cleanup ∷ [] else Element.Abort ∷ Element.Cleanup ∷ []) moment
       go true e = cleans level moment e h
       go false e =
-          runs_on w (Leaves (record level { aborted = true } ∷ levels)) (Leaves levels) element.Abort (element.Cleanup ∷ []) moment (record { stands = h.between.stands; asks = ((level, levels), h.are, e, open_of moment.scene level levels h.between h.are) })
-          (end_leads (record level { aborted = true } ∷ levels) (does w element.Abort moment)
+          runs_on w (Leaves (record level { aborted = true } ∷ levels)) (Leaves levels) Element.Abort (Element.Cleanup ∷ []) moment (record { stands = h.between.stands; asks = ((level, levels), h.are, e, open_of moment.scene level levels h.between h.are) })
+          (end_leads (record level { aborted = true } ∷ levels) (does w Element.Abort moment)
           (abort_stands w moment h.between.stands level levels h.are e (open_of moment.scene level levels h.between h.are)))
           (λ m k. cleans (record level { aborted = true }) m refl k)
 
@@ -764,23 +653,21 @@ module _ (w : Option ℕ) where
   outer_rolled n (level ∷ levels) moment h o = go (nat_lt (length levels + 1) n) (λ m k. outer_rolled n levels m k o.2)
     where
       go : (b : Bool) → ((m : Moment) → Leaves levels m.scene → Runs w IsOuter (rolled_back_to n levels) m)
-          → Runs w IsOuter (if b then [] else (if level.aborted then element.Cleanup ∷ [] else element.Abort ∷ element.Cleanup ∷ []) ++ rolled_back_to n levels) moment
+          → Runs w IsOuter (if b then [] else (if level.aborted then Element.Cleanup ∷ [] else Element.Abort ∷ Element.Cleanup ∷ []) ++ rolled_back_to n levels) moment
       go true rest = runs_nowhere w IsOuter moment h.between.stands (h.between, subst AreOuter (sym h.are) o)
       go false rest = runs_both w (Leaves levels) IsOuter _ (rolled_back_to n levels) moment (level_rolled level levels moment h) rest
 
   pub rolled_leads : (n : ℕ) (level : LevelState) (levels : List LevelState) (moment : Moment) → Leaves (level ∷ levels) moment.scene → n ≤ length levels + 1 → Runs w IsOuter (rolled_back_to n (level ∷ levels)) moment
   rolled_leads n level levels moment h small = go (nat_lt (length levels + 1) n) (le-ltb (length levels + 1) n small)
     where
-      go : (b : Bool) → b ≡ false → Runs w IsOuter (if b then [] else (if level.aborted then element.Cleanup ∷ [] else element.Abort ∷ element.Cleanup ∷ []) ++ rolled_back_to n levels) moment
+      go : (b : Bool) → b ≡ false → Runs w IsOuter (if b then [] else (if level.aborted then Element.Cleanup ∷ [] else Element.Abort ∷ Element.Cleanup ∷ []) ++ rolled_back_to n levels) moment
       go true e = absurd (cc e)
       go false e =
           runs_both w (Leaves levels) IsOuter _ (rolled_back_to n levels) moment (level_rolled level levels moment h)
           (λ m k. outer_rolled n levels m k (outer_of moment.scene level levels h.between.stands h.are))
 
   pub all_rolled_leads : (n : ℕ) (level : LevelState) (levels : List LevelState) (moment : Moment) → Leaves (level ∷ levels) moment.scene → n ≤ length levels + 1 → Between (rolled_back_to n (level ∷ levels)) moment
-  all_rolled_leads n level levels moment h small =
-      let k : Runs w IsOuter (rolled_back_to n (level ∷ levels)) moment = rolled_leads n level levels moment h small in
-      record { stands = k.stands; passed = λ e. (k.passed e).0; run = k.run }
+  all_rolled_leads n level levels moment h small = grind (arith, nat_tests, rolled_leads n level levels moment h small)
 
   -- levels are merged into those above them
   pub record HasMerged (n : ℕ) (scene : Scene) : Type 0 where
@@ -788,69 +675,55 @@ module _ (w : Option ℕ) where
     leaves : Leaves levels scene
     many : length levels ≡ n
 
-  pub merges_leads : (k n : ℕ) (levels : List LevelState) (moment : Moment) → Leaves levels moment.scene → 1 ≤ n → length levels ≡ n + k → Runs w (HasMerged n) (replicate k element.Subcommit) moment
+  pub merges_leads : (k n : ℕ) (levels : List LevelState) (moment : Moment) → Leaves levels moment.scene → 1 ≤ n → length levels ≡ n + k → Runs w (HasMerged n) (replicate k Element.Subcommit) moment
   merges_leads zero n levels moment h some e = runs_nowhere w (HasMerged n) moment h.between.stands (record { levels = levels; leaves = h; many = omega (arith, e) })
   merges_leads (suc k) n [] moment h some e = absurd (omega (arith, e))
   merges_leads (suc k) n (level ∷ levels) moment h some e =
-      runs_on w (Leaves levels) (HasMerged n) element.Subcommit (replicate k element.Subcommit) moment (record { stands = h.between.stands; asks = ((level, levels), h.are, omega (arith, e, some), h.between.at_rest) })
-      (end_leads levels (does w element.Subcommit moment) (merge_stands w moment h.between.stands level levels h.are (omega (arith, e, some)) h.between.at_rest))
+      runs_on w (Leaves levels) (HasMerged n) Element.Subcommit (replicate k Element.Subcommit) moment (record { stands = h.between.stands; asks = ((level, levels), h.are, omega (arith, e, some), h.between.at_rest) })
+      (end_leads levels (does w Element.Subcommit moment) (merge_stands w moment h.between.stands level levels h.are (omega (arith, e, some)) h.between.at_rest))
       (λ m l. merges_leads k n levels m l some (omega (arith, e)))
 
   -- level 1 commits
-  pub top_leads : (moment : Moment) → HasMerged 1 moment.scene → Between (element.CommitTop ∷ []) moment
+  pub top_leads : (moment : Moment) → HasMerged 1 moment.scene → Between (Element.CommitTop ∷ []) moment
   top_leads moment h = go h.levels h.leaves h.many
     where
-      go : (levels : List LevelState) → Leaves levels moment.scene → length levels ≡ 1 → Between (element.CommitTop ∷ []) moment
+      go : (levels : List LevelState) → Leaves levels moment.scene → length levels ≡ 1 → Between (Element.CommitTop ∷ []) moment
       go [] l e = absurd (omega (arith, e))
       go (level ∷ []) l e =
-          runs_on w (Leaves []) StandsBetweenLines element.CommitTop [] moment (record { stands = l.between.stands; asks = (level, l.are) }) (end_leads [] (does w element.CommitTop moment) (commit_stands w moment l.between.stands level l.are))
+          runs_on w (Leaves []) StandsBetweenLines Element.CommitTop [] moment (record { stands = l.between.stands; asks = (level, l.are) }) (end_leads [] (does w Element.CommitTop moment) (commit_stands w moment l.between.stands level l.are))
           (λ m k. between_nothing m k.between)
       go (level ∷ (other ∷ levels)) l e = absurd (omega (arith, e))
 
   pub commit_leads : (levels : List LevelState) (moment : Moment) → Leaves levels moment.scene → Between (commit levels) moment
-  commit_leads [] moment h = between_says what.NotInTransaction [] moment h.between (λ m k. between_nothing m k)
+  commit_leads [] moment h = between_says What.NotInTransaction [] moment h.between (λ m k. between_nothing m k)
   commit_leads (level ∷ levels) moment h = go level.aborted
     where
-      go : (b : Bool) → Between (if b then rolled_back_to 1 (level ∷ levels) else committed_to 2 (level ∷ levels) ++ (element.CommitTop ∷ [])) moment
+      go : (b : Bool) → Between (if b then rolled_back_to 1 (level ∷ levels) else committed_to 2 (level ∷ levels) ++ (Element.CommitTop ∷ [])) moment
       go true = all_rolled_leads 1 level levels moment h (omega arith)
       go false =
-          runs_both w (HasMerged 1) StandsBetweenLines (committed_to 2 (level ∷ levels)) (element.CommitTop ∷ []) moment
+          runs_both w (HasMerged 1) StandsBetweenLines (committed_to 2 (level ∷ levels)) (Element.CommitTop ∷ []) moment
           (merges_leads (length (level ∷ levels) + 1 - 2) 1 (level ∷ levels) moment h (omega arith) (omega arith)) top_leads
 
   pub rollback_leads : (levels : List LevelState) (moment : Moment) → Leaves levels moment.scene → Between (rollback levels) moment
-  rollback_leads [] moment h = between_says what.NotInTransaction [] moment h.between (λ m k. between_nothing m k)
+  rollback_leads [] moment h = between_says What.NotInTransaction [] moment h.between (λ m k. between_nothing m k)
   rollback_leads (level ∷ levels) moment h = all_rolled_leads 1 level levels moment h (omega arith)
 
   -- a savepoint is that of a level that there is
   pub savepoint_bound : (name : Text) (levels : List LevelState) (n : ℕ) → savepoint name levels ≡ Some n → (2 ≤ n) × (n ≤ length levels)
   savepoint_bound name [] n e = absurd (cc e)
-  savepoint_bound name (level ∷ levels) n e = go (nat_lt 0 (length levels) && is_named name level) refl e (λ q. savepoint_bound name levels n q)
-    where
-      some : (a b : Bool) → nat_lt 0 (length levels) ≡ a → (a && b) ≡ true → 0 < length levels
-      some true b is e = ltb-true 0 (length levels) is
-      some false b is e = absurd (cc e)
-
-      go : (b : Bool) → (nat_lt 0 (length levels) && is_named name level) ≡ b → (if b then Some (length levels + 1) else savepoint name levels) ≡ Some n → (savepoint name levels ≡ Some n → (2 ≤ n) × (n ≤ length levels))
-          → (2 ≤ n) × (n ≤ length (level ∷ levels))
-      go true is e rest =
-          let same : length levels + 1 ≡ n = cc e in
-          let above : 0 < length levels = some (nat_lt 0 (length levels)) (is_named name level) refl is in
-          (omega (arith, same, above), omega (arith, same))
-      go false is e rest = let b = rest e in (b.0, omega (arith, b.1))
+  savepoint_bound name (level ∷ levels) n e = grind (arith, nat_tests, savepoint_bound name levels n, ltb-true 0 (length levels))
 
   pub at_savepoint_leads : (name : Text) (levels : List LevelState) (go_on : ℕ → List Element) (moment : Moment) → Leaves levels moment.scene
       → ((n : ℕ) → 2 ≤ n → n ≤ length levels → Between (go_on n) moment) → Between (at_savepoint name levels go_on) moment
-  at_savepoint_leads name [] go_on moment h next = refused_leads StandsBetweenLines error.NoTransactionBlock moment h.between.stands
+  at_savepoint_leads name [] go_on moment h next = refused_leads StandsBetweenLines Error.NoTransactionBlock moment h.between.stands
   at_savepoint_leads name (level ∷ levels) go_on moment h next = go (savepoint name (level ∷ levels)) refl
     where
-      go : (o : Option ℕ) → savepoint name (level ∷ levels) ≡ o → Between (option_map_or go_on o (refused error.NoSuchSavepoint)) moment
-      go None e = refused_leads StandsBetweenLines error.NoSuchSavepoint moment h.between.stands
+      go : (o : Option ℕ) → savepoint name (level ∷ levels) ≡ o → Between (option_map_or go_on o (refused Error.NoSuchSavepoint)) moment
+      go None e = refused_leads StandsBetweenLines Error.NoSuchSavepoint moment h.between.stands
       go (Some n) e = let b = savepoint_bound name (level ∷ levels) n e in next n b.0 b.1
 
   pub release_leads : (n : ℕ) (levels : List LevelState) (moment : Moment) → Leaves levels moment.scene → 2 ≤ n → n ≤ length levels → Between (committed_to n levels) moment
-  release_leads n levels moment h low high =
-      let k : Runs w (HasMerged (n - 1)) (committed_to n levels) moment = merges_leads (length levels + 1 - n) (n - 1) levels moment h (omega (arith, low)) (omega (arith, low, high)) in
-      record { stands = k.stands; passed = λ e. (k.passed e).leaves.between; run = k.run }
+  release_leads n levels moment h low high = grind (arith, nat_tests, merges_leads (length levels + 1 - n) (n - 1) levels moment h)
 
   -- a block or a savepoint is begun
   pub block_leads : (name : Option Text) (levels : List LevelState) (moment : Moment) → Leaves levels moment.scene → AreOuter levels → Between (start name false) moment
@@ -866,13 +739,11 @@ module _ (w : Option ℕ) where
 
   pub begin_leads : (levels : List LevelState) (moment : Moment) → Leaves levels moment.scene → Between (begin levels) moment
   begin_leads [] moment h = block_leads None [] moment h tt
-  begin_leads (level ∷ levels) moment h = between_says what.AlreadyInTransaction [] moment h.between (λ m k. between_nothing m k)
+  begin_leads (level ∷ levels) moment h = between_says What.AlreadyInTransaction [] moment h.between (λ m k. between_nothing m k)
 
   pub save_leads : (name : Text) (levels : List LevelState) (moment : Moment) → Leaves levels moment.scene → is_aborted levels ≡ false → Between (save name levels) moment
-  save_leads name [] moment h active = refused_leads StandsBetweenLines error.NoTransactionBlock moment h.between.stands
-  save_leads name (level ∷ levels) moment h active =
-      block_leads (Some name) (level ∷ levels) moment h
-      (active_of moment.scene level levels h.between h.are active, open_of moment.scene level levels h.between h.are, outer_of moment.scene level levels h.between.stands h.are)
+  save_leads name [] moment h active = refused_leads StandsBetweenLines Error.NoTransactionBlock moment h.between.stands
+  save_leads name (level ∷ levels) moment h active = grind (arith, nat_tests, block_leads (Some name) (level ∷ levels) moment h, active_of moment.scene level levels h.between h.are active, open_of moment.scene level levels h.between h.are, outer_of moment.scene level levels h.between.stands h.are)
 
   -- what a command does in a level, and the level that is begun for it alone
   pub work_between : (levels : List LevelState) (work : List Element) (moment : Moment) → Leaves levels moment.scene → is_aborted levels ≡ false
@@ -884,51 +755,46 @@ module _ (w : Option ℕ) where
       runs_both w (At (begun None true (Some b.context) (Some b.owner) false ∷ [])) StandsBetweenLines work _ m
       (does_work (begun None true (Some b.context) (Some b.owner) false ∷ []) (begun_active None true b.context b.owner) m (record { stands = b.stands; are = b.levels; at_rest = b.at_rest }))
       (λ m k.
-      runs_on w (Leaves []) StandsBetweenLines element.CommitTop _ m (record { stands = k.stands; asks = (begun None true (Some b.context) (Some b.owner) false, k.are) })
-      (end_leads [] (does w element.CommitTop m) (commit_stands w m k.stands (begun None true (Some b.context) (Some b.owner) false) k.are))
-      (λ m l. between_says what.Ok [] m l.between (λ m k. between_nothing m k))))
+      runs_on w (Leaves []) StandsBetweenLines Element.CommitTop _ m (record { stands = k.stands; asks = (begun None true (Some b.context) (Some b.owner) false, k.are) })
+      (end_leads [] (does w Element.CommitTop m) (commit_stands w m k.stands (begun None true (Some b.context) (Some b.owner) false) k.are))
+      (λ m l. between_says What.Ok [] m l.between (λ m k. between_nothing m k))))
   work_between (level ∷ levels) work moment h active does_work =
       runs_both w (At (level ∷ levels)) StandsBetweenLines work _ moment
       (does_work (level ∷ levels) (active_of moment.scene level levels h.between h.are active) moment (at_left (level ∷ levels) moment.scene h))
-      (λ m k. between_says what.Ok [] m
+      (λ m k. between_says What.Ok [] m
       (record { stands = k.stands; open_levels = subst AreOpen (sym k.are) (subst AreOpen h.are h.between.open_levels); at_rest = k.at_rest })
       (λ m k. between_nothing m k))
 
   -- what begins and ends transactions and savepoints
   transaction_leads : (c : TransactionCommand) (moment : Moment) → StandsBetweenLines moment.scene → (is_aborted moment.scene.session.levels && not (ends_aborted c)) ≡ false
       → Between (transaction_of c moment.scene.session.levels) moment
-  transaction_leads transaction.Begin moment h active = begin_leads moment.scene.session.levels moment (record { between = h; are = refl })
-  transaction_leads transaction.Commit moment h active = commit_leads moment.scene.session.levels moment (record { between = h; are = refl })
-  transaction_leads transaction.Rollback moment h active = rollback_leads moment.scene.session.levels moment (record { between = h; are = refl })
-  transaction_leads (transaction.Savepoint name) moment h active =
+  transaction_leads TransactionCommand.Begin moment h active = begin_leads moment.scene.session.levels moment (record { between = h; are = refl })
+  transaction_leads TransactionCommand.Commit moment h active = commit_leads moment.scene.session.levels moment (record { between = h; are = refl })
+  transaction_leads TransactionCommand.Rollback moment h active = rollback_leads moment.scene.session.levels moment (record { between = h; are = refl })
+  transaction_leads (TransactionCommand.Savepoint name) moment h active =
       save_leads name moment.scene.session.levels moment (record { between = h; are = refl }) (only_left (is_aborted moment.scene.session.levels) active)
-  transaction_leads (transaction.Release name) moment h active =
+  transaction_leads (TransactionCommand.Release name) moment h active =
       at_savepoint_leads name moment.scene.session.levels (λ n. committed_to n moment.scene.session.levels) moment (record { between = h; are = refl })
       (λ n low high. release_leads n moment.scene.session.levels moment (record { between = h; are = refl }) low high)
-  transaction_leads (transaction.RollbackTo name) moment h active =
+  transaction_leads (TransactionCommand.RollbackTo name) moment h active =
       at_savepoint_leads name moment.scene.session.levels (λ n. rolled_back_to n moment.scene.session.levels ++ start (Some name) false) moment (record { between = h; are = refl })
       (λ n low high. back_leads name n moment.scene.session.levels moment (record { between = h; are = refl }) low high)
 
   -- each command in a transaction that isn't aborted, and each end in one that is
   pub unaborted_leads : (c : Command) (moment : Moment) → StandsBetweenLines moment.scene → (is_aborted moment.scene.session.levels && not (is_end c)) ≡ false
       → Between (unaborted c moment.scene.session) moment
-  unaborted_leads command.Nothing moment h active = between_nothing moment h
-  unaborted_leads (command.Transaction c) moment h active = then_ok_leads _ moment (transaction_leads c moment h active)
-  unaborted_leads (command.Work c) moment h active =
+  unaborted_leads Command.Nothing moment h active = between_nothing moment h
+  unaborted_leads (Command.Transaction c) moment h active = then_ok_leads _ moment (transaction_leads c moment h active)
+  unaborted_leads (Command.Work c) moment h active =
       work_between moment.scene.session.levels (work_of c moment.scene.session) moment (record { between = h; are = refl }) (only_left (is_aborted moment.scene.session.levels) active)
       (λ ls working m k. work_runs w ls working c moment.scene.session m k)
 
   pub command_leads : (c : Command) (moment : Moment) → StandsBetweenLines moment.scene → Between (elements_of c moment.scene.session) moment
   unfolding elements_of
-  command_leads c moment h = go (is_aborted moment.scene.session.levels && not (is_end c)) refl
-    where
-      go : (b : Bool) → (is_aborted moment.scene.session.levels && not (is_end c)) ≡ b
-          → Between (elim b as (λ _. List Element) [ true ↦ refused error.TransactionAborted | false ↦ unaborted c moment.scene.session ]) moment
-      go true e = refused_leads StandsBetweenLines error.TransactionAborted moment h.stands
-      go false e = unaborted_leads c moment h e
+  command_leads c moment h = grind (arith, nat_tests, refused_leads StandsBetweenLines Error.TransactionAborted moment h.stands, unaborted_leads c moment h)
 
   line_leads : (line : Option Command) (moment : Moment) → StandsBetweenLines moment.scene → Between (line_elements line moment.scene.session) moment
-  line_leads None moment h = refused_leads StandsBetweenLines error.SyntaxError moment h.stands
+  line_leads None moment h = refused_leads StandsBetweenLines Error.SyntaxError moment h.stands
   line_leads (Some c) moment h = command_leads c moment h
 
   -- Each element of a line meets a scene that stands.

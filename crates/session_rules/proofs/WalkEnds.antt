@@ -1,12 +1,7 @@
 -- What follows from a law's leaves where it is kept in any scene: what takes items and the ends of portals, levels and sessions keep it too.
-use Rattle.session_rules.proofs.Base.{ℕ, ◌-◌, ◌≤◌, Bool, true, false, not, if◌then◌else◌, List, [], ◌∷◌, Option, None, refl, arith, ◌==◌, drop, unwrap_or}
-use Rattle.session_rules.proofs.Below.{Error, KindId, Phase, BeforeLocks, Locks, AfterLocks, level_lowered, is_empty}
-use Rattle.session_rules.proofs.Rules.{Moment, Scene, Element, OfLevel, has_failed, changes, children_gone, context_gone, for_each, in_order, portal_becomes, portal_gone, say, switched, where_so, where_there, item_released, owner_gone, owner_moved, owner_released, phase_released, executor_ended, is_ready, portal_aborted, portal_closed, portal_ended, portal_failed, portal_passed, portal_withdrawn, item_taken, at_kind, at_owner, at_portal, does}
-use Rattle.pgs_step.specs.declared.events.What.TheVariants as what
-use Rattle.portal_store.specs.declared.portal.PortalState.TheVariants as portal
-use Rattle.session_rules.specs.State.{LevelState, OpenPortal, abort_context, buffer_pin, context_of, deepest_changed, depth, first_of, is_aborted, level_above, level_context, level_owner, owner_of, relcache_reference, snapshot_reference, top_context}
-use Rattle.session_rules.specs.Elements as e
-use Rattle.session_rules.specs.Ends.{aborted, cleaned_up, committed, empty_context_gone, exited, given_up, level_context_gone, level_owner_gone, level_popped, level_released, level_rolled_back, recovered, stack_popped, subcommitted, switched_up}
+use Rattle.session_rules.proofs.Base.{ℕ, ◌-◌, Bool, true, false, not, if◌then◌else◌, List, [], ◌∷◌, Option, None, refl, arith, ◌==◌, drop, unwrap_or, nat_tests}
+use Rattle.session_rules.proofs.Below.{Error, KindId, Phase, BeforeLocks, Locks, AfterLocks, level_lowered, is_empty, What, PortalState}
+use Rattle.session_rules.proofs.Rules.{Moment, Scene, Element, has_failed, changes, children_gone, context_gone, for_each, in_order, portal_becomes, portal_gone, say, switched, where_so, where_there, item_released, owner_gone, owner_moved, owner_released, phase_released, executor_ended, is_ready, portal_aborted, portal_closed, portal_ended, portal_failed, portal_passed, portal_withdrawn, item_taken, at_owner, at_portal, does, LevelState, OpenPortal, abort_context, buffer_pin, context_of, deepest_changed, depth, first_of, is_aborted, level_above, level_context, level_owner, owner_of, relcache_reference, snapshot_reference, top_context, aborted, cleaned_up, committed, empty_context_gone, exited, given_up, level_context_gone, level_owner_gone, level_popped, level_released, level_rolled_back, recovered, stack_popped, subcommitted, switched_up}
 use Rattle.session_rules.proofs.Leaves.{Acts, EndLeaves, Keeps, Law, Leaves, LevelLeaves, MakeLeaves, Owes, OwesEnds, OwesMakes, OwesMoves, last, next}
 use Rattle.session_rules.proofs.Walk.{by_each, by_either, by_kind, by_levels, by_order, by_owner, by_portal, by_portal_named, by_so, by_there, fallible_so, levels_owed, makes_owed, unfailing_so}
 
@@ -16,7 +11,7 @@ module _ (R : Law) (a : Acts R) where
   context_goes o = by_there R a o context_gone a.gone
 
   pub portal_fails : (p : OpenPortal) → Keeps R (portal_failed p)
-  portal_fails p = by_order R a (next (by_portal R a p.name (λ old. record old { state = portal.Failed; owner = None; expr = None }) (λ p. refl) (λ p. refl)) (next (by_there R a p.context children_gone a.children) last))
+  portal_fails p = by_order R a (next (by_portal R a p.name (λ old. record old { state = PortalState.Failed; owner = None; expr = None }) (λ p. refl) (λ p. refl)) (next (by_there R a p.context children_gone a.children) last))
 
   pub portal_cleans : (level : ℕ) (p : OpenPortal) → Keeps R (where_so (p.created == level) (in_order (where_there p.context context_gone ∷ portal_gone p.name ∷ [])))
   portal_cleans level p =
@@ -24,11 +19,7 @@ module _ (R : Law) (a : Acts R) where
 
   -- a portal is of the level above then, and one that is withdrawn is active there
   pub portal_lowers : (level : ℕ) (p : OpenPortal) → Keeps R (portal_becomes p.name (λ old. record old { created = level_lowered level old.created; active = level_lowered level old.active }))
-  portal_lowers level p = a.portal p.name (λ old. record old { created = level_lowered level old.created; active = level_lowered level old.active }) (record { context = λ q. refl; created = λ q. lower q.created (q.created == level) })
-    where
-      lower : (n : ℕ) (b : Bool) → (if b then n - 1 else n) ≤ n
-      lower n true = omega arith
-      lower n false = omega arith
+  portal_lowers level p = grind (arith, nat_tests)
 
   pub portal_returns : (level : ℕ) (p : OpenPortal) → Keeps R (portal_becomes p.name (λ old. record old { active = level - 1; owner = if has_failed old.state then None else old.owner }))
   portal_returns level p = by_portal R a p.name (λ old. record old { active = level - 1; owner = if has_failed old.state then None else old.owner }) (λ p. refl) (λ p. refl)
@@ -116,7 +107,7 @@ module _ (R : Law) (h : EndLeaves R) where
   pub commits : Keeps R committed
   commits = record {
     so = λ s. (by_order R acts
-        (next (v.level_word (what.CommitLevel 1) refl)
+        (next (v.level_word (What.CommitLevel 1) refl)
         (next (by_each R acts portal_closed (portal_closes R acts l.released) s.session.portals)
         (next (level_releases R acts h.phase true true)
         (next (v.stack_gone 1) (next level_owner_goes (next (l.switch top_context) (next (level_context_goes R acts) (next (level_pops R v) last))))))))).so s;
@@ -125,7 +116,7 @@ module _ (R : Law) (h : EndLeaves R) where
   pub subcommits : Keeps R subcommitted
   subcommits = record {
     so = λ s. (by_order R acts
-        (next (v.level_word (what.CommitLevel (depth s.session)) refl)
+        (next (v.level_word (What.CommitLevel (depth s.session)) refl)
         (next (by_each R acts (portal_passed (depth s.session) (owner_of (level_above s.session))) (portal_passes R acts h.moved (depth s.session) (owner_of (level_above s.session))) s.session.portals)
         (next (level_releases R acts h.phase true false)
         (next (v.stack_passed (depth s.session)) (next level_owner_goes (next (switches_up R v) (next (empty_context_goes R acts) (next (level_pops R v) last))))))))).so s;
@@ -134,7 +125,7 @@ module _ (R : Law) (h : EndLeaves R) where
   pub aborts : Keeps R aborted
   aborts = record {
     so = λ s. (by_order R acts
-        (next (v.level_word (what.AbortLevel (depth s.session)) refl)
+        (next (v.level_word (What.AbortLevel (depth s.session)) refl)
         (next (l.switch abort_context)
         (next (by_each R acts (portal_aborted (depth s.session) (level_owner s.session)) (portal_aborts R acts h.moved (depth s.session) (level_owner s.session)) s.session.portals)
         (next (level_releases R acts h.phase false (depth s.session == 1))
@@ -145,7 +136,7 @@ module _ (R : Law) (h : EndLeaves R) where
   pub cleans_up : Keeps R cleaned_up
   cleans_up = record {
     so = λ s. (by_order R acts
-        (next (v.level_word (what.CleanupLevel (depth s.session)) refl)
+        (next (v.level_word (What.CleanupLevel (depth s.session)) refl)
         (next (by_each R acts _ (portal_cleans R acts (depth s.session)) s.session.portals)
         (next level_owner_goes (next (switches_up R v) (next (level_context_goes R acts) (next (level_pops R v) last))))))).so s;
   }
@@ -156,17 +147,13 @@ module _ (R : Law) (h : EndLeaves R) where
   -- what comes behind the word of an error
   gives_up : (levels : List LevelState) → Keeps R (given_up levels)
   gives_up [] = record { so = acts.none }
-  gives_up (level ∷ levels) = record {
-    so = λ s. by_either R acts level.starting _ _
-        ((by_order R acts (next (rolls_back level) (next (by_there R acts (first_of levels) (λ (above : LevelState). aborted) (λ above. aborts)) last))).so s)
-        (by_either R acts level.implicit _ _ ((rolls_back level).so s) (aborts.so s));
-  }
+  gives_up (level ∷ levels) = grind (arith, nat_tests, by_either R acts level.starting, by_either R acts level.implicit, by_order R acts, rolls_back level, by_there R acts (first_of levels), aborts)
 
   pub recovery_follows : (s : Scene) → R s (in_order (where_so (not (is_aborted s.session.levels)) (given_up s.session.levels) ∷ []) s).scene
       (in_order (where_so (not (is_aborted s.session.levels)) (given_up s.session.levels) ∷ []) s).events
   recovery_follows s = (by_order R acts (next (by_so R acts (not (is_aborted s.session.levels)) (given_up s.session.levels) (gives_up s.session.levels)) last)).so s
 
-  pub recovers : (error : Error) → Keeps R (say (what.Error error)) → Keeps R (recovered error)
+  pub recovers : (error : Error) → Keeps R (say (What.Error error)) → Keeps R (recovered error)
   unfolding recovered
   recovers error said = record { so = λ s. acts.both (said.so s) (recovery_follows s) }
 
@@ -174,23 +161,21 @@ module _ (R : Law) (h : EndLeaves R) where
   pub levels_follow : (s : Scene) → R s (for_each level_rolled_back s.session.levels s).scene (for_each level_rolled_back s.session.levels s).events
   levels_follow s = (by_each R acts level_rolled_back rolls_back s.session.levels).so s
 
-  pub exit_follows : Keeps R (say what.Exit) → (s : Scene) → R s (exited s).scene (exited s).events
+  pub exit_follows : Keeps R (say What.Exit) → (s : Scene) → R s (exited s).scene (exited s).events
   unfolding exited
   exit_follows said s = acts.both (levels_follow s) ((by_order R acts (next (l.switch top_context) (next (acts.gone top_context) (next said last)))).so _)
 
   -- So each element is owed, but what makes or uses something.
   pub ends_owed : (w : Option ℕ) (x : Element) (m : Moment) → OwesMakes R w x m → OwesEnds R w x m
   unfolding does
-  ends_owed w (e.InTurn name x) m owed = ends_owed w x m owed
-  ends_owed w (e.Take role kind key) m owed = fallible_so R acts w m _ (at_owner role (λ owner. item_taken owner kind key)) (by_owner R acts role (λ owner. item_taken owner kind key) (λ owner. h.taken owner kind key))
-  ends_owed w (e.TakeNamed name key) m owed =
-      fallible_so R acts w m _ (at_kind name (λ kind. at_owner OfLevel (λ owner. item_taken owner kind key)))
-      (by_kind R acts name (λ kind. at_owner OfLevel (λ owner. item_taken owner kind key)) (λ kind. by_owner R acts OfLevel (λ owner. item_taken owner kind key) (λ owner. h.taken owner kind key)))
-  ends_owed w (e.EndPortal name) m owed = unfailing_so R acts m (at_portal name portal_ended) (by_portal_named R acts name portal_ended (portal_ends R acts h.phase l.released h.discarded))
-  ends_owed w e.CommitTop m owed = unfailing_so R acts m committed commits
-  ends_owed w e.Subcommit m owed = unfailing_so R acts m subcommitted subcommits
-  ends_owed w e.Abort m owed = unfailing_so R acts m aborted aborts
-  ends_owed w e.Cleanup m owed = unfailing_so R acts m cleaned_up cleans_up
+  ends_owed w (Element.InTurn name x) m owed = ends_owed w x m owed
+  ends_owed w (Element.Take role kind key) m owed = fallible_so R acts w m _ (at_owner role (λ owner. item_taken owner kind key)) (by_owner R acts role (λ owner. item_taken owner kind key) (λ owner. h.taken owner kind key))
+  ends_owed w (Element.TakeNamed name key) m owed = grind (arith, nat_tests, fallible_so R, by_kind R, by_owner R)
+  ends_owed w (Element.EndPortal name) m owed = unfailing_so R acts m (at_portal name portal_ended) (by_portal_named R acts name portal_ended (portal_ends R acts h.phase l.released h.discarded))
+  ends_owed w Element.CommitTop m owed = unfailing_so R acts m committed commits
+  ends_owed w Element.Subcommit m owed = unfailing_so R acts m subcommitted subcommits
+  ends_owed w Element.Abort m owed = unfailing_so R acts m aborted aborts
+  ends_owed w Element.Cleanup m owed = unfailing_so R acts m cleaned_up cleans_up
   ends_owed w other m owed = owed
 
   -- and, where it is kept in any scene what is made and used, but what registers a hook or moves a context

@@ -1,6 +1,8 @@
 -- Transactions, savepoints and errors, computed from the definitions.
-use Rattle.session_rules.proofs.Base.{◌≡◌, [], ◌∷◌, Some, refl, codes, ◌++◌, replicate}
-use Rattle.session_rules.proofs.Setting.{options, told, told_wanting, gone, all_rules}
+use Rattle.std.proofs.Common.{◌≡◌, [], ◌∷◌, Some, refl, ◌++◌}
+use Rattle.std.specs.Prelude.{codes, replicate}
+use Rattle.session_rules.proofs.Setting.{options}
+use Rattle.lifetime_rows.proofs.Setting.{told, told_wanting, gone, all_rules}
 
 pub record LevelRows : Type 0 where
   pub nothing : told options ([]) ≡ gone

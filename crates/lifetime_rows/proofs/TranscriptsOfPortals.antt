@@ -1,6 +1,8 @@
 -- Portals, computed from the definitions.
-use Rattle.session_rules.proofs.Base.{◌≡◌, [], ◌∷◌, refl, codes, ◌++◌}
-use Rattle.session_rules.proofs.Setting.{options, told, gone, all_rules}
+use Rattle.std.proofs.Common.{◌≡◌, [], ◌∷◌, refl, ◌++◌}
+use Rattle.std.specs.Prelude.{codes}
+use Rattle.session_rules.proofs.Setting.{options}
+use Rattle.lifetime_rows.proofs.Setting.{told, gone, all_rules}
 
 pub record PortalRows : Type 0 where
   pub a_bad_row : told options (codes "begin" ∷ codes "lock 9 AccessShareLock" ∷ codes "portal p 40 30 3" ∷ codes "savepoint s" ∷ codes "fetch p 5" ∷ codes "rollback to s" ∷ codes "rollback" ∷ [])

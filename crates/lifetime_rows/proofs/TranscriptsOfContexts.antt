@@ -1,6 +1,8 @@
 -- Contexts and chunks, computed from the definitions.
-use Rattle.session_rules.proofs.Base.{◌≡◌, [], ◌∷◌, refl, codes, ◌++◌}
-use Rattle.session_rules.proofs.Setting.{options, told, gone, all_rules}
+use Rattle.std.proofs.Common.{◌≡◌, [], ◌∷◌, refl, ◌++◌}
+use Rattle.std.specs.Prelude.{codes}
+use Rattle.session_rules.proofs.Setting.{options}
+use Rattle.lifetime_rows.proofs.Setting.{told, gone, all_rules}
 
 pub record ContextRows : Type 0 where
   pub a_chunk_of_a_class : told options (codes "begin" ∷ codes "context w TopMemoryContext default" ∷ codes "switch w" ∷ codes "alloc a 100" ∷ codes "report" ∷ codes "free a" ∷ codes "report" ∷ codes "rollback" ∷ [])

@@ -1,10 +1,14 @@
 -- What scripts ask of the space, computed from the definitions.
-use Rattle.session_rules.proofs.Base.{◌≡◌, ℕ, ◌+◌, List, [], ◌∷◌, Option, Some, None, refl, codes}
-use Rattle.session_rules.proofs.Rules.{opening, Options, held}
+use Rattle.std.proofs.Common.{◌≡◌, ℕ, ◌+◌, List, [], ◌∷◌, Some, refl}
+use Rattle.std.specs.Prelude.{Option, None, codes}
+use Rattle.session_rules.specs.State.{opening}
+use Rattle.session_rules.specs.World.{Options}
+use Rattle.session_rules.specs.Making.{held}
 use Rattle.pgs_command.specs.Lines.{read_line}
 use Rattle.session_rules.specs.Asked.{asked_by}
 use Rattle.session_rules.specs.Limits.{asked_at_opening}
-use Rattle.session_rules.proofs.Setting.{options, kinds, hooks, all_rules}
+use Rattle.session_rules.proofs.Setting.{options, kinds, hooks}
+use Rattle.lifetime_rows.proofs.Setting.{all_rules}
 
 -- what the lines of a script ask for the session of a number
 abbrev pub asked_for : Option ℕ → ℕ → Options → List (List ℕ) → ℕ

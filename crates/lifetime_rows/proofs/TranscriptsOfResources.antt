@@ -1,6 +1,8 @@
 -- Items, locks, snapshots and plans, computed from the definitions.
-use Rattle.session_rules.proofs.Base.{◌≡◌, [], ◌∷◌, refl, codes, ◌++◌}
-use Rattle.session_rules.proofs.Setting.{options, told, gone, all_rules}
+use Rattle.std.proofs.Common.{◌≡◌, [], ◌∷◌, refl, ◌++◌}
+use Rattle.std.specs.Prelude.{codes}
+use Rattle.session_rules.proofs.Setting.{options}
+use Rattle.lifetime_rows.proofs.Setting.{told, gone, all_rules}
 
 pub record ResourceRows : Type 0 where
   -- a release goes by phases: before the locks, the locks, after the locks

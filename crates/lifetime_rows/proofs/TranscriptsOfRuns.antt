@@ -1,7 +1,9 @@
 -- Whole runs, computed from the definitions.
-use Rattle.session_rules.proofs.Base.{◌≡◌, [], ◌∷◌, refl, codes}
+use Rattle.std.proofs.Common.{◌≡◌, [], ◌∷◌, refl}
+use Rattle.std.specs.Prelude.{codes}
 use Rattle.session_rules.specs.Modes.{generated, swept}
-use Rattle.session_rules.proofs.Setting.{options, kinds, hooks, all_rules}
+use Rattle.session_rules.proofs.Setting.{options, kinds, hooks}
+use Rattle.lifetime_rows.proofs.Setting.{all_rules}
 
 pub record RunRows : Type 0 where
   pub each_call_fails : swept options kinds hooks (codes "begin" ∷ codes "pin 7" ∷ codes "savepoint s" ∷ codes "lock 5 ShareLock" ∷ codes "alloc a 100" ∷ codes "release s" ∷ codes "commit" ∷ [])
