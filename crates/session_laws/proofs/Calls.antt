@@ -1,25 +1,12 @@
 -- Callbacks that wait by what was said, context by context, and what is said of them where contexts go.
-use Rattle.session_laws.proofs.Words.{◌≡◌, ◌≢◌, ℕ, Bool, true, false, cond, Option, Some, None, List, [], ◌∷◌, ◌++◌, map, refl, sym, ap, ◌∙◌, subst, inl, inr, arith, ◌+◌, ◌≤◌, ◌==◌, ◌||◌, option_map_or, cases_Bool, cases_eq, eq-eqb, ne_eqb, eqb-true, both_ways, cond-true, cond-false, false_from_ne_true, or_parts, and_from, Empty, Node, Once, at, children, either, has, removed, subtree, times, with_children, changed, is_above, put, Apart, apart_of, at_absent, at_some, has_none, removed_absent, times_none, times_removed, times_some, Moves, changed_absent, put_absent, nat_tests, sum_by-append}
-use Rattle.session_laws.proofs.Scenes.{What, Hook, AreDistinct, Context, Contexts, is_child, move_events, new_context, placed_under, callbacks, gone_events, emptied, gone, waiting, Error, KindTable, IsSound, CtxKind, opening, Around, Scene, Moment, Options, World, moment, with_scene, Ended, children_gone, context_cleared, context_cleared_alone, context_gone, say, Text, context_made, context_moved, hook_waits, table_of, exited, Reading, course_by, ended, of_session, transcript_by, turn}
-use Rattle.session_laws.proofs.Rules.{allows_all, seen_after, events_of, is_one_of, allows_all-append, seen_after-append, at_children, at_emptied, at_left, times_emptied, at_put, at_put_other, EndLeaves, Keeps, Law, AreSaid, said_more, said_none, ContextLeaves, Sight, of_contexts, of_next_context}
-use Rattle.lifetime_laws.specs.Called.{Waiting, calling, is_awaited, is_next, without_next, CallsBack, all_differ, words_in}
-use Rattle.lifetime_laws.specs.Once.{none_left}
-use Rattle.forest.proofs.Moved.{at_moved}
-use Rattle.forest.proofs.Mapped.{at_changed, at_changed_other}
+use Rattle.session_laws.proofs.Words.{◌≡◌, ◌≢◌, ℕ, Bool, true, false, cond, Option, Some, None, List, [], ◌∷◌, ◌++◌, map, refl, sym, ap, ◌∙◌, subst, inl, inr, arith, ◌+◌, ◌≤◌, ◌==◌, ◌||◌, option_map_or, cases_Bool, cases_eq, eq-eqb, ne_eqb, eqb-true, both_ways, cond-true, cond-false, false_from_ne_true, or_parts, and_from, Empty, Node, Once, at, children, either, has, removed, subtree, times, with_children, changed, is_above, put, Apart, apart_of, at_absent, at_some, has_none, removed_absent, times_none, times_removed, times_some, Moves, changed_absent, put_absent, nat_tests, sum_by-append, at_changed, at_changed_other, at_moved, none_left}
+use Rattle.session_laws.proofs.Scenes.{What, Hook, AreDistinct, Context, Contexts, is_child, move_events, new_context, placed_under, callbacks, gone_events, emptied, gone, waiting, Error, KindTable, IsSound, CtxKind, opening, Around, Scene, Moment, Options, World, moment, with_scene, Ended, children_gone, context_cleared, context_cleared_alone, context_gone, say, Text, context_made, context_moved, hook_waits, table_of, exited, Reading, course_by, ended, of_session, transcript_by, turn, Kind, Event, HooksCounted, hooks_of, is_registered, registered_of}
+use Rattle.session_laws.proofs.Rules.{allows_all, seen_after, events_of, is_one_of, allows_all-append, seen_after-append, at_children, at_emptied, at_left, times_emptied, at_put, at_put_other, EndLeaves, Keeps, Law, AreSaid, said_more, said_none, ContextLeaves, Sight, of_contexts, of_next_context, Waiting, calling, is_awaited, is_next, without_next, CallsBack, all_differ, words_in, ShelfState, held, ContextLaw, context_ends, context_makes, is_apart, is_of_contexts, exited_counts_hooks, turn_counts_hooks, distinct_times, times_append, StandingMoves, standing_moves, named_there}
 use Rattle.context_rules.specs.Refusals.{is_within}
 use Rattle.session_rules.proofs.Chunked.{LeavesHooks}
 use Rattle.session_rules.proofs.HookSteps.{AreNumbered, IsNumbered, counted_alone, counted_children, counted_gone, counted_moved, numbered_changed, numbered_put}
-use Rattle.session_rules.proofs.NamesStand.{named_there}
 use Rattle.session_laws.proofs.Lives.{IsLife, IsRead, OwesTurns, Reads, read_both, life_by, owes_by}
-use Rattle.session_rules.proofs.Aside.{ContextLaw, context_ends, context_makes, is_apart, is_of_contexts}
-use Rattle.session_rules.proofs.Meeting.{StandingMoves, standing_moves}
-use Rattle.pgs_step.specs.declared.events.Event.{Event}
-use Rattle.owner_kinds.specs.Kind.{Kind}
-use Rattle.reset_callbacks.specs.ShelfState.{ShelfState, held}
-use Rattle.session_rules.specs.HookCounts.{HooksCounted, hooks_of, is_registered, registered_of}
-use Rattle.session_rules.proofs.HookLaws.{exited_counts_hooks, turn_counts_hooks}
 use Rattle.session_rules.proofs.HookSums.{registered_cons}
-use Rattle.session_rules.proofs.HooksKept.{distinct_times, times_append}
 use Rattle.session_laws.proofs.Lifts.{word_times_are, CourseLaw, HaveLived, behind_turn, last_of_all, lives_in_run, run_keeps, scene_at}
 use Rattle.pgs_step.specs.declared.events.What.TheVariants as what
 use Rattle.context_rules.specs.Ends as ends
@@ -244,16 +231,7 @@ part_read : (s t : Scene) (part : Contexts) → IsPart part s.session.contexts t
 part_read s t part p k seen fit =
     let called : Calls (λ n. has n part) seen (gone_events part) =
     gone_called part seen p.once (λ n u. fit.words n ∙ ap (λ (c : Option Context). option_map_or (λ (d : Context). words_of d.hooks) c []) (sym (p.same n u))) in
-    record {
-      allowed = called.allowed;
-      fits = record {
-        numbered = k;
-        words = λ n. elim (cases_Bool (has n part)) [
-          | inl y ↦ called.none n y ∙ ap (λ (c : Option Context). option_map_or (λ (d : Context). words_of d.hooks) c []) (sym (p.gone n y))
-          | inr y ↦ called.others n y ∙ (fit.words n ∙ ap (λ (c : Option Context). option_map_or (λ (d : Context). words_of d.hooks) c []) (sym (p.stays n y)))
-        ];
-      };
-    }
+    grind (arith, nat_tests, cases_Bool)
 
 gone_read : (n : ℕ) (s : Scene) → CallsHooks s (context_gone n s).scene (context_gone n s).events
 gone_read n s = record {
@@ -351,13 +329,7 @@ abbrev KeepsWords : Contexts → Contexts → Type 0
 KeepsWords t u = (n : ℕ) → words_at n u ≡ words_at n t
 
 words_changed : (t : Contexts) (n : ℕ) (f : Context → Context) → ((c : Context) → (f c).hooks ≡ c.hooks) → KeepsWords t (changed n f t)
-words_changed t n f same m = elim (cases_eq m n) [
-  | inl e ↦ subst (λ (j : ℕ). words_at j (changed n f t) ≡ words_at j t) (sym e) (elim (cases_Bool (has n t)) [
-    | inl there ↦ let a = at_some n t there in ap words_there (at_changed n f t a.0 a.1) ∙ (ap words_of (same a.0) ∙ sym (ap words_there a.1))
-    | inr away ↦ ap (words_at n) (changed_absent n f t away)
-  ])
-  | inr differ ↦ ap words_there (at_changed_other m n f t differ)
-]
+words_changed t n f same m = grind (arith, nat_tests, cases_eq, cases_Bool, at_some, at_changed, changed_absent, at_changed_other)
 
 -- a call on chunks
 chunk_read : (s : Scene) (n : ℕ) (f : Context → Context) → LeavesHooks f → CallsHooks s (record s { session = record s.session { contexts = changed n f s.session.contexts } }) []
@@ -449,11 +421,7 @@ first_called seen around fit = all_called seen (λ n. fit.words n ∙ first_word
 -- The events of a session call each callback that is registered, and nothing is left in the end.
 pub calls_live : (kinds : KindTable) → IsLife kinds calling FitsHooks [] (λ seen. none_left seen ≡ true)
 unfolding opening
-calls_live kinds =
-    life_by kinds calling FitsHooks [] (λ seen. none_left seen ≡ true) calls_turns
-    (λ around table. record { numbered = first_numbered; words = λ n. sym (first_words n) })
-    (λ seen session a b same fit. record { numbered = fit.numbered; words = fit.words }) exit_read
-    (λ seen s gone fit. all_called seen (λ n. fit.words n ∙ ap (words_at n) gone.contexts))
+calls_live kinds = grind (arith, nat_tests, life_by, calls_turns, first_numbered, first_words, exit_read, all_called)
 
 -- Each callback of a run is called, and no two have one word: each that is registered was a fresh hook of the shelf, and these differ.
 
@@ -473,8 +441,7 @@ told_own n k (x ∷ xs) = omega (arith, told_own n k xs, registered_cons n x xs)
 -- a word that none of the events tells isn't among theirs
 none_at : (n k : ℕ) (x : What) (events : List Event) → (told n events ≡ 0 → is_one_of n (words_in events) ≡ false) → cond (is_registered n x) 1 0 + told n events ≡ 0
     → is_one_of n (words_in (record { session = k; what = x } ∷ events)) ≡ false
-none_at n k (what.Hook word context) events more h = grind (arith, nat_tests)
-none_at n k other events more h = more (omega (arith, h))
+none_at n k x events more h = grind (arith, nat_tests)
 
 none_told : (n : ℕ) (events : List Event) → told n events ≡ 0 → is_one_of n (words_in events) ≡ false
 none_told n [] h = refl
@@ -483,8 +450,7 @@ none_told n (event ∷ events) h = none_at n event.session event.what events (no
 -- where each word is told once at most, they all differ
 differ_at : (k : ℕ) (x : What) (events : List Event) → all_differ (words_in events) ≡ true → ((n : ℕ) → cond (is_registered n x) 1 0 + told n events ≤ 1)
     → all_differ (words_in (record { session = k; what = x } ∷ events)) ≡ true
-differ_at k (what.Hook word context) events more h = grind (arith, nat_tests, eq-eqb, and_from, none_told)
-differ_at k other events more h = more
+differ_at k x events more h = grind (arith, nat_tests, eq-eqb, and_from, none_told)
 
 all_told : (events : List Event) → ((n : ℕ) → told n events ≤ 1) → all_differ (words_in events) ≡ true
 all_told [] h = refl

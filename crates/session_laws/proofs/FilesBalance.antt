@@ -1,13 +1,11 @@
 -- Where each item is released once, so are the items of a file together.
-use Rattle.session_laws.proofs.Words.{◌≡◌, ℕ, ◌+◌, ◌≤◌, Bool, true, false, cond, if◌then◌else◌, List, [], ◌∷◌, ◌++◌, length, Option, Some, None, refl, sym, arith, subst, ◌==◌, ◌&&◌, sum_by, option_map_or, and_from, and_parts, both_ways, eq-eqb, eqb-true, leb-true, sum_by-cons, nat_tests, ◌-◌, nat_le}
+use Rattle.session_laws.proofs.Words.{◌≡◌, ℕ, ◌+◌, ◌≤◌, Bool, true, false, cond, if◌then◌else◌, List, [], ◌∷◌, ◌++◌, length, Option, Some, None, refl, sym, arith, subst, ◌==◌, ◌&&◌, sum_by, option_map_or, and_from, and_parts, both_ways, eq-eqb, eqb-true, leb-true, sum_by-cons, nat_tests, ◌-◌, nat_le, acquires, one_where, releases, same_item, closes, opens}
 use Rattle.session_laws.proofs.Scenes.{What, Item, is_of, file_kind, SessionState, opening, Error, Command, table_of, KindTable, Around, Moment, Scene, exited, StandsBetweenLines, turn}
-use Rattle.session_laws.proofs.Rules.{allows_all, seen_after, Reader, BalancesFrom, count, covers, left, said_one}
-use Rattle.lifetime_laws.specs.Once.{acquires, one_where, releases, same_item, closes, opens}
+use Rattle.session_laws.proofs.Rules.{allows_all, seen_after, Reader, BalancesFrom, count, covers, left, said_one, times}
 use Rattle.session_laws.proofs.FilesHeld.{item_reader, leaves_file, takes_file, ItemFits, items_exit, items_turn, items_aside}
 use Rattle.session_laws.proofs.Lives.{IsRead, Reads, IsLife}
 use Rattle.session_laws.proofs.MadeOnce.{FitsPair, IsPaired, Pair, pair_reads, paired}
 use Rattle.session_laws.proofs.FilesLife.{AreOpened, FilesFit, opening_turns, files_elsewhere, files_error, files_exit, files_open, files_turn}
-use Rattle.file_table.proofs.FileCounts.{times}
 use Rattle.pgs_step.specs.declared.events.What.TheVariants as what
 
 -- what is brought is what is taken and what is left
@@ -125,20 +123,16 @@ module _ (f : ℕ) where
   released other = None
 
   takes_is : (event : What) → takes_file f event ≡ in_file (acquired event)
-  takes_is (what.Acquire item owner) = refl
-  takes_is other = refl
+  takes_is event = grind (arith, nat_tests)
 
   leaves_is : (event : What) → leaves_file f event ≡ in_file (released event)
-  leaves_is (what.Release item owner) = refl
-  leaves_is other = refl
+  leaves_is event = grind (arith, nat_tests)
 
   acquires_is : (p : ItemOwner) (event : What) → acquires p.0 p.1 event ≡ is_it p (acquired event)
-  acquires_is p (what.Acquire item owner) = refl
-  acquires_is p other = refl
+  acquires_is p event = grind (arith, nat_tests)
 
   releases_is : (p : ItemOwner) (event : What) → releases p.0 p.1 event ≡ is_it p (released event)
-  releases_is p (what.Release item owner) = refl
-  releases_is p other = refl
+  releases_is p event = grind (arith, nat_tests)
 
   -- Where each item is acquired and released in balance, no item of the file is left.
   pub none_left_of : (events : List What) → ((item : Item) (owner : ℕ) → BalancesFrom 0 (acquires item owner) (releases item owner) events) → allows_all (item_reader f) 0 events ≡ true

@@ -1,7 +1,7 @@
 -- What becomes of owners makes them hold no more, and leaves each number once.
 use Rattle.session_laws.proofs.Words.{◌≡◌, ℕ, ◌≤◌, true, Some, List, [], ◌∷◌, refl, ap, inl, inr, arith, ◌+◌, ◌-◌, Bool, false, cond, nat_eq, if◌then◌else◌, ◌++◌, Option, None, sym, subst, ◌∙◌, zero, suc, find, take, ◌==◌, ◌&&◌, nat_le, nat_lt, list_any, cases_Bool, and_from, eqb-true, le-leb, Empty, Node, Once, at, children, has, moved, put, removed, subtree, size, order_at, at_absent, at_some, once_removed, put_absent, removed_absent, times_put, times_removed, changed_absent, once_changed, option_map_or, nat_tests}
-use Rattle.session_laws.proofs.Scenes.{Item, KindId, is_of, uses, without_newest, Owner, OwnerTree, held, created, forgotten, remembered, What, Phase, KindTable, Step, GivesBack, ReleasesLocks, PassesLocks, ReleasesAllLocks, release_steps, StandingPlan, file_kind, level_above, level_owner, owner_of, opening, Scene, Around, Moment, plan_at, newest, Ended, for_each, where_there, changes, in_order, say, NoOne, TheDescriptors, TheKind, ThePlans, given_back, left_to, plan_becomes, plan_settled, plan_stays, step_done, item_released, keeper_of, owner_gone, owner_moved, phase_released, table_of, own_released, released, OfLevel, OfPortal, OwnerRole, Element, new_owner_made, owner_made, limit, descriptor_given, files, item_taken, remembers, taken_by, snapshot_pushed, Error, Command, failure, refused_call, unless_refused, does, exited, Stands, StandsBetweenLines, line_elements, turn}
-use Rattle.session_laws.proofs.Rules.{Reader, allows_all, seen_after, count, allows_all-append, seen_after-append, Law, Follows, IsRun, Meets, line_runs, fallible_at, fallible_so, said_none, said_more, said_map, said_gone, said_lock_releases, said_lock_passes, said_all_locks, of_recent, of_owners}
+use Rattle.session_laws.proofs.Scenes.{Item, KindId, is_of, uses, without_newest, Owner, OwnerTree, held, created, forgotten, remembered, What, Phase, KindTable, Step, GivesBack, ReleasesLocks, PassesLocks, ReleasesAllLocks, release_steps, StandingPlan, file_kind, level_above, level_owner, owner_of, opening, Scene, Around, Moment, plan_at, newest, Ended, for_each, where_there, changes, in_order, say, NoOne, TheDescriptors, TheKind, ThePlans, given_back, left_to, plan_becomes, plan_settled, plan_stays, step_done, item_released, keeper_of, owner_gone, owner_moved, phase_released, table_of, own_released, released, OfLevel, OfPortal, OwnerRole, Element, new_owner_made, owner_made, limit, descriptor_given, files, item_taken, remembers, taken_by, snapshot_pushed, Error, Command, failure, refused_call, unless_refused, does, exited, Stands, StandsBetweenLines, line_elements, turn, is_among, without, given_events, given_file, loser, touch_events, touched_file}
+use Rattle.session_laws.proofs.Rules.{Reader, allows_all, seen_after, count, allows_all-append, seen_after-append, Law, Follows, IsRun, Meets, line_runs, fallible_at, fallible_so, said_none, said_more, said_map, said_gone, said_lock_releases, said_lock_passes, said_all_locks, of_recent, of_owners, times, times_none, times_without, below_limit, own_refusal}
 use Rattle.session_laws.proofs.Parents.{alike_swept, once_alike}
 use Rattle.session_laws.proofs.StepsOf.{AreOf, gives_up, no_step, numbers_of, passes, steps_of, unlocks, unlocks_all, warns}
 use Rattle.std.proofs.lemmas.Grind.{common_steps}
@@ -9,14 +9,10 @@ use Rattle.owner_core.specs.Sound.{total}
 use Rattle.owner_core.proofs.Sounds.{total_put, total_removed, once_of, sound_created}
 use Rattle.session_rules.specs.Counts.{all_items, holds}
 use Rattle.session_rules.proofs.HeldItems.{gives, gives_phase, held_created, held_forgotten, held_remembered}
-use Rattle.file_table.specs.Descriptors.{is_among, without}
-use Rattle.file_table.proofs.FileCounts.{times, times_none, times_without}
 use Rattle.session_laws.proofs.LocksSight.{ArePlain, hides, of_items, subject, Sees, Turns, locked_hidden, pushed_hidden, unlocked_hidden, Least, OwesUnlocks, ending_turn, least_acts, lock_owed, session_exits, unlock_owed, stack_hidden}
 use Rattle.session_laws.proofs.FilesLife.{mark, mark_swapped, times_more}
-use Rattle.file_table.specs.Files.{given_events, given_file, loser, touch_events, touched_file}
 use Rattle.session_laws.proofs.Lives.{IsRead, Reads, read_both}
 use Rattle.session_laws.proofs.OwnerEnds.{steps_stay}
-use Rattle.session_rules.proofs.StepsStand.{below_limit, own_refusal}
 use Rattle.session_laws.proofs.LocksChecked.{IsChecked, line_checked, passed_unless}
 use Rattle.pgs_step.specs.declared.events.What.TheVariants as what
 use Rattle.session_rules.specs.Elements as e
@@ -93,12 +89,10 @@ module _ (f : ℕ) where
   still_both (still_more h hs) k = still_more h (still_both hs k)
 
   plain_takes : (event : What) → hides (subject event) of_items ≡ true → takes_file f event ≡ 0
-  plain_takes (what.Acquire item owner) h = absurd (cc h)
-  plain_takes other h = refl
+  plain_takes event h = grind (arith, nat_tests)
 
   plain_leaves : (event : What) → hides (subject event) of_items ≡ true → leaves_file f event ≡ 0
-  plain_leaves (what.Release item owner) h = absurd (cc h)
-  plain_leaves other h = refl
+  plain_leaves event h = grind (arith, nat_tests)
 
   pub plain_still : {events : List What} → ArePlain of_items events → AreStill events
   plain_still said_none = still_none
@@ -390,12 +384,7 @@ module _ (f : ℕ) where
 
   -- an owner that is made
   made_so : (parent : Option ℕ) (s : Scene) → Once (created parent s.session.next_owner s.session.owners) → ReadsItems s (owner_made parent s).scene (owner_made parent s).events
-  made_so None s once = grind (arith, nat_tests, fallen, falls_still, still_one, held_created)
-  made_so (Some p) s once = record {
-    so = λ m h.
-        fallen (falls_still f m m (owner_made (Some p) s).scene (still_one f (what.OwnerIn s.session.next_owner p) refl refl) h.few h.covered (omega arith))
-        (omega (arith, h.covers, held_created file_kind f (Some p) s.session.next_owner s.session.owners)) once;
-  }
+  made_so parent s once = grind (arith, nat_tests, fallen, falls_still, still_one, held_created)
 
   pub role_so : (role : OwnerRole) (s : Scene) → ((parent : Option ℕ) → Once (created parent s.session.next_owner s.session.owners)) → ReadsItems s (new_owner_made role s).scene (new_owner_made role s).events
   role_so OfLevel s once = items_seen.both (made_so (owner_of (level_above s.session)) s (once (owner_of (level_above s.session)))) (items_aside _ _ refl refl said_none)

@@ -1,8 +1,7 @@
 -- A line is read: its elements one by one, and what a recovery does.
 use Rattle.session_laws.proofs.Words.{◌≡◌, ℕ, Bool, true, false, not, if◌then◌else◌, List, [], ◌∷◌, ◌++◌, Option, Some, None, refl, sym, ap, ◌∙◌, subst, inl, inr, and_from, both_ways, nat_tests, arith}
 use Rattle.session_laws.proofs.Scenes.{Error, What, Command, LevelState, first_of, is_aborted, SessionState, opening, top_context, Moment, Scene, Around, Element, Ended, in_order, where_so, where_there, context_gone, for_each, say, switched, aborted, cleaned_up, given_up, level_rolled_back, recovered, exited, Done, does, does_all, then_done, Stands, StandsBetweenLines, line_elements, turn, turn_of, KindTable, table_of}
-use Rattle.session_laws.proofs.Rules.{allows_all, seen_after, allows_all-append, seen_after-append, rolled_stands, settled, AreSpoken, IsRun, Keeps, last, next, line_spoken, Meets, Runs, aborts, by_order}
-use Rattle.lifetime_laws.specs.Inside.{Leaving, awaited_behind, staying, nothing_leaving}
+use Rattle.session_laws.proofs.Rules.{allows_all, seen_after, allows_all-append, seen_after-append, rolled_stands, settled, AreSpoken, IsRun, Keeps, last, next, line_spoken, Meets, Runs, aborts, by_order, Leaving, awaited_behind, staying, nothing_leaving}
 use Rattle.session_rules.proofs.EndsStand.{Leaves as LeavesLevels}
 use Rattle.session_laws.proofs.Lives.{Reads, turn_keeps, IsLife, then_read, line_leads}
 use Rattle.session_laws.proofs.Parents.{FitsContexts}
@@ -35,8 +34,7 @@ pub record Walked (leaving : Leaving) (done : Done) : Type 0 where
 then_walked : (leaving : Leaving) (done : Done) (r : Option Error) (rest : Moment → Done) → done.refusal ≡ r → allows_all staying leaving done.events ≡ true → Trees (seen_after staying leaving done.events) done.moment.scene
     → (r ≡ None → Walked (seen_after staying leaving done.events) (rest done.moment)) → ((error : Error) → r ≡ Some error → AtSome (seen_after staying leaving done.events) done.moment.scene)
     → Walked leaving (then_done done r rest)
-then_walked leaving done None rest is allowed trees more stopped = grind (arith, nat_tests, seen_after-append, allows_all-append)
-then_walked leaving done (Some error) rest is allowed trees more stopped = grind (arith, nat_tests)
+then_walked leaving done r rest is allowed trees more stopped = grind (arith, nat_tests, seen_after-append, allows_all-append)
 
 -- elements in order are read
 pub walk : (w : Option ℕ) (xs : List Element) (stage : Stage) (m : Moment) (leaving : Leaving) → AreDue stage xs → AreSpoken false xs → IsRun Meets w xs m → Trees leaving m.scene → At stage leaving m.scene
@@ -60,8 +58,7 @@ halted_of : (leaving : Leaving) (s : Scene) (level : LevelState) (levels : List 
 halted_of leaving s level levels are gone k = grind (arith, nat_tests)
 
 working_at : (leaving : Leaving) (s : Scene) (levels : List LevelState) → s.session.levels ≡ levels → AwaitsNothing leaving s → At (stage_of levels) leaving s
-working_at leaving s [] are k = k
-working_at leaving s (level ∷ levels) are k = grind (arith, nat_tests, halted_of)
+working_at leaving s levels are k = grind (arith, nat_tests, halted_of)
 
 halted_at : (leaving : Leaving) (s : Scene) (k : Halted leaving s) → At (stage_of s.session.levels) leaving s
 halted_at leaving s k = subst (λ (ls : List LevelState). At (stage_of ls) leaving s) (sym k.are) (subst (λ (b : Bool). At (if b then Hushed else Working) leaving s) (sym k.aborted) k)
@@ -241,11 +238,7 @@ turn_rests w line m leaving h k =
     turn_of_read leaving done done.refusal refl run.stands walked
 
 trees_turn : (w : Option ℕ) (line : Option Command) (m : Moment) → StandsBetweenLines m.scene → KeepsTrees m.scene (turn w line m).moment.scene (turn w line m).events
-trees_turn w line m h = record {
-  contexts = turn_keeps KeepsContexts contexts_owed w line m h;
-  owners = turn_keeps KeepsOwners owners_owed w line m h;
-  quiet = turn_keeps KeepsQuiet quiet_owed w line m h;
-}
+trees_turn w line m h = grind (arith, nat_tests, turn_keeps, contexts_owed, owners_owed, quiet_owed)
 
 -- A turn is read.
 pub turn_read : (w : Option ℕ) (line : Option Command) (m : Moment) → StandsBetweenLines m.scene → Reads staying FitsInside m.scene (turn w line m).moment.scene (turn w line m).events
@@ -268,10 +261,7 @@ last_elsewhere : (leaving : Leaving) (session : SessionState) (a b : Around) →
 last_elsewhere leaving session a b k = grind (arith, nat_tests)
 
 at_elsewhere : (stage : Stage) (leaving : Leaving) (session : SessionState) (a b : Around) → At stage leaving (record { session = session; around = a }) → At stage leaving (record { session = session; around = b })
-at_elsewhere Working leaving session a b k = assumption
-at_elsewhere ContextNext leaving session a b k = record { active = assumption; awaited = k.awaited; is_last = last_elsewhere leaving session a b k.is_last }
-at_elsewhere OwnerNext leaving session a b k = record { active = assumption; awaited = k.awaited; is_last = last_elsewhere leaving session a b k.is_last }
-at_elsewhere Hushed leaving session a b k = grind (arith, nat_tests)
+at_elsewhere stage leaving session a b k = grind (arith, nat_tests, last_elsewhere)
 
 elsewhere_fits : (leaving : Leaving) (session : SessionState) (a b : Around) → FitsInside leaving (record { session = session; around = a }) → FitsInside leaving (record { session = session; around = b })
 elsewhere_fits leaving session a b k = grind (arith, nat_tests, at_elsewhere, stage_of)

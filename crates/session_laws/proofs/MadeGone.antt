@@ -1,17 +1,11 @@
 -- Only elements that make something say that something is made.
-use Rattle.session_laws.proofs.Words.{◌≡◌, ℕ, Bool, true, false, List, Option, refl, ◌+◌, ◌<◌, ◌≤◌, All, [], ◌∷◌, ◌++◌, Some, None, ap, ◌∙◌, subst, inl, inr, arith, ◌≢◌, zero, suc, ◌-◌, IsTrue, sym, drop, ◌==◌, option_and_then, option_map_or, and_from, cases_Bool, and_parts, both_ways, cases_eq, eq-eqb, eqb-true, ne_eqb, or_cases, All-head, All-tail, has, nat_tests}
-use Rattle.session_laws.proofs.Scenes.{Error, What, Moment, Scene, Element, OfLevel, LevelContext, NewContext, OfPortal, OwnerRole, PortalContext, RowContext, ScriptContext, Text, at_owner, lock_given_back, descriptor_given, lock_taken, snapshot_pushed, does, does_all, failing_turn, then_done, exited, recovered, Command, KindTable, LevelState, OpenPortal, cache_context, first_of, level_above, owner_of, portals_context, top_context, portal_named, Ended, where_there, level_parent, new_context_made, new_owner_made, owner_made, plan_made, Done, fallible, refused_call, unless_refused, AreLevels, IsPortal, Stands, StandsBetweenLines, line_elements, turn, turn_of, table_of}
-use Rattle.session_laws.proofs.Rules.{Acts, EndLeaves, Follows, IsSpoken, OwesMakes, AreSpoken, IsRun, by_owner, element_follows, fallible_so, levels_owed, moves_owed, unfailing_so, ends_owed, exit_follows, recovers, AreSaid, said_both, said_one, said_more, said_none, Sight, item_comes, no_part, unseen_keys, unseen_owners, line_spoken, Meets, line_runs, Reader, allows_all, seen_after, allows_all-append, BalancesFrom, count, covers, left}
+use Rattle.session_laws.proofs.Words.{◌≡◌, ℕ, Bool, true, false, List, Option, refl, ◌+◌, ◌<◌, ◌≤◌, All, [], ◌∷◌, ◌++◌, Some, None, ap, ◌∙◌, subst, inl, inr, arith, ◌≢◌, ◌-◌, IsTrue, sym, drop, ◌==◌, option_and_then, and_from, cases_Bool, and_parts, both_ways, cases_eq, eq-eqb, eqb-true, ne_eqb, or_cases, All-head, All-tail, has, nat_tests, Parents, first_parents, parents_behind, shedding, deletes, discards, happens, has_context, is_first_context, makes_context, makes_owner, nothing, one_where}
+use Rattle.session_laws.proofs.Scenes.{Error, What, Moment, Scene, Element, OfLevel, NewContext, OwnerRole, Text, at_owner, lock_given_back, descriptor_given, lock_taken, snapshot_pushed, does, does_all, failing_turn, then_done, exited, recovered, Command, KindTable, LevelState, OpenPortal, cache_context, first_of, owner_of, top_context, portal_named, Ended, where_there, level_parent, new_context_made, new_owner_made, owner_made, plan_made, Done, fallible, refused_call, unless_refused, AreLevels, IsPortal, Stands, StandsBetweenLines, line_elements, turn, turn_of, table_of}
+use Rattle.session_laws.proofs.Rules.{Acts, EndLeaves, Follows, IsSpoken, OwesMakes, AreSpoken, IsRun, by_owner, element_follows, fallible_so, levels_owed, moves_owed, unfailing_so, ends_owed, exit_follows, recovers, AreSaid, said_both, said_one, said_more, said_none, Sight, item_comes, no_part, unseen_keys, unseen_owners, line_spoken, Meets, line_runs, Reader, allows_all, seen_after, allows_all-append, BalancesFrom, count, covers, left, is_there-placed_other, is_there-placed_same, is_there-without_other, is_there-without_same, is_there, Node as Kept, placed, placed_where, without, protected_has, top_protected, named_there, Named, named_in}
 use Rattle.session_laws.proofs.Usual.{Usual, is_usual, usual_files, usual_locked, usual_moves, usual_pushed, usual_unlocked, plain_ends}
-use Rattle.session_rules.proofs.ContextsKept.{protected_has, top_protected}
-use Rattle.session_rules.proofs.NamesStand.{named_there}
-use Rattle.session_rules.proofs.PortalsStand.{Named, named_in}
-use Rattle.lifetime_laws.specs.Once.{Parents, first_parents, parents_behind, shedding, deletes, discards, happens, has_context, is_first_context, makes_context, makes_owner, nothing, one_where}
-use Rattle.lifetime_laws.specs.Parents.{is_there, Node as Kept, placed, placed_where, without}
 use Rattle.session_laws.proofs.Lives.{IsLife, IsRead, Reads, read_both, read_none}
 use Rattle.session_laws.proofs.ParentsLife.{KeepsContexts, contexts_owed, KeepsOwners, owners_owed, opening_contexts, opening_owners}
 use Rattle.session_laws.proofs.MadeOnce.{FitsParents, NoneLeft, shed_reads, shedding_life, HasFollowed, IsFollowed, IsPaired, Pair, followed, pair_reads, paired, first_small, leaf_there, none_allowed, one_allowed, there_moved, there_placed}
-use Rattle.lifetime_laws.proofs.Replays.{is_there-placed_other, is_there-placed_same, is_there-without_other, is_there-without_same}
 use Rattle.session_laws.proofs.Parents.{Growth, growing_contexts, growing_owners}
 use Rattle.pgs_step.specs.declared.events.What.TheVariants as what
 use Rattle.session_rules.specs.Elements as e
@@ -24,8 +18,7 @@ is_unmade (what.OwnerIn owner parent) = false
 is_unmade other = true
 
 usual_unmade : (event : What) → is_usual event ≡ true → is_unmade event ≡ true
-usual_unmade (what.Create context name parent) h = absurd (cc h)
-usual_unmade other h = cc
+usual_unmade event h = grind (arith, nat_tests)
 
 -- the law that all are such ones
 record NoneMade (s t : Scene) (events : List What) : Type 0 where
@@ -102,8 +95,7 @@ same_seen [] parents = refl
 same_seen (event ∷ events) parents = same_seen events (parents_behind event parents)
 
 one_placed : (event : What) (parents : Parents) → is_unmade event ≡ true → placing.allows event parents ≡ true
-one_placed (what.Create context name parent) parents h = absurd (cc h)
-one_placed other parents h = cc
+one_placed event parents h = grind (arith, nat_tests)
 
 none_placed : {events : List What} → AreSaid is_unmade events → (parents : Parents) → allows_all placing parents events ≡ true
 none_placed said_none parents = refl
@@ -115,19 +107,14 @@ pub record ArePlaced (s : Scene) (events : List What) : Type 0 where
   pub allowed : (parents : Parents) → FitsParents parents s → allows_all placing parents events ≡ true
 
 pub place_reads : {s t : Scene} {events : List What} → Reads shedding FitsParents s t events → ArePlaced s events → Reads placing FitsParents s t events
-place_reads {t = t} {events = events} r h = record {
-  so = λ parents fit.
-      let k : IsRead shedding FitsParents parents t events = r.so parents fit in
-      record { allowed = h.allowed parents fit; fits = subst (λ (seen : Parents). FitsParents seen t) (same_seen events parents) k.fits };
-}
+place_reads {t = t} {events = events} r h = grind (arith, nat_tests, same_seen)
 
 -- a context or an owner that is made below one that is there
 below_context : (n parent : ℕ) (name : Text) (s : Scene) → has parent s.session.contexts ≡ true → ArePlaced s (what.Create n name parent ∷ [])
 below_context n parent name s there = record { allowed = λ parents fit. and_from (is_there parent parents.contexts) true (fit.contexts.tree.there parent ∙ there) refl }
 
 owner_placed : (o : Option ℕ) (s : Scene) → ((q : ℕ) → o ≡ Some q → has q s.session.owners ≡ true) → ArePlaced s (owner_made o s).events
-owner_placed None s there = record { allowed = λ parents fit. refl }
-owner_placed (Some q) s there = record { allowed = λ parents fit. and_from (is_there q parents.owners) true (fit.owners.tree.there q ∙ there q refl) refl }
+owner_placed o s there = grind (arith, nat_tests, and_from)
 
 -- what is there in a scene that stands
 module _ (s : Scene) (h : Stands s) where
@@ -138,21 +125,13 @@ module _ (s : Scene) (h : Stands s) where
   own_there n l u = protected_has n s.session.contexts (h.contexts.own n l u).protected
 
   above_there : (o : Option LevelState) → ((level : LevelState) → o ≡ Some level → (n : ℕ) → level.context ≡ Some n → has n s.session.contexts ≡ true) → has (level_parent o) s.session.contexts ≡ true
-  above_there None there = top_there
-  above_there (Some level) there = go level.context (there level refl)
-    where
-      go : (c : Option ℕ) → ((n : ℕ) → c ≡ Some n → has n s.session.contexts ≡ true) → has (option_map_or (λ n. n) c top_context) s.session.contexts ≡ true
-      go None there = top_there
-      go (Some n) there = there n refl
+  above_there o there = grind (arith, nat_tests, top_there)
 
   second_context : (levels : List LevelState) → AreLevels levels s.session.contexts s.session.owners → (level : LevelState) → first_of (drop 1 levels) ≡ Some level → (n : ℕ) → level.context ≡ Some n → has n s.session.contexts ≡ true
-  second_context [] all level is n e = absurd (cc is)
-  second_context (first ∷ []) all level is n e = absurd (cc is)
-  second_context (first ∷ (above ∷ rest)) all level is n e = grind (arith, nat_tests, protected_has)
+  second_context levels all level is n e = grind (arith, nat_tests, protected_has)
 
   first_owner : (levels : List LevelState) → AreLevels levels s.session.contexts s.session.owners → (q : ℕ) → owner_of (first_of levels) ≡ Some q → has q s.session.owners ≡ true
-  first_owner [] all q e = absurd (cc e)
-  first_owner (first ∷ rest) all q e = (all.0.owner q e).there
+  first_owner levels all q e = grind (arith, nat_tests)
 
   middle : (p : OpenPortal) (front back : List OpenPortal) → All (λ r. IsPortal r s.session.levels s.session.contexts s.session.owners s.session.current) (front ++ (p ∷ back))
       → IsPortal p s.session.levels s.session.contexts s.session.owners s.session.current
@@ -167,35 +146,26 @@ module _ (s : Scene) (h : Stands s) where
       protected_has n s.session.contexts (i.place n e).protected
 
   placed_there : (o : Option ℕ) (act : ℕ → Scene → Ended) → ((n : ℕ) → o ≡ Some n → ArePlaced s (act n s).events) → ArePlaced s (where_there o act s).events
-  placed_there None act k = record { allowed = λ parents fit. refl }
-  placed_there (Some n) act k = k n refl
+  placed_there o act k = grind (arith, nat_tests)
 
   context_placed : (new : NewContext) → ArePlaced s (new_context_made new s).events
-  context_placed LevelContext = below_context s.session.next_context _ _ s (above_there (level_above s.session) (second_context s.session.levels h.levels))
-  context_placed (PortalContext name) = below_context s.session.next_context portals_context _ s (own_there portals_context (omega arith) (omega arith))
-  context_placed (RowContext name) =
-      placed_there (option_and_then (λ (p : OpenPortal). p.context) (portal_named name s.session.portals)) _
-      (λ n e. below_context s.session.next_context n _ s (place_there name (portal_named name s.session.portals) refl n e))
-  context_placed (ScriptContext name parent kind) = grind (arith, nat_tests, placed_there, below_context, named_there)
+  context_placed new = grind (arith, nat_tests, below_context, above_there, second_context, own_there, placed_there, place_there, named_there)
 
   new_owner_placed : (role : OwnerRole) → ArePlaced s (new_owner_made role s).events
-  new_owner_placed OfLevel = grind (arith, nat_tests)
-  new_owner_placed (OfPortal name) = grind (arith, nat_tests, first_owner, owner_placed)
+  new_owner_placed role = grind (arith, nat_tests, first_owner, owner_placed)
 
   plan_placed : (plan : ℕ) → ArePlaced s (plan_made plan s).events
   plan_placed plan = below_context s.session.next_context cache_context _ s (own_there cache_context (omega arith) (omega arith))
 
 -- elements that make something
 unless_placed : (refusal : Option Error) (m : Moment) (act : Scene → Ended) → ArePlaced m.scene (act m.scene).events → ArePlaced m.scene (unless_refused refusal m act).events
-unless_placed None m act h = h
-unless_placed (Some error) m act h = record { allowed = λ parents fit. refl }
+unless_placed refusal m act h = grind (arith, nat_tests)
 
 fallible_placed : (w : Option ℕ) (m : Moment) (own : Option Error) (act : Scene → Ended) → ArePlaced m.scene (act m.scene).events → ArePlaced m.scene (fallible w m own act).events
 fallible_placed w m own act h = unless_placed (refused_call w m.fail (m.calls + 1) own) (record m { calls = m.calls + 1 }) act h
 
 failing_placed : (name : Text) (s : Scene) (done : Done) (refusal : Option Error) → ArePlaced s done.events → ArePlaced s (failing_turn name done refusal).events
-failing_placed name s done None h = h
-failing_placed name s done (Some error) h = h
+failing_placed name s done refusal h = grind (arith, nat_tests)
 
 making_placed : (w : Option ℕ) (x : Element) (m : Moment) → Stands m.scene → is_making x ≡ true → ArePlaced m.scene (does w x m).events
 unfolding does
@@ -220,8 +190,7 @@ element_reads w x m meets spoken =
 
 then_reads : (s : Scene) (done : Done) (refusal : Option Error) (rest : Moment → Done) → Reads placing FitsParents s done.moment.scene done.events
     → (refusal ≡ None → Reads placing FitsParents done.moment.scene (rest done.moment).moment.scene (rest done.moment).events) → Reads placing FitsParents s (then_done done refusal rest).moment.scene (then_done done refusal rest).events
-then_reads s done None rest h more = read_both placing FitsParents h (more refl)
-then_reads s done (Some error) rest h more = h
+then_reads s done refusal rest h more = grind (arith, nat_tests, read_both)
 
 -- So do elements in order, and so a line.
 pub run_reads : (w : Option ℕ) (xs : List Element) (m : Moment) → AreSpoken false xs → IsRun Meets w xs m → Reads placing FitsParents m.scene (does_all w xs m).moment.scene (does_all w xs m).events
@@ -231,14 +200,7 @@ run_reads w (x ∷ xs) m spoken run =
     then_reads m.scene (does w x m) (does w x m).refusal (does_all w xs) (element_reads w x m run.0 spoken.0) (λ none. run_reads w xs (does w x m).moment spoken.1 (run.1 none))
 
 turn_placed : (s : Scene) (done : Done) (refusal : Option Error) → Reads placing FitsParents s done.moment.scene done.events → ArePlaced s (turn_of done refusal).events
-turn_placed s done None h = record {
-  allowed = λ parents fit. let k : IsRead placing FitsParents parents done.moment.scene done.events = h.so parents fit in k.allowed;
-}
-turn_placed s done (Some error) h = record {
-  allowed = λ parents fit.
-      let k : IsRead placing FitsParents parents done.moment.scene done.events = h.so parents fit in
-      allows_all-append placing parents done.events (recovered error done.moment.scene).events k.allowed (none_placed (recovers_silent error done.moment.scene) (seen_after placing parents done.events));
-}
+turn_placed s done refusal h = grind (arith, nat_tests, allows_all-append, none_placed, recovers_silent)
 
 line_placed : (w : Option ℕ) (line : Option Command) (m : Moment) → StandsBetweenLines m.scene → ArePlaced m.scene (turn w line m).events
 unfolding turn
@@ -250,15 +212,7 @@ line_placed w line m h =
 pub placing_life : (kinds : KindTable) → IsLife kinds placing FitsParents first_parents NoneLeft
 placing_life kinds =
     let life : IsLife kinds shedding FitsParents first_parents NoneLeft = shedding_life kinds in
-    record {
-      opens = life.opens;
-      elsewhere = life.elsewhere;
-      error = λ error s. place_reads (life.error error s) (record { allowed = λ parents fit. refl });
-      turns = λ w line m stands. place_reads (life.turns w line m stands) (line_placed w line m stands);
-      exits = λ s stands parents fit.
-          let k : (allows_all shedding parents (exited s).events ≡ true) × NoneLeft (seen_after shedding parents (exited s).events) = life.exits s stands parents fit in
-          (none_placed (exits_silent s) parents, subst NoneLeft (same_seen (exited s).events parents) k.1);
-    }
+    grind (arith, nat_tests, place_reads, line_placed, none_placed, exits_silent, same_seen)
 
 -- Each context and each owner of a session goes exactly once.
 
@@ -349,8 +303,7 @@ owner_given o (event ∷ events) g h l made = grind (arith, nat_tests, owner_giv
 -- the contexts that a session begins with may go once
 
 first_some : (c : ℕ) → is_first_context c ≡ true → 1 ≤ c
-first_some zero h = absurd (cc h)
-first_some (suc n) h = omega arith
+first_some c h = grind (arith, nat_tests)
 
 first_going : (c : ℕ) → IsGoing c 6 opening_contexts.nodes 6 1
 first_going c = grind (arith, nat_tests, first_small)

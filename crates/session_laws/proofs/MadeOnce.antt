@@ -1,14 +1,10 @@
 -- A reader that allows what another one allows, by what both have seen.
-use Rattle.session_laws.proofs.Words.{◌≡◌, true, List, [], ◌∷◌, refl, ℕ, not, sym, ap, ◌∙◌, subst, ◌≢◌, ◌+◌, ◌-◌, ◌<◌, ◌≤◌, Bool, false, Option, Some, nat_le, inl, inr, arith, ◌&&◌, ◌==◌, and_from, and_parts, both_ways, cases_eq, eqb-false, eqb-true, false_from_ne_true, le-leb, nat_tests}
+use Rattle.session_laws.proofs.Words.{◌≡◌, true, List, [], ◌∷◌, refl, ℕ, not, sym, ap, ◌∙◌, subst, ◌≢◌, ◌+◌, ◌-◌, ◌<◌, ◌≤◌, Bool, false, Option, Some, nat_le, inl, inr, arith, ◌&&◌, ◌==◌, and_from, and_parts, both_ways, cases_eq, eqb-false, eqb-true, false_from_ne_true, le-leb, nat_tests, Parents, first_parents, shedding, deletes, discards, is_first_context, makes_context, makes_owner, nothing, one_where}
 use Rattle.session_laws.proofs.Scenes.{What, Scene, KindTable, exited}
-use Rattle.session_laws.proofs.Rules.{Reader, allows_all, seen_after, count}
-use Rattle.lifetime_laws.specs.Parents.{Node as Kept, has_child, is_there, placed_where}
-use Rattle.lifetime_laws.specs.Once.{Parents, first_parents, shedding, deletes, discards, is_first_context, makes_context, makes_owner, nothing, one_where}
+use Rattle.session_laws.proofs.Rules.{Reader, allows_all, seen_after, count, is_there-placed_other, is_there-without_other, is_there-without_same, IsMadeOnce, Node as Kept, has_child, is_there, placed_where}
 use Rattle.session_laws.proofs.Lives.{IsLife, IsRead, Reads}
 use Rattle.session_laws.proofs.Parents.{FitsContexts, FitsOwners, Growth, growing_contexts, growing_owners, is_leaf}
 use Rattle.session_laws.proofs.ParentsLife.{HasContexts, KeepsContexts, HasOwners, KeepsOwners, contexts_life, opening_contexts, opening_owners, owners_life}
-use Rattle.lifetime_laws.specs.Made.{IsMadeOnce}
-use Rattle.lifetime_laws.proofs.Replays.{is_there-placed_other, is_there-without_other, is_there-without_same}
 
 module _ {A B : Type 0} (one : Reader A) (two : Reader B) where
   -- where what both have seen is related, the second allows each event that the first allows, and so it is behind
@@ -85,11 +81,7 @@ shed_events events parents contexts owners c o h k =
     let seen : Pair Growth Growth = record { first = contexts; second = owners } in
     let p : IsPaired growing_contexts growing_owners seen events = pair_reads growing_contexts growing_owners events seen h k in
     let f : HasFollowed (paired growing_contexts growing_owners) shedding AreSame seen parents events = followed (paired growing_contexts growing_owners) shedding sheds events seen parents (record { contexts = c; owners = o }) p.allowed in
-    record {
-      allowed = f.allowed;
-      contexts = ap (λ (g : Growth). g.nodes) (sym p.first) ∙ f.related.contexts;
-      owners = ap (λ (g : Growth). g.nodes) (sym p.second) ∙ f.related.owners;
-    }
+    grind (arith, nat_tests)
 
 -- Where a part of what a session does keeps the replayed contexts and the replayed owners, it keeps the replayed parents, and lets nothing go that has a child.
 pub shed_reads : {s t : Scene} {events : List What} → KeepsContexts s t events → KeepsOwners s t events → Reads shedding FitsParents s t events

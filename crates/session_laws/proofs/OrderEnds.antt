@@ -1,24 +1,15 @@
 -- A reader of releases, where none is open, as one opens, and as it closes.
 use Rattle.session_laws.proofs.Words.{◌≡◌, ℕ, Bool, true, false, not, List, [], ◌∷◌, ◌++◌, map, Option, Some, None, refl, sym, subst, codes, ◌∙◌, ◌+◌, ◌<◌, All, ap, arith, ◌≤◌, length, option_and_then, ◌==◌, option_map_or, list_all, and_from, All-filter, All-nil, All-weaker, Empty, Node, AllNodes, children, order, nat_tests}
-use Rattle.session_laws.proofs.Scenes.{What, KindTable, portals_context, opening, LevelState, OpenPortal, deepest_changed, depth, first_of, level_owner, owner_of, top_context, Moment, Scene, Around, Element, Text, new_context_made, owner_made, owner_gone, descriptor_left, owner_moved, owner_released, does, Item, Phase, BeforeLocks, Locks, AfterLocks, table_of, is_of, without_newest, is_of_phase, Owner, OwnerTree, remembered, own_released, IsInOrder, Lock, has_owner, Ended, changes, context_gone, for_each, in_order, portal_gone, switched, where_so, where_there, portal_aborted, portal_closed, portal_passed, aborted, cleaned_up, committed, empty_context_gone, level_context_gone, level_owner_gone, level_popped, level_released, stack_lowered, stack_popped, subcommitted, switched_up, Stands, active_depth}
-use Rattle.session_laws.proofs.Rules.{allows_all, seen_after, allows_all-append, seen_after-append, AreSaid, said_more, said_none, said_both, said_one, said_pops, Acts, Follows, Keeps, last, next, EndLeaves, Law, MakeLeaves, Leaves, OwnerLeaves, KeyLeaves, Part, Sight, acts_of, children_go, goes, item_comes, item_goes, leaves_of, of_levels, owner_goes, owner_makes, places, releases, unseen_keys, unseen_owners, of_kinds, of_locks, of_next_serial, of_owners, owner_moves, by_order, moves_owed, by_each, by_so, by_there, all_swept, begins, off_begins, owner_when_active, resettled, settled, switched_off, aborted_leads, empty_context_goes, level_context_goes, portal_aborts, portal_cleans, portal_closes, portal_passes}
+use Rattle.session_laws.proofs.Scenes.{What, KindTable, portals_context, opening, LevelState, OpenPortal, deepest_changed, depth, first_of, level_owner, owner_of, top_context, Moment, Scene, Around, Element, Text, new_context_made, owner_made, owner_gone, descriptor_left, owner_moved, owner_released, does, Item, Phase, BeforeLocks, Locks, AfterLocks, table_of, is_of, without_newest, is_of_phase, Owner, OwnerTree, remembered, own_released, IsInOrder, Lock, has_owner, Ended, changes, context_gone, for_each, in_order, portal_gone, switched, where_so, where_there, portal_aborted, portal_closed, portal_passed, aborted, cleaned_up, committed, empty_context_gone, level_context_gone, level_owner_gone, level_popped, level_released, stack_lowered, stack_popped, subcommitted, switched_up, Stands, active_depth, is_among, gone_levels}
+use Rattle.session_laws.proofs.Rules.{allows_all, seen_after, allows_all-append, seen_after-append, AreSaid, said_more, said_none, said_both, said_one, said_pops, Acts, Follows, Keeps, last, next, EndLeaves, Law, MakeLeaves, Leaves, OwnerLeaves, KeyLeaves, Part, Sight, acts_of, children_go, goes, item_comes, item_goes, leaves_of, of_levels, owner_goes, owner_makes, places, releases, unseen_keys, unseen_owners, of_kinds, of_locks, of_next_serial, of_owners, owner_moves, by_order, moves_owed, by_each, by_so, by_there, all_swept, begins, off_begins, owner_when_active, resettled, settled, switched_off, aborted_leads, empty_context_goes, level_context_goes, portal_aborts, portal_cleans, portal_closes, portal_passes, Batch, Member, Releasing, may_precede, member_in, members_so_far, ordering, owners_behind, IsInOrder-acquired, down, keeps-down, keeps-passed, keeps-without, IsInOrder-filter, IsInOrder-map, table-closed, table-opened, all_changed, all_moved, all_put, all_removed, passed_leads}
 use Rattle.session_laws.proofs.Usual.{Usual, any, usual_any, is_usual, usual_contexts, usual_files, usual_locked, usual_locks, usual_made, usual_moves, usual_placed, usual_planned, usual_pushed, usual_stack, usual_unlocked, usual_words, usual_ends, usual_released, usual_taken, usual_phase}
-use Rattle.lifetime_laws.specs.Order.{Batch, Member, Releasing, may_precede, member_in, members_so_far, ordering}
-use Rattle.lifetime_laws.specs.Parents.{owners_behind}
 use Rattle.session_laws.proofs.Parents.{Growth, growing_owners, FitsOwners}
 use Rattle.session_laws.proofs.Warnings.{is_aside, is_line}
 use Rattle.session_laws.proofs.OrderSteps.{Adds, adds_aside, in_batch, falling_filter, Falls}
 use Rattle.session_laws.proofs.OwnWork.{IsOwnWork, WorkLeaves, own_follows}
-use Rattle.owner_kinds.proofs.Places.{table-closed, table-opened}
 use Rattle.owner_items.proofs.Order.{All-without, falling-without}
 use Rattle.lock_local.specs.Changes.{passed_lock, without}
-use Rattle.lock_local.proofs.ChangeLemmas.{IsInOrder-acquired, down, keeps-down, keeps-passed, keeps-without}
-use Rattle.lock_local.proofs.OrderLemmas.{IsInOrder-filter, IsInOrder-map}
-use Rattle.session_rules.proofs.Guarded.{all_changed, all_moved, all_put, all_removed}
 use Rattle.session_laws.proofs.Lives.{owes_by, OwesTurns, IsRead}
-use Rattle.file_table.specs.Descriptors.{is_among}
-use Rattle.session_rules.specs.Ending.{gone_levels}
-use Rattle.session_rules.proofs.Passing.{passed_leads}
 use Rattle.session_laws.proofs.ParentsLife.{HasOwners, KeepsOwners, owner_level_leaves, owners_moved}
 use Rattle.session_laws.proofs.OwnerEnds.{released_levels, aborted_reads, each_reads, passed_reads}
 use Rattle.session_laws.proofs.OrderPhase.{HasBatch, owner_release}
@@ -149,8 +140,7 @@ abbrev unlined_sight : Sight sees_levels is_unlined Unlined
 unlined_sight = mild_sight is_unlined
 
 usual_unlined : (event : What) → is_usual event ≡ true → is_unlined event ≡ true
-usual_unlined (what.CommitLevel level) h = absurd (cc h)
-usual_unlined other h = cc
+usual_unlined event h = grind (arith, nat_tests)
 
 unlined_usual : Usual sees_levels is_unlined
 unlined_usual = assumption usual_unlined
@@ -229,8 +219,7 @@ module _ (kinds : KindTable) where
   new_recalls bound = record { falls = tt; older = All-nil (λ (item : Item). item.serial < bound) }
 
   owner_so : (parent : Option ℕ) (s : Scene) → R s (owner_made parent s).scene (owner_made parent s).events
-  owner_so None s = record { so = λ h. record { places = h.places; locks = h.locks; items = (new_recalls s.session.next_serial, tt, h.items) } }
-  owner_so (Some parent) s = grind (arith, nat_tests, places, all_put, new_recalls)
+  owner_so parent s = grind (arith, nat_tests, places, new_recalls, all_put)
 
   forget : (bound : ℕ) (test : Item → Bool) (owner : Owner) → Recalls bound owner → Recalls bound (record owner { items = without_newest test owner.items })
   forget bound test owner h = record { falls = falling-without test owner.items h.falls; older = All-without (λ (item : Item). item.serial < bound) test owner.items h.older }

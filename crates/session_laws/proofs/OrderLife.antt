@@ -1,12 +1,8 @@
 -- In each session's life the end of a level releases descendants first, by phase and priority.
 use Rattle.session_laws.proofs.Words.{◌≡◌, ℕ, ◌+◌, Bool, true, false, List, [], ◌∷◌, ◌++◌, Option, Some, None, refl, sym, ap, ◌∙◌, subst, inl, inr, not, ◌⊎◌, is_some, and_from, both_ways, subtree, nat_tests, arith}
-use Rattle.session_laws.proofs.Scenes.{Error, What, KindTable, LevelState, deepest_changed, is_aborted, level_above, owner_of, first_of, opening, top_context, Moment, Scene, Around, Element, failure, Ended, nothing, switched, where_there, for_each, in_order, where_so, context_gone, say, aborted, cleaned_up, committed, subcommitted, given_up, level_rolled_back, recovered, exited, level_made, new_context_made, new_owner_made, owner_made, Done, fallible, refused_call, unless_refused, does, does_all, then_done, AreOuter, IsOpen, Stands, AreOpen, FitLevels, StandsBetweenLines, Command, table_of, line_elements, turn, turn_of}
-use Rattle.session_laws.proofs.Rules.{allows_all, seen_after, aborted_stands, at_settled, is_left, rolled_stands, settled, AreSpoken, Follows, IsRun, IsSpoken, Meets, Runs, element_follows, AreSaid, said_both, said_none, said_one, said_gone, line_spoken}
-use Rattle.lifetime_laws.specs.Order.{Releasing, ordering, nothing_releasing}
-use Rattle.lifetime_laws.specs.Parents.{Node}
+use Rattle.session_laws.proofs.Scenes.{Error, What, KindTable, LevelState, deepest_changed, is_aborted, first_of, opening, top_context, Moment, Scene, Around, Element, failure, Ended, nothing, switched, where_there, for_each, in_order, where_so, context_gone, say, aborted, cleaned_up, committed, subcommitted, given_up, level_rolled_back, recovered, exited, level_made, owner_made, Done, fallible, refused_call, unless_refused, does, does_all, then_done, AreOuter, IsOpen, Stands, AreOpen, FitLevels, StandsBetweenLines, Command, table_of, line_elements, turn, turn_of, is_there}
+use Rattle.session_laws.proofs.Rules.{allows_all, seen_after, aborted_stands, at_settled, is_left, rolled_stands, settled, AreSpoken, Follows, IsRun, IsSpoken, Meets, Runs, element_follows, AreSaid, said_both, said_none, said_one, said_gone, line_spoken, Releasing, ordering, nothing_releasing, Node, abort_stands, cleanup_stands, commit_stands, merge_stands, settled_as}
 use Rattle.session_rules.proofs.EndsStand.{Leaves as Leaving}
-use Rattle.session_rules.proofs.LevelsKept.{is_there}
-use Rattle.session_rules.proofs.StepsStand.{abort_stands, cleanup_stands, commit_stands, merge_stands, settled_as}
 use Rattle.session_laws.proofs.Lives.{OwesTurns, level_keeps, IsLife, Reads, turn_keeps, line_leads}
 use Rattle.session_laws.proofs.OwnWork.{AreDue, ContextNext, Hushed, IsDue, IsHushed, IsLevelContext, IsLevelOwner, IsLively, IsOwnWork, IsRest, IsSaid, OwnerNext, Stage, Working, above_of, hushed_next, stage_next, working_next, line_due, stage_of}
 use Rattle.session_laws.proofs.ParentsLife.{KeepsOwners, owners_owed, HasOwners, opening_owners, owners_life}
@@ -48,41 +44,33 @@ lively e.Cleanup h = elim h [ ]
 lively other h = inr (tt, refl)
 
 outer_owned : (levels : List LevelState) → AreOuter levels → HasOwner levels
-outer_owned [] h = tt
-outer_owned (level ∷ levels) h = h.0.made.owner
+outer_owned levels h = grind (arith, nat_tests)
 
 -- a fallible step says what its act says, or nothing
 unless_said : (refusal : Option Error) (m : Moment) (act : Scene → Ended) → AreSaid is_unlined (act m.scene).events → AreSaid is_unlined (unless_refused refusal m act).events
-unless_said None m act h = h
-unless_said (Some error) m act h = said_none
+unless_said refusal m act h = grind (arith, nat_tests, said_none)
 
 try_said : (w : Option ℕ) (m : Moment) (own : Option Error) (act : Scene → Ended) → AreSaid is_unlined (act m.scene).events → AreSaid is_unlined (fallible w m own act).events
 try_said w m own act h = unless_said (refused_call w m.fail (m.calls + 1) own) (record m { calls = m.calls + 1 }) act h
 
 unless_at : (P : Scene → Type 0) (refusal : Option Error) (m : Moment) (act : Scene → Ended) → P (act m.scene).scene → (unless_refused refusal m act).refusal ≡ None → P (unless_refused refusal m act).moment.scene
-unless_at P None m act h none = h
-unless_at P (Some error) m act h none = absurd (cc none)
+unless_at P refusal m act h none = grind (arith, nat_tests)
 
 -- a level that stands, and an owner that is made for a level
 stands_said : (o : Option ℕ) (s : Scene) → AreSaid is_unlined ((where_there o switched s).events ++ ([] ++ []))
-stands_said None s = said_none
-stands_said (Some n) s = said_none
+stands_said o s = grind (arith, nat_tests, said_none)
 
 stands_levels : (o : Option ℕ) (s : Scene) → (where_there o switched s).scene.session.levels ≡ s.session.levels
-stands_levels None s = refl
-stands_levels (Some n) s = refl
+stands_levels o s = grind (arith, nat_tests)
 
 changed_owned : (levels : List LevelState) → HasOwner levels → HasOwner (deepest_changed (λ level. record level { starting = false }) levels)
-changed_owned [] h = tt
-changed_owned (level ∷ levels) h = h
+changed_owned levels h = grind (arith, nat_tests)
 
 made_owned : (n : ℕ) (levels : List LevelState) → HasOwner (deepest_changed (λ level. record level { owner = Some n }) levels)
-made_owned n [] = tt
-made_owned n (level ∷ levels) = refl
+made_owned n levels = grind (arith, nat_tests)
 
 owner_said : (parent : Option ℕ) (s : Scene) → AreSaid is_unlined (owner_made parent s).events
-owner_said None s = said_one (what.Owner s.session.next_owner) refl
-owner_said (Some parent) s = said_one (what.OwnerIn s.session.next_owner parent) refl
+owner_said parent s = grind (arith, nat_tests, said_one)
 
 module _ (kinds : KindTable) (w : Option ℕ) where
   -- what an element says is in order, and the line stands so behind it where it was not refused
@@ -133,19 +121,11 @@ module _ (kinds : KindTable) (w : Option ℕ) where
   -- a level's context, and its owner
   context_step : (x : Element) (m : Moment) → IsLevelContext x → IsStep ContextNext OwnerNext x m
   unfolding does
-  context_step (e.MakeContext e.LevelContext) m h seen fit at =
-      goes_weaker kinds (λ b closed none. closed) (closed_goes kinds (try_said w m _ (new_context_made e.LevelContext) (said_one (what.Create _ _ _) refl)) seen at)
-  context_step (e.MakeContext other) m h seen fit at = elim h [ ]
-  context_step other m h seen fit at = elim h [ ]
+  context_step x m h seen fit at = grind (arith, nat_tests, goes_weaker, closed_goes, try_said, said_one)
 
   owner_step : (x : Element) (m : Moment) → IsLevelOwner x → IsStep OwnerNext Working x m
   unfolding does
-  owner_step (e.MakeOwner e.OfLevel) m h seen fit at =
-      goes_weaker kinds
-      (λ b closed none. (closed, unless_at (λ (z : Scene). HasOwner z.session.levels) _ (record m { calls = m.calls + 1 }) (new_owner_made e.OfLevel) (made_owned m.scene.session.next_owner _) none))
-      (closed_goes kinds (try_said w m _ (new_owner_made e.OfLevel) (said_both (owner_said (owner_of (level_above m.scene.session)) m.scene) (said_both said_none said_none))) seen at)
-  owner_step (e.MakeOwner other) m h seen fit at = elim h [ ]
-  owner_step other m h seen fit at = elim h [ ]
+  owner_step x m h seen fit at = grind (arith, nat_tests, goes_weaker, unless_at, made_owned, closed_goes, try_said, said_both, owner_said, said_none)
 
   -- where the deepest level is aborted
   said_goes : (event : What) → IsSaid event → (seen : Releasing) → Goes kinds seen (event ∷ []) (λ b. Unit {0})
@@ -153,8 +133,7 @@ module _ (kinds : KindTable) (w : Option ℕ) where
 
   check_step : (r : Option Error) (m : Moment) → is_aborted m.scene.session.levels ≡ true → (seen : Releasing)
       → Goes kinds seen (unless_refused r m nothing).events (λ b. (unless_refused r m nothing).refusal ≡ None → is_aborted (unless_refused r m nothing).moment.scene.session.levels ≡ true)
-  check_step None m at seen = goes_none kinds seen (λ b. _) (λ none. at)
-  check_step (Some error) m at seen = goes_none kinds seen (λ b. _) (λ none. at)
+  check_step r m at seen = grind (arith, nat_tests, goes_none)
 
   hushed_step : (x : Element) (m : Moment) → IsHushed x → Meets x m.scene → IsStep Hushed (hushed_next x) x m
   unfolding does
@@ -214,10 +193,7 @@ abbrev pub IsOpened : Releasing → Scene → Type 0
 IsOpened seen s = is_aborted s.session.levels ≡ false → seen.batch ≡ None
 
 pub rest_opened : (stage : Stage) (seen : Releasing) (s : Scene) → IsRest stage → At stage seen s → IsOpened seen s
-rest_opened Working seen s rest at = λ un. at.0
-rest_opened ContextNext seen s rest at = elim rest [ ]
-rest_opened OwnerNext seen s rest at = elim rest [ ]
-rest_opened Hushed seen s rest at = λ un. absurd (both_ways (is_aborted s.session.levels) un at)
+rest_opened stage seen s rest at = grind (arith, nat_tests, both_ways)
 
 -- Recoveries, lines and exits are said in order.
 
@@ -243,14 +219,7 @@ module _ (kinds : KindTable) where
       → Goes kinds seen (level_rolled_back level (settled (level ∷ levels) s)).events (λ b. (b.batch ≡ None) × Fit kinds b.owners (level_rolled_back level (settled (level ∷ levels) s)).scene)
   rolls level levels s k seen fit =
       let g : Goes kinds seen (level_rolled_back level (settled (level ∷ levels) s)).events (IsClosed kinds) = rolled_goes level levels s k seen fit in
-      record {
-        allowed = g.allowed;
-        behind = (
-          g.behind,
-          subst (λ (nodes : List Node). Fit kinds nodes (level_rolled_back level (settled (level ∷ levels) s)).scene) (sym (ordered_nodes kinds (level_rolled_back level (settled (level ∷ levels) s)).events seen))
-              (rolled_fits level levels s k seen.owners fit),
-        );
-      }
+      grind (arith, nat_tests, settled, ordered_nodes, rolled_fits)
 
   -- the deepest level aborts, and is aborted then
   abort_opened : (level : LevelState) (levels : List LevelState) (s : Scene) → level.aborted ≡ false → IsOpen level → Stands (settled (level ∷ levels) s) → (seen : Releasing) → Fit kinds seen.owners (settled (level ∷ levels) s)
@@ -336,8 +305,7 @@ pub record FitsOrder (kinds : KindTable) (seen : Releasing) (s : Scene) : Type 0
   pub opened : IsOpened seen s
 
 between_owned : (levels : List LevelState) (s : Scene) → AreOpen levels → FitLevels levels s.session.contexts s.session.owners s.session.current → HasOwner levels
-between_owned [] s free fit = tt
-between_owned (level ∷ levels) s free fit = (fit.0.made free.0.started).owner
+between_owned levels s free fit = grind (arith, nat_tests)
 
 begins_at : (s : Scene) → StandsBetweenLines s → (seen : Releasing) → IsOpened seen s → At (stage_of s.session.levels) seen s
 begins_at s h seen opened = grind (arith, nat_tests, between_owned)
@@ -374,11 +342,7 @@ module _ (kinds : KindTable) where
   }
 
   error_reads : (error : Error) (s : Scene) → Reads (ordering kinds) (FitsOrder kinds) s s (what.Error error ∷ [])
-  error_reads error s = record {
-    so = λ seen fits.
-        let g : Goes kinds seen (what.Error error ∷ []) (IsClosed kinds) = closes kinds by_error seen in
-        record { allowed = g.allowed; fits = record { fit = fits.fit; opened = λ un. g.behind } };
-  }
+  error_reads error s = grind (arith, nat_tests, closes, by_error)
 
   -- an exit
   tail_said : (s : Scene) → AreSaid is_unlined (in_order (switched top_context ∷ context_gone top_context ∷ say what.Exit ∷ []) s).events
@@ -397,16 +361,4 @@ module _ (kinds : KindTable) where
 
   -- In each session's life what the end of a level releases comes in order.
   pub order : IsLife kinds (ordering kinds) (FitsOrder kinds) nothing_releasing (λ last. Unit {0})
-  order = record {
-    opens = opening_fits;
-    elsewhere = λ seen session a b same descriptors fits. record {
-      fit = record { owners = fits.fit.owners; based = record { places = same ∙ fits.fit.based.places; locks = fits.fit.based.locks; items = fits.fit.based.items } };
-      opened = fits.opened;
-    };
-    error = error_reads;
-    turns = turn_reads;
-    exits = λ s h seen fits.
-        let g : Goes kinds seen (exited s).events (IsClosed kinds) =
-        at_settled (λ (z : Scene). FitsOrder kinds seen z → Goes kinds seen (exited z).events (IsClosed kinds)) (λ levels z k f. exit_goes levels z k seen f) s h.stands fits in
-        (g.allowed, tt);
-  }
+  order = grind (arith, nat_tests, opening_fits, error_reads, turn_reads, at_settled, exit_goes)

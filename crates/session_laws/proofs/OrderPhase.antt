@@ -1,12 +1,8 @@
 -- The three phases of a release, of an owner and all below it.
-use Rattle.session_laws.proofs.Words.{◌≡◌, ℕ, ◌<◌, Bool, true, false, not, List, [], ◌++◌, All, Option, Some, None, refl, sym, subst, ap, ◌∙◌, inl, inr, arith, option_map_or, cond-false, cond-true, both_ways, eq-eqb, false_from_ne_true, ne_eqb, or_left, or_right, append-nil, All-append, All-nil, All-weaker, Forest, Empty, Node, Once, AllNodes, at, children, has, parent_of, Apart, apart_of, first_child_other, has_at, has_children, nat_tests}
-use Rattle.session_laws.proofs.Scenes.{What, Phase, BeforeLocks, Locks, AfterLocks, is_of_phase, KindTable, table_of, Owner, OwnerTree, own_released, Step, own_steps, release_steps, steps_below, top_locks, IsInOrder, Scene, Ended, for_each, owner_released, phase_released, step_done}
-use Rattle.session_laws.proofs.Rules.{all_swept}
+use Rattle.session_laws.proofs.Words.{◌≡◌, ℕ, ◌<◌, Bool, true, false, not, List, [], ◌++◌, All, Option, Some, None, refl, sym, subst, ap, ◌∙◌, inl, inr, arith, option_map_or, cond-false, cond-true, both_ways, eq-eqb, false_from_ne_true, ne_eqb, or_left, or_right, append-nil, All-append, All-nil, All-weaker, Forest, Empty, Node, Once, AllNodes, at, children, has, parent_of, Apart, apart_of, first_child_other, has_at, has_children, nat_tests, children_in, once_children}
+use Rattle.session_laws.proofs.Scenes.{What, Phase, BeforeLocks, Locks, AfterLocks, KindTable, table_of, Owner, OwnerTree, own_released, Step, own_steps, release_steps, steps_below, top_locks, IsInOrder, Scene, Ended, for_each, owner_released, phase_released, step_done}
+use Rattle.session_laws.proofs.Rules.{all_swept, Member, owner_of, place_of, place_of_phase, is_above, all_at, all_children}
 use Rattle.session_laws.proofs.ParentsLife.{fits_alike}
-use Rattle.forest.proofs.Walks.{children_in, once_children}
-use Rattle.lifetime_laws.specs.Parents.{is_above}
-use Rattle.lifetime_laws.specs.Order.{Member, owner_of, place_of, place_of_phase}
-use Rattle.session_rules.proofs.Guarded.{all_at, all_children}
 use Rattle.session_laws.proofs.OrderSteps.{Adds, AreApart, adds_both, adds_none, falling_filter, Grows, IsOwn, Releases, each_both, own_release, releases_both, releases_none, releases_weaker, AreClear, AreWalked, Falls, IsClear, IsOf, Splits, below_release, may_release, owner_locks}
 use Rattle.session_laws.proofs.Parents.{FitsTree, same_above, alike_swept}
 use Rattle.lifetime_laws.specs.Parents as replayed
@@ -105,9 +101,7 @@ pub record HasPhase (kinds : KindTable) (nodes : List replayed.Node) (phase : Ph
   pub locks : IsInOrder ended.scene.session.locks
 
 still_falls : (kinds : KindTable) (phase : Phase) (owner : Owner) → Falls owner → Falls (own_released kinds phase owner)
-still_falls kinds Locks owner h = h
-still_falls kinds BeforeLocks owner h = falling_filter (λ item. not (is_of_phase kinds BeforeLocks item)) owner.items h
-still_falls kinds AfterLocks owner h = falling_filter (λ item. not (is_of_phase kinds AfterLocks item)) owner.items h
+still_falls kinds phase owner h = grind (arith, nat_tests, falling_filter)
 
 module _ (nodes : List replayed.Node) (phase : Phase) (commit top : Bool) (n : ℕ) where
   own_phase : (s : Scene) (old : List Member) → FitsTree nodes s.session.owners → AllNodes Falls s.session.owners → IsInOrder s.session.locks → All (λ m. place_of m < place_of_phase phase) old

@@ -1,18 +1,9 @@
 -- What follows the release of an item, and the steps of a phase, leave of a session; and that they acquire and release no item besides.
 use Rattle.session_laws.proofs.Words.{◌≡◌, Bool, true, false, List, [], ◌∷◌, refl, ap, ◌∙◌, ℕ, ◌≤◌, length, Option, Some, None, sym, subst, inl, inr, not, arith, ◌==◌, has, AllNodes, Moves, map, nat_tests}
-use Rattle.session_laws.proofs.Scenes.{What, Item, table_of, OwnerTree, AllAt, HoldsNothing, Step, Said, GivesBack, ReleasesLocks, PassesLocks, ReleasesAllLocks, release_steps, Scene, Moment, for_each, Ended, where_so, where_there, changes, context_gone, in_order, portal_gone, switched, given_back, step_done, owner_moved, owner_gone, owner_released, phase_released, LevelState, OpenPortal, first_of, owner_of, abort_context, deepest_changed, depth, level_owner, top_context, has_failed, portal_aborted, portal_failed, portal_passed, portal_withdrawn, executor_ended, is_ready, portal_closed, portal_ended, portal_owner_ended, IsAttached, IsOwner, IsPortal, HasItems, IsLive, IsWorking, Stands, active_depth, Error, KindId, Phase, BeforeLocks, Locks, AfterLocks, KindTable, IsSound as IsSoundTable, released, Element, OfLevel, OfPortal, OwnerRole, Text, kind_named, owner_in, portal_named, aborted, cleaned_up, committed, empty_context_gone, level_context_gone, level_owner_gone, level_popped, level_released, level_rolled_back, stack_lowered, stack_popped, subcommitted, switched_up, at_kind, at_owner, item_taken, does, IsInOrder, has_owner, descriptor_left}
-use Rattle.session_laws.proofs.Rules.{Acts, Keeps, Law, AllKeep, Leaves, LevelLeaves, MakeLeaves, OwesEnds as OwesEndings, OwesMoves, last, next, AreSaid, said_both, said_none, Part, Sight, acts_of, children_go, gives_back, goes, of_kinds, of_levels, of_next_owner, of_next_serial, of_owners, by_either, by_each, by_order, fallible_at, levels_owed, makes_owed, portal_fails, portal_lowers, portal_returns, context_goes, empty_context_goes, executor_ends, level_context_goes, level_marks, level_pops, level_releases, owner_releases, portal_cleans, portal_closes, switches_up, begins, is_settled, off_begins, owner_when_active, resettled, settled, switched_off, aborted_leads, all_aborted, has_swept, Meets, said_one, of_locks, by_so}
+use Rattle.session_laws.proofs.Scenes.{What, Item, table_of, OwnerTree, AllAt, HoldsNothing, Step, Said, GivesBack, ReleasesLocks, PassesLocks, ReleasesAllLocks, release_steps, Scene, Moment, for_each, Ended, where_so, where_there, changes, context_gone, in_order, portal_gone, switched, given_back, step_done, owner_moved, owner_gone, owner_released, phase_released, LevelState, OpenPortal, first_of, owner_of, abort_context, deepest_changed, depth, level_owner, top_context, has_failed, portal_aborted, portal_failed, portal_passed, portal_withdrawn, executor_ended, is_ready, portal_closed, portal_ended, portal_owner_ended, IsAttached, IsOwner, IsPortal, HasItems, IsLive, IsWorking, Stands, active_depth, Error, KindId, Phase, BeforeLocks, Locks, AfterLocks, KindTable, IsSound as IsSoundTable, released, Element, OfLevel, OwnerRole, Text, kind_named, owner_in, portal_named, aborted, cleaned_up, committed, empty_context_gone, level_context_gone, level_owner_gone, level_popped, level_released, level_rolled_back, stack_lowered, stack_popped, subcommitted, switched_up, at_kind, at_owner, item_taken, does, IsInOrder, has_owner, descriptor_left, is_among, left_nothing, no_value, Ending, gone_levels}
+use Rattle.session_laws.proofs.Rules.{Acts, Keeps, Law, AllKeep, Leaves, LevelLeaves, MakeLeaves, OwesEnds as OwesEndings, OwesMoves, last, next, AreSaid, said_both, said_none, Part, Sight, acts_of, children_go, gives_back, goes, of_kinds, of_levels, of_next_owner, of_next_serial, of_owners, by_either, by_each, by_order, fallible_at, levels_owed, makes_owed, portal_fails, portal_lowers, portal_returns, context_goes, empty_context_goes, executor_ends, level_context_goes, level_marks, level_pops, level_releases, owner_releases, portal_cleans, portal_closes, switches_up, begins, is_settled, off_begins, owner_when_active, resettled, settled, switched_off, aborted_leads, all_aborted, has_swept, Meets, said_one, of_locks, by_so, keeps-passed, keeps-without, IsInOrder-filter, IsInOrder-map, table-closed, Leads, with_parts, above_owner, above_there, all_passed, passed_leads, first_of_rest, all_closed}
 use Rattle.session_laws.proofs.Warnings.{is_aside}
-use Rattle.owner_kinds.proofs.Places.{table-closed}
-use Rattle.file_table.specs.Descriptors.{is_among}
-use Rattle.lock_local.proofs.ChangeLemmas.{keeps-passed, keeps-without}
-use Rattle.lock_local.proofs.OrderLemmas.{IsInOrder-filter, IsInOrder-map}
-use Rattle.session_rules.specs.Ending.{Ending, gone_levels}
-use Rattle.session_rules.proofs.Ending.{Leads, with_parts}
-use Rattle.session_rules.proofs.Passing.{above_owner, above_there, all_passed, passed_leads}
-use Rattle.session_rules.proofs.Replacing.{first_of_rest, all_closed}
 use Rattle.session_rules.proofs.ItemsStand.{owner_there}
-use Rattle.session_rules.proofs.LevelsKept.{left_nothing, no_value}
 use Rattle.session_rules.proofs.PortalEnds.{executor_beside, owner_in as portal_owner_there}
 use Rattle.session_rules.proofs.PortalWorks.{Beside}
 use Rattle.session_rules.proofs.Releasing.{HasSwept, released_swept}
@@ -78,9 +69,7 @@ closed_quiet : (file : ℕ) (s : Scene) → Quiet s (descriptor_left file s).sce
 closed_quiet file s = (by_so Quiet quiet_acts (is_among file s.session.recent) _ (record { so = λ z. record { stays = record { owners = refl; next_owner = refl; next_serial = refl; levels = refl; kinds = refl; locks = λ h. h }; said = said_one (what.DescriptorClosed file) refl } })).so s
 
 pub given_quiet : (item : Item) → Keeps Quiet (given_back item)
-given_quiet item =
-    gives_back sees_rest is_aside Quiet sight refl refl quiet_acts.gone quiet_acts.children (λ file. record { so = closed_quiet file })
-    (λ place key. record { so = λ s. record { stays = record { owners = refl; next_owner = refl; next_serial = refl; levels = refl; kinds = table-closed s.around.kinds place key; locks = λ h. h }; said = said_none } }) item
+given_quiet item = grind (arith, nat_tests, gives_back, is_aside, sight, quiet_acts, closed_quiet, stays, table-closed, said_none)
 
 -- steps of a release leave owners to the phase
 pub step_stays : (step : Step) (s : Scene) → Stays s (step_done step s).scene
@@ -107,10 +96,7 @@ module _ (R : Law) (a : Acts R) (moved : (n p : ℕ) (s : Scene) → Moves n p s
   -- an owner moves, where there are two and where it may
   passes : (b : Bool) (own above : Option ℕ) (s : Scene) → ((o q : ℕ) → own ≡ Some o → above ≡ Some q → Moves o q s.session.owners)
       → R s (where_so b (where_there own (λ owner. where_there above (owner_moved owner))) s).scene (where_so b (where_there own (λ owner. where_there above (owner_moved owner))) s).events
-  passes false own above s may = a.none s
-  passes true None above s may = a.none s
-  passes true (Some o) None s may = a.none s
-  passes true (Some o) (Some q) s may = moved o q s (may o q refl refl)
+  passes b own above s may = grind (arith, nat_tests)
 
   -- acts for each portal
   pub each_reads : (level : LevelState) (levels done : List LevelState) (act : OpenPortal → Scene → Ended)
@@ -203,10 +189,7 @@ release_leaves commit top p s =
     two.owners ∙ ap (λ (k : KindTable). released k Locks p a.session.owners) one.kinds ∙ ap (released kinds Locks p) one.owners in
     let third : c.session.owners ≡ released kinds AfterLocks p (released kinds Locks p (released kinds BeforeLocks p x)) =
     three.owners ∙ ap (λ (k : KindTable). released k AfterLocks p b.session.owners) (two.kinds ∙ one.kinds) ∙ ap (released kinds AfterLocks p) second in
-    record {
-      swept = record { is = third ∙ released_swept kinds p x; phases = third };
-      levels = three.levels ∙ two.levels ∙ one.levels;
-    }
+    grind (arith, nat_tests, released_swept)
 
 -- An owner that is there, and of which all nodes hold nothing, may go.
 pub record MayLeave (n : ℕ) (s : Scene) : Type 0 where
@@ -261,8 +244,7 @@ pub record OwnerEnds (R : Law) : Type 0 where
 
 -- an owner that takes an item is there
 role_there : (role : OwnerRole) (s : Scene) → Stands s → IsWorking s.session.levels → (n : ℕ) → owner_in role s.session ≡ Some n → has n s.session.owners ≡ true
-role_there OfLevel s h working n e = owner_there s.session.levels s.session.contexts s.session.owners n h.levels e
-role_there (OfPortal name) s h working n e = grind (arith, nat_tests, no_value, portal_owner_there)
+role_there role s h working n e = grind (arith, nat_tests, owner_there, no_value, portal_owner_there)
 
 module _ (R : Law) (h : OwnerEnds R) where
   abbrev v : LevelLeaves R
@@ -276,8 +258,7 @@ module _ (R : Law) (h : OwnerEnds R) where
 
   -- an act on what may be there
   if_there : {A : Type 0} (o : Option A) (act : A → Scene → Ended) (s : Scene) → ((x : A) → o ≡ Some x → R s (act x s).scene (act x s).events) → R s (where_there o act s).scene (where_there o act s).events
-  if_there None act s reads = a.none s
-  if_there (Some x) act s reads = reads x refl
+  if_there o act s reads = grind (arith, nat_tests)
 
   -- a portal ends
   owner_ends : (o : Option ℕ) (s : Scene) → Known s → ((n : ℕ) → o ≡ Some n → has n s.session.owners ≡ true)

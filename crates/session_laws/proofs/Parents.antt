@@ -1,16 +1,9 @@
 -- Replayed parents that fit the trees of a session.
-use Rattle.session_laws.proofs.Words.{◌≡◌, ◌≢◌, ℕ, zero, suc, ◌+◌, ◌<◌, ◌≤◌, Bool, true, false, not, List, [], ◌∷◌, length, Option, Some, None, refl, sym, ap, ◌∙◌, subst, unwrap_or, inl, inr, arith, ◌++◌, append-nil, ◌==◌, ◌||◌, ◌&&◌, option_map_or, both_ways, cases_Bool, cases_eq, cond-true, eq-eqb, eqb-true, false_from_ne_true, ne_eqb, or_from, or_parts, and_from, Forest, Empty, Node, Once, children, has, is_above, moved, parent_of, put, removed, size, times, with_children, changed, mapped, Moves, at_some, has_at, has_none, has_some, once_front, once_moved, once_put, parent_stays, removed_has, size_moved, size_put, size_removed, times_moved, times_none, times_some, apart_of, first_child_other, has_children, once_removed, removed_absent, lead, order, order_at, all_changed, swept, nat_tests}
+use Rattle.session_laws.proofs.Words.{◌≡◌, ◌≢◌, ℕ, zero, suc, ◌+◌, ◌<◌, ◌≤◌, Bool, true, false, not, List, [], ◌∷◌, length, Option, Some, None, refl, sym, ap, ◌∙◌, subst, unwrap_or, inl, inr, arith, ◌++◌, append-nil, ◌==◌, ◌||◌, ◌&&◌, option_map_or, both_ways, cases_Bool, cases_eq, cond-true, eq-eqb, eqb-true, false_from_ne_true, ne_eqb, or_from, or_parts, and_from, Forest, Empty, Node, Once, children, has, is_above, moved, parent_of, put, removed, size, times, with_children, changed, mapped, Moves, at_some, has_at, has_none, has_some, once_front, once_moved, once_put, parent_stays, removed_has, size_moved, size_put, size_removed, times_moved, times_none, times_some, apart_of, first_child_other, has_children, once_removed, removed_absent, lead, order, order_at, all_changed, swept, nat_tests, mapped-times, above_by_parent, above_none, below_parent, level_up, parent_absent, parent_in, children_in, children_removed, lead_leaf, lead_of_node, once_children, order_lead}
 use Rattle.session_laws.proofs.Scenes.{Scene, Contexts, What}
-use Rattle.session_laws.proofs.Rules.{at_put, children_put, has_left, has_put_other, once_left, parent_left, parent_put, parent_put_other, emptied_absent, has_emptied, is_one_of, Reader, allows_all, seen_after, AreSaid, said_more, said_none}
-use Rattle.forest.proofs.Mapped.{mapped-times}
+use Rattle.session_laws.proofs.Rules.{at_put, children_put, has_left, has_put_other, once_left, parent_left, parent_put, parent_put_other, emptied_absent, has_emptied, is_one_of, Reader, allows_all, seen_after, AreSaid, said_more, said_none, IsLine, above-line, is_there-placed_other, is_there-placed_same, is_there-without_other, is_there-without_same, parent_of-placed_other, parent_of-placed_same, parent_of-without_other, parent_of-without_same, Node as Kept, above, has_child, is_there, is_within, placed, without, contexts_behind, owners_behind, own_emptied}
 use Rattle.forest.specs.Preorder.{level}
-use Rattle.forest.proofs.Moved.{above_by_parent, above_none, below_parent, level_up}
-use Rattle.forest.proofs.Neighbours.{parent_absent}
 use Rattle.forest.proofs.Preorders.{level_small}
-use Rattle.forest.proofs.Walks.{parent_in, children_in, children_removed, lead_leaf, lead_of_node, once_children, order_lead}
-use Rattle.lifetime_laws.specs.Parents.{Node as Kept, above, has_child, is_there, is_within, node, placed, without, contexts_behind, owners_behind}
-use Rattle.lifetime_laws.proofs.Replays.{IsLine, above-line, is_there-placed_other, is_there-placed_same, is_there-without_other, is_there-without_same, parent_of-placed_other, parent_of-placed_same, parent_of-without_other, parent_of-without_same}
-use Rattle.session_rules.proofs.Lone.{own_emptied}
 use Rattle.lifetime_laws.specs.Parents as replayed
 use Rattle.pgs_step.specs.declared.events.What.TheVariants as what
 use Rattle.context_rules.specs.Ends as ends
@@ -354,17 +347,10 @@ is_not_of_owners (what.OwnerGone owner) = false
 is_not_of_owners other = true
 
 pub passed_context : (event : What) → is_not_of_contexts event ≡ true → IsPassed growing_contexts event
-passed_context (what.Create context name parent) h = absurd (cc h)
-passed_context (what.Delete context) h = absurd (cc h)
-passed_context (what.Move context parent) h = absurd (cc h)
-passed_context other h = record { same = λ growth. refl; allowed = λ growth. refl }
+passed_context event h = grind (arith, nat_tests)
 
 pub passed_owner : (event : What) → is_not_of_owners event ≡ true → IsPassed growing_owners event
-passed_owner (what.Owner owner) h = absurd (cc h)
-passed_owner (what.OwnerIn owner parent) h = absurd (cc h)
-passed_owner (what.MoveOwner owner parent) h = absurd (cc h)
-passed_owner (what.OwnerGone owner) h = absurd (cc h)
-passed_owner other h = record { same = λ growth. refl; allowed = λ growth. refl }
+passed_owner event h = grind (arith, nat_tests)
 
 pub taken_context : (n : ℕ) → IsTaken growing_contexts n (what.Delete n)
 taken_context n = record { next = λ growth. refl; allowed = λ growth. refl }
