@@ -76,17 +76,12 @@ pub reset_called : (n : ℕ) (hooks : List Hook) (seen : List Waiting) → words
 reset_called n hooks seen h =
     let ran : Calls (λ k. n == k) seen (callbacks n hooks) = callbacks_called n hooks seen h in
     let after : List Waiting = seen_after calling seen (callbacks n hooks) in
-    let still : Calls (λ k. false) after (what.Reset n ∷ []) = record {
-      allowed = rw (none_awaited n after (ran.none n (eq-eqb n n refl))) refl;
-      none = λ k u. absurd (cc u);
-      others = λ k u. refl;
-    } in
+    let still : Calls (λ k. false) after (what.Reset n ∷ []) = grind (arith, nat_tests, none_awaited, eq-eqb) in
     same_called (λ k. cond (n == k) true false) (λ k. n == k) seen (callbacks n hooks ++ (what.Reset n ∷ [])) (λ k. same (n == k))
     (both_called (λ k. n == k) (λ k. false) seen (callbacks n hooks) (what.Reset n ∷ []) ran still (λ k u. refl))
   where
     same : (b : Bool) → cond b true false ≡ b
-    same true = refl
-    same false = refl
+    same b = grind (arith, nat_tests)
 
 -- where a context of a forest stands
 at_below : (k n : ℕ) (c : Context) (below beside : Contexts) → Apart n below beside → has k below ≡ true → words_at k (Node n c below beside) ≡ words_at k below
@@ -131,10 +126,7 @@ gone_called (Node n c below beside) seen o h =
     in_beside k u = elim (cases_Bool (n == k)) [ inl y ↦ rw y refl | inr y ↦ elim (cases_Bool (has k below)) [ inl z ↦ rw (y, z) refl | inr z ↦ rw (y, z, u) refl ] ]
 
     shuffled : (a b d : Bool) → cond a true (cond b true d) ≡ (b || (a || d))
-    shuffled true true d = refl
-    shuffled true false d = refl
-    shuffled false true d = refl
-    shuffled false false d = refl
+    shuffled a b d = grind (arith, nat_tests)
 
     alone : (k : ℕ) → has k below ≡ true → Apart n below beside → cond (n == k) true (has k beside) ≡ false
     alone k u apart =
@@ -168,21 +160,16 @@ part_gone n t o = elim (cases_Bool (has n t)) [
     at_node : (c : Context) → has n t ≡ true → at n t ≡ Some c → IsPart (Node n c (children n t) Empty) t (removed n t)
     at_node c there is = record {
       once = record { once = λ m. omega (arith, o.once m, times_removed m n t o there) };
-      same = λ k u. elim (cases_eq n k) [
-        | inl e ↦ subst (λ (j : ℕ). at j (Node n c (children n t) Empty) ≡ at j t) e (rw (eq-eqb n n refl) (sym is))
-        | inr differ ↦ let low : has k (children n t) ≡ true = below k differ u in rw (ne_eqb n k differ) (right (at k (children n t)) ∙ at_children k n t o low)
-      ];
+      same = grind (arith, nat_tests, cases_eq, eq-eqb, below, ne_eqb, right, at_children);
       gone = λ k u. at_absent k (removed n t) (has_none k (removed n t) (counted k u));
       stays = λ k u. at_left k n t o (λ e. both_ways (has k (Node n c (children n t) Empty)) u (rw (eq-eqb n k (sym e)) refl)) (out k u);
     }
       where
         right : (x : Option Context) → either x None ≡ x
-        right None = refl
-        right (Some d) = refl
+        right x = grind (arith, nat_tests)
 
         left_is : (b : Bool) → (b || false) ≡ true → b ≡ true
-        left_is true h = refl
-        left_is false h = h
+        left_is b h = grind (arith, nat_tests)
 
         below : (k : ℕ) → n ≢ k → has k (Node n c (children n t) Empty) ≡ true → has k (children n t) ≡ true
         below k differ u = let z : (has k (children n t) || false) ≡ true = rw (ne_eqb n k differ) at u in left_is (has k (children n t)) z
@@ -260,20 +247,7 @@ alone_read n s = record { so = λ seen fit. reset_read seen fit (counted_alone n
         → IsRead calling FitsHooks seen z (callbacks n c.hooks ++ (what.Reset n ∷ []))
     used_read c is z are k seen fit =
         let called : Calls (λ m. n == m) seen (callbacks n c.hooks ++ (what.Reset n ∷ [])) = reset_called n c.hooks seen (fit.words n ∙ ap words_there is) in
-        record {
-          allowed = called.allowed;
-          fits = record {
-            numbered = k;
-            words = λ m. elim (cases_eq n m) [
-              | inl e ↦
-                  called.none m (eq-eqb n m e)
-                  ∙ sym (ap (words_at m) are ∙ (ap (λ (j : ℕ). words_at j (changed n emptied t)) (sym e) ∙ ap words_there (at_changed n emptied t c is)))
-              | inr differ ↦
-                  called.others m (ne_eqb n m differ)
-                  ∙ (fit.words m ∙ sym (ap (words_at m) are ∙ ap words_there (at_changed_other m n emptied t (λ e. differ (sym e)))))
-            ];
-          };
-        }
+        grind (arith, nat_tests, cases_eq, eq-eqb, t, at_changed, ne_eqb, at_changed_other)
 
     by_use : (c : Context) (b : Bool) → at n t ≡ Some c → c.used ≡ b → (z : Scene) → z.session.contexts ≡ (ends.reset_of n t c).contexts → IsNumbered z → (seen : List Waiting) → FitsHooks seen s
         → IsRead calling FitsHooks seen z (ends.reset_of n t c).events
@@ -393,11 +367,7 @@ moved_read n p s node there out = record { so = λ seen fit. go (is_child n p s.
 
     go : (b : Bool) (seen : List Waiting) → FitsHooks seen s → AreNumbered (placed_under b n p s.session.contexts) s.session.next_context
         → IsRead calling FitsHooks seen (record s { session = record s.session { contexts = placed_under b n p s.session.contexts } }) (move_events b n p)
-    go true seen fit k = record { allowed = refl; fits = fit }
-    go false seen fit k = record {
-      allowed = refl;
-      fits = record { numbered = k; words = λ m. fit.words m ∙ sym (ap words_there (at_moved m n p s.session.contexts fit.numbered.once moves)) };
-    }
+    go b seen fit k = grind (arith, nat_tests, at_moved, moves)
 
 -- a hook is registered, and a context moves, in a session that stands
 calls_moves : StandingMoves CallsHooks
@@ -410,9 +380,6 @@ calls_turns = owes_by CallsHooks calls_ends (context_makes CallsHooks calls_law)
 first_words : (n : ℕ) → words_at n contexts.opening ≡ []
 first_words n = grind (arith, nat_tests)
 
-first_numbered : AreNumbered contexts.opening 6
-first_numbered = record { once = record { once = λ n. grind (arith, nat_tests) }; below = λ n h. grind (arith, nat_tests) }
-
 -- so none is left where what was seen fits such a session
 pub first_called : (seen : List Waiting) (around : Around) → FitsHooks seen (record { session = opening; around = around }) → none_left seen ≡ true
 unfolding opening
@@ -421,7 +388,7 @@ first_called seen around fit = all_called seen (λ n. fit.words n ∙ first_word
 -- The events of a session call each callback that is registered, and nothing is left in the end.
 pub calls_live : (kinds : KindTable) → IsLife kinds calling FitsHooks [] (λ seen. none_left seen ≡ true)
 unfolding opening
-calls_live kinds = grind (arith, nat_tests, life_by, calls_turns, first_numbered, first_words, exit_read, all_called)
+calls_live kinds = grind (arith, nat_tests, life_by, calls_turns, first_words, exit_read, all_called)
 
 -- Each callback of a run is called, and no two have one word: each that is registered was a fresh hook of the shelf, and these differ.
 

@@ -1,7 +1,7 @@
 -- A level that aborts names nothing outside it.
 use Rattle.session_laws.proofs.Words.{◌≡◌, ℕ, ◌-◌, ◌≤◌, Bool, true, false, if◌then◌else◌, List, [], ◌∷◌, ◌++◌, map, length, reverse, Option, Some, None, refl, sym, ap, ◌∙◌, subst, inl, arith, append-nil, ◌+◌, ◌==◌, ◌&&◌, All, filter, option_to_list, ◌⊎◌, is_none, unwrap_or, option_map_or, and_from, eqb-true, both_ways, eq-eqb, or_left, All-head, All-tail, Empty, Node, Once, at, children, has, moved, subtree, Forest, removed, order, order_at, Moves, nat_tests}
 use Rattle.session_laws.proofs.Scenes.{What, Context, Contexts, gone_events, LevelState, OpenPortal, StandingPlan, top_context, level_above, abort_context, context_of, deepest_changed, first_of, level_context, level_owner, owner_of, Scene, has_failed, Ended, children_gone, context_gone, for_each, in_order, portal_becomes, where_so, where_there, changes, portal_gone, switched, owner_moved, owner_released, owner_gone, portal_aborted, portal_failed, portal_withdrawn, stack_popped, aborted, cleaned_up, level_context_gone, level_owner_gone, level_popped, level_released, switched_up, IsAttached, IsPlan, IsPortal, active_depth, Stands, Ending, gone_levels, is_deep, Active}
-use Rattle.session_laws.proofs.Rules.{is_one_of, seen_after, allows_all, aborted_leads, all_aborted, off_begins, owner_when_active, resettled, settled, switched_off, Keeps, last, next, by_each, by_order, by_there, level_context_goes, level_releases, portal_aborts, portal_cleans, Begun, Leaving, level_begun, staying, Awaited, ItsOwner, Neither, awaited_behind, ends_behind, Node as Replayed, contexts_behind, is_there, placed_where, protected_has, Leads, with_parts}
+use Rattle.session_laws.proofs.Rules.{is_one_of, seen_after, allows_all, aborted_leads, all_aborted, off_begins, owner_when_active, resettled, settled, switched_off, Keeps, last, next, by_each, by_order, by_there, level_context_goes, level_releases, portal_aborts, portal_cleans, Begun, Leaving, level_begun, staying, Awaited, ItsOwner, Neither, ends_behind, Node as Replayed, contexts_behind, is_there, placed_where, protected_has, Leads, with_parts}
 use Rattle.session_laws.proofs.Lives.{IsRead, Reads, read_both, read_none, then_read}
 use Rattle.session_laws.proofs.Parents.{FitsContexts, FitsTree, fits_moved, Growth, growing_contexts}
 use Rattle.session_laws.proofs.ParentsLife.{HasContexts, KeepsContexts, contexts_end_leaves}
@@ -61,9 +61,7 @@ module _ (entry : Begun) where
   }
     where
       inside : (o : Option Context) (leaving : Leaving) → InPortals leaving s → GoInside n leaving.parents.contexts (order (option_map_or (λ a. Node n a (children n s.session.contexts) Empty) o Empty) ++ [])
-      inside None leaving k = tt
-      inside (Some a) leaving k =
-          subst (GoInside n leaving.parents.contexts) (sym (append-nil (order_at n s.session.contexts))) (node_inside n leaving.parents.contexts s.session.contexts k.contexts.tree)
+      inside o leaving k = grind (arith, nat_tests, append-nil, node_inside)
 
   pub children_read : (n : ℕ) → is_one_of n (roots_of entry) ≡ true → (s : Scene) → Reads (confined entry) InPortals s (children_gone n s).scene (children_gone n s).events
   children_read n one s = record {
@@ -94,8 +92,7 @@ module _ (entry : Begun) where
         let nodes : List Replayed = leaving.parents.owners in
         let there : (is_there o nodes && is_there lo nodes) ≡ true = and_from (is_there o nodes) (is_there lo nodes) (k.owners.there o ∙ w.node) (k.owners.there lo ∙ w.parent) in
         record {
-          allowed = and_from (is_confined entry (what.MoveOwner o lo) leaving && true) true
-              (and_from (is_confined entry (what.MoveOwner o lo) leaving) true (and_from _ true (owner_confined entry leaving lo lo is (root_within lo nodes)) refl) refl) refl;
+          allowed = grind (arith, nat_tests, and_from, is_confined, owner_confined, root_within);
           fits = record {
             contexts = record { tree = k.contexts.tree; below = k.contexts.below };
             owners = subst (λ (b : Bool). FitsTree (placed_where b o (Some lo) nodes) (moved o lo s.session.owners)) (sym there) (fits_moved o lo nodes s.session.owners k.owners w);
@@ -144,13 +141,11 @@ module _ (level : LevelState) (levels : List LevelState) (made : active_depth (l
       by_level o e (Some lo) is = moved_read entry o lo s (moves p front back s o lo h e is) (own ∙ is)
 
       by_owner : (o : Option ℕ) → p.owner ≡ o → Reads (confined entry) InPortals s (where_there o (λ owner. where_there level.owner (owner_moved owner)) s).scene (where_there o (λ owner. where_there level.owner (owner_moved owner)) s).events
-      by_owner None e = read_none (confined entry) InPortals s
-      by_owner (Some o) e = by_level o e level.owner refl
+      by_owner o e = grind (arith, nat_tests, read_none, confined, by_level)
 
       by_state : (b : Bool) → Reads (confined entry) InPortals s (in_order (where_so b (where_there p.owner (λ owner. where_there level.owner (owner_moved owner))) ∷ becomes ∷ []) s).scene
           (in_order (where_so b (where_there p.owner (λ owner. where_there level.owner (owner_moved owner))) ∷ becomes ∷ []) s).events
-      by_state true = after (where_there p.owner (λ owner. where_there level.owner (owner_moved owner))) (by_owner p.owner refl)
-      by_state false = after (where_so false (where_there p.owner (λ owner. where_there level.owner (owner_moved owner)))) (read_none (confined entry) InPortals s)
+      by_state b = grind (arith, nat_tests, after, by_owner, read_none, confined)
 
   portal_read : (p : OpenPortal) (front back : List OpenPortal) (s : Scene) → Ending level levels (gone_levels level levels) front (p ∷ back) s
       → ((c : ℕ) → p.created ≡ height → p.context ≡ Some c → is_one_of c (roots_of entry) ≡ true) → Reads (confined entry) InPortals s (portal_aborted height level.owner p s).scene (portal_aborted height level.owner p s).events
@@ -163,8 +158,7 @@ module _ (level : LevelState) (levels : List LevelState) (made : active_depth (l
       by_created : (b : Bool) → (p.created == height) ≡ b
           → Reads (confined entry) InPortals s (elim b as (λ _. Ended) [ true ↦ portal_failed p s | false ↦ where_so (p.active == height) (portal_withdrawn height level.owner p) s ]).scene
           (elim b as (λ _. Ended) [ true ↦ portal_failed p s | false ↦ where_so (p.active == height) (portal_withdrawn height level.owner p) s ]).events
-      by_created true e = failed_read entry p s (λ c is. inside c (eqb-true p.created height e) is)
-      by_created false e = by_active (p.active == height)
+      by_created b e = grind (arith, nat_tests, failed_read, inside, eqb-true, by_active)
 
   pub all_read : (ps front : List OpenPortal) (s : Scene) → Ending level levels (gone_levels level levels) front ps s → AreIn height entry ps
       → Reads (confined entry) InPortals s (for_each (portal_aborted height level.owner) ps s).scene (for_each (portal_aborted height level.owner) ps s).events
@@ -198,12 +192,7 @@ module _ (entry : Begun) where
   release_read top None s leaving own k each = record { allowed = refl; fits = record { tree = k.owners } }
   release_read top (Some root) s leaving own k each =
       let nodes : List Replayed = leaving.parents.owners in
-      let start : InRelease root nodes leaving s = record {
-        owners = refl;
-        tree = k.owners;
-        once = k.contexts.tree.once;
-        plans = bare_of s.session.plans leaving.plans s k.contexts.tree.once k.quiet each k.plans;
-      } in
+      let start : InRelease root nodes leaving s = grind (arith, nat_tests, bare_of) in
       let read : IsRead (confined entry) (InRelease root nodes) leaving (owner_released false top root s).scene (owner_released false top root s).events =
       (owner_read entry root own nodes top s (root_within root nodes)).so leaving start in
       record { allowed = read.allowed; fits = record { tree = subst (λ (x : List Replayed). FitsTree x (owner_released false top root s).scene.session.owners) (sym read.fits.owners) read.fits.tree } }
@@ -250,9 +239,6 @@ pub record Halted (leaving : Leaving) (t : Scene) : Type 0 where
 abbrev pub IsSoon : Awaited → Type 0
 IsSoon awaited = (awaited ≡ ItsOwner) ⊎ (awaited ≡ Neither)
 
-soon_none : (n : ℕ) (a : Awaited) → IsSoon a → awaited_behind (what.AbortLevel n) a ≡ Neither
-soon_none n a x2 = grind (arith, nat_tests)
-
 -- the deepest level aborts
 pub record AbortRead (leaving : Leaving) (s : Scene) : Type 0 where
   pub allowed : allows_all staying leaving (aborted s).events ≡ true
@@ -288,8 +274,7 @@ module _ (entry : Begun) where
 
       go : (b : Bool) → (p.created == n) ≡ b
           → Reads (confined entry) InPortals s (where_so b (in_order (where_there p.context context_gone ∷ portal_gone p.name ∷ [])) s).scene (where_so b (in_order (where_there p.context context_gone ∷ portal_gone p.name ∷ [])) s).events
-      go true e = by_context p.context (λ c is. inside c (eqb-true p.created n e) is)
-      go false e = read_none (confined entry) InPortals s
+      go b e = grind (arith, nat_tests, by_context, inside, eqb-true, read_none, confined)
 
   sweeps_read : (n : ℕ) (ps : List OpenPortal) (s : Scene) → AreIn n entry ps → Reads (confined entry) InPortals s (for_each (sweep n) ps s).scene (for_each (sweep n) ps s).events
   sweeps_read n [] s inside = read_none (confined entry) InPortals s
@@ -396,9 +381,6 @@ module _ (level : LevelState) (levels : List LevelState) (s : Scene) (leaving : 
     first_ends : leaving.ends ≡ [] → InEnd entry later.ends
     first_ends e = subst (λ (ends : List Begun). InEnd entry (ends_behind (what.AbortLevel n) leaving.begun ends)) (sym e) (refl, tt)
 
-    not_over : IsOver entry later
-    not_over c is away = grind (arith, nat_tests, protected_has, own_context, both_ways)
-
     pub aborts_read : leaving.ends ≡ [] → IsSoon leaving.awaited → AbortRead leaving s0
     aborts_read e soon =
         let read : IsRead (confined entry) HasOwnersSeen later (aborted s0).scene ((for_each (portal_aborted n level.owner) s.session.portals z0).events ++ (tail z1).events) = rest in
@@ -406,9 +388,8 @@ module _ (level : LevelState) (levels : List LevelState) (s : Scene) (leaving : 
         let stayed : Stayed entry later events = confined_stays entry later events (first_ends e) read.allowed in
         let l : Lessens s0 (in_order (abort_parts n level.owner s.session.portals) s0).scene (in_order (abort_parts n level.owner s.session.portals) s0).events = (abort_lessens n level.owner s.session.portals).so s0 in
         let now : Leaving = seen_after staying later events in
-        let same : level_begun n leaving.begun ≡ level_begun (length levels + 1) now.begun =
-        ap (λ (m : ℕ). level_begun m leaving.begun) (sym same_n) ∙ ap (level_begun (length levels + 1)) (sym stayed.begun) in
-        grind (arith, nat_tests, and_from, nothing_ends, soon_none, not_over, confined_sees)
+        let same : level_begun n leaving.begun ≡ level_begun (length levels + 1) now.begun = grind (arith, nat_tests, same_n) in
+        grind (arith, nat_tests, and_from, nothing_ends, protected_has, own_context, both_ways, confined_sees)
 
   -- it is cleaned up
   abbrev behind : Leaving
@@ -473,8 +454,7 @@ module _ (level : LevelState) (levels : List LevelState) (s : Scene) (leaving : 
   closed : InEnd entry leaving.ends → IsOver entry leaving → (stayed : Stayed entry behind all_events) → (o : Option ℕ) → level.context ≡ o → (seen_after staying behind all_events).ends ≡ []
   closed i o stayed None is = stayed.closed (none_named is i)
   closed i o stayed (Some c) is =
-      let tree : FitsContexts (seen_after staying behind all_events).parents.contexts c_last.scene =
-      subst (λ (l : Leaving). FitsContexts l.parents.contexts c_last.scene) (confined_sees entry behind all_events) whole.fits.contexts in
+      let tree : FitsContexts (seen_after staying behind all_events).parents.contexts c_last.scene = grind (arith, nat_tests, confined_sees, whole) in
       stayed.over (still_over i o) c (own_context ∙ is) (tree.tree.there c ∙ left_away c is)
 
   pub cleans_read : InEnd entry leaving.ends → IsOver entry leaving → leaving.awaited ≡ Neither → CleanRead leaving s0

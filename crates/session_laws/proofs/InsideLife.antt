@@ -8,11 +8,10 @@ use Rattle.session_laws.proofs.Parents.{FitsContexts}
 use Rattle.session_laws.proofs.ParentsLife.{KeepsContexts, contexts_end_leaves, KeepsOwners, contexts_owed, owners_owed, contexts_life, opening_contexts, opening_owners, owners_life}
 use Rattle.session_laws.proofs.OwnWork.{AreDue, ContextNext, Hushed, IsRest, OwnerNext, Stage, Working, above_of, line_due, stage_next, stage_of}
 use Rattle.session_laws.proofs.InsideWalk.{nothing_ends, AreBegun, Lessens, by_said, by_switch, inside_acts}
-use Rattle.session_laws.proofs.InsideHooks.{KeepsQuiet, quiet_ends, quiet_owed, AreQuiet}
+use Rattle.session_laws.proofs.InsideHooks.{KeepsQuiet, quiet_ends, quiet_owed}
 use Rattle.session_laws.proofs.InsideEnds.{contexts_fit, AbortRead, CleanRead, Halted, IsSoon}
-use Rattle.session_laws.proofs.InsideSteps.{IsLast, Active, AwaitsNothing, OneRead, At, KeepsTrees, Stepped, Trees, aborts_at, cleans_at, step_read, trees_behind, trees_element, word_stays, lessened}
+use Rattle.session_laws.proofs.InsideSteps.{Active, AwaitsNothing, OneRead, At, KeepsTrees, Stepped, Trees, aborts_at, cleans_at, step_read, trees_behind, trees_element, word_stays, lessened}
 use Rattle.pgs_step.specs.declared.events.What.TheVariants as what
-use Rattle.context_rules.specs.Opening as contexts
 
 -- where a line stands, somewhere or at its end
 pub record AtSome (leaving : Leaving) (s : Scene) : Type 0 where
@@ -54,17 +53,8 @@ pub record FitsInside (leaving : Leaving) (s : Scene) : Type 0 where
   pub trees : Trees leaving s
   pub at : At (stage_of s.session.levels) leaving s
 
-halted_of : (leaving : Leaving) (s : Scene) (level : LevelState) (levels : List LevelState) → s.session.levels ≡ level ∷ levels → level.aborted ≡ true → AwaitsNothing leaving s → Halted leaving s
-halted_of leaving s level levels are gone k = grind (arith, nat_tests)
-
-working_at : (leaving : Leaving) (s : Scene) (levels : List LevelState) → s.session.levels ≡ levels → AwaitsNothing leaving s → At (stage_of levels) leaving s
-working_at leaving s levels are k = grind (arith, nat_tests, halted_of)
-
-halted_at : (leaving : Leaving) (s : Scene) (k : Halted leaving s) → At (stage_of s.session.levels) leaving s
-halted_at leaving s k = subst (λ (ls : List LevelState). At (stage_of ls) leaving s) (sym k.are) (subst (λ (b : Bool). At (if b then Hushed else Working) leaving s) (sym k.aborted) k)
-
 pub rest_at : (leaving : Leaving) (s : Scene) → AtRest leaving s → At (stage_of s.session.levels) leaving s
-rest_at leaving s r = grind (arith, nat_tests, stage_of, working_at, halted_at)
+rest_at leaving s r = grind (arith, nat_tests, stage_of)
 
 one_nothing : {F : Leaving → Scene → Type 0} (leaving : Leaving) (s : Scene) → F leaving s → OneRead F leaving s []
 one_nothing leaving s k = record { allowed = refl; fits = k }
@@ -257,22 +247,13 @@ turn_read w line m h = record {
 -- In the life of a session the end of a level that aborts names nothing outside the level.
 
 -- what was seen fits the same session in other surroundings
-last_elsewhere : (leaving : Leaving) (session : SessionState) (a b : Around) → IsLast leaving (record { session = session; around = a }) → IsLast leaving (record { session = session; around = b })
-last_elsewhere leaving session a b k = grind (arith, nat_tests)
-
-at_elsewhere : (stage : Stage) (leaving : Leaving) (session : SessionState) (a b : Around) → At stage leaving (record { session = session; around = a }) → At stage leaving (record { session = session; around = b })
-at_elsewhere stage leaving session a b k = grind (arith, nat_tests, last_elsewhere)
-
 elsewhere_fits : (leaving : Leaving) (session : SessionState) (a b : Around) → FitsInside leaving (record { session = session; around = a }) → FitsInside leaving (record { session = session; around = b })
-elsewhere_fits leaving session a b k = grind (arith, nat_tests, at_elsewhere, stage_of)
+elsewhere_fits leaving session a b k = grind (arith, nat_tests, stage_of)
 
 -- a session as it opens
-quiet_opening : AreQuiet None contexts.opening
-quiet_opening = (λ e own. refl, (λ e own. refl, tt, (λ e own. refl, tt, (λ e own. refl, tt, (λ e own. refl, tt, tt)))), tt)
-
 opens_fit : (kinds : KindTable) (around : Around) → table_of around.kinds ≡ kinds → FitsInside nothing_leaving (record { session = opening; around = around })
 unfolding opening
-opens_fit kinds around same = grind (arith, nat_tests, opening_contexts, contexts_life, opening_owners, owners_life, quiet_opening)
+opens_fit kinds around same = grind (arith, nat_tests, opening_contexts, contexts_life, opening_owners, owners_life)
 
 -- an error that is said
 trees_said : (error : Error) (s : Scene) → KeepsTrees s s (what.Error error ∷ [])
@@ -292,12 +273,10 @@ error_at error s leaving levels are k = go levels k
         record { allowed = o.allowed; fits = record { stage = Hushed; rest = tt; at = o.fits } }
 
     by_bool : (b : Bool) → At (if b then Hushed else Working) leaving s → OneRead AtRest leaving s (what.Error error ∷ [])
-    by_bool true k = halts k
-    by_bool false k = said k
+    by_bool b k = grind (arith, nat_tests, halts, said)
 
     go : (levels : List LevelState) → At (stage_of levels) leaving s → OneRead AtRest leaving s (what.Error error ∷ [])
-    go [] k = said k
-    go (level ∷ levels) k = by_bool level.aborted k
+    go levels k = grind (arith, nat_tests, said, by_bool)
 
 error_stays : (error : Error) (s : Scene) → Reads staying FitsInside s s (what.Error error ∷ [])
 error_stays error s = record {
@@ -370,8 +349,7 @@ exit_read : (s : Scene) → StandsBetweenLines s → (leaving : Leaving) → Fit
 unfolding exited
 exit_read s h leaving k =
     let z : Scene = (for_each level_rolled_back s.session.levels s).scene in
-    let tail : Keeps Lessens (in_order (switched top_context ∷ context_gone top_context ∷ say what.Exit ∷ [])) =
-    by_order Lessens inside_acts (next (by_switch top_context) (next (inside_acts.gone top_context) (next (by_said what.Exit refl) last))) in
+    let tail : Keeps Lessens (in_order (switched top_context ∷ context_gone top_context ∷ say what.Exit ∷ [])) = grind (arith, nat_tests, by_order, inside_acts, next, by_switch, by_said, last) in
     let o : OneRead AwaitsNothing leaving z (for_each level_rolled_back s.session.levels s).events = levels_read s.session.levels s leaving h.stands refl k.trees k.at in
     let last_acts : Scene → Ended = in_order (switched top_context ∷ context_gone top_context ∷ say what.Exit ∷ []) in
     let t : Lessens z (last_acts z).scene (last_acts z).events = tail.so z in

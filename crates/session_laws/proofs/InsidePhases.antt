@@ -1,7 +1,7 @@
 -- The end of one level, read by itself: what each event of it may name, and the events of contexts and owners that go.
-use Rattle.session_laws.proofs.Words.{◌≡◌, ℕ, ◌+◌, Bool, true, false, not, List, [], ◌∷◌, ◌++◌, map, Option, Some, refl, sym, ap, ◌∙◌, subst, inl, inr, arith, append-nil, append_assoc, ◌-◌, if◌then◌else◌, None, ◌==◌, ◌&&◌, filter, option_to_list, ◌⊎◌, nat_lt, list_all, and_from, and_parts, cases_eq, eq-eqb, eqb-true, or_cases, or_left, or_right, Forest, Empty, Node, Once, children, has, is_above, removed, size, at, subtree, order, order_at, has_children, at_absent, children_absent, left_apart, removed_absent, nat_tests}
+use Rattle.session_laws.proofs.Words.{◌≡◌, ℕ, ◌+◌, Bool, true, false, not, List, [], ◌∷◌, ◌++◌, map, Option, Some, refl, sym, ap, ◌∙◌, subst, arith, append-nil, append_assoc, ◌-◌, if◌then◌else◌, None, ◌==◌, ◌&&◌, filter, option_to_list, ◌⊎◌, nat_lt, list_all, and_from, and_parts, eq-eqb, eqb-true, or_cases, or_left, or_right, Forest, Empty, Node, Once, children, has, is_above, removed, size, at, subtree, order, order_at, has_children, at_absent, children_absent, left_apart, removed_absent, nat_tests}
 use Rattle.session_laws.proofs.Scenes.{What, Hook, Contexts, Context, callbacks, gone_events, Item, Phase, BeforeLocks, Locks, AfterLocks, Lock, owner_count, table_of, KindTable, own_released, released, Step, ReleasesLocks, ReleasesAllLocks, release_steps, StandingPlan, Scene, plan_at, plan_changed, plans_but, Ended, for_each, where_there, Keeper, NoOne, TheDescriptors, TheKind, ThePlans, descriptor_left, given_back, left_to, owner_released, phase_released, plan_becomes, plan_left, plan_settled, plan_stays, step_done}
-use Rattle.session_laws.proofs.Rules.{Reader, allows_all, is_one_of, seen_after, allows_all-append, seen_after-append, at_left, once_left, is_there-placed_other, is_there-placed_same, is_there-without_other, Awaited, Begun, Leaving, Neither, awaited_behind, begun_behind, contexts_inside, ends_behind, ends_with, is_within_some, owners_inside, plans_behind, staying, with_end, Node as Kept, is_there, is_within, placed, placed_where, without, lone_left}
+use Rattle.session_laws.proofs.Rules.{Reader, allows_all, is_one_of, seen_after, allows_all-append, seen_after-append, at_left, once_left, is_there-without_other, Awaited, Begun, Leaving, Neither, awaited_behind, begun_behind, contexts_inside, ends_behind, ends_with, is_within_some, owners_inside, plans_behind, staying, with_end, Node as Kept, is_there, is_within, without, lone_left}
 use Rattle.session_laws.proofs.StepsOf.{AreOf, no_step, numbers_of, passes, steps_of, unlocks, unlocks_all, warns, gives_up}
 use Rattle.session_laws.proofs.Parents.{by_children, FitsTree, fits_gone, same_within, alike_swept}
 use Rattle.pgs_step.specs.declared.ids.TheConstants.KindId.{PLAN_REFERENCE, FILE, FIRST_EXTENSION}
@@ -61,21 +61,12 @@ none_left entry test [] h out = refl
 none_left entry test (level ∷ levels) h out =
     rw (ap test h.0 ∙ out) (none_left entry test levels h.1 out)
 
-away_placed : (c m : ℕ) (b : Bool) (parent : Option ℕ) (nodes : List Kept) → is_there c (placed_where b m parent nodes) ≡ false → is_there c nodes ≡ false
-away_placed c m false parent nodes h = h
-away_placed c m true parent nodes h = elim (cases_eq c m) [
-  | inl e ↦
-      let bad : true ≡ false = sym (ap (λ (x : ℕ). is_there x (placed m parent nodes)) e ∙ is_there-placed_same m parent nodes) ∙ h in
-      absurd (cc bad)
-  | inr ne ↦ sym (is_there-placed_other c m parent nodes ne) ∙ h
-]
-
 -- so it is behind each event
 empty_ends : (event : What) (begun ends : List Begun) → is_edge event ≡ false → ends ≡ [] → ends_behind event begun ends ≡ []
 empty_ends event begun ends h e = ap (ends_behind event begun) e ∙ no_more_ends event begun [] h
 
 pub next_over : (entry : Begun) (event : What) (leaving : Leaving) → is_edge event ≡ false → InEnd entry leaving.ends → IsOver entry leaving → IsOver entry (staying.next event leaving)
-next_over entry event leaving h k o c is away = grind (arith, nat_tests, empty_ends, away_placed, none_left, eq-eqb, is_there-without_other)
+next_over entry event leaving h k o c is away = grind (arith, nat_tests, empty_ends, none_left, eq-eqb, is_there-without_other)
 
 pub all_in : (test : Begun → Bool) (entry : Begun) (ends : List Begun) → InEnd entry ends → test entry ≡ true → list_all test ends ≡ true
 all_in test entry [] h k = refl
@@ -97,8 +88,7 @@ no_edge b h = grind (arith, nat_tests)
 pub confined_stays : (entry : Begun) (leaving : Leaving) (events : List What) → InEnd entry leaving.ends → allows_all (confined entry) leaving events ≡ true → Stayed entry leaving events
 confined_stays entry leaving [] k h = record { allowed = refl; ends = k; begun = refl; plans = refl; awaited = λ aw. aw; over = λ o. o; closed = λ e. e }
 confined_stays entry leaving (event ∷ events) k h =
-    let p : ((is_confined entry event leaving && not (is_edge event)) ≡ true) × (allows_all (confined entry) (staying.next event leaving) events ≡ true) =
-    and_parts (is_confined entry event leaving && not (is_edge event)) (allows_all (confined entry) (staying.next event leaving) events) h in
+    let p : ((is_confined entry event leaving && not (is_edge event)) ≡ true) × (allows_all (confined entry) (staying.next event leaving) events ≡ true) = grind (arith, nat_tests, and_parts) in
     let q : (is_confined entry event leaving ≡ true) × (not (is_edge event) ≡ true) = and_parts (is_confined entry event leaving) (not (is_edge event)) p.0 in
     let calm : is_edge event ≡ false = no_edge (is_edge event) q.1 in
     let more : Stayed entry (staying.next event leaving) events =
@@ -297,9 +287,6 @@ module _ (entry : Begun) (root : ℕ) (own : entry.owner ≡ Some root) (nodes :
     fits : InRelease root nodes leaving s
     left : leaving.plan_left ≡ true
 
-  plan_deleted : (n : ℕ) (leaving : Leaving) → leaving.plan_left ≡ true → is_one_of n leaving.plans ≡ true → (confined entry).allows (what.Delete n) leaving ≡ true
-  plan_deleted n leaving left known = grind (arith, nat_tests, and_from, or_left)
-
   gone_behind : (leaving : Leaving) (s : Scene) (p q : StandingPlan) (n : ℕ) → Behind leaving s → plan_at n s.session.plans ≡ Some p → q.context ≡ p.context
       → IsRead (confined entry) (InRelease root nodes) leaving (plan_settled q s).scene (plan_settled q s).events
   gone_behind leaving s p q n b is same =
@@ -308,17 +295,8 @@ module _ (entry : Begun) (root : ℕ) (own : entry.owner ≡ Some root) (nodes :
       let found : Found p t leaving.plans = bare_at n p t leaving.plans s.session.plans is b.fits.plans in
       let bare : IsBare k t = subst (λ (m : ℕ). IsBare m t) (sym same) found.bare in
       let known : is_one_of k leaving.plans ≡ true = ap (λ (m : ℕ). is_one_of m leaving.plans) same ∙ found.known_is in
-      let plans : AreBare (plans_but q.number s.session.plans) (removed k t) leaving.plans =
-      bare_but q.number (removed k t) leaving.plans s.session.plans (still_bare k t leaving.plans b.fits.once s.session.plans b.fits.plans) in
-      let read : (events : List What) → (events ≡ []) ⊎ (events ≡ what.Delete k ∷ []) → IsRead (confined entry) (InRelease root nodes) leaving (plan_settled q s).scene events = λ events e. elim e [
-        | inl none ↦ subst (IsRead (confined entry) (InRelease root nodes) leaving (plan_settled q s).scene) (sym none) (record { allowed = refl; fits = record { owners = b.fits.owners; tree = b.fits.tree; once = once_left k t b.fits.once; plans = plans } })
-        | inr one ↦
-            subst (IsRead (confined entry) (InRelease root nodes) leaving (plan_settled q s).scene) (sym one)
-            (record {
-              allowed = and_from ((confined entry).allows (what.Delete k) leaving) true (plan_deleted k leaving b.left known) refl;
-              fits = record { owners = b.fits.owners; tree = b.fits.tree; once = once_left k t b.fits.once; plans = plans };
-            })
-      ] in
+      let plans : AreBare (plans_but q.number s.session.plans) (removed k t) leaving.plans = grind (arith, nat_tests, bare_but, still_bare) in
+      let read : (events : List What) → (events ≡ []) ⊎ (events ≡ what.Delete k ∷ []) → IsRead (confined entry) (InRelease root nodes) leaving (plan_settled q s).scene events = grind (arith, nat_tests, once_left, and_from) in
       subst (IsRead (confined entry) (InRelease root nodes) leaving (plan_settled q s).scene) (sym (append-nil (gone_events (subtree k t)))) (read (gone_events (subtree k t)) (bare_gone k t bare))
 
   stays_behind : (leaving : Leaving) (s : Scene) (p q : StandingPlan) (n : ℕ) → Behind leaving s → plan_at n s.session.plans ≡ Some p → q.context ≡ p.context
@@ -333,8 +311,7 @@ module _ (entry : Begun) (root : ℕ) (own : entry.owner ≡ Some root) (nodes :
     where
       by : (d : Bool) (q : StandingPlan) → IsRead (confined entry) (InRelease root nodes) leaving (plan_settled q s).scene (plan_settled q s).events → IsRead (confined entry) (InRelease root nodes) leaving (plan_stays q s).scene (plan_stays q s).events
           → IsRead (confined entry) (InRelease root nodes) leaving (elim d as (λ _. Ended) [ true ↦ plan_settled q s | false ↦ plan_stays q s ]).scene (elim d as (λ _. Ended) [ true ↦ plan_settled q s | false ↦ plan_stays q s ]).events
-      by true q a c = a
-      by false q a c = c
+      by d q a c = grind (arith, nat_tests)
 
       go : (o : Option StandingPlan) → plan_at n s.session.plans ≡ o
           → IsRead (confined entry) (InRelease root nodes) leaving (where_there o (λ plan. plan_becomes (record plan { references = plan.references - 1 })) s).scene (where_there o (λ plan. plan_becomes (record plan { references = plan.references - 1 })) s).events

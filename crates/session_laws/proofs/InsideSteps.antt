@@ -1,8 +1,8 @@
 -- What is seen of a level that is being made.
 use Rattle.session_laws.proofs.Words.{◌≡◌, ◌≢◌, ℕ, ◌+◌, ◌<◌, Bool, true, false, not, List, [], ◌∷◌, map, length, Option, Some, None, refl, sym, ap, ◌∙◌, subst, inr, arith, ◌==◌, ◌||◌, codes, filter, drop, and_from, eq-eqb, eqb-true, ne_eqb, or_left, nat_tests}
 use Rattle.session_laws.proofs.Scenes.{What, LevelState, OpenPortal, deepest_changed, level_above, owner_of, depth, top_context, Scene, Moment, LevelContext, OfLevel, Text, Element, NewContext, OwnerRole, level_context_name, level_made, level_parent, new_context_made, new_owner_made, made_event, Error, failure, Ended, for_each, in_order, nothing, say, switched, level_stands, portal_closed, portal_passed, aborted, cleaned_up, committed, empty_context_gone, level_context_gone, level_owner_gone, level_released, stack_lowered, stack_popped, subcommitted, switched_up, Done, fallible, refused_call, unfailing, unless_refused, does, Stands}
-use Rattle.session_laws.proofs.Rules.{allows_all, is_one_of, seen_after, settled, Follows, IsSpoken, Keeps, last, next, Meets, by_each, by_order, element_follows, empty_context_goes, level_context_goes, level_releases, portal_closes, portal_passes, said_none, Awaited, Begun, ItsContext, ItsOwner, Leaving, Neither, awaited_behind, bare_level, ends_behind, is_named, last_changed, level_begun, staying, with_context, with_owner, with_portal, Node as Replayed, owners_behind}
-use Rattle.session_laws.proofs.InsideWalk.{AreBegun, AreSeen, Grows, Sees, begun_still, grows_either, has_begun, known_still, level_here, level_later, nothing_ends, plans_grow, seen_still, AreLow, Calming, Kept, Lessens, Seen, Works, calm_all, lessens_sees, by_moved, by_said, by_switch, inside_acts, inside_phase, inside_released, inside_stack, unmoved, element_works, low_of}
+use Rattle.session_laws.proofs.Rules.{allows_all, is_one_of, seen_after, settled, Follows, IsSpoken, Keeps, last, next, Meets, by_each, by_order, element_follows, empty_context_goes, level_context_goes, level_releases, portal_closes, portal_passes, said_none, Awaited, Begun, ItsContext, ItsOwner, Leaving, Neither, awaited_behind, bare_level, ends_behind, is_named, last_changed, level_begun, staying, with_owner, with_portal, Node as Replayed, owners_behind}
+use Rattle.session_laws.proofs.InsideWalk.{AreBegun, AreSeen, Grows, Sees, begun_still, grows_either, has_begun, known_still, level_here, level_later, nothing_ends, seen_still, AreLow, Calming, Kept, Lessens, Seen, Works, calm_all, lessens_sees, by_moved, by_said, by_switch, inside_acts, inside_phase, inside_released, inside_stack, unmoved, element_works, low_of}
 use Rattle.session_laws.proofs.Lives.{IsRead}
 use Rattle.session_laws.proofs.Parents.{FitsContexts, FitsOwners, FitsTree, Growth, growing_owners}
 use Rattle.session_laws.proofs.ParentsLife.{KeepsContexts, HasOwners, KeepsOwners, contexts_owed, owners_owed}
@@ -138,8 +138,7 @@ module _ (s : Scene) (leaving : Leaving) where
       let changed : List Begun = gets_context c l.first ∷ l.rest in
       let behind : List Begun = with_portal name c changed in
       let grows : Grows changed behind = grows_either (is_named name (codes "PortalContext")) c changed in
-      let is : (staying.next (what.Create c name parent) leaving).begun ≡ behind =
-      ap (λ (a : Awaited). with_portal name c (with_context a c leaving.begun)) aw ∙ ap (λ (b : List Begun). with_portal name c (last_changed (gets_context c) b)) l.begun in
+      let is : (staying.next (what.Create c name parent) leaving).begun ≡ behind = grind (arith, nat_tests) in
       let head = portal_head (is_named name (codes "PortalContext")) c n (gets_context c l.first) l.rest l.number in
       let were : AreBegun (l.level ∷ l.levels) (l.first ∷ l.rest) = subst (AreBegun (l.level ∷ l.levels)) l.begun (subst (λ (ls : List LevelState). AreBegun ls leaving.begun) l.are k.begun) in
       let own : level_begun n changed ≡ gets_context c l.first = altered_here (gets_context c) (alters_context c) n l.first l.rest l.number in
@@ -154,7 +153,7 @@ module _ (s : Scene) (leaving : Leaving) where
       ) in
       let seen : AreSeen s.session.portals changed =
       altered_seen (gets_context c) (alters_context c) n l.first l.rest l.number s.session.portals (subst (AreSeen s.session.portals) l.begun k.portals) in
-      grind (arith, nat_tests, next, begun_still, seen_still, known_still, plans_grow)
+      grind (arith, nat_tests, next, begun_still, seen_still, known_still)
 
   pub context_begins : AwaitsContext leaving s → OneRead AwaitsOwner leaving (new_context_made LevelContext s).scene (new_context_made LevelContext s).events
   context_begins k =

@@ -1,6 +1,6 @@
 -- Items are numbered as they are acquired.
 use Rattle.session_laws.proofs.Words.{◌≡◌, ℕ, true, List, refl, sym, ap, ◌∙◌, arith, Bool, false, and_from, eq-eqb, has, nat_tests, numbering, acquires, releases}
-use Rattle.session_laws.proofs.Scenes.{What, KindId, Scene, Around, say, remembers, item_taken, taken_by, Item, SessionState, opening, Keeper, keeper_of, HasExited, KindTable}
+use Rattle.session_laws.proofs.Scenes.{What, KindId, Scene, Around, say, item_taken, taken_by, Item, SessionState, opening, Keeper, keeper_of, HasExited, KindTable}
 use Rattle.session_laws.proofs.Rules.{allows_all, seen_after, EndLeaves, Keeps, Law, MakeLeaves, LevelLeaves, AreSaid, said_more, said_none, said_one, Part, Sight, of_next_serial, owner_makes, unseen_keys, unseen_owners, of_next_owner, of_owners, takes, moves_owed, BalancesFrom, covers, left, KeyLeaves}
 use Rattle.session_laws.proofs.Usual.{Usual, is_usual, level_words, usual_files, usual_makes, usual_moves, plain_ends, usual_levels}
 use Rattle.session_laws.proofs.Lives.{OwesTurns, Reads, read_both, owes_by, IsLife, life_by}
@@ -37,10 +37,6 @@ sees_serial other = false
 number_sight : Sight sees_serial is_past Numbers
 number_sight = record { both = λ a b. read_both numbering IsNext a b; aside = λ s t same h. past_reads s t (same.so of_next_serial refl) h }
 
--- an item is acquired with the next number
-remembered_numbers : (n : ℕ) (kind : KindId) (key : ℕ) (s : Scene) → Numbers s (remembers n kind key s).scene (remembers n kind key s).events
-remembered_numbers n kind key s = grind (arith, nat_tests, and_from, eq-eqb)
-
 usual_past : (event : What) → is_usual event ≡ true → is_past event ≡ true
 usual_past event h = grind (arith, nat_tests)
 
@@ -48,7 +44,7 @@ number_usual : Usual sees_serial is_past
 number_usual = assumption usual_past
 
 number_ends : EndLeaves Numbers
-number_ends = grind (arith, nat_tests, plain_ends, number_sight, number_usual, unseen_keys, unseen_owners, remembered_numbers)
+number_ends = grind (arith, nat_tests, plain_ends, number_sight, number_usual, unseen_keys, unseen_owners)
 
 number_makes : MakeLeaves Numbers
 number_makes = usual_makes number_sight number_usual (λ n parent name. refl) refl (owner_makes sees_serial is_past Numbers number_sight refl refl (λ n. refl) (λ n parent. refl))

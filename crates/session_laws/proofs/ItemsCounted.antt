@@ -1,7 +1,7 @@
 -- How often the owner of a number has an item, behind each change of the owners, and how often a phase of a release says that it releases it.
-use Rattle.session_laws.proofs.Words.{◌≡◌, ℕ, ◌+◌, count_by, find, Bool, true, false, cond, Option, Some, List, [], ◌∷◌, ◌++◌, refl, ap, ◌∙◌, arith, ◌-◌, ◌<◌, ◌≤◌, sym, subst, ◌==◌, ◌&&◌, if◌then◌else◌, and_from, false_from_ne_true, le-leb, ne_eqb, sum_by-cons, Empty, Node, Once, has, at, changed, children, moved, put, removed, AllNodes, all_changed, swept, order_at, Moves, apart_of, at_absent, at_some, changed_absent, has_at, once_removed, parent_stays, put_absent, removed_absent, where_is, has_changed, has_of_removed, has_some, once_changed, once_front, once_put, times_moved, times_some, nat_tests, releases, same_item, acquires}
-use Rattle.session_laws.proofs.Scenes.{Item, KindId, Phase, BeforeLocks, Locks, AfterLocks, KindTable, is_of, without_newest, is_of_phase, priority, release_order, Owner, OwnerTree, AllAt, HoldsNothing, created, forgotten, remembered, left_of, own_released, released, Said, Step, lock_step, own_steps, release_steps, releases_of, steps_below, top_locks, GivesBack, ReleasesLocks, PassesLocks, ReleasesAllLocks, made_event, What, table_of, Scene, newest, for_each, owner_made, given_back, owner_gone, owner_moved, phase_released, step_done, remembers}
-use Rattle.session_laws.proofs.Rules.{Reader, allows_all, seen_after, count, allows_all-append, seen_after-append, has_put_other, once_left, has_swept, AreReleaseSteps, IsReleaseStep, is_release, no_step, phase_release, then_step, warned_step, AreSaid, said_all_locks, said_lock_passes, said_lock_releases, said_map, said_more, said_none, said_one, said_weaker}
+use Rattle.session_laws.proofs.Words.{◌≡◌, ℕ, ◌+◌, count_by, find, Bool, true, false, cond, Option, Some, List, [], ◌∷◌, ◌++◌, refl, ap, ◌∙◌, arith, ◌-◌, ◌<◌, ◌≤◌, sym, subst, ◌==◌, ◌&&◌, and_from, false_from_ne_true, le-leb, ne_eqb, sum_by-cons, Empty, Node, Once, has, at, changed, children, moved, put, removed, AllNodes, all_changed, swept, order_at, Moves, apart_of, at_absent, at_some, changed_absent, has_at, once_removed, parent_stays, put_absent, removed_absent, where_is, has_changed, has_of_removed, has_some, once_changed, once_front, once_put, times_moved, times_some, nat_tests, releases, same_item, acquires}
+use Rattle.session_laws.proofs.Scenes.{Item, KindId, Phase, BeforeLocks, Locks, AfterLocks, KindTable, is_of, without_newest, is_of_phase, priority, release_order, Owner, OwnerTree, AllAt, HoldsNothing, created, forgotten, remembered, left_of, own_released, released, Said, Step, own_steps, release_steps, releases_of, steps_below, GivesBack, ReleasesLocks, PassesLocks, ReleasesAllLocks, made_event, What, table_of, Scene, newest, for_each, owner_made, given_back, owner_gone, owner_moved, phase_released, step_done, remembers}
+use Rattle.session_laws.proofs.Rules.{Reader, allows_all, seen_after, count, allows_all-append, seen_after-append, has_put_other, once_left, has_swept, AreReleaseSteps, IsReleaseStep, no_step, phase_release, then_step, warned_step, AreSaid, said_all_locks, said_lock_passes, said_lock_releases, said_map, said_more, said_none, said_one, said_weaker}
 use Rattle.session_laws.proofs.Parents.{alike_swept, once_alike}
 use Rattle.session_laws.proofs.Warnings.{is_aside}
 use Rattle.owner_items.proofs.Uses.{count-parts, count-without}
@@ -110,20 +110,11 @@ module _ (item : Item) (owner : ℕ) where
   says_own kinds AfterLocks commit n o locks none =
       omega (arith, says_releases commit n (release_order kinds AfterLocks o.items), count-parts (is_it n) (is_of_phase kinds AfterLocks) (priority kinds) o.items)
 
-  lock_says : (commit : Bool) (n parent : ℕ) → said (lock_step commit n parent) ≡ 0
-  lock_says commit n parent = grind (arith, nat_tests)
-
-  locks_say : (top commit : Bool) (n parent : ℕ) → says (if top then [] else lock_step commit n parent ∷ []) ≡ 0
-  locks_say top commit n parent = grind (arith, nat_tests, lock_says)
-
-  top_says : (top commit : Bool) (n : ℕ) (parent : Option ℕ) → says (top_locks top commit n parent) ≡ 0
-  top_says top commit n parent = grind (arith, nat_tests, lock_says)
-
   -- of the owners below one
   says_below : (kinds : KindTable) (phase : Phase) (commit top : Bool) (parent : ℕ) (t : OwnerTree)
       → says (steps_below kinds phase commit top parent t) + has_it (all_changed (own_released kinds phase) t) ≡ has_it t
   says_below kinds phase commit top parent Empty = refl
-  says_below kinds phase commit top parent (Node n o below beside) = grind (arith, nat_tests, says_below kinds phase commit top n below, says_below kinds phase commit top parent beside, says_both, says_own, locks_say)
+  says_below kinds phase commit top parent (Node n o below beside) = grind (arith, nat_tests, says_below kinds phase commit top n below, says_below kinds phase commit top parent beside, says_both, says_own)
 
   -- what a change of an owner and of all below it does to the sum
   unswept : (f : Owner → Owner) (n : ℕ) (t : OwnerTree) → has n t ≡ false → swept f n t ≡ t
@@ -138,7 +129,7 @@ module _ (item : Item) (owner : ℕ) where
   -- A phase says of what it takes off the owners that it is released.
   pub says_phase : (kinds : KindTable) (phase : Phase) (commit top : Bool) (n : ℕ) (t : OwnerTree) → Once t
       → says (release_steps kinds phase commit top n t) + has_it (released kinds phase n t) ≡ has_it t
-  says_phase kinds phase commit top n t o = grind (arith, nat_tests, at_some, says_both, says_below, says_own, top_says, it_swept, at_absent, unswept)
+  says_phase kinds phase commit top n t o = grind (arith, nat_tests, at_some, says_both, says_below, says_own, it_swept, at_absent, unswept)
 
 -- How often an owner holds an item is counted by what is said: where an item is taken and given back, where owners come, are released, move and go.
 
@@ -194,25 +185,19 @@ module _ (item : Item) (owner : ℕ) where
   one_leads : (event : What) (n a r : ℕ) → acquires item owner event ≡ a → releases item owner event ≡ r → r ≤ n → Leads n ((n + a) - r) (event ∷ [])
   one_leads event n a r brings takes few = grind (arith, nat_tests, and_from, le-leb)
 
-  brings_none : (event : What) → is_still event ≡ true → acquires item owner event ≡ 0
-  brings_none event h = grind (arith, nat_tests)
-
   takes_none : (event : What) → is_still event ≡ true → releases item owner event ≡ 0
   takes_none event h = grind (arith, nat_tests)
 
   still_one_leads : (event : What) (n : ℕ) → is_still event ≡ true → Leads n n (event ∷ [])
-  still_one_leads event n h = grind (arith, nat_tests, one_leads, brings_none, takes_none)
+  still_one_leads event n h = grind (arith, nat_tests, one_leads, takes_none)
 
   still_leads : {events : List What} → AreSaid is_still events → (n : ℕ) → Leads n n events
   still_leads said_none n = record { allowed = refl; is = refl }
   still_leads (said_more {event = event} {events = events} h hs) n = leads_both n n n (event ∷ []) events (still_one_leads event n h) (still_leads hs n)
 
   -- steps of a release
-  release_brings : (event : What) → is_release event ≡ true → acquires item owner event ≡ 0
-  release_brings event h = grind (arith, nat_tests)
-
   step_leads : (step : Step) → IsReleaseStep step → (s : Scene) (n k : ℕ) → n ≡ says item owner (step ∷ []) + k → Leads n k (step_done step s).events
-  step_leads (Said event) h s n k e = grind (arith, nat_tests, one_leads, release_brings)
+  step_leads (Said event) h s n k e = grind (arith, nat_tests, one_leads)
   step_leads (GivesBack other) h s n k e =
       let q : Quiet s (given_back other s).scene (given_back other s).events = (given_quiet other).so s in
       let z : Leads n n (given_back other s).events = still_leads (said_weaker aside_still q.said) n in

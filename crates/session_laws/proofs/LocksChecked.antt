@@ -1,12 +1,10 @@
 -- What is checked before a lock is given back, a file is used and a lock is taken holds where these come.
-use Rattle.session_laws.proofs.Words.{◌≡◌, ℕ, zero, suc, Bool, true, false, not, List, [], ◌∷◌, ◌++◌, map, replicate, Option, None, refl, arith, ◌&&◌, ◌⊎◌, option_map_or, ltb-true, nat_tests}
-use Rattle.session_laws.proofs.Scenes.{Command, LevelState, OpenPortal, SessionState, deepest_changed, is_aborted, Check, Element, LevelContext, OfLevel, OwnerRole, PortalContext, Text, portal_named, line_elements, turn, Error, Mode, Moment, Scene, Ended, nothing, switched, where_there, failure, unless, fallible, unless_refused, does, at_owner, lock_given_back, snapshot_pushed, exited, TransactionCommand, Work, ItemCommand, LockCommand, PortalCommand, Scan, Row, after_turn, elements, chunk_row, context_row, fetch_steps, item_row, lock_row, plan_row, portal_row, snapshot_row, tell_row, work_of, at_savepoint, begin, commit, elements_of, in_transaction, is_end, refused, rollback, rolled_back_to, save, then_ok, transaction_of, unaborted}
+use Rattle.session_laws.proofs.Words.{◌≡◌, ℕ, zero, suc, Bool, true, false, List, [], ◌∷◌, ◌++◌, map, replicate, Option, None, refl, arith, ◌⊎◌, option_map_or, ltb-true, nat_tests}
+use Rattle.session_laws.proofs.Scenes.{Command, LevelState, OpenPortal, SessionState, is_aborted, Check, Element, LevelContext, OfLevel, OwnerRole, PortalContext, Text, portal_named, line_elements, turn, Error, Mode, Moment, Scene, failure, unless, does, at_owner, lock_given_back, snapshot_pushed, exited, TransactionCommand, Work, ItemCommand, LockCommand, PortalCommand, Scan, Row, after_turn, elements, fetch_steps, item_row, lock_row, portal_row, work_of, at_savepoint, begin, elements_of, in_transaction, rollback, rolled_back_to, save, then_ok, transaction_of}
 use Rattle.session_laws.proofs.Rules.{IsRun, fallible_so}
 use Rattle.session_laws.proofs.LocksSight.{of_locks, files_hidden, pushed_hidden, OwesUnlocks, ending_turn, least_acts, lock_owed, owner_owed, session_exits, touch_owed, by_owner_made}
 use Rattle.session_laws.proofs.LocksRead.{ReadsLocks, given_back_so, locks_base, locks_law, locks_seen, taken_so}
-use Rattle.pgs_step.specs.declared.errors.Error.TheVariants as error
 use Rattle.pgs_step.specs.declared.events.What.TheVariants as what
-use Rattle.pgs_command.specs.declared.commands.Work.TheVariants as work
 use Rattle.pgs_command.specs.declared.commands.ItemCommand.TheVariants as item
 use Rattle.pgs_command.specs.declared.commands.LockCommand.TheVariants as lock
 use Rattle.pgs_command.specs.declared.commands.PortalCommand.TheVariants as portal
@@ -66,23 +64,9 @@ calm_checked : (x : Element) (s : Scene) → IsCalm x → IsChecked x s
 calm_checked x s h = grind (arith, nat_tests)
 
 -- such an element
-fallible_calm : (w : Option ℕ) (m : Moment) (own : Option Error) (act : Scene → Ended) → is_aborted m.scene.session.levels ≡ false → is_aborted (act m.scene).scene.session.levels ≡ false
-    → is_aborted (fallible w m own act).moment.scene.session.levels ≡ false
-fallible_calm w m own act h j = grind (arith, nat_tests)
-
-changed_calm : (change : LevelState → LevelState) (levels : List LevelState) → ((l : LevelState) → (change l).aborted ≡ l.aborted) → is_aborted levels ≡ false → is_aborted (deepest_changed change levels) ≡ false
-changed_calm change levels same h = grind (arith, nat_tests)
-
-check_calm : (r : Option Error) (m : Moment) → is_aborted m.scene.session.levels ≡ false → is_aborted (unless_refused r m nothing).moment.scene.session.levels ≡ false
-check_calm r m h = grind (arith, nat_tests)
-
-stands_calm : (o : Option ℕ) (s : Scene) → is_aborted s.session.levels ≡ false
-    → is_aborted (deepest_changed (λ level. record level { starting = false }) (where_there o switched s).scene.session.levels) ≡ false
-stands_calm o s h = grind (arith, nat_tests, changed_calm)
-
 calm_keeps : (w : Option ℕ) (x : Element) (m : Moment) → IsCalm x → is_aborted m.scene.session.levels ≡ false → is_aborted (does w x m).moment.scene.session.levels ≡ false
 unfolding does
-calm_keeps w x m c h = grind (arith, nat_tests, check_calm, fallible_calm, changed_calm, stands_calm)
+calm_keeps w x m c h = grind (arith, nat_tests)
 
 -- where a check passed it holds, of the same scene
 passed_check : (w : Option ℕ) (check : Check) (m : Moment) → (does w (e.Checks check) m).refusal ≡ None → failure check (does w (e.Checks check) m).moment.scene ≡ None
@@ -107,9 +91,6 @@ safe_run w xs m (touch {file = file} {xs = ys} h) active = (
     λ more. free_run w ys (does w (e.Touch file) (does w (e.Checks (e.IsFile file)) m).moment).moment h,
   ),
 )
-
-only_left : (b : Bool) → (b && true) ≡ false → b ≡ false
-only_left b h = grind (arith, nat_tests)
 
 -- lists of elements
 both_are_free : (xs ys : List Element) → AreFree xs → AreFree ys → AreFree (xs ++ ys)
@@ -139,9 +120,6 @@ then_ok_free : (es : List Element) → AreFree es → AreFree (then_ok es)
 then_ok_free es h = both_are_free es (e.Says what.Ok ∷ []) h (tt, tt)
 
 -- of the commands on transactions
-commit_free : (levels : List LevelState) → AreFree (commit levels)
-commit_free levels = grind (arith, nat_tests, rolled_back_free, both_are_free, commits_are_free)
-
 rollback_free : (levels : List LevelState) → AreFree (rollback levels)
 rollback_free levels = grind (arith, nat_tests, rolled_back_free)
 
@@ -151,11 +129,8 @@ save_free name levels = grind (arith, nat_tests)
 begin_free : (levels : List LevelState) → AreFree (begin levels)
 begin_free levels = grind (arith, nat_tests)
 
-at_free : (o : Option ℕ) (go_on : ℕ → List Element) → ((n : ℕ) → AreFree (go_on n)) → AreFree (option_map_or go_on o (refused error.NoSuchSavepoint))
-at_free o go_on h = grind (arith, nat_tests)
-
 savepoint_free : (name : Text) (levels : List LevelState) (go_on : ℕ → List Element) → ((n : ℕ) → AreFree (go_on n)) → AreFree (at_savepoint name levels go_on)
-savepoint_free name levels go_on h = grind (arith, nat_tests, at_free)
+savepoint_free name levels go_on h = grind (arith, nat_tests)
 
 -- of a scan
 
@@ -187,30 +162,19 @@ row_free : (r : Row) → AreFree r.steps → Safe (elements r)
 row_free r h = free (both_are_free (map e.Checks r.checks) r.steps (checks_are_free r.checks) h)
 
 work_safe : (w : Work) (session : SessionState) → Safe (work_of w session)
-work_safe work.Raise s = free (tt, tt)
-work_safe (work.Contexts c) s = row_free (context_row c) (grind (arith, nat_tests))
-work_safe (work.Chunks c) s = row_free (chunk_row c) (grind (arith, nat_tests))
-work_safe (work.Items c) s = items_safe c
-work_safe (work.Locks c) s = locks_safe c
-work_safe (work.Snapshots c) s = row_free (snapshot_row c) (grind (arith, nat_tests))
-work_safe (work.Plans c) s = row_free (plan_row c) (grind (arith, nat_tests))
-work_safe (work.Portals c) s = portals_safe c s.portals
-work_safe (work.Tells c) s = row_free (tell_row c) (grind (arith, nat_tests))
+work_safe w s = grind (arith, nat_tests, row_free, items_safe, locks_safe, portals_safe)
 
 in_transaction_safe : (levels : List LevelState) (work : List Element) → Safe work → Safe (in_transaction levels work)
 in_transaction_safe [] work h = calm tt (calm tt (calm tt (calm tt (then_free (e.CommitTop ∷ e.Says what.Ok ∷ []) h (tt, (tt, tt))))))
 in_transaction_safe (level ∷ levels) work h = then_free (e.Says what.Ok ∷ []) h (tt, tt)
 
 transaction_free : (c : TransactionCommand) (levels : List LevelState) → AreFree (transaction_of c levels)
-transaction_free c levels = grind (arith, nat_tests, begin_free, commit_free, rollback_free, save_free, savepoint_free, commits_are_free, both_are_free, rolled_back_free)
+transaction_free c levels = grind (arith, nat_tests, begin_free, rollback_free, save_free, savepoint_free, commits_are_free, both_are_free, rolled_back_free)
 
 -- A line is free of these, or its session isn't aborted and they are safe.
-unaborted_safe : (c : Command) (session : SessionState) → (is_aborted session.levels && not (is_end c)) ≡ false → AreFree (unaborted c session) ⊎ ((is_aborted session.levels ≡ false) × Safe (unaborted c session))
-unaborted_safe c s active = grind (arith, nat_tests, then_ok_free, transaction_free, only_left, in_transaction_safe, work_safe)
-
 elements_safe : (c : Command) (session : SessionState) → AreFree (elements_of c session) ⊎ ((is_aborted session.levels ≡ false) × Safe (elements_of c session))
 unfolding elements_of
-elements_safe c s = grind (arith, nat_tests, unaborted_safe)
+elements_safe c s = grind (arith, nat_tests, then_ok_free, transaction_free, in_transaction_safe, work_safe)
 
 -- Each element of a line meets a scene in which what was checked for it holds.
 pub line_checked : (w : Option ℕ) (line : Option Command) (m : Moment) → IsRun IsChecked w (line_elements line m.scene.session) m

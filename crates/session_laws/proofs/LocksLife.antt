@@ -1,6 +1,6 @@
 -- Where no lock is held, none is behind what doesn't take one; and behind the end of level 1 none is held.
-use Rattle.session_laws.proofs.Words.{◌≡◌, ℕ, Bool, true, List, [], ◌∷◌, ◌++◌, Option, refl, ap, ◌∙◌, false, not, Some, None, sym, arith, ◌≤◌, subst, option_map_or, option_and_then, children, has, at_some, ◌&&◌, is_some, ◌⊎◌, length, All, both_ways, All-head, All-tail, All-nil, nat_tests}
-use Rattle.session_laws.proofs.Scenes.{What, Mode, BeforeLocks, Locks, AfterLocks, table_of, KindTable, Owner, OwnerTree, own_released, ReleasesAllLocks, Step, own_steps, release_steps, steps_below, Scene, Moment, Around, for_each, where_so, where_there, Ended, switched, in_order, owner_released, phase_released, step_done, lock_given_back, LevelState, OpenPortal, deepest_changed, first_of, is_aborted, level_context, owner_of, opening, portal_aborted, portal_closed, aborted, cleaned_up, committed, level_released, level_rolled_back, exited, given_up, recovered, IsLive, Stands, active_depth, AreOuter, FitLevels, IsDead, IsPortal, IsOpen, StandsBetweenLines, Contexts, Error, Element, NewContext, OfLevel, OfPortal, OwnerRole, Text, owner_in, portal_named, new_context_made, new_owner_made, snapshot_pushed, Done, fallible, does, failing_turn, does_all, then_done, Command, AreLocks, has_owner, line_elements, turn, turn_of, gone_levels}
+use Rattle.session_laws.proofs.Words.{◌≡◌, ℕ, Bool, true, List, [], ◌∷◌, ◌++◌, Option, refl, ap, ◌∙◌, false, not, Some, None, sym, arith, subst, option_map_or, option_and_then, children, has, at_some, ◌&&◌, is_some, ◌⊎◌, All, both_ways, All-head, All-tail, All-nil, nat_tests}
+use Rattle.session_laws.proofs.Scenes.{What, Mode, BeforeLocks, Locks, AfterLocks, table_of, KindTable, Owner, OwnerTree, own_released, ReleasesAllLocks, Step, own_steps, release_steps, steps_below, Scene, Moment, Around, for_each, where_so, where_there, Ended, switched, in_order, owner_released, phase_released, step_done, lock_given_back, LevelState, OpenPortal, deepest_changed, first_of, is_aborted, level_context, owner_of, opening, portal_aborted, portal_closed, aborted, cleaned_up, committed, level_released, level_rolled_back, exited, given_up, recovered, IsLive, Stands, active_depth, FitLevels, IsDead, IsPortal, StandsBetweenLines, Contexts, Error, Element, NewContext, OfLevel, OfPortal, OwnerRole, Text, owner_in, portal_named, new_context_made, new_owner_made, snapshot_pushed, Done, fallible, does, failing_turn, does_all, then_done, Command, AreLocks, has_owner, line_elements, turn, turn_of, gone_levels}
 use Rattle.session_laws.proofs.Rules.{Keeps, Follows, IsSpoken, AreSpoken, IsRun, has_swept, all_aborted, begins, off_begins, owner_when_active, resettled, settled, switched_off, aborted_stands, at_settled, is_left, rolled_stands, by_each, element_follows, fallible_so, behind_commit, cleans_up, portal_aborts, portal_closes, Meets, line_runs, allows_all, seen_after, line_spoken, said_one, WellCounted, Leads, with_parts, Named, named_in, all_closed, abort_stands, cleanup_stands, merge_stands, settled_as}
 use Rattle.session_laws.proofs.OrderEnds.{own_mild}
 use Rattle.session_laws.proofs.OwnWork.{IsOwnWork}
@@ -13,7 +13,6 @@ use Rattle.session_laws.proofs.LocksChecked.{IsChecked, line_checked, locks_exit
 use Rattle.session_laws.proofs.Lives.{IsLife, IsRead, Reads, line_leads}
 use Rattle.session_laws.proofs.LocksRead.{LocksFit, lock_reader, there, locks_aside}
 use Rattle.session_rules.specs.Elements as e
-use Rattle.pgs_step.specs.declared.events.What.TheVariants as what
 
 -- where no lock is held, none is behind
 pub record KeepsNone (s t : Scene) (events : List What) : Type 0 where
@@ -91,8 +90,7 @@ committed_none level s stands bare =
     let loop : Leads level [] [] [] st (for_each portal_closed s.session.portals st).scene = all_closed level made s.session.portals st (resettled level [] [] [] s.session.portals s (begins level [] [] s stands)) in
     let kept : KeepsNone st (for_each portal_closed s.session.portals st).scene _ = (by_each KeepsNone (least_acts of_locks KeepsNone none_law.least) portal_closed (portal_closes KeepsNone (least_acts of_locks KeepsNone none_law.least) none_law.least.items.released) s.session.portals).so st in
     let z : Scene = with_parts loop.goes.parts st in
-    let none : (level_released true true z).scene.session.locks ≡ [] =
-    level_none true level.owner z (λ e. sym (ap (λ (y : Scene). y.session.locks) loop.goes.is) ∙ kept.so (bare_owner level s bare e)) (λ n e. (loop.goes.ending.all.0.owner n e).there) in
+    let none : (level_released true true z).scene.session.locks ≡ [] = grind (arith, nat_tests, level_none, bare_owner, there) in
     let behind : KeepsNone (level_released true true (for_each portal_closed s.session.portals st).scene).scene _ _ =
     (behind_commit KeepsNone (turn_ends of_locks KeepsNone none_law)).so (level_released true true (for_each portal_closed s.session.portals st).scene).scene in
     behind.so (ap (λ (y : Scene). (level_released true true y).scene.session.locks) loop.goes.is ∙ none)
@@ -103,8 +101,7 @@ aborted_none level s stands bare =
     let st : Scene = settled (level ∷ []) (switched_off s) in
     let done : List LevelState = gone_levels level [] in
     let made : active_depth (level ∷ []) ≡ 1 → (lo : ℕ) × (level.owner ≡ Some lo) = λ e. owner_when_active level [] stands.fit.0.made (omega (arith, e)) in
-    let loop : Leads level [] done [] st (for_each (portal_aborted 1 level.owner) s.session.portals st).scene =
-    all_aborted level [] made s.session.portals st (resettled level [] done [] s.session.portals (switched_off s) (off_begins level [] done s stands)) in
+    let loop : Leads level [] done [] st (for_each (portal_aborted 1 level.owner) s.session.portals st).scene = grind (arith, nat_tests, all_aborted, resettled, switched_off, off_begins) in
     let kept : KeepsNone st (for_each (portal_aborted 1 level.owner) s.session.portals st).scene _ =
     (by_each KeepsNone (least_acts of_locks KeepsNone none_law.least) (portal_aborted 1 level.owner) (portal_aborts KeepsNone (least_acts of_locks KeepsNone none_law.least) none_law.least.items.moved 1 level.owner) s.session.portals).so st in
     let z : Scene = with_parts loop.goes.parts st in
@@ -122,8 +119,7 @@ rolled_none level s stands bare = go level.aborted refl
     cleaned z none = let all : KeepsNone z (cleaned_up z).scene (cleaned_up z).events = (cleans_up KeepsNone (turn_ends of_locks KeepsNone none_law)).so z in all.so none
 
     go : (b : Bool) → level.aborted ≡ b → (cleaned_up (where_so (not b) aborted st).scene).scene.session.locks ≡ []
-    go true e = cleaned st (bare.so (ap (λ (b : Bool). not b && is_some level.owner) e))
-    go false e = cleaned (aborted st).scene (aborted_none level s stands bare)
+    go b e = grind (arith, nat_tests, cleaned, st, aborted_none)
 
 -- Where no lock may be held none is, behind each element, each line and the end of a session.
 
@@ -148,10 +144,6 @@ none_behind w x m spoken h none =
     let all : Follows KeepsNone m.scene (does w x m) = element_follows KeepsNone (least_leaves of_locks KeepsNone none_law.least) false w x m spoken (turns_owed of_locks KeepsNone none_law w x m (none_owed w x m h)) in
     all.so.so none
 
--- levels above another one may hold locks
-pub outer_holds : (levels : List LevelState) → AreOuter levels → 1 ≤ length levels → may_hold levels ≡ true
-outer_holds levels h some = grind (arith, nat_tests)
-
 pub bare_held : (s : Scene) → may_hold s.session.levels ≡ true → Bare s
 bare_held s h = record { so = λ none. absurd (both_ways (may_hold s.session.levels) none h) }
 
@@ -166,27 +158,14 @@ fallible_holds : (w : Option ℕ) (m : Moment) (own : Option Error) (act : Scene
     → may_hold (fallible w m own act).moment.scene.session.levels ≡ false → may_hold m.scene.session.levels ≡ false
 fallible_holds w m own act h = grind (arith, nat_tests)
 
-fallible_bare : (w : Option ℕ) (m : Moment) (own : Option Error) (act : Scene → Ended) → Bare m.scene → Bare (act m.scene).scene → Bare (fallible w m own act).moment.scene
-fallible_bare w m own act b c = grind (arith, nat_tests)
-
-begun_holds : (level : LevelState) (levels : List LevelState) → may_hold (level ∷ levels) ≡ false → may_hold levels ≡ false
-begun_holds level levels h = grind (arith, nat_tests)
-
-changed_holds : (change : LevelState → LevelState) (levels : List LevelState) → ((l : LevelState) → (change l).aborted ≡ l.aborted) → ((l : LevelState) → is_some (change l).owner ≡ false → is_some l.owner ≡ false)
-    → may_hold (deepest_changed change levels) ≡ false → may_hold levels ≡ false
-changed_holds change levels same less h = grind (arith, nat_tests)
-
-there_holds : {A : Type 0} (o : Option A) (act : A → Scene → Ended) (s : Scene) → ((a : A) → (act a s).scene.session.levels ≡ s.session.levels) → (where_there o act s).scene.session.levels ≡ s.session.levels
-there_holds o act s h = grind (arith, nat_tests)
-
 context_holds : (new : NewContext) (s : Scene) → may_hold (new_context_made new s).scene.session.levels ≡ false → may_hold s.session.levels ≡ false
-context_holds new s h = grind (arith, nat_tests, changed_holds, there_holds)
+context_holds new s h = grind (arith, nat_tests)
 
 owner_holds : (role : OwnerRole) (s : Scene) → may_hold (new_owner_made role s).scene.session.levels ≡ false → may_hold s.session.levels ≡ false
-owner_holds role s h = grind (arith, nat_tests, changed_holds)
+owner_holds role s h = grind (arith, nat_tests)
 
 stands_holds : (o : Option ℕ) (s : Scene) → may_hold (deepest_changed (λ level. record level { starting = false }) (where_there o switched s).scene.session.levels) ≡ false → may_hold s.session.levels ≡ false
-stands_holds o s h = grind (arith, nat_tests, changed_holds)
+stands_holds o s h = grind (arith, nat_tests)
 
 -- a lock is taken where one may be held
 level_holds : (levels : List LevelState) (n : ℕ) → is_aborted levels ≡ false → owner_of (first_of levels) ≡ Some n → may_hold levels ≡ true
@@ -213,7 +192,7 @@ role_holds (OfPortal name) s n stands active is = go (portal_named name s.sessio
 
 taken_bare : (w : Option ℕ) (role : OwnerRole) (object : ℕ) (mode : Mode) (m : Moment) → Stands m.scene → is_aborted m.scene.session.levels ≡ false → Bare m.scene → Bare (does w (e.TakeLock role object mode) m).moment.scene
 unfolding does
-taken_bare w role object mode m stands active b = grind (arith, nat_tests, fallible_bare, role_holds, bare_held)
+taken_bare w role object mode m stands active b = grind (arith, nat_tests, role_holds)
 
 -- the ends
 commit_bare : (w : Option ℕ) (m : Moment) → Stands m.scene → (level : LevelState) → m.scene.session.levels ≡ level ∷ [] → Bare m.scene → Bare (does w e.CommitTop m).moment.scene
@@ -226,19 +205,16 @@ unfolding does
 abort_none w m stands level is b =
     settled_as (λ (z : Scene). (aborted z).scene.session.locks ≡ []) m.scene (level ∷ []) stands is (λ k. aborted_none level m.scene k (bare_settled (level ∷ []) m.scene is b))
 
-outer_of : (m : Moment) → Stands m.scene → (level : LevelState) (levels : List LevelState) → m.scene.session.levels ≡ level ∷ levels → AreOuter levels
-outer_of m stands level levels is = settled_as (λ z. AreOuter levels) m.scene (level ∷ levels) stands is (λ k. k.fit.1)
-
 merge_bare : (w : Option ℕ) (m : Moment) → Meets e.Subcommit m.scene → Bare (does w e.Subcommit m).moment.scene
-merge_bare w m meets = grind (arith, nat_tests, merge_stands, bare_held, outer_holds, outer_of)
+merge_bare w m meets = grind (arith, nat_tests, merge_stands)
 
 abort_bare : (w : Option ℕ) (m : Moment) → Stands m.scene → (level : LevelState) (levels : List LevelState) → m.scene.session.levels ≡ level ∷ levels
     → Leaves (record level { aborted = true } ∷ levels) (does w e.Abort m).moment.scene → Bare m.scene → Bare (does w e.Abort m).moment.scene
-abort_bare w m stands level levels is left b = grind (arith, nat_tests, bare_none, abort_none, bare_held)
+abort_bare w m stands level levels is left b = grind (arith, nat_tests, bare_none, abort_none)
 
 cleanup_bare : (w : Option ℕ) (m : Moment) → Stands m.scene → (level : LevelState) (levels : List LevelState) → m.scene.session.levels ≡ level ∷ levels → level.aborted ≡ true
     → Leaves levels (does w e.Cleanup m).moment.scene → Bare m.scene → Bare (does w e.Cleanup m).moment.scene
-cleanup_bare w m stands level levels is gone left b = grind (arith, nat_tests, bare_none, none_behind, bare_held, outer_holds, outer_of)
+cleanup_bare w m stands level levels is gone left b = grind (arith, nat_tests, bare_none, none_behind)
 
 -- where an element leads to levels of which none may hold a lock, none of those before may
 shrinks_bare : (w : Option ℕ) (x : Element) (m : Moment) → IsSpoken false x → TakesNone x → (may_hold (does w x m).moment.scene.session.levels ≡ false → may_hold m.scene.session.levels ≡ false) → Bare m.scene → Bare (does w x m).moment.scene
@@ -255,7 +231,7 @@ pub bare_behind : (w : Option ℕ) (x : Element) (m : Moment) → IsSpoken false
 unfolding does
 bare_behind w (e.InTurn name x) m spoken meets checked b =
     failing_bare name (does w x m) (does w x m).refusal (bare_behind w x m spoken (record { stands = meets.stands; asks = meets.asks }) checked b)
-bare_behind w (e.MakeLevel name implicit) m spoken meets checked b = grind (arith, nat_tests, shrinks_bare, fallible_holds, begun_holds)
+bare_behind w (e.MakeLevel name implicit) m spoken meets checked b = grind (arith, nat_tests, shrinks_bare, fallible_holds)
 bare_behind w (e.MakeContext new) m spoken meets checked b = shrinks_bare w (e.MakeContext new) m tt tt (fallible_holds w m _ (new_context_made new) (context_holds new m.scene)) b
 bare_behind w (e.MakeOwner role) m spoken meets checked b = shrinks_bare w (e.MakeOwner role) m tt tt (fallible_holds w m _ (new_owner_made role) (owner_holds role m.scene)) b
 bare_behind w e.LevelStands m spoken meets checked b = shrinks_bare w e.LevelStands m tt tt (stands_holds (level_context m.scene.session) m.scene) b
@@ -285,22 +261,16 @@ run_bare w (x ∷ xs) m spoken meets checked b =
     then_bare (does w x m) (does w x m).refusal (does_all w xs) first (λ none. run_bare w xs (does w x m).moment spoken.1 (meets.1 none) (checked.1 none) first)
 
 -- a level that aborts, and one that is rolled back
-aborts_bare : (level : LevelState) (levels : List LevelState) (s : Scene) → level.aborted ≡ false → IsOpen level → Stands (settled (level ∷ levels) s) → Bare (settled (level ∷ levels) s) → Bare (aborted (settled (level ∷ levels) s)).scene
-aborts_bare level levels s active open_level stands b = grind (arith, nat_tests, bare_none, aborted_none, settled, aborted_stands, bare_held)
-
 rolled_bare : (level : LevelState) (levels : List LevelState) (s : Scene) → Stands (settled (level ∷ levels) s) → Bare (settled (level ∷ levels) s) → Bare (level_rolled_back level (settled (level ∷ levels) s)).scene
-rolled_bare level levels s stands b = grind (arith, nat_tests, bare_none, rolled_none, settled, rolled_stands, bare_held, outer_holds)
+rolled_bare level levels s stands b = grind (arith, nat_tests, bare_none, rolled_none, settled, rolled_stands, bare_held)
 
 -- a recovery
-above_bare : (levels : List LevelState) (s : Scene) → Leaves levels s → AreOuter levels → Bare s → Bare (where_there (first_of levels) (λ above. aborted) s).scene
-above_bare levels s left outer b = grind (arith, nat_tests, settled, is_left, aborts_bare)
-
 given_up_bare : (level : LevelState) (levels : List LevelState) (s : Scene) (b i : Bool) → level.starting ≡ b → level.implicit ≡ i → level.aborted ≡ false → Stands (settled (level ∷ levels) s) → Bare (settled (level ∷ levels) s)
     → Bare (elim b as (λ _. Ended) [
       | true ↦ in_order (level_rolled_back level ∷ where_there (first_of levels) (λ above. aborted) ∷ []) (settled (level ∷ levels) s)
       | false ↦ elim i as (λ _. Ended) [ true ↦ level_rolled_back level (settled (level ∷ levels) s) | false ↦ aborted (settled (level ∷ levels) s) ]
     ]).scene
-given_up_bare level levels s b i e q active h b_9 = grind (arith, nat_tests, settled, above_bare, rolled_stands, rolled_bare, aborts_bare)
+given_up_bare level levels s b i e q active h b_9 = grind (arith, nat_tests, settled, rolled_stands, rolled_bare, bare_none, aborted_none, aborted_stands)
 
 recovered_settled : (error : Error) (levels : List LevelState) (s : Scene) → Stands (settled levels s) → Bare (settled levels s) → Bare (recovered error (settled levels s)).scene
 unfolding recovered
@@ -375,11 +345,7 @@ module _ (object mode : ℕ) where
   lock_life kinds = record {
     opens = λ around same. opens_so around;
     elsewhere = λ n session a b same descriptors f. record { fit = record { counted = f.fit.counted; sound = f.fit.sound }; bare = record { so = f.bare.so } };
-    error = λ error s. record {
-      so = λ n f.
-          let read : IsRead (lock_reader object mode) (LocksFit object mode) n s (what.Error error ∷ []) = (locks_aside object mode s s refl (said_one (what.Error error) refl)).so n f.fit in
-          record { allowed = read.allowed; fits = record { fit = read.fits; bare = f.bare } };
-    };
+    error = grind (arith, nat_tests, lock_reader, locks_aside, said_one);
     turns = turns_so;
     exits = exits_so;
   }

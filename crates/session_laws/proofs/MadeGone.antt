@@ -1,11 +1,11 @@
 -- Only elements that make something say that something is made.
 use Rattle.session_laws.proofs.Words.{◌≡◌, ℕ, Bool, true, false, List, Option, refl, ◌+◌, ◌<◌, ◌≤◌, All, [], ◌∷◌, ◌++◌, Some, None, ap, ◌∙◌, subst, inl, inr, arith, ◌≢◌, ◌-◌, IsTrue, sym, drop, ◌==◌, option_and_then, and_from, cases_Bool, and_parts, both_ways, cases_eq, eq-eqb, eqb-true, ne_eqb, or_cases, All-head, All-tail, has, nat_tests, Parents, first_parents, parents_behind, shedding, deletes, discards, happens, has_context, is_first_context, makes_context, makes_owner, nothing, one_where}
-use Rattle.session_laws.proofs.Scenes.{Error, What, Moment, Scene, Element, OfLevel, NewContext, OwnerRole, Text, at_owner, lock_given_back, descriptor_given, lock_taken, snapshot_pushed, does, does_all, failing_turn, then_done, exited, recovered, Command, KindTable, LevelState, OpenPortal, cache_context, first_of, owner_of, top_context, portal_named, Ended, where_there, level_parent, new_context_made, new_owner_made, owner_made, plan_made, Done, fallible, refused_call, unless_refused, AreLevels, IsPortal, Stands, StandsBetweenLines, line_elements, turn, turn_of, table_of}
-use Rattle.session_laws.proofs.Rules.{Acts, EndLeaves, Follows, IsSpoken, OwesMakes, AreSpoken, IsRun, by_owner, element_follows, fallible_so, levels_owed, moves_owed, unfailing_so, ends_owed, exit_follows, recovers, AreSaid, said_both, said_one, said_more, said_none, Sight, item_comes, no_part, unseen_keys, unseen_owners, line_spoken, Meets, line_runs, Reader, allows_all, seen_after, allows_all-append, BalancesFrom, count, covers, left, is_there-placed_other, is_there-placed_same, is_there-without_other, is_there-without_same, is_there, Node as Kept, placed, placed_where, without, protected_has, top_protected, named_there, Named, named_in}
+use Rattle.session_laws.proofs.Scenes.{Error, What, Moment, Scene, Element, OfLevel, NewContext, OwnerRole, Text, at_owner, lock_given_back, descriptor_given, lock_taken, snapshot_pushed, does, does_all, failing_turn, then_done, exited, recovered, Command, KindTable, LevelState, OpenPortal, cache_context, first_of, portal_named, Ended, level_parent, new_context_made, new_owner_made, plan_made, Done, fallible, refused_call, unless_refused, AreLevels, IsPortal, Stands, StandsBetweenLines, line_elements, turn, turn_of, table_of}
+use Rattle.session_laws.proofs.Rules.{Acts, EndLeaves, Follows, IsSpoken, OwesMakes, AreSpoken, IsRun, by_owner, element_follows, fallible_so, levels_owed, moves_owed, unfailing_so, ends_owed, exit_follows, recovers, AreSaid, said_both, said_one, said_more, said_none, Sight, item_comes, no_part, unseen_keys, unseen_owners, line_spoken, Meets, line_runs, Reader, allows_all, seen_after, allows_all-append, BalancesFrom, count, covers, left, is_there-placed_other, is_there-placed_same, is_there-without_other, is_there-without_same, is_there, Node as Kept, placed, placed_where, without, protected_has, named_there, Named, named_in}
 use Rattle.session_laws.proofs.Usual.{Usual, is_usual, usual_files, usual_locked, usual_moves, usual_pushed, usual_unlocked, plain_ends}
 use Rattle.session_laws.proofs.Lives.{IsLife, IsRead, Reads, read_both, read_none}
 use Rattle.session_laws.proofs.ParentsLife.{KeepsContexts, contexts_owed, KeepsOwners, owners_owed, opening_contexts, opening_owners}
-use Rattle.session_laws.proofs.MadeOnce.{FitsParents, NoneLeft, shed_reads, shedding_life, HasFollowed, IsFollowed, IsPaired, Pair, followed, pair_reads, paired, first_small, leaf_there, none_allowed, one_allowed, there_moved, there_placed}
+use Rattle.session_laws.proofs.MadeOnce.{FitsParents, NoneLeft, shed_reads, shedding_life, HasFollowed, IsFollowed, IsPaired, Pair, followed, pair_reads, paired, first_small, leaf_there, one_allowed, there_moved, there_placed}
 use Rattle.session_laws.proofs.Parents.{Growth, growing_contexts, growing_owners}
 use Rattle.pgs_step.specs.declared.events.What.TheVariants as what
 use Rattle.session_rules.specs.Elements as e
@@ -65,8 +65,7 @@ owed w other m h = tt
 -- An element that makes nothing says nothing of that kind.
 pub element_silent : (w : Option ℕ) (x : Element) (m : Moment) → IsSpoken false x → is_making x ≡ false → AreSaid is_unmade (does w x m).events
 element_silent w x m spoken makes =
-    let k : Follows NoneMade m.scene (does w x m) =
-    element_follows NoneMade unmade_ends.levels.leaves false w x m spoken (levels_owed NoneMade unmade_ends.levels w x m (ends_owed NoneMade unmade_ends w x m (owed w x m makes))) in
+    let k : Follows NoneMade m.scene (does w x m) = grind (arith, nat_tests, element_follows, unmade_ends, levels_owed, ends_owed, owed) in
     k.so.said
 
 -- nor does a recovery, nor an exit
@@ -113,25 +112,16 @@ place_reads {t = t} {events = events} r h = grind (arith, nat_tests, same_seen)
 below_context : (n parent : ℕ) (name : Text) (s : Scene) → has parent s.session.contexts ≡ true → ArePlaced s (what.Create n name parent ∷ [])
 below_context n parent name s there = record { allowed = λ parents fit. and_from (is_there parent parents.contexts) true (fit.contexts.tree.there parent ∙ there) refl }
 
-owner_placed : (o : Option ℕ) (s : Scene) → ((q : ℕ) → o ≡ Some q → has q s.session.owners ≡ true) → ArePlaced s (owner_made o s).events
-owner_placed o s there = grind (arith, nat_tests, and_from)
-
 -- what is there in a scene that stands
 module _ (s : Scene) (h : Stands s) where
-  top_there : has top_context s.session.contexts ≡ true
-  top_there = protected_has top_context s.session.contexts (top_protected s.session.contexts s.session.next_context h.contexts)
-
   own_there : (n : ℕ) → 1 < n → n ≤ 5 → has n s.session.contexts ≡ true
   own_there n l u = protected_has n s.session.contexts (h.contexts.own n l u).protected
 
   above_there : (o : Option LevelState) → ((level : LevelState) → o ≡ Some level → (n : ℕ) → level.context ≡ Some n → has n s.session.contexts ≡ true) → has (level_parent o) s.session.contexts ≡ true
-  above_there o there = grind (arith, nat_tests, top_there)
+  above_there o there = grind (arith, nat_tests)
 
   second_context : (levels : List LevelState) → AreLevels levels s.session.contexts s.session.owners → (level : LevelState) → first_of (drop 1 levels) ≡ Some level → (n : ℕ) → level.context ≡ Some n → has n s.session.contexts ≡ true
   second_context levels all level is n e = grind (arith, nat_tests, protected_has)
-
-  first_owner : (levels : List LevelState) → AreLevels levels s.session.contexts s.session.owners → (q : ℕ) → owner_of (first_of levels) ≡ Some q → has q s.session.owners ≡ true
-  first_owner levels all q e = grind (arith, nat_tests)
 
   middle : (p : OpenPortal) (front back : List OpenPortal) → All (λ r. IsPortal r s.session.levels s.session.contexts s.session.owners s.session.current) (front ++ (p ∷ back))
       → IsPortal p s.session.levels s.session.contexts s.session.owners s.session.current
@@ -145,14 +135,11 @@ module _ (s : Scene) (h : Stands s) where
       let i = middle p m.front m.back (subst (All (λ r. IsPortal r s.session.levels s.session.contexts s.session.owners s.session.current)) m.is h.portals.each) in
       protected_has n s.session.contexts (i.place n e).protected
 
-  placed_there : (o : Option ℕ) (act : ℕ → Scene → Ended) → ((n : ℕ) → o ≡ Some n → ArePlaced s (act n s).events) → ArePlaced s (where_there o act s).events
-  placed_there o act k = grind (arith, nat_tests)
-
   context_placed : (new : NewContext) → ArePlaced s (new_context_made new s).events
-  context_placed new = grind (arith, nat_tests, below_context, above_there, second_context, own_there, placed_there, place_there, named_there)
+  context_placed new = grind (arith, nat_tests, below_context, above_there, second_context, own_there, place_there, named_there)
 
   new_owner_placed : (role : OwnerRole) → ArePlaced s (new_owner_made role s).events
-  new_owner_placed role = grind (arith, nat_tests, first_owner, owner_placed)
+  new_owner_placed role = grind (arith, nat_tests)
 
   plan_placed : (plan : ℕ) → ArePlaced s (plan_made plan s).events
   plan_placed plan = below_context s.session.next_context cache_context _ s (own_there cache_context (omega arith) (omega arith))
@@ -256,7 +243,7 @@ context_step c (what.Delete x) seen n same h a b = going_gone c 6 x seen.first.n
 context_step c other seen n same h a b = going_same c 6 seen.first.nodes seen.first.nodes seen.first.next n (λ t. t) (λ t. t) h
 
 contexts_going : (c : ℕ) → IsFollowed (paired growing_contexts placing) (count nothing (deletes c)) (GoesContext c)
-contexts_going c = grind (arith, nat_tests, and_parts, context_step, one_allowed, leaf_there, none_allowed)
+contexts_going c = grind (arith, nat_tests, and_parts, context_step, one_allowed, leaf_there)
 
 -- the same of owners
 pub record GoesOwner (o : ℕ) (seen : Pair Growth Parents) (n : ℕ) : Type 0 where
@@ -274,15 +261,12 @@ owner_step o (what.OwnerGone x) seen n same h a b = going_gone o 1 x seen.first.
 owner_step o other seen n same h a b = going_same o 1 seen.first.nodes seen.first.nodes seen.first.next n (λ t. t) (λ t. t) h
 
 owners_going : (o : ℕ) → IsFollowed (paired growing_owners placing) (count nothing (discards o)) (GoesOwner o)
-owners_going o = grind (arith, nat_tests, and_parts, owner_step, one_allowed, leaf_there, none_allowed)
+owners_going o = grind (arith, nat_tests, and_parts, owner_step, one_allowed, leaf_there)
 
 -- a number that is made is below the next one then
 pub record IsGiven (m least next : ℕ) : Type 0 where
   pub least_is : least ≤ m
   pub below : m < next
-
-one_happens : (m x : ℕ) → (one_where (m == x) == 1) ≡ true → m ≡ x
-one_happens m x h = grind (arith, nat_tests, eqb-true)
 
 contexts_rise : (events : List What) (g : Growth) → allows_all growing_contexts g events ≡ true → g.next ≤ (seen_after growing_contexts g events).next
 contexts_rise [] g h = omega arith
@@ -290,7 +274,7 @@ contexts_rise (event ∷ events) g h = grind (arith, nat_tests, contexts_rise ev
 
 context_given : (c : ℕ) (events : List What) (g : Growth) → allows_all growing_contexts g events ≡ true → 6 ≤ g.next → happens (makes_context c) events ≡ true → IsGiven c 6 (seen_after growing_contexts g events).next
 context_given c [] g h l made = absurd (cc made)
-context_given c (event ∷ events) g h l made = grind (arith, nat_tests, context_given c events (growing_contexts.next event g), growing_contexts, and_parts, contexts_rise, or_cases, one_happens, eqb-true)
+context_given c (event ∷ events) g h l made = grind (arith, nat_tests, context_given c events (growing_contexts.next event g), growing_contexts, and_parts, contexts_rise, or_cases, eqb-true)
 
 owners_rise : (events : List What) (g : Growth) → allows_all growing_owners g events ≡ true → g.next ≤ (seen_after growing_owners g events).next
 owners_rise [] g h = omega arith
@@ -298,7 +282,7 @@ owners_rise (event ∷ events) g h = grind (arith, nat_tests, owners_rise events
 
 owner_given : (o : ℕ) (events : List What) (g : Growth) → allows_all growing_owners g events ≡ true → 1 ≤ g.next → happens (makes_owner o) events ≡ true → IsGiven o 1 (seen_after growing_owners g events).next
 owner_given o [] g h l made = absurd (cc made)
-owner_given o (event ∷ events) g h l made = grind (arith, nat_tests, owner_given o events (growing_owners.next event g), growing_owners, and_parts, owners_rise, or_cases, one_happens, eqb-true)
+owner_given o (event ∷ events) g h l made = grind (arith, nat_tests, owner_given o events (growing_owners.next event g), growing_owners, and_parts, owners_rise, or_cases, eqb-true)
 
 -- the contexts that a session begins with may go once
 
@@ -344,8 +328,7 @@ owners_gone_of events h k none o made =
     let f : HasFollowed one two (GoesOwner o) seen 1 events = followed one two (owners_going o) events seen 1 (record { same = refl; going = no_owner_going o }) p.allowed in
     let nodes : (seen_after one seen events).first.nodes ≡ [] = f.related.same ∙ ap (λ (parents : Parents). parents.owners) p.second ∙ none.owners in
     let w : IsGiven o 1 (seen_after growing_owners opening_owners events).next = owner_given o events opening_owners h (omega arith) made in
-    let end : left nothing (discards o) 1 events ≡ 0 =
-    all_gone o 1 (seen_after one seen events).first.nodes (seen_after one seen events).first.next (left nothing (discards o) 1 events) nodes w.least_is (omega (arith, w.below, ap (λ (g : Growth). g.next) p.first)) f.related.going in
+    let end : left nothing (discards o) 1 events ≡ 0 = grind (arith, nat_tests, all_gone) in
     and_from (covers nothing (discards o) 1 events) (left nothing (discards o) 1 events == 0) f.allowed (eq-eqb (left nothing (discards o) 1 events) 0 end)
 
 -- Wherever a line stands between two of its elements, the replayed parents are those of the session's trees.

@@ -1,12 +1,12 @@
 -- In each session's life the end of a level releases descendants first, by phase and priority.
 use Rattle.session_laws.proofs.Words.{◌≡◌, ℕ, ◌+◌, Bool, true, false, List, [], ◌∷◌, ◌++◌, Option, Some, None, refl, sym, ap, ◌∙◌, subst, inl, inr, not, ◌⊎◌, is_some, and_from, both_ways, subtree, nat_tests, arith}
-use Rattle.session_laws.proofs.Scenes.{Error, What, KindTable, LevelState, deepest_changed, is_aborted, first_of, opening, top_context, Moment, Scene, Around, Element, failure, Ended, nothing, switched, where_there, for_each, in_order, where_so, context_gone, say, aborted, cleaned_up, committed, subcommitted, given_up, level_rolled_back, recovered, exited, level_made, owner_made, Done, fallible, refused_call, unless_refused, does, does_all, then_done, AreOuter, IsOpen, Stands, AreOpen, FitLevels, StandsBetweenLines, Command, table_of, line_elements, turn, turn_of, is_there}
+use Rattle.session_laws.proofs.Scenes.{Error, What, KindTable, LevelState, is_aborted, first_of, opening, top_context, Moment, Scene, Around, Element, failure, Ended, nothing, switched, where_there, for_each, in_order, where_so, context_gone, say, aborted, cleaned_up, committed, subcommitted, given_up, level_rolled_back, recovered, exited, level_made, Done, fallible, refused_call, unless_refused, does, does_all, then_done, AreOuter, IsOpen, Stands, StandsBetweenLines, Command, table_of, line_elements, turn, turn_of, is_there}
 use Rattle.session_laws.proofs.Rules.{allows_all, seen_after, aborted_stands, at_settled, is_left, rolled_stands, settled, AreSpoken, Follows, IsRun, IsSpoken, Meets, Runs, element_follows, AreSaid, said_both, said_none, said_one, said_gone, line_spoken, Releasing, ordering, nothing_releasing, Node, abort_stands, cleanup_stands, commit_stands, merge_stands, settled_as}
 use Rattle.session_rules.proofs.EndsStand.{Leaves as Leaving}
 use Rattle.session_laws.proofs.Lives.{OwesTurns, level_keeps, IsLife, Reads, turn_keeps, line_leads}
 use Rattle.session_laws.proofs.OwnWork.{AreDue, ContextNext, Hushed, IsDue, IsHushed, IsLevelContext, IsLevelOwner, IsLively, IsOwnWork, IsRest, IsSaid, OwnerNext, Stage, Working, above_of, hushed_next, stage_next, working_next, line_due, stage_of}
 use Rattle.session_laws.proofs.ParentsLife.{KeepsOwners, owners_owed, HasOwners, opening_owners, owners_life}
-use Rattle.session_laws.proofs.OrderEnds.{Mild, own_mild, KeepsBase, base_owed, Fit, abort_goes, clean_goes, commit_goes, keeps_fit, merge_goes, Goes, IsClosed, closed_goes, goes_both, goes_none, goes_weaker, lone_allows, is_unlined, nodes_after, ordered_nodes, by_error, closes, opening_based}
+use Rattle.session_laws.proofs.OrderEnds.{Mild, own_mild, KeepsBase, base_owed, Fit, abort_goes, clean_goes, commit_goes, keeps_fit, merge_goes, Goes, IsClosed, closed_goes, goes_both, goes_none, goes_weaker, is_unlined, nodes_after, ordered_nodes, by_error, closes, opening_based}
 use Rattle.pgs_step.specs.declared.events.What.TheVariants as what
 use Rattle.session_rules.specs.Elements as e
 
@@ -53,25 +53,6 @@ unless_said refusal m act h = grind (arith, nat_tests, said_none)
 try_said : (w : Option ℕ) (m : Moment) (own : Option Error) (act : Scene → Ended) → AreSaid is_unlined (act m.scene).events → AreSaid is_unlined (fallible w m own act).events
 try_said w m own act h = unless_said (refused_call w m.fail (m.calls + 1) own) (record m { calls = m.calls + 1 }) act h
 
-unless_at : (P : Scene → Type 0) (refusal : Option Error) (m : Moment) (act : Scene → Ended) → P (act m.scene).scene → (unless_refused refusal m act).refusal ≡ None → P (unless_refused refusal m act).moment.scene
-unless_at P refusal m act h none = grind (arith, nat_tests)
-
--- a level that stands, and an owner that is made for a level
-stands_said : (o : Option ℕ) (s : Scene) → AreSaid is_unlined ((where_there o switched s).events ++ ([] ++ []))
-stands_said o s = grind (arith, nat_tests, said_none)
-
-stands_levels : (o : Option ℕ) (s : Scene) → (where_there o switched s).scene.session.levels ≡ s.session.levels
-stands_levels o s = grind (arith, nat_tests)
-
-changed_owned : (levels : List LevelState) → HasOwner levels → HasOwner (deepest_changed (λ level. record level { starting = false }) levels)
-changed_owned levels h = grind (arith, nat_tests)
-
-made_owned : (n : ℕ) (levels : List LevelState) → HasOwner (deepest_changed (λ level. record level { owner = Some n }) levels)
-made_owned n levels = grind (arith, nat_tests)
-
-owner_said : (parent : Option ℕ) (s : Scene) → AreSaid is_unlined (owner_made parent s).events
-owner_said parent s = grind (arith, nat_tests, said_one)
-
 module _ (kinds : KindTable) (w : Option ℕ) where
   -- what an element says is in order, and the line stands so behind it where it was not refused
   abbrev IsStep : Stage → Stage → Element → Moment → Type 0
@@ -88,7 +69,7 @@ module _ (kinds : KindTable) (w : Option ℕ) where
   unfolding does
   level_step x m (makes name implicit) meets seen fit at =
       goes_weaker kinds (λ b closed none. closed) (closed_goes kinds (try_said w m _ (level_made name implicit) (said_one (what.BeginLevel _) refl)) seen at.0)
-  level_step x m stands meets seen fit at = grind (arith, nat_tests, goes_weaker, stands_levels, changed_owned, closed_goes, stands_said)
+  level_step x m stands meets seen fit at = grind (arith, nat_tests, goes_weaker, closed_goes)
   level_step x m tops meets seen fit at =
       let level : LevelState = meets.asks.0 in
       let lo = is_there level.owner (subst HasOwner meets.asks.1 at.1) in
@@ -108,8 +89,7 @@ module _ (kinds : KindTable) (w : Option ℕ) where
       let level : LevelState = meets.asks.0.0 in
       let levels : List LevelState = meets.asks.0.1 in
       let left : Leaving (record level { aborted = true } ∷ levels) (aborted m.scene).scene = abort_stands w m meets.stands level levels meets.asks.1 meets.asks.2 meets.asks.3 in
-      let goes : Fit kinds seen.owners m.scene → Goes kinds seen (aborted m.scene).events (λ b. Unit {0}) =
-      settled_as (λ (z : Scene). Fit kinds seen.owners z → Goes kinds seen (aborted z).events (λ b. Unit {0})) m.scene (level ∷ levels) meets.stands meets.asks.1 (λ k h. abort_goes kinds level levels m.scene k seen h) in
+      let goes : Fit kinds seen.owners m.scene → Goes kinds seen (aborted m.scene).events (λ b. Unit {0}) = grind (arith, nat_tests, settled_as, abort_goes) in
       goes_weaker kinds (λ b any none. ap is_aborted left.are) (goes fit)
 
   working_step : (x : Element) (m : Moment) → IsLively x → Meets x m.scene → IsStep Working (working_next x) x m
@@ -125,11 +105,11 @@ module _ (kinds : KindTable) (w : Option ℕ) where
 
   owner_step : (x : Element) (m : Moment) → IsLevelOwner x → IsStep OwnerNext Working x m
   unfolding does
-  owner_step x m h seen fit at = grind (arith, nat_tests, goes_weaker, unless_at, made_owned, closed_goes, try_said, said_both, owner_said, said_none)
+  owner_step x m h seen fit at = grind (arith, nat_tests, goes_weaker, closed_goes, try_said, said_both, said_none)
 
   -- where the deepest level is aborted
   said_goes : (event : What) → IsSaid event → (seen : Releasing) → Goes kinds seen (event ∷ []) (λ b. Unit {0})
-  said_goes event h seen = grind (arith, nat_tests, and_from, lone_allows)
+  said_goes event h seen = grind (arith, nat_tests, and_from)
 
   check_step : (r : Option Error) (m : Moment) → is_aborted m.scene.session.levels ≡ true → (seen : Releasing)
       → Goes kinds seen (unless_refused r m nothing).events (λ b. (unless_refused r m nothing).refusal ≡ None → is_aborted (unless_refused r m nothing).moment.scene.session.levels ≡ true)
@@ -304,11 +284,8 @@ pub record FitsOrder (kinds : KindTable) (seen : Releasing) (s : Scene) : Type 0
   pub fit : Fit kinds seen.owners s
   pub opened : IsOpened seen s
 
-between_owned : (levels : List LevelState) (s : Scene) → AreOpen levels → FitLevels levels s.session.contexts s.session.owners s.session.current → HasOwner levels
-between_owned levels s free fit = grind (arith, nat_tests)
-
 begins_at : (s : Scene) → StandsBetweenLines s → (seen : Releasing) → IsOpened seen s → At (stage_of s.session.levels) seen s
-begins_at s h seen opened = grind (arith, nat_tests, between_owned)
+begins_at s h seen opened = grind (arith, nat_tests)
 
 module _ (kinds : KindTable) where
   turn_opened : (w : Option ℕ) (done : Done) (refusal : Option Error) → done.refusal ≡ refusal → Stands done.moment.scene → (seen : Releasing) → Goes kinds seen done.events (HasRun kinds w done)
@@ -341,9 +318,6 @@ module _ (kinds : KindTable) where
         };
   }
 
-  error_reads : (error : Error) (s : Scene) → Reads (ordering kinds) (FitsOrder kinds) s s (what.Error error ∷ [])
-  error_reads error s = grind (arith, nat_tests, closes, by_error)
-
   -- an exit
   tail_said : (s : Scene) → AreSaid is_unlined (in_order (switched top_context ∷ context_gone top_context ∷ say what.Exit ∷ []) s).events
   tail_said s = said_both (said_gone (λ word n. refl) (λ n. refl) (subtree top_context s.session.contexts)) (said_one what.Exit refl)
@@ -361,4 +335,4 @@ module _ (kinds : KindTable) where
 
   -- In each session's life what the end of a level releases comes in order.
   pub order : IsLife kinds (ordering kinds) (FitsOrder kinds) nothing_releasing (λ last. Unit {0})
-  order = grind (arith, nat_tests, opening_fits, error_reads, turn_reads, at_settled, exit_goes)
+  order = grind (arith, nat_tests, opening_fits, turn_reads, at_settled, exit_goes)

@@ -147,8 +147,7 @@ module _ (kinds : KindTable) (nodes : List replayed.Node) (phase : Phase) (n : �
       → Adds kinds nodes false members (item_member kinds phase n item ∷ members) (what.NotClosed item n ∷ what.Release item n ∷ [])
   adds_warned members item h may =
       let same : (same_item item item && (n == n)) ≡ true = and_from (same_item item item) (n == n) (same_itself item) (eq-eqb n n refl) in
-      let is : member_of kinds (same_item item item && (n == n)) (what.Release item n) ≡ Some (item_member kinds phase n item) =
-      ap (λ (b : Bool). member_of kinds b (what.Release item n)) same ∙ member_is kinds phase n item h in
+      let is : member_of kinds (same_item item item && (n == n)) (what.Release item n) ≡ Some (item_member kinds phase n item) = grind (arith, nat_tests, member_is) in
       let all = release_counts kinds nodes false (Some (record { item = item; owner = n })) members item n (item_member kinds phase n item) is may in
       record { allowed = all.0; behind = all.1 }
 

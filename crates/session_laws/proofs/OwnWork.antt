@@ -1,7 +1,7 @@
 -- Where a line stands between its elements. While the deepest level is aborted a line says nothing until it cleans that level up: an
 -- element is a check then, or a word at the line's end, or the cleanup.
-use Rattle.session_laws.proofs.Words.{◌≡◌, ℕ, zero, suc, ◌+◌, ◌≤◌, Bool, true, false, if◌then◌else◌, List, [], ◌∷◌, ◌++◌, map, length, replicate, Option, Some, refl, sym, subst, arith, append_assoc, codes, le-ltb, ◌⊎◌, option_map_or, option_and_then, nat_tests}
-use Rattle.session_laws.proofs.Scenes.{Error, What, Command, LevelState, OpenPortal, SessionState, is_aborted, level_owner, Check, Element, LevelContext, NewContext, OfLevel, OwnerRole, Text, portal_named, context_named, Scene, Moment, AreOuter, Stands, line_elements, KindId, Phase, Mode, CtxKind, owner_gone, phase_released, portal_ended, at_owner, at_portal, lock_given_back, snapshot_popped, context_made, new_context_made, new_owner_made, owner_made, plan_made, descriptor_given, item_taken, lock_taken, snapshot_pushed, does, TransactionCommand, Work, Scan, after_turn, fetch_steps, work_of, at_savepoint, begin, commit, committed_to, elements_of, ends_aborted, in_transaction, is_end, refused, rollback, rolled_back_to, save, savepoint, start, then_ok, transaction_of, unaborted}
+use Rattle.session_laws.proofs.Words.{◌≡◌, ℕ, zero, suc, ◌+◌, ◌≤◌, Bool, true, false, if◌then◌else◌, List, [], ◌∷◌, ◌++◌, map, length, replicate, Option, Some, refl, sym, subst, arith, append_assoc, codes, le-ltb, ◌⊎◌, option_and_then, nat_tests}
+use Rattle.session_laws.proofs.Scenes.{What, Command, LevelState, OpenPortal, SessionState, is_aborted, level_owner, Check, Element, LevelContext, NewContext, OfLevel, OwnerRole, Text, portal_named, context_named, Scene, Moment, AreOuter, Stands, line_elements, KindId, Phase, Mode, CtxKind, owner_gone, phase_released, portal_ended, at_owner, at_portal, lock_given_back, snapshot_popped, context_made, new_context_made, new_owner_made, owner_made, plan_made, descriptor_given, item_taken, lock_taken, snapshot_pushed, does, TransactionCommand, Work, Scan, after_turn, fetch_steps, work_of, elements_of, ends_aborted, in_transaction, rolled_back_to, savepoint, then_ok, transaction_of}
 use Rattle.session_rules.specs.Works.{row_of}
 use Rattle.session_laws.proofs.Rules.{Acts, Follows, IsSpoken, Keeps, Law, Leaves, MoveLeaves, Owes, is_word, last, next, by_kind, by_order, by_owner, by_portal, by_portal_named, by_there, element_follows, fallible_at, fallible_so, moves_owed, unfailing_so, portal_ends}
 use Rattle.pgs_step.specs.declared.events.What.TheVariants as what
@@ -136,32 +136,23 @@ fetch_work : (name : Text) (count : ℕ) (scan : Scan) (rows : ℕ) → AreWork 
 fetch_work name zero scan rows = (tt, tt)
 fetch_work name (suc count) scan rows = grind (arith, nat_tests, fetch_work name count (after_turn scan), both_work, last_or_more)
 
-fetches_work : (name : Text) (count : ℕ) (o : Option OpenPortal) → AreWork (option_map_or (λ portal. fetch_steps name count portal.scan 0) o [])
-fetches_work name count o = grind (arith, nat_tests, fetch_work)
-
 -- of what is done within a transaction
 steps_work : (w : Work) (portals : List OpenPortal) → AreWork (row_of w portals).steps
-steps_work w portals = grind (arith, nat_tests, fetches_work)
+steps_work w portals = grind (arith, nat_tests, fetch_work)
 
 work_is_work : (w : Work) (session : SessionState) → AreWork (work_of w session)
 work_is_work w s = both_work (map e.Checks (row_of w s.portals).checks) (row_of w s.portals).steps (checks_work (row_of w s.portals).checks) (steps_work w s.portals)
 
 -- such work may come in an active session, and leaves it active
-own_due : (x : Element) → IsOwnWork x → IsLively x × (working_next x ≡ Working)
-own_due x h = grind (arith, nat_tests)
-
 work_due : (xs ys : List Element) → AreWork xs → AreDue Working ys → AreDue Working (xs ++ ys)
 work_due [] ys h k = k
-work_due (x ∷ xs) ys h k = grind (arith, nat_tests, work_due xs ys h.1 k, own_due)
+work_due (x ∷ xs) ys h k = grind (arith, nat_tests, work_due xs ys h.1 k)
 
 commits_due : (n : ℕ) (ys : List Element) → AreDue Working ys → AreDue Working (replicate n e.Subcommit ++ ys)
 commits_due zero ys k = k
 commits_due (suc n) ys k = (tt, commits_due n ys k)
 
 -- a refusal may come anywhere between two lines
-
-refused_alone : (b : Bool) (x : Error) → AreDue (if b then Hushed else Working) (refused x)
-refused_alone b x = grind (arith, nat_tests)
 
 -- levels that are rolled back, of which none is aborted
 rolled_outer : (n : ℕ) (levels : List LevelState) (ys : List Element) → AreOuter levels → AreDue Working ys → AreDue Working (rolled_back_to n levels ++ ys)
@@ -178,40 +169,13 @@ savepoint_within : (name : Text) (levels : List LevelState) (n : ℕ) → savepo
 savepoint_within name [] n is = absurd (cc is)
 savepoint_within name (level ∷ levels) n is = grind (arith, nat_tests, savepoint_within name levels n)
 
--- what is done at a savepoint
-at_due : (name : Text) (levels : List LevelState) (go_on : ℕ → List Element)
-    → ((n : ℕ) → savepoint name levels ≡ Some n → AreDue (stage_of levels) (go_on n ++ (e.Says what.Ok ∷ [])))
-    → AreDue (stage_of levels) (at_savepoint name levels go_on ++ (e.Says what.Ok ∷ []))
-at_due name levels go_on h = grind (arith, nat_tests)
-
--- the ends of transactions, and back to a savepoint, in an aborted one too
-rollback_due : (levels : List LevelState) → AreAbove levels → AreDue (stage_of levels) (rollback levels ++ (e.Says what.Ok ∷ []))
-rollback_due levels h = grind (arith, nat_tests, rolled_due)
-
-commit_due : (levels : List LevelState) → AreAbove levels → AreDue (stage_of levels) (commit levels ++ (e.Says what.Ok ∷ []))
-commit_due levels h = grind (arith, nat_tests, rollback_due, append_assoc, commits_due)
-
-back_due : (name : Text) (levels : List LevelState) → AreAbove levels
-    → AreDue (stage_of levels) (at_savepoint name levels (λ n. rolled_back_to n levels ++ start (Some name) false) ++ (e.Says what.Ok ∷ []))
-back_due name levels h = grind (arith, nat_tests, at_due, savepoint_within, append_assoc, rolled_due)
-
--- the other commands on transactions, in an active session or in none
-begin_due : (levels : List LevelState) → AreDue Working (begin levels ++ (e.Says what.Ok ∷ []))
-begin_due levels = grind (arith, nat_tests)
-
-save_due : (name : Text) (levels : List LevelState) → AreDue Working (save name levels ++ (e.Says what.Ok ∷ []))
-save_due name levels = grind (arith, nat_tests)
-
-release_due : (name : Text) (levels : List LevelState) → is_aborted levels ≡ false → AreDue (stage_of levels) (at_savepoint name levels (λ n. committed_to n levels) ++ (e.Says what.Ok ∷ []))
-release_due name levels un = grind (arith, nat_tests, at_due, commits_due)
-
 -- a stage that is known
 active_due : (levels : List LevelState) (xs : List Element) → is_aborted levels ≡ false → AreDue Working xs → AreDue (stage_of levels) xs
 active_due levels xs un k = subst (λ (b : Bool). AreDue (if b then Hushed else Working) xs) (sym un) k
 
 transaction_due : (c : TransactionCommand) (levels : List LevelState) → AreAbove levels → ((is_aborted levels ≡ false) ⊎ (ends_aborted c ≡ true))
     → AreDue (stage_of levels) (then_ok (transaction_of c levels))
-transaction_due c levels h either = grind (arith, nat_tests, active_due, begin_due, commit_due, rollback_due, save_due, release_due, back_due)
+transaction_due c levels h either = grind (arith, nat_tests, active_due, append_assoc, commits_due, rolled_due, savepoint_within)
 
 in_transaction_due : (levels : List LevelState) (work : List Element) → AreWork work → AreDue Working (in_transaction levels work)
 in_transaction_due levels work h = grind (arith, nat_tests, work_due)
@@ -219,16 +183,13 @@ in_transaction_due levels work h = grind (arith, nat_tests, work_due)
 rest_of : (b : Bool) → IsRest (if b then Hushed else Working)
 rest_of b = grind (arith, nat_tests)
 
-unaborted_due : (c : Command) (session : SessionState) → AreAbove session.levels → ((is_aborted session.levels ≡ false) ⊎ (is_end c ≡ true)) → AreDue (stage_of session.levels) (unaborted c session)
-unaborted_due c s h either = grind (arith, nat_tests, rest_of, transaction_due, active_due, in_transaction_due, work_is_work)
-
 elements_due : (c : Command) (session : SessionState) → AreAbove session.levels → AreDue (stage_of session.levels) (elements_of c session)
 unfolding elements_of
-elements_due c s h = grind (arith, nat_tests, unaborted_due, refused_alone)
+elements_due c s h = grind (arith, nat_tests, rest_of, transaction_due, in_transaction_due, work_is_work)
 
 -- Each element of a line may come where the line stands by then.
 pub line_due : (line : Option Command) (session : SessionState) → AreAbove session.levels → AreDue (stage_of session.levels) (line_elements line session)
-line_due line s h = grind (arith, nat_tests, refused_alone, elements_due)
+line_due line s h = grind (arith, nat_tests, elements_due)
 
 pub above_of : (levels : List LevelState) (s : Scene) → Stands s → s.session.levels ≡ levels → AreAbove levels
 above_of levels s h is = grind (arith, nat_tests)

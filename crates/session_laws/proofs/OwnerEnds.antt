@@ -1,6 +1,6 @@
 -- What follows the release of an item, and the steps of a phase, leave of a session; and that they acquire and release no item besides.
 use Rattle.session_laws.proofs.Words.{◌≡◌, Bool, true, false, List, [], ◌∷◌, refl, ap, ◌∙◌, ℕ, ◌≤◌, length, Option, Some, None, sym, subst, inl, inr, not, arith, ◌==◌, has, AllNodes, Moves, map, nat_tests}
-use Rattle.session_laws.proofs.Scenes.{What, Item, table_of, OwnerTree, AllAt, HoldsNothing, Step, Said, GivesBack, ReleasesLocks, PassesLocks, ReleasesAllLocks, release_steps, Scene, Moment, for_each, Ended, where_so, where_there, changes, context_gone, in_order, portal_gone, switched, given_back, step_done, owner_moved, owner_gone, owner_released, phase_released, LevelState, OpenPortal, first_of, owner_of, abort_context, deepest_changed, depth, level_owner, top_context, has_failed, portal_aborted, portal_failed, portal_passed, portal_withdrawn, executor_ended, is_ready, portal_closed, portal_ended, portal_owner_ended, IsAttached, IsOwner, IsPortal, HasItems, IsLive, IsWorking, Stands, active_depth, Error, KindId, Phase, BeforeLocks, Locks, AfterLocks, KindTable, IsSound as IsSoundTable, released, Element, OfLevel, OwnerRole, Text, kind_named, owner_in, portal_named, aborted, cleaned_up, committed, empty_context_gone, level_context_gone, level_owner_gone, level_popped, level_released, level_rolled_back, stack_lowered, stack_popped, subcommitted, switched_up, at_kind, at_owner, item_taken, does, IsInOrder, has_owner, descriptor_left, is_among, left_nothing, no_value, Ending, gone_levels}
+use Rattle.session_laws.proofs.Scenes.{What, Item, table_of, OwnerTree, AllAt, HoldsNothing, Step, Said, GivesBack, ReleasesLocks, PassesLocks, ReleasesAllLocks, release_steps, Scene, Moment, for_each, Ended, where_so, where_there, changes, context_gone, in_order, portal_gone, switched, given_back, step_done, owner_moved, owner_gone, owner_released, phase_released, LevelState, OpenPortal, first_of, owner_of, abort_context, deepest_changed, depth, level_owner, top_context, has_failed, portal_aborted, portal_failed, portal_passed, portal_withdrawn, executor_ended, is_ready, portal_closed, portal_ended, portal_owner_ended, IsAttached, IsOwner, IsPortal, HasItems, IsLive, IsWorking, Stands, active_depth, Error, KindId, Phase, BeforeLocks, Locks, AfterLocks, KindTable, IsSound as IsSoundTable, released, Element, OfLevel, OwnerRole, Text, kind_named, portal_named, aborted, cleaned_up, committed, empty_context_gone, level_context_gone, level_owner_gone, level_popped, level_released, level_rolled_back, stack_lowered, stack_popped, subcommitted, switched_up, at_kind, at_owner, item_taken, does, IsInOrder, has_owner, descriptor_left, is_among, left_nothing, no_value, Ending, gone_levels}
 use Rattle.session_laws.proofs.Rules.{Acts, Keeps, Law, AllKeep, Leaves, LevelLeaves, MakeLeaves, OwesEnds as OwesEndings, OwesMoves, last, next, AreSaid, said_both, said_none, Part, Sight, acts_of, children_go, gives_back, goes, of_kinds, of_levels, of_next_owner, of_next_serial, of_owners, by_either, by_each, by_order, fallible_at, levels_owed, makes_owed, portal_fails, portal_lowers, portal_returns, context_goes, empty_context_goes, executor_ends, level_context_goes, level_marks, level_pops, level_releases, owner_releases, portal_cleans, portal_closes, switches_up, begins, is_settled, off_begins, owner_when_active, resettled, settled, switched_off, aborted_leads, all_aborted, has_swept, Meets, said_one, of_locks, by_so, keeps-passed, keeps-without, IsInOrder-filter, IsInOrder-map, table-closed, Leads, with_parts, above_owner, above_there, all_passed, passed_leads, first_of_rest, all_closed}
 use Rattle.session_laws.proofs.Warnings.{is_aside}
 use Rattle.session_rules.proofs.ItemsStand.{owner_there}
@@ -185,10 +185,8 @@ release_leaves commit top p s =
     let one : StaysBut (released kinds BeforeLocks p x) s a = phase_stays commit top p BeforeLocks s in
     let two : StaysBut (released (table_of a.around.kinds) Locks p a.session.owners) a b = phase_stays commit top p Locks a in
     let three : StaysBut (released (table_of b.around.kinds) AfterLocks p b.session.owners) b c = phase_stays commit top p AfterLocks b in
-    let second : b.session.owners ≡ released kinds Locks p (released kinds BeforeLocks p x) =
-    two.owners ∙ ap (λ (k : KindTable). released k Locks p a.session.owners) one.kinds ∙ ap (released kinds Locks p) one.owners in
-    let third : c.session.owners ≡ released kinds AfterLocks p (released kinds Locks p (released kinds BeforeLocks p x)) =
-    three.owners ∙ ap (λ (k : KindTable). released k AfterLocks p b.session.owners) (two.kinds ∙ one.kinds) ∙ ap (released kinds AfterLocks p) second in
+    let second : b.session.owners ≡ released kinds Locks p (released kinds BeforeLocks p x) = grind (arith, nat_tests) in
+    let third : c.session.owners ≡ released kinds AfterLocks p (released kinds Locks p (released kinds BeforeLocks p x)) = grind (arith, nat_tests) in
     grind (arith, nat_tests, released_swept)
 
 -- An owner that is there, and of which all nodes hold nothing, may go.
@@ -242,10 +240,6 @@ pub record OwnerEnds (R : Law) : Type 0 where
   pub gone : (n : ℕ) (s : Scene) → MayLeave n s → R s (owner_gone n s).scene (owner_gone n s).events
   pub moved : (n p : ℕ) (s : Scene) → Moves n p s.session.owners → R s (owner_moved n p s).scene (owner_moved n p s).events
 
--- an owner that takes an item is there
-role_there : (role : OwnerRole) (s : Scene) → Stands s → IsWorking s.session.levels → (n : ℕ) → owner_in role s.session ≡ Some n → has n s.session.owners ≡ true
-role_there role s h working n e = grind (arith, nat_tests, owner_there, no_value, portal_owner_there)
-
 module _ (R : Law) (h : OwnerEnds R) where
   abbrev v : LevelLeaves R
   v = h.levels
@@ -282,7 +276,7 @@ module _ (R : Law) (h : OwnerEnds R) where
 
   -- an item is taken
   role_takes : (role : OwnerRole) (kind : KindId) (key : ℕ) (s : Scene) → Stands s → IsWorking s.session.levels → R s (at_owner role (λ o. item_taken o kind key) s).scene (at_owner role (λ o. item_taken o kind key) s).events
-  role_takes role kind key s k working = grind (arith, nat_tests, role_there)
+  role_takes role kind key s k working = grind (arith, nat_tests, owner_there, no_value, portal_owner_there)
 
   kind_takes : (o : Option KindId) (key : ℕ) (s : Scene) → Stands s → IsWorking s.session.levels
       → R s (where_there o (λ kind. at_owner OfLevel (λ n. item_taken n kind key)) s).scene (where_there o (λ kind. at_owner OfLevel (λ n. item_taken n kind key)) s).events
@@ -349,8 +343,7 @@ module _ (R : Law) (h : OwnerEnds R) where
       let loop : Leads level levels done [] off (for_each act s.session.portals off).scene = all_aborted level levels made s.session.portals off begin in
       let z : Scene = with_parts loop.goes.parts off in
       let behind : Scene → Ended = in_order (level_released false (n == 1) ∷ stack_popped n ∷ changes (λ session. record session { levels = deepest_changed (λ old. record old { aborted = true }) session.levels }) ∷ []) in
-      let may : MayEndLevel (level_released false (n == 1) z).scene =
-      level_leaves false (n == 1) z (known_ending level levels done loop.front [] z loop.goes.ending) (λ m is. (loop.goes.ending.all.0.owner m is).there) in
+      let may : MayEndLevel (level_released false (n == 1) z).scene = grind (arith, nat_tests, level_leaves, known_ending, goes) in
       record {
         keeps = a.both ((v.level_word (what.AbortLevel n) refl).so st)
             (a.both ((l.switch abort_context).so st)
@@ -360,8 +353,7 @@ module _ (R : Law) (h : OwnerEnds R) where
       }
     where
       still_owner : (levels : List LevelState) → owner_of (first_of (deepest_changed (λ old. record old { aborted = true }) levels)) ≡ owner_of (first_of levels)
-      still_owner [] = refl
-      still_owner (first ∷ rest) = refl
+      still_owner levels = grind (arith, nat_tests)
 
   -- an aborted level is cleaned up
   clean_reads : (s : Scene) → MayEndLevel s → R s (cleaned_up s).scene (cleaned_up s).events

@@ -66,10 +66,7 @@ module _ {A : Type 0} where
       | inl e ↦ subst (λ (x : ℕ). is_there x (placed n parent nodes) ≡ has x u) (sym e) (is_there-placed_same n parent nodes ∙ sym here)
       | inr ne ↦ is_there-placed_other m n parent nodes ne ∙ f.there m ∙ sym (others m ne).0
     ];
-    parent = λ m. elim (cases_eq m n) [
-      | inl e ↦ subst (λ (x : ℕ). replayed.parent_of x (placed n parent nodes) ≡ parent_of x u) (sym e) (parent_of-placed_same n parent nodes ∙ sym above)
-      | inr ne ↦ parent_of-placed_other m n parent nodes ne ∙ f.parent m ∙ sym (others m ne).1
-    ];
+    parent = grind (arith, nat_tests, cases_eq, parent_of-placed_same, parent_of-placed_other);
     single = single_placed n parent nodes f.single;
     length = omega (arith, counts);
   }
@@ -101,10 +98,7 @@ module _ {A : Type 0} where
   moved_fits n p a nodes t f w =
       let u : Forest A = put p n a (children n t) (removed n t) in
       let same : (m : ℕ) → times m u ≡ times m t = λ m. times_moved m n p a t f.once w in
-      let kept : (m : ℕ) → has m u ≡ has m t = λ m. elim (cases_Bool (has m t)) [
-        | inl y ↦ has_some m u (omega (arith, same m, times_some m t y)) ∙ sym y
-        | inr z ↦ has_none m u (omega (arith, same m, times_none m t z)) ∙ sym z
-      ] in
+      let kept : (m : ℕ) → has m u ≡ has m t = grind (arith, nat_tests, cases_Bool, has_some, times_some, has_none, times_none) in
       fits_placed n (Some p) nodes t u f (once_moved n p a t f.once w) (kept n ∙ w.node) (parent_put p n a (children n t) (removed n t) (once_left n t f.once) (parent_stays n p t f.once w) (removed_has n t f.once w.node))
       (λ m ne. (kept m, moved_parent m n p a t f.once w ne)) (omega (arith, length_without n nodes f.single (f.there n ∙ w.node), f.length, size_moved n p a t f.once w))
 
@@ -126,12 +120,7 @@ module _ {A : Type 0} where
     line = p ∷ h.line;
     is = (f.parent n ∙ e, h.is);
     short = omega (arith, h.short, level_up 0 n p t f.once e);
-    above = λ a. elim (cases_eq p a) [
-      | inl same ↦
-          ap (λ (b : Bool). b || is_one_of a h.line) (eq-eqb p a same)
-          ∙ sym (ap (λ (x : ℕ). is_above x n t) (sym same) ∙ below_parent n p t f.once e)
-      | inr ne ↦ ap (λ (b : Bool). b || is_one_of a h.line) (ne_eqb p a ne) ∙ h.above a ∙ sym (above_by_parent n p a t f.once e ne)
-    ];
+    above = grind (arith, nat_tests, cases_eq, eq-eqb, below_parent, ne_eqb, above_by_parent);
   }
 
   line_from : (k : ℕ) (nodes : List Kept) (t : Forest A) (n : ℕ) → FitsTree nodes t → level 0 n t < k → HasLine nodes t n
@@ -172,12 +161,7 @@ childless n (first ∷ rest) single none =
         (λ y. none first.number (cond-true (first.number == first.number) first.parent (replayed.parent_of first.number rest) (eq-eqb first.number first.number refl) ∙ e ∙ ap (λ (x : ℕ). Some x) (eqb-true p n y)))
 
     up : (m : ℕ) → replayed.parent_of m rest ≡ Some n → replayed.parent_of m (first ∷ rest) ≡ Some n
-    up m e = elim (cases_Bool (first.number == m)) [
-      | inl y ↦
-          let none : None ≡ Some n = sym (no_parent m rest (ap (λ (x : ℕ). is_there x rest) (sym (eqb-true first.number m y)) ∙ single.0)) ∙ e in
-          absurd (cc none)
-      | inr z ↦ rw z e
-    ]
+    up m e = grind (arith, nat_tests, cases_Bool, no_parent, eqb-true)
 
 -- a node without children has none in the replay
 pub same_childless : {A : Type 0} (n : ℕ) (nodes : List Kept) (t : Forest A) → FitsTree nodes t → children n t ≡ Empty → has_child n nodes ≡ false

@@ -1,6 +1,6 @@
 -- The stack of active snapshots: each pop is of the newest one.
-use Rattle.session_laws.proofs.Words.{◌≡◌, ℕ, zero, suc, ◌+◌, ◌-◌, ◌≤◌, Bool, true, false, List, [], ◌∷◌, ◌++◌, length, map, reverse, take, Some, refl, sym, ap, ◌∙◌, inl, inr, arith, Option, subst, ◌==◌, ◌⊎◌, filter, nat_lt, if◌then◌else◌, cases_Bool, eqb-true, eqb-false, lt-leb, le-leb, ltb-true, ltb-false, le-ltb, and_from, eq-eqb, append-nil, append_assoc, map-append, reverse-append, reverse-reverse, length-append, take_at, filter-append, nat_tests, none_left, stacking}
-use Rattle.session_laws.proofs.Scenes.{first_of, last_of, opening, AreStacked, Stands, StandsBetweenLines, What, Command, KindTable, Around, Moment, Scene, Element, snapshot_popped, snapshot_pushed, does, exited, stack_lowered, stack_popped, turn, is_deep, kept_below, lowered, pops, Active}
+use Rattle.session_laws.proofs.Words.{◌≡◌, ℕ, zero, suc, ◌+◌, ◌-◌, ◌≤◌, Bool, true, false, List, [], ◌∷◌, ◌++◌, length, map, reverse, take, Some, refl, sym, ap, ◌∙◌, inl, inr, arith, Option, subst, ◌==◌, ◌⊎◌, filter, nat_lt, if◌then◌else◌, cases_Bool, lt-leb, le-leb, ltb-true, ltb-false, le-ltb, and_from, eq-eqb, append-nil, append_assoc, map-append, reverse-append, reverse-reverse, length-append, take_at, filter-append, nat_tests, none_left, stacking}
+use Rattle.session_laws.proofs.Scenes.{first_of, last_of, opening, AreStacked, Stands, StandsBetweenLines, What, Command, KindTable, Around, Moment, Scene, Element, snapshot_pushed, does, exited, stack_popped, turn, is_deep, kept_below, lowered, pops, Active}
 use Rattle.session_laws.proofs.Rules.{allows_all, seen_after, Law, exited_stands, Meets, line_runs, fallible_at, said_none, said_one, of_snapshots, depth_small}
 use Rattle.session_laws.proofs.Lives.{IsLife, Reads, read_both}
 use Rattle.session_laws.proofs.LocksSight.{PassesOver, Sees, hides, of_stack, read_plain, subject, files_hidden, locked_hidden, locks_hidden, unlocked_hidden, OwesUnlocks, Turns, ending_turn, least_acts, lock_owed, owner_owed, session_exits, touch_owed, unlock_owed, Base, by_owner_made, least_of, ArePlain}
@@ -47,12 +47,9 @@ lower level n = (if n == level then level - 1 else n)
 lowered_level : (level : ℕ) (entry : Active) → (lowered level entry).level ≡ lower level entry.level
 lowered_level level entry = grind (arith, nat_tests)
 
-lower_rises : (level a b : ℕ) → a ≤ b → lower level a ≤ lower level b
-lower_rises level a b h = grind (arith, nat_tests, eqb-true, eqb-false)
-
 rising_lowered_from : (level low least : ℕ) (entries : List Active) → low ≤ lower level least → IsRising least entries → IsRising low (map (lowered level) entries)
 rising_lowered_from level low least [] l h = tt
-rising_lowered_from level low least (entry ∷ entries) l h = grind (arith, nat_tests, rising_lowered_from level (lowered level entry).level entry.level entries (omega (arith, lowered_level level entry)) h.1, lower_rises, lowered_level)
+rising_lowered_from level low least (entry ∷ entries) l h = grind (arith, nat_tests, rising_lowered_from level (lowered level entry).level entry.level entries (omega (arith, lowered_level level entry)) h.1, lowered_level)
 
 pub rising_lowered : (level : ℕ) (entries : List Active) → IsRising 0 entries → IsRising 0 (map (lowered level) entries)
 rising_lowered level entries h = rising_lowered_from level 0 0 entries (omega arith) h
@@ -108,9 +105,7 @@ popped_first level least (entry ∷ entries) h = go (cases_Bool (nat_lt entry.le
     deep = filter (is_deep level) (reverse entries)
 
     one : (b : Bool) → is_deep level entry ≡ b → filter (is_deep level) (reverse (entry ∷ entries)) ≡ deep ++ (if b then entry ∷ [] else [])
-    one b e =
-        ap (filter (is_deep level)) (newest_again entry entries) ∙ filter-append (is_deep level) (reverse entries) (entry ∷ [])
-        ∙ ap (λ (t : Bool). deep ++ (if t then entry ∷ [] else [])) e
+    one b e = grind (arith, nat_tests, newest_again, filter-append, deep)
 
     go : (nat_lt entry.level level ≡ true) ⊎ (nat_lt entry.level level ≡ false) → reverse entries ≡ deep ++ reverse (kept_below level entries)
         → reverse (entry ∷ entries) ≡ filter (is_deep level) (reverse (entry ∷ entries)) ++ reverse (kept_below level (entry ∷ entries))
@@ -155,10 +150,6 @@ stack_aside s t same plain = record {
 stack_seen : Sees of_stack ReadsStack
 stack_seen = record { both = λ a b. read_both stacking StackFits a b; aside = λ s t same plain. stack_aside s t (same.so of_snapshots refl) plain }
 
--- the newest is popped
-popped_so : (s : Scene) → ReadsStack s (snapshot_popped s).scene (snapshot_popped s).events
-popped_so s = grind (arith, nat_tests, newest_taken, and_from, eq-eqb, rising_taken)
-
 -- those of a level and of deeper ones are popped
 pops_allowed : (entries : List Active) (rest : List ℕ) → allows_all stacking (numbers entries ++ rest) (map (λ entry. what.Pop entry.snapshot) entries) ≡ true
 pops_allowed [] rest = refl
@@ -181,14 +172,11 @@ gone_so level s = record {
       };
 }
 
-lowered_so : (level : ℕ) (s : Scene) → ReadsStack s (stack_lowered level s).scene (stack_lowered level s).events
-lowered_so level s = grind (arith, nat_tests, newest_lowered, rising_lowered)
-
 stack_base : Base of_stack ReadsStack
 stack_base = record { sees = stack_seen; locks = locks_hidden of_stack ReadsStack stack_seen refl; files = files_hidden of_stack ReadsStack stack_seen refl }
 
 stack_law : Turns of_stack ReadsStack
-stack_law = grind (arith, nat_tests, least_of, of_stack, stack_base, stack_aside, said_none, popped_so, gone_so, lowered_so)
+stack_law = grind (arith, nat_tests, least_of, of_stack, stack_base, stack_aside, said_none, newest_taken, and_from, eq-eqb, rising_taken, gone_so, newest_lowered, rising_lowered)
 
 -- one is pushed where the scene stands
 pushed_so : (snapshot : ℕ) (s : Scene) → Stands s → ReadsStack s (snapshot_pushed snapshot s).scene (snapshot_pushed snapshot s).events
