@@ -475,8 +475,7 @@ words_law kinds sessions first = record {
 module _ (reads : Reading) (w : Option ℕ) (options : Options) (kinds : List Kind) (shelf : ShelfState) (lines : List (List ℕ)) (sound : IsSound (table_of kinds)) (differ : AreDistinct (held shelf)) where
   words_differ : all_differ (words_in (transcript_by reads w options kinds shelf lines)) ≡ true
   words_differ =
-      let h : WordsTold shelf (options.sessions + 1) (ended (course_by reads w options kinds shelf lines)).world (transcript_by reads w options kinds shelf lines) =
-      run_keeps (table_of kinds) options.sessions (WordsTold shelf) (words_law (table_of kinds) options.sessions shelf) reads w options kinds shelf lines refl refl sound differ (record { all = λ n. omega arith }) in
+      let h : WordsTold shelf (options.sessions + 1) (ended (course_by reads w options kinds shelf lines)).world (transcript_by reads w options kinds shelf lines) = grind (arith, nat_tests, run_keeps, words_law (table_of kinds) options.sessions shelf) in
       all_told (transcript_by reads w options kinds shelf lines)
       (λ n. omega (arith, h.all n, distinct_times (held shelf) differ n, times_append n shelf.fresh shelf.spent, word_times_are n shelf.fresh))
 

@@ -1,5 +1,5 @@
 -- What becomes of owners makes them hold no more, and leaves each number once.
-use Rattle.session_laws.proofs.Words.{◌≡◌, ℕ, ◌≤◌, true, Some, List, [], ◌∷◌, refl, ap, arith, ◌+◌, ◌-◌, Bool, false, cond, nat_eq, if◌then◌else◌, ◌++◌, Option, None, sym, subst, ◌∙◌, zero, suc, take, ◌==◌, ◌&&◌, nat_le, nat_lt, list_any, cases_Bool, and_from, eqb-true, le-leb, Empty, Node, Once, at, children, has, put, removed, subtree, size, order_at, at_absent, at_some, once_removed, put_absent, removed_absent, times_put, times_removed, changed_absent, once_changed, nat_tests}
+use Rattle.session_laws.proofs.Words.{◌≡◌, ℕ, ◌≤◌, true, Some, List, [], ◌∷◌, refl, ap, arith, ◌+◌, ◌-◌, Bool, false, cond, nat_eq, if◌then◌else◌, ◌++◌, Option, None, sym, subst, ◌∙◌, zero, suc, take, ◌==◌, ◌&&◌, nat_le, nat_lt, list_any, cases_Bool, and_from, eqb-true, le-leb, Empty, Node, Once, children, removed, subtree, size, order_at, at_absent, at_some, once_removed, put_absent, removed_absent, times_put, times_removed, changed_absent, once_changed, nat_tests}
 use Rattle.session_laws.proofs.Scenes.{Item, KindId, is_of, uses, without_newest, Owner, OwnerTree, held, created, forgotten, What, Phase, KindTable, Step, GivesBack, ReleasesLocks, PassesLocks, ReleasesAllLocks, release_steps, StandingPlan, file_kind, level_above, level_owner, owner_of, opening, Scene, Around, Moment, plan_at, newest, Ended, for_each, where_there, changes, in_order, say, NoOne, TheDescriptors, TheKind, ThePlans, given_back, left_to, plan_becomes, plan_settled, plan_stays, step_done, item_released, keeper_of, owner_gone, owner_moved, phase_released, table_of, own_released, released, OfLevel, OfPortal, OwnerRole, Element, new_owner_made, owner_made, limit, descriptor_given, files, item_taken, remembers, taken_by, snapshot_pushed, Error, Command, failure, refused_call, unless_refused, does, exited, Stands, StandsBetweenLines, line_elements, turn, is_among, without, given_events, given_file, loser, touch_events, touched_file}
 use Rattle.session_laws.proofs.Rules.{Reader, allows_all, seen_after, count, allows_all-append, seen_after-append, Law, Follows, IsRun, Meets, line_runs, fallible_at, fallible_so, said_none, said_more, said_map, said_gone, said_lock_releases, said_lock_passes, said_all_locks, of_recent, of_owners, times, times_none, times_without, below_limit, own_refusal}
 use Rattle.session_laws.proofs.Parents.{alike_swept, once_alike}
@@ -29,10 +29,6 @@ module _ (kind : KindId) (key : ℕ) where
   pub held_less_removed : (n : ℕ) (t : OwnerTree) → Once t → held kind key (removed n t) ≤ held kind key t
   held_less_removed n t once = grind (arith, nat_tests, at_some, total_removed, held_is, removed_absent)
 
-  -- an owner that moves
-  put_less : (n p : ℕ) (a : Owner) (t : OwnerTree) → Once t → Once (removed n t) → at n t ≡ Some a → held kind key (put p n a (children n t) (removed n t)) ≤ held kind key t
-  put_less n p a t once left is = grind (arith, nat_tests, total_put, total_removed, held_is, put_absent, held_less_removed)
-
   -- one of these items is held where some owner has it
   some_counted : (items : List Item) → list_any (is_of kind key) items ≡ true → 1 ≤ uses kind key items
   some_counted [] h = absurd (cc h)
@@ -46,9 +42,6 @@ module _ (kind : KindId) (key : ℕ) where
 
 pub once_less_removed : (n : ℕ) (t : OwnerTree) → Once t → Once (removed n t)
 once_less_removed n t once = grind (arith, nat_tests, once_removed, removed_absent)
-
-once_put_back : (n p : ℕ) (a : Owner) (t : OwnerTree) → Once t → has n t ≡ true → Once (put p n a (children n t) (removed n t))
-once_put_back n p a t once there = grind (arith, nat_tests, once_removed, times_put, times_removed, put_absent)
 
 -- A file has a descriptor only while an item of it is held: what a reader has seen of such items covers the file's descriptor.
 
@@ -276,7 +269,7 @@ module _ (f : ℕ) where
   }
 
   moved_so : (n parent : ℕ) (s : Scene) → ReadsItems s (owner_moved n parent s).scene (owner_moved n parent s).events
-  moved_so n parent s = grind (arith, nat_tests, fallen, falls_still, still_one, at_some, put_less, once_removed, at_absent, once_put_back)
+  moved_so n parent s = grind (arith, nat_tests, fallen, falls_still, still_one, at_some, total_put, total_removed, held_is, put_absent, held_less_removed, once_removed, at_absent, times_put, times_removed)
 
   -- a file that is used
   given_still : (o : Option ℕ) (file : ℕ) → AreStill f (given_events o file)

@@ -130,9 +130,7 @@ error_read error leaving s k = go k.stage k.at
     go ContextNext k =
         said k.active.ends
         (at_start_of k.is_last.level k.is_last.levels k.is_last.are k.is_last.unaborted (active_on error leaving s k.active) (inl (ap (awaited_behind (what.Error error)) k.awaited)))
-    go OwnerNext k =
-        said k.active.ends
-        (at_start_of k.is_last.level k.is_last.levels k.is_last.are k.is_last.unaborted (active_on error leaving s k.active) (inr (ap (awaited_behind (what.Error error)) k.awaited)))
+    go OwnerNext k = grind (arith, nat_tests, said, active_on)
     go Hushed k = let o : OneRead Halted leaving s (what.Error error ∷ []) = word_stays (what.Error error) s leaving (λ entry. refl) k in record { allowed = o.allowed; fits = in_end o.fits }
 
 -- what is left is at rest
@@ -314,9 +312,7 @@ work_read level levels s leaving true h are e trees k =
     let c : CleanRead leaving s = cleans_at s leaving k trees.contexts trees.owners.tree trees.quiet in
     then_read {F = AwaitsNothing} {G = AwaitsNothing} staying leaving (cleaned_up s).scene (cleaned_up s).scene (cleaned_up s).events []
     (record { allowed = c.allowed; fits = record { active = record { sees = c.sees; ends = c.ends }; awaited = c.awaited } }) (λ j. record { allowed = refl; fits = j })
-work_read level levels s leaving false h are e trees k =
-    subst (λ (b : Bool). OneRead AwaitsNothing leaving (in_order (where_so (not b) aborted ∷ cleaned_up ∷ []) s).scene (in_order (where_so (not b) aborted ∷ cleaned_up ∷ []) s).events) e
-    (rolled_read level levels s leaving h are e trees k.active (inr k.awaited))
+work_read level levels s leaving false h are e trees k = grind (arith, nat_tests, rolled_read level levels s leaving h are e trees k.active (inr k.awaited))
 
 level_read : (level : LevelState) (levels : List LevelState) (s : Scene) (leaving : Leaving) → Stands s → s.session.levels ≡ level ∷ levels → Trees leaving s → At (stage_of (level ∷ levels)) leaving s
     → OneRead (LevelRead levels) leaving (level_rolled_back level s).scene (level_rolled_back level s).events

@@ -397,6 +397,4 @@ module _ (entry : Begun) (root : ℕ) (own : entry.owner ≡ Some root) (nodes :
       let a : Scene = (phase_released false top root BeforeLocks s).scene in
       let b : Scene = (phase_released false top root Locks a).scene in
       let c : Scene = (phase_released false top root AfterLocks b).scene in
-      read_both (confined entry) (InRelease root nodes) (phase_read top BeforeLocks s here)
-      (read_both (confined entry) (InRelease root nodes) (phase_read top Locks a here)
-      (read_both (confined entry) (InRelease root nodes) (phase_read top AfterLocks b here) (read_none (confined entry) (InRelease root nodes) c)))
+      grind (arith, nat_tests, read_both, phase_read top BeforeLocks s here, phase_read top Locks a here, phase_read top AfterLocks b here, read_none (confined entry) (InRelease root nodes) c)

@@ -1,6 +1,6 @@
 -- What the reader of levels has seen fits the levels, the portals and the plans of a session, and what says nothing of levels keeps that.
 use Rattle.session_laws.proofs.Words.{◌≡◌, ℕ, codes, ◌+◌, ◌≤◌, Bool, true, false, if◌then◌else◌, List, [], ◌∷◌, ◌++◌, map, length, Option, Some, refl, sym, ap, ◌∙◌, subst, inl, inr, ◌-◌, None, arith, ◌==◌, ◌&&◌, ◌||◌, filter, ◌⊎◌, All, list_all, list_any, and_from, cases_Bool, eq-eqb, eqb-true, or_left, or_right, All-head, All-tail, nat_tests}
-use Rattle.session_laws.proofs.Scenes.{What, LevelState, OpenPortal, StandingPlan, portals_context, Scene, Moment, KindId, Phase, Text, Element, PortalContext, plan_at, plan_changed, plans_but, portal_changed, Ended, changes, portal_becomes, say, switched, where_there, Keeper, NoOne, TheDescriptors, TheKind, ThePlans, item_released, keeper_of, owner_gone, owner_moved, phase_released, plan_becomes, plan_left, plan_settled, plan_stays, plan_made, portal_made, new_context_made, chunk_resized, memory_taken, taken_by, contexts_become, tells, does, IsDead, IsLive, IsPortal, Stands}
+use Rattle.session_laws.proofs.Scenes.{What, LevelState, OpenPortal, StandingPlan, portals_context, Scene, Moment, KindId, Phase, Text, Element, PortalContext, plan_at, plan_changed, plans_but, portal_changed, Ended, changes, portal_becomes, say, switched, where_there, Keeper, NoOne, TheDescriptors, TheKind, ThePlans, item_released, keeper_of, owner_gone, owner_moved, phase_released, plan_becomes, plan_left, plan_settled, plan_made, portal_made, new_context_made, chunk_resized, memory_taken, taken_by, contexts_become, tells, does, IsDead, IsLive, IsPortal, Stands}
 use Rattle.session_laws.proofs.Rules.{allows_all, is_one_of, seen_after, Acts, Keeps, Lowers, is_word, last, next, Follows, OwnerLeaves, item_releases, phase_keeps, AreSaid, said_more, said_none, said_report, ContextLeaves, FileLeaves, KeyLeaves, Part, Sight, StackLeaves, children_go, goes, hook_waits_so, item_comes, item_goes, locks_one, makes_context, moves_context, of_levels, of_plans, of_portals, owner_goes, owner_makes, owner_moves, pushes, says, unlocks, unseen_contexts, unseen_files, unseen_keys, unseen_locks, unseen_owners, unseen_stack, by_either, by_order, said_both, said_one, Awaited, Begun, Leaving, Neither, awaited_behind, begun_behind, contexts_inside, is_named, level_begun, owners_inside, staying, with_portal, with_context, depth_small}
 use Rattle.session_laws.proofs.Lives.{Reads, read_both}
 use Rattle.context_rules.specs.Reports.{report}
@@ -267,10 +267,7 @@ by_settled : (q : StandingPlan) → Keeps Lessens (plan_settled q)
 by_settled q = by_order Lessens inside_acts (next (plans_become (plans_but q.number) (known_but q.number)) (next (inside_acts.gone q.context) last))
 
 plan_is : (n : ℕ) (p q : StandingPlan) (s : Scene) → plan_at n s.session.plans ≡ Some p → q.context ≡ p.context → Lessens s (plan_becomes q s).scene (plan_becomes q s).events
-plan_is n p q s is same =
-    by_either Lessens inside_acts (q.discarded && (q.references == 0)) (plan_settled q s) (plan_stays q s) ((by_settled q).so s)
-    (lessening s _ [] refl (λ begun k. k)
-    (λ known k. known_changed q.number (λ old. q) known s.session.plans (λ old j. ap (λ (m : ℕ). is_one_of m known) same ∙ known_at n p known s.session.plans is k) k) said_none)
+plan_is n p q s is same = grind (arith, nat_tests, by_either, inside_acts, by_settled q, lessening, known_changed, known_at, said_none)
 
 plan_goes : (n : ℕ) → Keeps Lessens (plan_left n)
 plan_goes n = record { so = λ s. go s (plan_at n s.session.plans) refl }

@@ -1,6 +1,6 @@
 -- What is checked before a lock is given back, a file is used and a lock is taken holds where these come.
 use Rattle.session_laws.proofs.Words.{◌≡◌, ℕ, zero, suc, Bool, true, false, List, [], ◌∷◌, ◌++◌, map, replicate, Option, None, refl, arith, ◌⊎◌, option_map_or, ltb-true, nat_tests}
-use Rattle.session_laws.proofs.Scenes.{Command, LevelState, OpenPortal, SessionState, is_aborted, Check, Element, LevelContext, OfLevel, OwnerRole, PortalContext, Text, portal_named, line_elements, turn, Error, Mode, Moment, Scene, failure, unless, does, at_owner, lock_given_back, snapshot_pushed, exited, TransactionCommand, Work, ItemCommand, LockCommand, PortalCommand, Scan, Row, after_turn, elements, fetch_steps, item_row, lock_row, portal_row, work_of, at_savepoint, begin, elements_of, in_transaction, rollback, rolled_back_to, save, then_ok, transaction_of}
+use Rattle.session_laws.proofs.Scenes.{Command, LevelState, OpenPortal, SessionState, is_aborted, Check, Element, LevelContext, OfLevel, OwnerRole, PortalContext, Text, portal_named, line_elements, turn, Error, Mode, Moment, Scene, failure, unless, does, at_owner, lock_given_back, snapshot_pushed, exited, ItemCommand, LockCommand, PortalCommand, Scan, Row, after_turn, elements, fetch_steps, item_row, lock_row, portal_row, at_savepoint, begin, elements_of, in_transaction, rollback, rolled_back_to, save, then_ok}
 use Rattle.session_laws.proofs.Rules.{IsRun, fallible_so}
 use Rattle.session_laws.proofs.LocksSight.{of_locks, files_hidden, pushed_hidden, OwesUnlocks, ending_turn, least_acts, lock_owed, owner_owed, session_exits, touch_owed, by_owner_made}
 use Rattle.session_laws.proofs.LocksRead.{ReadsLocks, given_back_so, locks_base, locks_law, locks_seen, taken_so}
@@ -161,20 +161,14 @@ portals_safe (portal.End name) portals = free (tt, (tt, tt))
 row_free : (r : Row) → AreFree r.steps → Safe (elements r)
 row_free r h = free (both_are_free (map e.Checks r.checks) r.steps (checks_are_free r.checks) h)
 
-work_safe : (w : Work) (session : SessionState) → Safe (work_of w session)
-work_safe w s = grind (arith, nat_tests, row_free, items_safe, locks_safe, portals_safe)
-
 in_transaction_safe : (levels : List LevelState) (work : List Element) → Safe work → Safe (in_transaction levels work)
 in_transaction_safe [] work h = calm tt (calm tt (calm tt (calm tt (then_free (e.CommitTop ∷ e.Says what.Ok ∷ []) h (tt, (tt, tt))))))
 in_transaction_safe (level ∷ levels) work h = then_free (e.Says what.Ok ∷ []) h (tt, tt)
 
-transaction_free : (c : TransactionCommand) (levels : List LevelState) → AreFree (transaction_of c levels)
-transaction_free c levels = grind (arith, nat_tests, begin_free, rollback_free, save_free, savepoint_free, commits_are_free, both_are_free, rolled_back_free)
-
 -- A line is free of these, or its session isn't aborted and they are safe.
 elements_safe : (c : Command) (session : SessionState) → AreFree (elements_of c session) ⊎ ((is_aborted session.levels ≡ false) × Safe (elements_of c session))
 unfolding elements_of
-elements_safe c s = grind (arith, nat_tests, then_ok_free, transaction_free, in_transaction_safe, work_safe)
+elements_safe c s = grind (arith, nat_tests, then_ok_free, begin_free, rollback_free, save_free, savepoint_free, commits_are_free, both_are_free, rolled_back_free, in_transaction_safe, row_free, items_safe, locks_safe, portals_safe)
 
 -- Each element of a line meets a scene in which what was checked for it holds.
 pub line_checked : (w : Option ℕ) (line : Option Command) (m : Moment) → IsRun IsChecked w (line_elements line m.scene.session) m

@@ -1,6 +1,6 @@
 -- Where no lock is held, none is behind what doesn't take one; and behind the end of level 1 none is held.
 use Rattle.session_laws.proofs.Words.{◌≡◌, ℕ, Bool, true, List, [], ◌∷◌, ◌++◌, Option, refl, ap, ◌∙◌, false, not, Some, None, sym, arith, subst, option_map_or, option_and_then, children, has, at_some, ◌&&◌, is_some, ◌⊎◌, All, both_ways, All-head, All-tail, All-nil, nat_tests}
-use Rattle.session_laws.proofs.Scenes.{What, Mode, BeforeLocks, Locks, AfterLocks, table_of, KindTable, Owner, OwnerTree, own_released, ReleasesAllLocks, Step, own_steps, release_steps, steps_below, Scene, Moment, Around, for_each, where_so, where_there, Ended, switched, in_order, owner_released, phase_released, step_done, lock_given_back, LevelState, OpenPortal, deepest_changed, first_of, is_aborted, level_context, owner_of, opening, portal_aborted, portal_closed, aborted, cleaned_up, committed, level_released, level_rolled_back, exited, given_up, recovered, IsLive, Stands, active_depth, FitLevels, IsDead, IsPortal, StandsBetweenLines, Contexts, Error, Element, NewContext, OfLevel, OfPortal, OwnerRole, Text, owner_in, portal_named, new_context_made, new_owner_made, snapshot_pushed, Done, fallible, does, failing_turn, does_all, then_done, Command, AreLocks, has_owner, line_elements, turn, turn_of, gone_levels}
+use Rattle.session_laws.proofs.Scenes.{What, Mode, BeforeLocks, Locks, AfterLocks, table_of, KindTable, Owner, OwnerTree, own_released, ReleasesAllLocks, Step, own_steps, release_steps, steps_below, Scene, Moment, Around, for_each, where_so, where_there, Ended, switched, in_order, owner_released, phase_released, step_done, lock_given_back, LevelState, OpenPortal, deepest_changed, first_of, is_aborted, level_context, owner_of, opening, portal_aborted, portal_closed, aborted, committed, level_released, level_rolled_back, exited, given_up, recovered, IsLive, Stands, active_depth, FitLevels, IsDead, IsPortal, StandsBetweenLines, Contexts, Error, Element, NewContext, OfLevel, OfPortal, OwnerRole, Text, owner_in, portal_named, new_context_made, new_owner_made, snapshot_pushed, Done, fallible, does, failing_turn, does_all, then_done, Command, AreLocks, has_owner, line_elements, turn, turn_of, gone_levels}
 use Rattle.session_laws.proofs.Rules.{Keeps, Follows, IsSpoken, AreSpoken, IsRun, has_swept, all_aborted, begins, off_begins, owner_when_active, resettled, settled, switched_off, aborted_stands, at_settled, is_left, rolled_stands, by_each, element_follows, fallible_so, behind_commit, cleans_up, portal_aborts, portal_closes, Meets, line_runs, allows_all, seen_after, line_spoken, said_one, WellCounted, Leads, with_parts, Named, named_in, all_closed, abort_stands, cleanup_stands, merge_stands, settled_as}
 use Rattle.session_laws.proofs.OrderEnds.{own_mild}
 use Rattle.session_laws.proofs.OwnWork.{IsOwnWork}
@@ -110,16 +110,7 @@ aborted_none level s stands bare =
 
 -- a level that is rolled back, where it is level 1
 pub rolled_none : (level : LevelState) (s : Scene) → Stands (settled (level ∷ []) s) → Bare (settled (level ∷ []) s) → (level_rolled_back level (settled (level ∷ []) s)).scene.session.locks ≡ []
-rolled_none level s stands bare = go level.aborted refl
-  where
-    st : Scene
-    st = settled (level ∷ []) s
-
-    cleaned : (z : Scene) → z.session.locks ≡ [] → (cleaned_up z).scene.session.locks ≡ []
-    cleaned z none = let all : KeepsNone z (cleaned_up z).scene (cleaned_up z).events = (cleans_up KeepsNone (turn_ends of_locks KeepsNone none_law)).so z in all.so none
-
-    go : (b : Bool) → level.aborted ≡ b → (cleaned_up (where_so (not b) aborted st).scene).scene.session.locks ≡ []
-    go b e = grind (arith, nat_tests, cleaned, st, aborted_none)
+rolled_none level s stands bare = grind (arith, nat_tests, settled, cleans_up KeepsNone (turn_ends of_locks KeepsNone none_law), turn_ends of_locks KeepsNone none_law, of_locks, none_law, aborted_none)
 
 -- Where no lock may be held none is, behind each element, each line and the end of a session.
 
@@ -329,11 +320,7 @@ module _ (object mode : ℕ) where
   opens_so around = record { fit = record { counted = refl; sound = none_sound }; bare = record { so = λ none. refl } }
 
   turns_so : (w : Option ℕ) (line : Option Command) (m : Moment) → StandsBetweenLines m.scene → Reads (lock_reader object mode) LockFits m.scene (turn w line m).moment.scene (turn w line m).events
-  turns_so w line m h = record {
-    so = λ n f.
-        let read : IsRead (lock_reader object mode) (LocksFit object mode) n (turn w line m).moment.scene (turn w line m).events = (locks_turn object mode w line m).so n f.fit in
-        record { allowed = read.allowed; fits = record { fit = read.fits; bare = turn_bare w line m h f.bare } };
-  }
+  turns_so w line m h = grind (arith, nat_tests, lock_reader object mode, locks_turn object mode w line m, turn_bare)
 
   exits_so : (s : Scene) → StandsBetweenLines s → (n : ℕ) → LockFits n s → (allows_all (lock_reader object mode) n (exited s).events ≡ true) × (seen_after (lock_reader object mode) n (exited s).events ≡ 0)
   exits_so s h n f =

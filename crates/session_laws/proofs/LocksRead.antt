@@ -159,9 +159,6 @@ module _ (object mode : ℕ) where
   one_goes o m times owner n rest events is k same left goes = grind (arith, nat_tests, and_from, le-leb)
 
   -- what an owner holds is given up
-  none_more : (b : Bool) (k : ℕ) → k ≡ 0 → cond b k 0 ≡ 0
-  none_more b k e = grind (arith, nat_tests)
-
   releases_go : (owner : ℕ) (xs : List Lock) (rest n : ℕ) → n ≡ there object mode xs + rest → Goes n (there object mode (map (without owner) xs) + rest) (releases owner xs)
   releases_go owner [] rest n is = record { allowed = refl; left = is }
   releases_go owner (x ∷ xs) rest n is = go (owner_count owner x == 0) refl (λ (k : ℕ) (e : k ≡ there object mode xs + (weight object mode (without owner x) + rest)). releases_go owner xs (weight object mode (without owner x) + rest) k e)
@@ -181,15 +178,7 @@ module _ (object mode : ℕ) where
       go : (b : Bool) → (owner_count owner x == 0) ≡ b
           → ((k : ℕ) → k ≡ there object mode xs + (weight object mode (without owner x) + rest) → Goes k (there object mode (map (without owner) xs) + (weight object mode (without owner x) + rest)) (releases owner xs))
           → Goes n (there object mode (map (without owner) (x ∷ xs)) + rest) ((if b then [] else what.ReleaseLock x.object x.mode (owner_count owner x) owner ∷ []) ++ releases owner xs)
-      go true e ih =
-          let none : held ≡ 0 = none_more (is_this object mode x.object x.mode) (owner_count owner x) (eqb-true (owner_count owner x) 0 e) in
-          let later = ih n (omega (arith, is, whole, less, none)) in
-          record { allowed = later.allowed; left = omega (arith, later.left, all) }
-      go false e ih =
-          let later = ih (there object mode xs + (weight object mode (without owner x) + rest)) refl in
-          let now = one_goes x.object x.mode (owner_count owner x) owner n (there object mode xs + (weight object mode (without owner x) + rest)) (releases owner xs) (omega (arith, is, whole, less))
-          (there object mode xs + (weight object mode (without owner x) + rest)) refl (there object mode (map (without owner) xs) + (weight object mode (without owner x) + rest)) later in
-          record { allowed = now.allowed; left = omega (arith, now.left, all) }
+      go b e ih = grind (arith, nat_tests, held, eqb-true, whole, less, all, one_goes)
 
   let_go_so : (owner : ℕ) (s : Scene) → ReadsLocks s (step_done (ReleasesLocks owner) s).scene (step_done (ReleasesLocks owner) s).events
   let_go_so owner s = record {

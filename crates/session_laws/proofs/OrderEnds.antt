@@ -391,10 +391,8 @@ module _ (kinds : KindTable) where
   close_fits : (ps : List OpenPortal) (s : Scene) (nodes : List replayed.Node) → Fit kinds nodes s → Fit kinds (nodes_after nodes (for_each portal_closed ps s).events) (for_each portal_closed ps s).scene
   close_fits ps s nodes h =
       let l : Leaves (KeepsBase kinds) = (base_leaves kinds).levels.leaves in
-      let o : KeepsOwners s (for_each portal_closed ps s).scene (for_each portal_closed ps s).events =
-      (by_each KeepsOwners own portal_closed (portal_closes KeepsOwners own owner_level_leaves.leaves.released) ps).so s in
-      let b : KeepsBase kinds s (for_each portal_closed ps s).scene (for_each portal_closed ps s).events =
-      (by_each (KeepsBase kinds) l.acts portal_closed (portal_closes (KeepsBase kinds) l.acts l.released) ps).so s in
+      let o : KeepsOwners s (for_each portal_closed ps s).scene (for_each portal_closed ps s).events = grind (arith, nat_tests, by_each KeepsOwners own portal_closed (portal_closes KeepsOwners own owner_level_leaves.leaves.released) ps, portal_closes KeepsOwners own owner_level_leaves.leaves.released, owner_level_leaves) in
+      let b : KeepsBase kinds s (for_each portal_closed ps s).scene (for_each portal_closed ps s).events = grind (arith, nat_tests, by_each (KeepsBase kinds) l.acts portal_closed (portal_closes (KeepsBase kinds) l.acts l.released) ps, portal_closes (KeepsBase kinds) l.acts l.released) in
       keeps_fit o b nodes h
 
   commit_rest : (s : Scene) → AreSaid is_unlined (in_order (switched top_context ∷ level_context_gone ∷ level_popped ∷ []) s).events

@@ -153,8 +153,7 @@ module _ (kinds : KindTable) (w : Option ℕ) where
   run_goes stage (x ∷ xs) m spoken due run seen fit at =
       let step : Goes kinds seen (does w x m).events (λ b. (does w x m).refusal ≡ None → At (stage_next stage x) b (does w x m).moment.scene) = one_step stage x m due.0 run.0 seen fit at in
       let mid : Releasing = seen_after (ordering kinds) seen (does w x m).events in
-      let fits : Fit kinds mid.owners (does w x m).moment.scene =
-      subst (λ (nodes : List Node). Fit kinds nodes (does w x m).moment.scene) (sym (ordered_nodes kinds (does w x m).events seen)) (fits_step x m spoken.0 run.0 seen.owners fit) in
+      let fits : Fit kinds mid.owners (does w x m).moment.scene = grind (arith, nat_tests, ordered_nodes, fits_step) in
       then_goes (does w x m) xs seen step.allowed fits (λ none. run_goes (stage_next stage x) xs (does w x m).moment spoken.1 due.1 (run.1 none) mid fits (step.behind none)) (does w x m).refusal refl
     where
       then_goes : (done : Done) (xs : List Element) (seen : Releasing) → allows_all (ordering kinds) seen done.events ≡ true → Fit kinds (seen_after (ordering kinds) seen done.events).owners done.moment.scene

@@ -34,11 +34,7 @@ module _ (nodes : List replayed.Node) (whole : OwnerTree) (fit : FitsTree nodes 
   walked_children n = walked_of (children n whole) (once_children n whole fit.once) (inside_children n)
 
   pub below_top : (n x : ℕ) → has n whole ≡ true → has x (children n whole) ≡ true → AreApart nodes x n
-  below_top n x there h = record {
-    below = not_above nodes whole fit x n (children n whole) (once_children n whole fit.once) (inside_children n x h) there
-        (λ e. both_ways (has n (children n whole)) (first_child_other n whole fit.once there) e);
-    other = ne_eqb x n (λ e. both_ways (has n (children n whole)) (first_child_other n whole fit.once there) (subst (λ (m : ℕ). has m (children n whole) ≡ true) e h));
-  }
+  below_top n x there h = grind (arith, nat_tests, not_above, once_children n whole fit.once, inside_children n x h, both_ways, first_child_other n whole fit.once there, ne_eqb)
 
   pub top_self : (n : ℕ) → has n whole ≡ true → is_above n n nodes ≡ false
   top_self n there = same_above n n nodes whole fit there ∙ first_child_other n whole fit.once there

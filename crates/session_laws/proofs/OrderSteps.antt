@@ -224,8 +224,7 @@ module _ (kinds : KindTable) (nodes : List replayed.Node) (phase : Phase) (n : �
       adds_both kinds nodes true (adds_release kinds nodes phase n old item passes may) (subst (Adds kinds nodes true (item_member kinds phase n item ∷ old) (item_member kinds phase n item ∷ old)) (sym (append-nil _)) aside)
 
   one_stays : (commit : Bool) (item : Item) (s : Scene) → Stays s (for_each step_done (releases_of commit n (item ∷ [])) s).scene
-  one_stays true item s = ((given_quiet item).so s).stays
-  one_stays false item s = ((given_quiet item).so s).stays
+  one_stays commit item s = grind (arith, nat_tests, given_quiet item, stays)
 
 -- one act for each of a list and then of another
 pub each_both : {A : Type 0} (act : A → Scene → Ended) (xs ys : List A) (s : Scene) → for_each act (xs ++ ys) s ≡ behind (for_each act xs s).events (for_each act ys (for_each act xs s).scene)
@@ -255,9 +254,7 @@ module _ (kinds : KindTable) (nodes : List replayed.Node) (phase : Phase) (n : �
       (All-tail (λ (i : Item). MayFollow nodes old (item_member kinds phase n i)) item items may) in
       let rest : Releases kinds nodes (not commit) (IsOwn (place_of_phase phase) n) (m ∷ old) mid (for_each step_done (releases_of commit n items) mid) =
       items_release items mid (m ∷ old) ranked.1 (All-tail (λ (i : Item). is_of_phase kinds phase i ≡ true) item items passes) follow in
-      subst (λ (e : Ended). Releases kinds nodes (not commit) (IsOwn (place_of_phase phase) n) old s e)
-      (sym (ap (λ (steps : List Step). for_each step_done steps s) (releases_more commit n item items) ∙ each_both step_done (releases_of commit n (item ∷ [])) (releases_of commit n items) s))
-      (releases_both kinds nodes (not commit) first rest)
+      grind (arith, nat_tests, releases_more commit n item items, each_both, releases_both kinds nodes (not commit) first rest)
 
   pub ordered_release : (items : List Item) (s : Scene) (old : List Member) → AreFalling items → MayRelease nodes (place_of_phase phase) n old
       → Releases kinds nodes (not commit) (IsOwn (place_of_phase phase) n) old s (for_each step_done (releases_of commit n (release_order kinds phase items)) s)

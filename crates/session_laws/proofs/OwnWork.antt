@@ -1,7 +1,7 @@
 -- Where a line stands between its elements. While the deepest level is aborted a line says nothing until it cleans that level up: an
 -- element is a check then, or a word at the line's end, or the cleanup.
-use Rattle.session_laws.proofs.Words.{◌≡◌, ℕ, zero, suc, ◌+◌, ◌≤◌, Bool, true, false, if◌then◌else◌, List, [], ◌∷◌, ◌++◌, map, length, replicate, Option, Some, refl, sym, subst, arith, append_assoc, codes, le-ltb, ◌⊎◌, option_and_then, nat_tests}
-use Rattle.session_laws.proofs.Scenes.{What, Command, LevelState, OpenPortal, SessionState, is_aborted, level_owner, Check, Element, LevelContext, NewContext, OfLevel, OwnerRole, Text, portal_named, context_named, Scene, Moment, AreOuter, Stands, line_elements, KindId, Phase, Mode, CtxKind, owner_gone, phase_released, portal_ended, at_owner, at_portal, lock_given_back, snapshot_popped, context_made, new_context_made, new_owner_made, owner_made, plan_made, descriptor_given, item_taken, lock_taken, snapshot_pushed, does, TransactionCommand, Work, Scan, after_turn, fetch_steps, work_of, elements_of, ends_aborted, in_transaction, rolled_back_to, savepoint, then_ok, transaction_of}
+use Rattle.session_laws.proofs.Words.{◌≡◌, ℕ, zero, suc, ◌+◌, ◌≤◌, Bool, true, false, if◌then◌else◌, List, [], ◌∷◌, ◌++◌, map, length, replicate, Option, Some, refl, sym, subst, arith, append_assoc, codes, le-ltb, option_and_then, nat_tests}
+use Rattle.session_laws.proofs.Scenes.{What, Command, LevelState, OpenPortal, SessionState, is_aborted, level_owner, Check, Element, LevelContext, NewContext, OfLevel, OwnerRole, Text, portal_named, context_named, Scene, Moment, AreOuter, Stands, line_elements, KindId, Phase, Mode, CtxKind, owner_gone, phase_released, portal_ended, at_owner, at_portal, lock_given_back, snapshot_popped, context_made, new_context_made, new_owner_made, owner_made, plan_made, descriptor_given, item_taken, lock_taken, snapshot_pushed, does, Work, Scan, after_turn, fetch_steps, work_of, elements_of, rolled_back_to, savepoint}
 use Rattle.session_rules.specs.Works.{row_of}
 use Rattle.session_laws.proofs.Rules.{Acts, Follows, IsSpoken, Keeps, Law, Leaves, MoveLeaves, Owes, is_word, last, next, by_kind, by_order, by_owner, by_portal, by_portal_named, by_there, element_follows, fallible_at, fallible_so, moves_owed, unfailing_so, portal_ends}
 use Rattle.pgs_step.specs.declared.events.What.TheVariants as what
@@ -173,19 +173,9 @@ savepoint_within name (level ∷ levels) n is = grind (arith, nat_tests, savepoi
 active_due : (levels : List LevelState) (xs : List Element) → is_aborted levels ≡ false → AreDue Working xs → AreDue (stage_of levels) xs
 active_due levels xs un k = subst (λ (b : Bool). AreDue (if b then Hushed else Working) xs) (sym un) k
 
-transaction_due : (c : TransactionCommand) (levels : List LevelState) → AreAbove levels → ((is_aborted levels ≡ false) ⊎ (ends_aborted c ≡ true))
-    → AreDue (stage_of levels) (then_ok (transaction_of c levels))
-transaction_due c levels h either = grind (arith, nat_tests, active_due, append_assoc, commits_due, rolled_due, savepoint_within)
-
-in_transaction_due : (levels : List LevelState) (work : List Element) → AreWork work → AreDue Working (in_transaction levels work)
-in_transaction_due levels work h = grind (arith, nat_tests, work_due)
-
-rest_of : (b : Bool) → IsRest (if b then Hushed else Working)
-rest_of b = grind (arith, nat_tests)
-
 elements_due : (c : Command) (session : SessionState) → AreAbove session.levels → AreDue (stage_of session.levels) (elements_of c session)
 unfolding elements_of
-elements_due c s h = grind (arith, nat_tests, rest_of, transaction_due, in_transaction_due, work_is_work)
+elements_due c s h = grind (arith, nat_tests, active_due, append_assoc, commits_due, rolled_due, savepoint_within, work_due, work_is_work)
 
 -- Each element of a line may come where the line stands by then.
 pub line_due : (line : Option Command) (session : SessionState) → AreAbove session.levels → AreDue (stage_of session.levels) (line_elements line session)

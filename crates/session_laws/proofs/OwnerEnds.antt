@@ -1,6 +1,6 @@
 -- What follows the release of an item, and the steps of a phase, leave of a session; and that they acquire and release no item besides.
-use Rattle.session_laws.proofs.Words.{◌≡◌, Bool, true, false, List, [], ◌∷◌, refl, ap, ◌∙◌, ℕ, ◌≤◌, length, Option, Some, None, sym, subst, inl, inr, not, arith, ◌==◌, has, AllNodes, Moves, map, nat_tests}
-use Rattle.session_laws.proofs.Scenes.{What, Item, table_of, OwnerTree, AllAt, HoldsNothing, Step, Said, GivesBack, ReleasesLocks, PassesLocks, ReleasesAllLocks, release_steps, Scene, Moment, for_each, Ended, where_so, where_there, changes, context_gone, in_order, portal_gone, switched, given_back, step_done, owner_moved, owner_gone, owner_released, phase_released, LevelState, OpenPortal, first_of, owner_of, abort_context, deepest_changed, depth, level_owner, top_context, has_failed, portal_aborted, portal_failed, portal_passed, portal_withdrawn, executor_ended, is_ready, portal_closed, portal_ended, portal_owner_ended, IsAttached, IsOwner, IsPortal, HasItems, IsLive, IsWorking, Stands, active_depth, Error, KindId, Phase, BeforeLocks, Locks, AfterLocks, KindTable, IsSound as IsSoundTable, released, Element, OfLevel, OwnerRole, Text, kind_named, portal_named, aborted, cleaned_up, committed, empty_context_gone, level_context_gone, level_owner_gone, level_popped, level_released, level_rolled_back, stack_lowered, stack_popped, subcommitted, switched_up, at_kind, at_owner, item_taken, does, IsInOrder, has_owner, descriptor_left, is_among, left_nothing, no_value, Ending, gone_levels}
+use Rattle.session_laws.proofs.Words.{◌≡◌, Bool, true, false, List, [], ◌∷◌, refl, ap, ◌∙◌, ℕ, ◌≤◌, length, Option, Some, None, sym, subst, inr, not, arith, ◌==◌, has, AllNodes, Moves, map, nat_tests}
+use Rattle.session_laws.proofs.Scenes.{What, Item, table_of, OwnerTree, AllAt, HoldsNothing, Step, Said, GivesBack, ReleasesLocks, PassesLocks, ReleasesAllLocks, release_steps, Scene, Moment, for_each, Ended, where_so, where_there, changes, context_gone, in_order, portal_gone, switched, given_back, step_done, owner_moved, owner_gone, owner_released, phase_released, LevelState, OpenPortal, first_of, owner_of, abort_context, deepest_changed, depth, level_owner, top_context, portal_aborted, portal_failed, portal_passed, portal_withdrawn, executor_ended, is_ready, portal_closed, portal_ended, portal_owner_ended, IsAttached, IsOwner, IsPortal, HasItems, IsLive, IsWorking, Stands, active_depth, Error, KindId, Phase, BeforeLocks, Locks, AfterLocks, KindTable, IsSound as IsSoundTable, released, Element, OfLevel, OwnerRole, Text, kind_named, portal_named, aborted, cleaned_up, committed, empty_context_gone, level_context_gone, level_owner_gone, level_popped, level_released, level_rolled_back, stack_lowered, stack_popped, subcommitted, switched_up, at_kind, at_owner, item_taken, does, IsInOrder, has_owner, descriptor_left, is_among, left_nothing, no_value, Ending, gone_levels}
 use Rattle.session_laws.proofs.Rules.{Acts, Keeps, Law, AllKeep, Leaves, LevelLeaves, MakeLeaves, OwesEnds as OwesEndings, OwesMoves, last, next, AreSaid, said_both, said_none, Part, Sight, acts_of, children_go, gives_back, goes, of_kinds, of_levels, of_next_owner, of_next_serial, of_owners, by_either, by_each, by_order, fallible_at, levels_owed, makes_owed, portal_fails, portal_lowers, portal_returns, context_goes, empty_context_goes, executor_ends, level_context_goes, level_marks, level_pops, level_releases, owner_releases, portal_cleans, portal_closes, switches_up, begins, is_settled, off_begins, owner_when_active, resettled, settled, switched_off, aborted_leads, all_aborted, has_swept, Meets, said_one, of_locks, by_so, keeps-passed, keeps-without, IsInOrder-filter, IsInOrder-map, table-closed, Leads, with_parts, above_owner, above_there, all_passed, passed_leads, first_of_rest, all_closed}
 use Rattle.session_laws.proofs.Warnings.{is_aside}
 use Rattle.session_rules.proofs.ItemsStand.{owner_there}
@@ -132,12 +132,7 @@ module _ (R : Law) (a : Acts R) (moved : (n p : ℕ) (s : Scene) → Moves n p s
       → R s (portal_withdrawn (length (level ∷ levels)) level.owner p s).scene (portal_withdrawn (length (level ∷ levels)) level.owner p s).events
   withdrawn_reads level levels p front back s k =
       let i : IsPortal p (level ∷ levels) s.session.contexts s.session.owners s.session.current = first_of_rest level levels (gone_levels level levels) p front back s k in
-      a.both
-      (passes (has_failed p.state) p.owner level.owner s
-      (λ o lo owned is.
-      let at : IsAttached o p.created (level ∷ levels) s.session.owners = i.owner o owned in
-      record { node = at.there; parent = (k.all.0.owner lo is).there; other = λ z. at.other (inl (is ∙ ap (λ (j : ℕ). Some j) z)); apart = ap (has lo) at.lone }))
-      (a.both ((portal_returns R a (length (level ∷ levels)) p).so _) (a.none _))
+      grind (arith, nat_tests, passes, portal_returns R a (length (level ∷ levels)) p)
 
   pub aborted_reads : (level : LevelState) (levels : List LevelState) (p : OpenPortal) (front back : List OpenPortal) (s : Scene) → Ending level levels (gone_levels level levels) front (p ∷ back) s
       → R s (portal_aborted (length (level ∷ levels)) level.owner p s).scene (portal_aborted (length (level ∷ levels)) level.owner p s).events

@@ -64,9 +64,7 @@ newest_again x xs = reverse-append (x ∷ []) xs
 
 reverse_numbers : (entries : List Active) → newest_first entries ≡ reverse (numbers entries)
 reverse_numbers [] = refl
-reverse_numbers (entry ∷ entries) =
-    ap numbers (newest_again entry entries) ∙ map-append (λ (e : Active). e.snapshot) (reverse entries) (entry ∷ [])
-    ∙ ap (λ (ns : List ℕ). ns ++ (entry.snapshot ∷ [])) (reverse_numbers entries) ∙ sym (reverse-append (entry.snapshot ∷ []) (numbers entries))
+reverse_numbers (entry ∷ entries) = grind (arith, nat_tests, reverse_numbers entries, newest_again entry entries, map-append, reverse-append (entry.snapshot ∷ []) (numbers entries))
 
 pub newest_lowered : (level : ℕ) (entries : List Active) → newest_first (map (lowered level) entries) ≡ newest_first entries
 newest_lowered level entries = reverse_numbers (map (lowered level) entries) ∙ ap (λ (ns : List ℕ). reverse ns) (numbers_lowered level entries) ∙ sym (reverse_numbers entries)
@@ -110,15 +108,13 @@ popped_first level least (entry ∷ entries) h = go (cases_Bool (nat_lt entry.le
     go : (nat_lt entry.level level ≡ true) ⊎ (nat_lt entry.level level ≡ false) → reverse entries ≡ deep ++ reverse (kept_below level entries)
         → reverse (entry ∷ entries) ≡ filter (is_deep level) (reverse (entry ∷ entries)) ++ reverse (kept_below level (entry ∷ entries))
     go (inl y) rest =
-        let kept : reverse (kept_below level (entry ∷ entries)) ≡ reverse (kept_below level entries) ++ (entry ∷ []) =
-        ap (λ (t : Bool). reverse (if t then entry ∷ kept_below level entries else kept_below level entries)) y ∙ newest_again entry (kept_below level entries) in
+        let kept : reverse (kept_below level (entry ∷ entries)) ≡ reverse (kept_below level entries) ++ (entry ∷ []) = grind (arith, nat_tests, newest_again) in
         newest_again entry entries ∙ ap (λ (zs : List Active). zs ++ (entry ∷ [])) rest ∙ append_assoc deep (reverse (kept_below level entries)) (entry ∷ [])
         ∙ sym (joined (one false (lt-leb level entry.level (ltb-true entry.level level y)) ∙ append-nil deep) kept)
     go (inr z) rest =
         let more : level ≤ entry.level = ltb-false entry.level level z in
         let none : kept_below level entries ≡ [] = none_kept level entry.level entries more h.1 in
-        let kept : reverse (kept_below level (entry ∷ entries)) ≡ [] =
-        ap (λ (t : Bool). reverse (if t then entry ∷ kept_below level entries else kept_below level entries)) z ∙ ap (λ (zs : List Active). reverse zs) none in
+        let kept : reverse (kept_below level (entry ∷ entries)) ≡ [] = grind (arith, nat_tests) in
         let all : reverse entries ≡ deep = rest ∙ ap (λ (zs : List Active). deep ++ reverse zs) none ∙ append-nil deep in
         newest_again entry entries ∙ ap (λ (zs : List Active). zs ++ (entry ∷ [])) all ∙ sym (append-nil (deep ++ (entry ∷ [])))
         ∙ sym (joined (one true (le-leb level entry.level more)) kept)
