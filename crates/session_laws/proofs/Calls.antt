@@ -1,25 +1,12 @@
 -- Callbacks that wait by what was said, context by context, and what is said of them where contexts go.
-use Rattle.session_laws.proofs.Words.{◌≡◌, ◌≢◌, ℕ, Bool, true, false, cond, Option, Some, None, List, [], ◌∷◌, ◌++◌, map, refl, sym, ap, ◌∙◌, subst, inl, inr, arith, ◌+◌, ◌≤◌, ◌==◌, ◌||◌, option_map_or, cases_Bool, cases_eq, eq-eqb, ne_eqb, eqb-true, both_ways, cond-true, cond-false, false_from_ne_true, or_parts, and_from, Empty, Node, Once, at, children, either, has, removed, subtree, times, with_children, changed, is_above, put, Apart, apart_of, at_absent, at_some, has_none, removed_absent, times_none, times_removed, times_some, Moves, changed_absent, put_absent, nat_tests, sum_by-append}
-use Rattle.session_laws.proofs.Scenes.{What, Hook, AreDistinct, Context, Contexts, is_child, move_events, new_context, placed_under, callbacks, gone_events, emptied, gone, waiting, Error, KindTable, IsSound, CtxKind, opening, Around, Scene, Moment, Options, World, moment, with_scene, Ended, children_gone, context_cleared, context_cleared_alone, context_gone, say, Text, context_made, context_moved, hook_waits, table_of, exited, Reading, course_by, ended, of_session, transcript_by, turn}
-use Rattle.session_laws.proofs.Rules.{allows_all, seen_after, events_of, is_one_of, allows_all-append, seen_after-append, at_children, at_emptied, at_left, times_emptied, at_put, at_put_other, EndLeaves, Keeps, Law, AreSaid, said_more, said_none, ContextLeaves, Sight, of_contexts, of_next_context}
-use Rattle.lifetime_laws.specs.Called.{Waiting, calling, is_awaited, is_next, without_next, CallsBack, all_differ, words_in}
-use Rattle.lifetime_laws.specs.Once.{none_left}
-use Rattle.forest.proofs.Moved.{at_moved}
-use Rattle.forest.proofs.Mapped.{at_changed, at_changed_other}
+use Rattle.session_laws.proofs.Words.{◌≡◌, ◌≢◌, ℕ, Bool, true, false, cond, Option, Some, None, List, [], ◌∷◌, ◌++◌, map, refl, sym, ap, ◌∙◌, subst, inl, inr, arith, ◌+◌, ◌≤◌, ◌==◌, ◌||◌, option_map_or, cases_Bool, cases_eq, eq-eqb, ne_eqb, eqb-true, both_ways, cond-true, cond-false, false_from_ne_true, or_parts, and_from, Empty, Node, Once, at, children, either, has, removed, subtree, times, with_children, changed, is_above, put, Apart, apart_of, at_absent, at_some, has_none, removed_absent, times_none, times_removed, times_some, Moves, changed_absent, put_absent, nat_tests, sum_by-append, at_changed, at_changed_other, at_moved, none_left}
+use Rattle.session_laws.proofs.Scenes.{What, Hook, AreDistinct, Context, Contexts, is_child, move_events, new_context, placed_under, callbacks, gone_events, emptied, gone, waiting, Error, KindTable, IsSound, CtxKind, opening, Around, Scene, Moment, Options, World, moment, with_scene, Ended, children_gone, context_cleared, context_cleared_alone, context_gone, say, Text, context_made, context_moved, hook_waits, table_of, exited, Reading, course_by, ended, of_session, transcript_by, turn, Kind, Event, HooksCounted, hooks_of, is_registered, registered_of}
+use Rattle.session_laws.proofs.Rules.{allows_all, seen_after, events_of, is_one_of, allows_all-append, seen_after-append, at_children, at_emptied, at_left, times_emptied, at_put, at_put_other, EndLeaves, Keeps, Law, AreSaid, said_more, said_none, ContextLeaves, Sight, of_contexts, of_next_context, Waiting, calling, is_awaited, is_next, without_next, CallsBack, all_differ, words_in, ShelfState, held, ContextLaw, context_ends, context_makes, is_apart, is_of_contexts, exited_counts_hooks, turn_counts_hooks, distinct_times, times_append, StandingMoves, standing_moves, named_there}
 use Rattle.context_rules.specs.Refusals.{is_within}
 use Rattle.session_rules.proofs.Chunked.{LeavesHooks}
 use Rattle.session_rules.proofs.HookSteps.{AreNumbered, IsNumbered, counted_alone, counted_children, counted_gone, counted_moved, numbered_changed, numbered_put}
-use Rattle.session_rules.proofs.NamesStand.{named_there}
 use Rattle.session_laws.proofs.Lives.{IsLife, IsRead, OwesTurns, Reads, read_both, life_by, owes_by}
-use Rattle.session_rules.proofs.Aside.{ContextLaw, context_ends, context_makes, is_apart, is_of_contexts}
-use Rattle.session_rules.proofs.Meeting.{StandingMoves, standing_moves}
-use Rattle.pgs_step.specs.declared.events.Event.{Event}
-use Rattle.owner_kinds.specs.Kind.{Kind}
-use Rattle.reset_callbacks.specs.ShelfState.{ShelfState, held}
-use Rattle.session_rules.specs.HookCounts.{HooksCounted, hooks_of, is_registered, registered_of}
-use Rattle.session_rules.proofs.HookLaws.{exited_counts_hooks, turn_counts_hooks}
 use Rattle.session_rules.proofs.HookSums.{registered_cons}
-use Rattle.session_rules.proofs.HooksKept.{distinct_times, times_append}
 use Rattle.session_laws.proofs.Lifts.{word_times_are, CourseLaw, HaveLived, behind_turn, last_of_all, lives_in_run, run_keeps, scene_at}
 use Rattle.pgs_step.specs.declared.events.What.TheVariants as what
 use Rattle.context_rules.specs.Ends as ends
@@ -89,17 +76,12 @@ pub reset_called : (n : ℕ) (hooks : List Hook) (seen : List Waiting) → words
 reset_called n hooks seen h =
     let ran : Calls (λ k. n == k) seen (callbacks n hooks) = callbacks_called n hooks seen h in
     let after : List Waiting = seen_after calling seen (callbacks n hooks) in
-    let still : Calls (λ k. false) after (what.Reset n ∷ []) = record {
-      allowed = rw (none_awaited n after (ran.none n (eq-eqb n n refl))) refl;
-      none = λ k u. absurd (cc u);
-      others = λ k u. refl;
-    } in
+    let still : Calls (λ k. false) after (what.Reset n ∷ []) = grind (arith, nat_tests, none_awaited, eq-eqb) in
     same_called (λ k. cond (n == k) true false) (λ k. n == k) seen (callbacks n hooks ++ (what.Reset n ∷ [])) (λ k. same (n == k))
     (both_called (λ k. n == k) (λ k. false) seen (callbacks n hooks) (what.Reset n ∷ []) ran still (λ k u. refl))
   where
     same : (b : Bool) → cond b true false ≡ b
-    same true = refl
-    same false = refl
+    same b = grind (arith, nat_tests)
 
 -- where a context of a forest stands
 at_below : (k n : ℕ) (c : Context) (below beside : Contexts) → Apart n below beside → has k below ≡ true → words_at k (Node n c below beside) ≡ words_at k below
@@ -144,10 +126,7 @@ gone_called (Node n c below beside) seen o h =
     in_beside k u = elim (cases_Bool (n == k)) [ inl y ↦ rw y refl | inr y ↦ elim (cases_Bool (has k below)) [ inl z ↦ rw (y, z) refl | inr z ↦ rw (y, z, u) refl ] ]
 
     shuffled : (a b d : Bool) → cond a true (cond b true d) ≡ (b || (a || d))
-    shuffled true true d = refl
-    shuffled true false d = refl
-    shuffled false true d = refl
-    shuffled false false d = refl
+    shuffled a b d = grind (arith, nat_tests)
 
     alone : (k : ℕ) → has k below ≡ true → Apart n below beside → cond (n == k) true (has k beside) ≡ false
     alone k u apart =
@@ -181,21 +160,16 @@ part_gone n t o = elim (cases_Bool (has n t)) [
     at_node : (c : Context) → has n t ≡ true → at n t ≡ Some c → IsPart (Node n c (children n t) Empty) t (removed n t)
     at_node c there is = record {
       once = record { once = λ m. omega (arith, o.once m, times_removed m n t o there) };
-      same = λ k u. elim (cases_eq n k) [
-        | inl e ↦ subst (λ (j : ℕ). at j (Node n c (children n t) Empty) ≡ at j t) e (rw (eq-eqb n n refl) (sym is))
-        | inr differ ↦ let low : has k (children n t) ≡ true = below k differ u in rw (ne_eqb n k differ) (right (at k (children n t)) ∙ at_children k n t o low)
-      ];
+      same = grind (arith, nat_tests, cases_eq, eq-eqb, below, ne_eqb, right, at_children);
       gone = λ k u. at_absent k (removed n t) (has_none k (removed n t) (counted k u));
       stays = λ k u. at_left k n t o (λ e. both_ways (has k (Node n c (children n t) Empty)) u (rw (eq-eqb n k (sym e)) refl)) (out k u);
     }
       where
         right : (x : Option Context) → either x None ≡ x
-        right None = refl
-        right (Some d) = refl
+        right x = grind (arith, nat_tests)
 
         left_is : (b : Bool) → (b || false) ≡ true → b ≡ true
-        left_is true h = refl
-        left_is false h = h
+        left_is b h = grind (arith, nat_tests)
 
         below : (k : ℕ) → n ≢ k → has k (Node n c (children n t) Empty) ≡ true → has k (children n t) ≡ true
         below k differ u = let z : (has k (children n t) || false) ≡ true = rw (ne_eqb n k differ) at u in left_is (has k (children n t)) z
@@ -244,16 +218,7 @@ part_read : (s t : Scene) (part : Contexts) → IsPart part s.session.contexts t
 part_read s t part p k seen fit =
     let called : Calls (λ n. has n part) seen (gone_events part) =
     gone_called part seen p.once (λ n u. fit.words n ∙ ap (λ (c : Option Context). option_map_or (λ (d : Context). words_of d.hooks) c []) (sym (p.same n u))) in
-    record {
-      allowed = called.allowed;
-      fits = record {
-        numbered = k;
-        words = λ n. elim (cases_Bool (has n part)) [
-          | inl y ↦ called.none n y ∙ ap (λ (c : Option Context). option_map_or (λ (d : Context). words_of d.hooks) c []) (sym (p.gone n y))
-          | inr y ↦ called.others n y ∙ (fit.words n ∙ ap (λ (c : Option Context). option_map_or (λ (d : Context). words_of d.hooks) c []) (sym (p.stays n y)))
-        ];
-      };
-    }
+    grind (arith, nat_tests, cases_Bool)
 
 gone_read : (n : ℕ) (s : Scene) → CallsHooks s (context_gone n s).scene (context_gone n s).events
 gone_read n s = record {
@@ -282,20 +247,7 @@ alone_read n s = record { so = λ seen fit. reset_read seen fit (counted_alone n
         → IsRead calling FitsHooks seen z (callbacks n c.hooks ++ (what.Reset n ∷ []))
     used_read c is z are k seen fit =
         let called : Calls (λ m. n == m) seen (callbacks n c.hooks ++ (what.Reset n ∷ [])) = reset_called n c.hooks seen (fit.words n ∙ ap words_there is) in
-        record {
-          allowed = called.allowed;
-          fits = record {
-            numbered = k;
-            words = λ m. elim (cases_eq n m) [
-              | inl e ↦
-                  called.none m (eq-eqb n m e)
-                  ∙ sym (ap (words_at m) are ∙ (ap (λ (j : ℕ). words_at j (changed n emptied t)) (sym e) ∙ ap words_there (at_changed n emptied t c is)))
-              | inr differ ↦
-                  called.others m (ne_eqb n m differ)
-                  ∙ (fit.words m ∙ sym (ap (words_at m) are ∙ ap words_there (at_changed_other m n emptied t (λ e. differ (sym e)))))
-            ];
-          };
-        }
+        grind (arith, nat_tests, cases_eq, eq-eqb, t, at_changed, ne_eqb, at_changed_other)
 
     by_use : (c : Context) (b : Bool) → at n t ≡ Some c → c.used ≡ b → (z : Scene) → z.session.contexts ≡ (ends.reset_of n t c).contexts → IsNumbered z → (seen : List Waiting) → FitsHooks seen s
         → IsRead calling FitsHooks seen z (ends.reset_of n t c).events
@@ -351,13 +303,7 @@ abbrev KeepsWords : Contexts → Contexts → Type 0
 KeepsWords t u = (n : ℕ) → words_at n u ≡ words_at n t
 
 words_changed : (t : Contexts) (n : ℕ) (f : Context → Context) → ((c : Context) → (f c).hooks ≡ c.hooks) → KeepsWords t (changed n f t)
-words_changed t n f same m = elim (cases_eq m n) [
-  | inl e ↦ subst (λ (j : ℕ). words_at j (changed n f t) ≡ words_at j t) (sym e) (elim (cases_Bool (has n t)) [
-    | inl there ↦ let a = at_some n t there in ap words_there (at_changed n f t a.0 a.1) ∙ (ap words_of (same a.0) ∙ sym (ap words_there a.1))
-    | inr away ↦ ap (words_at n) (changed_absent n f t away)
-  ])
-  | inr differ ↦ ap words_there (at_changed_other m n f t differ)
-]
+words_changed t n f same m = grind (arith, nat_tests, cases_eq, cases_Bool, at_some, at_changed, changed_absent, at_changed_other)
 
 -- a call on chunks
 chunk_read : (s : Scene) (n : ℕ) (f : Context → Context) → LeavesHooks f → CallsHooks s (record s { session = record s.session { contexts = changed n f s.session.contexts } }) []
@@ -421,11 +367,7 @@ moved_read n p s node there out = record { so = λ seen fit. go (is_child n p s.
 
     go : (b : Bool) (seen : List Waiting) → FitsHooks seen s → AreNumbered (placed_under b n p s.session.contexts) s.session.next_context
         → IsRead calling FitsHooks seen (record s { session = record s.session { contexts = placed_under b n p s.session.contexts } }) (move_events b n p)
-    go true seen fit k = record { allowed = refl; fits = fit }
-    go false seen fit k = record {
-      allowed = refl;
-      fits = record { numbered = k; words = λ m. fit.words m ∙ sym (ap words_there (at_moved m n p s.session.contexts fit.numbered.once moves)) };
-    }
+    go b seen fit k = grind (arith, nat_tests, at_moved, moves)
 
 -- a hook is registered, and a context moves, in a session that stands
 calls_moves : StandingMoves CallsHooks
@@ -438,9 +380,6 @@ calls_turns = owes_by CallsHooks calls_ends (context_makes CallsHooks calls_law)
 first_words : (n : ℕ) → words_at n contexts.opening ≡ []
 first_words n = grind (arith, nat_tests)
 
-first_numbered : AreNumbered contexts.opening 6
-first_numbered = record { once = record { once = λ n. grind (arith, nat_tests) }; below = λ n h. grind (arith, nat_tests) }
-
 -- so none is left where what was seen fits such a session
 pub first_called : (seen : List Waiting) (around : Around) → FitsHooks seen (record { session = opening; around = around }) → none_left seen ≡ true
 unfolding opening
@@ -449,11 +388,7 @@ first_called seen around fit = all_called seen (λ n. fit.words n ∙ first_word
 -- The events of a session call each callback that is registered, and nothing is left in the end.
 pub calls_live : (kinds : KindTable) → IsLife kinds calling FitsHooks [] (λ seen. none_left seen ≡ true)
 unfolding opening
-calls_live kinds =
-    life_by kinds calling FitsHooks [] (λ seen. none_left seen ≡ true) calls_turns
-    (λ around table. record { numbered = first_numbered; words = λ n. sym (first_words n) })
-    (λ seen session a b same fit. record { numbered = fit.numbered; words = fit.words }) exit_read
-    (λ seen s gone fit. all_called seen (λ n. fit.words n ∙ ap (words_at n) gone.contexts))
+calls_live kinds = grind (arith, nat_tests, life_by, calls_turns, first_words, exit_read, all_called)
 
 -- Each callback of a run is called, and no two have one word: each that is registered was a fresh hook of the shelf, and these differ.
 
@@ -473,8 +408,7 @@ told_own n k (x ∷ xs) = omega (arith, told_own n k xs, registered_cons n x xs)
 -- a word that none of the events tells isn't among theirs
 none_at : (n k : ℕ) (x : What) (events : List Event) → (told n events ≡ 0 → is_one_of n (words_in events) ≡ false) → cond (is_registered n x) 1 0 + told n events ≡ 0
     → is_one_of n (words_in (record { session = k; what = x } ∷ events)) ≡ false
-none_at n k (what.Hook word context) events more h = grind (arith, nat_tests)
-none_at n k other events more h = more (omega (arith, h))
+none_at n k x events more h = grind (arith, nat_tests)
 
 none_told : (n : ℕ) (events : List Event) → told n events ≡ 0 → is_one_of n (words_in events) ≡ false
 none_told n [] h = refl
@@ -483,8 +417,7 @@ none_told n (event ∷ events) h = none_at n event.session event.what events (no
 -- where each word is told once at most, they all differ
 differ_at : (k : ℕ) (x : What) (events : List Event) → all_differ (words_in events) ≡ true → ((n : ℕ) → cond (is_registered n x) 1 0 + told n events ≤ 1)
     → all_differ (words_in (record { session = k; what = x } ∷ events)) ≡ true
-differ_at k (what.Hook word context) events more h = grind (arith, nat_tests, eq-eqb, and_from, none_told)
-differ_at k other events more h = more
+differ_at k x events more h = grind (arith, nat_tests, eq-eqb, and_from, none_told)
 
 all_told : (events : List Event) → ((n : ℕ) → told n events ≤ 1) → all_differ (words_in events) ≡ true
 all_told [] h = refl
@@ -542,8 +475,7 @@ words_law kinds sessions first = record {
 module _ (reads : Reading) (w : Option ℕ) (options : Options) (kinds : List Kind) (shelf : ShelfState) (lines : List (List ℕ)) (sound : IsSound (table_of kinds)) (differ : AreDistinct (held shelf)) where
   words_differ : all_differ (words_in (transcript_by reads w options kinds shelf lines)) ≡ true
   words_differ =
-      let h : WordsTold shelf (options.sessions + 1) (ended (course_by reads w options kinds shelf lines)).world (transcript_by reads w options kinds shelf lines) =
-      run_keeps (table_of kinds) options.sessions (WordsTold shelf) (words_law (table_of kinds) options.sessions shelf) reads w options kinds shelf lines refl refl sound differ (record { all = λ n. omega arith }) in
+      let h : WordsTold shelf (options.sessions + 1) (ended (course_by reads w options kinds shelf lines)).world (transcript_by reads w options kinds shelf lines) = grind (arith, nat_tests, run_keeps, words_law (table_of kinds) options.sessions shelf) in
       all_told (transcript_by reads w options kinds shelf lines)
       (λ n. omega (arith, h.all n, distinct_times (held shelf) differ n, times_append n shelf.fresh shelf.spent, word_times_are n shelf.fresh))
 

@@ -1,13 +1,11 @@
 -- Where each item is released once, so are the items of a file together.
-use Rattle.session_laws.proofs.Words.{◌≡◌, ℕ, ◌+◌, ◌≤◌, Bool, true, false, cond, if◌then◌else◌, List, [], ◌∷◌, ◌++◌, length, Option, Some, None, refl, sym, arith, subst, ◌==◌, ◌&&◌, sum_by, option_map_or, and_from, and_parts, both_ways, eq-eqb, eqb-true, leb-true, sum_by-cons, nat_tests, ◌-◌, nat_le}
+use Rattle.session_laws.proofs.Words.{◌≡◌, ℕ, ◌+◌, ◌≤◌, Bool, true, false, cond, if◌then◌else◌, List, [], ◌∷◌, ◌++◌, length, Option, Some, None, refl, arith, ◌==◌, ◌&&◌, sum_by, option_map_or, and_from, and_parts, both_ways, eq-eqb, eqb-true, leb-true, sum_by-cons, nat_tests, ◌-◌, nat_le, acquires, one_where, releases, same_item, closes, opens}
 use Rattle.session_laws.proofs.Scenes.{What, Item, is_of, file_kind, SessionState, opening, Error, Command, table_of, KindTable, Around, Moment, Scene, exited, StandsBetweenLines, turn}
-use Rattle.session_laws.proofs.Rules.{allows_all, seen_after, Reader, BalancesFrom, count, covers, left, said_one}
-use Rattle.lifetime_laws.specs.Once.{acquires, one_where, releases, same_item, closes, opens}
+use Rattle.session_laws.proofs.Rules.{allows_all, seen_after, Reader, BalancesFrom, count, covers, left, said_one, times}
 use Rattle.session_laws.proofs.FilesHeld.{item_reader, leaves_file, takes_file, ItemFits, items_exit, items_turn, items_aside}
 use Rattle.session_laws.proofs.Lives.{IsRead, Reads, IsLife}
 use Rattle.session_laws.proofs.MadeOnce.{FitsPair, IsPaired, Pair, pair_reads, paired}
 use Rattle.session_laws.proofs.FilesLife.{AreOpened, FilesFit, opening_turns, files_elsewhere, files_error, files_exit, files_open, files_turn}
-use Rattle.file_table.proofs.FileCounts.{times}
 use Rattle.pgs_step.specs.declared.events.What.TheVariants as what
 
 -- what is brought is what is taken and what is left
@@ -56,7 +54,7 @@ often_but p x (y ∷ ys) h = grind (arith, nat_tests, often_but p x ys, often_mo
 
 length_but : (x : ItemOwner) (ys : List ItemOwner) → 1 ≤ often x ys → length (but_one x ys) + 1 ≡ length ys
 length_but x [] h = absurd (omega (arith, h))
-length_but x (y ∷ ys) h = grind (arith, nat_tests, length_but x ys, often_more)
+length_but x (y ∷ ys) h = grind (arith, nat_tests, length_but x ys)
 
 module _ (f : ℕ) where
   -- pairs whose items are of the file
@@ -92,12 +90,10 @@ module _ (f : ℕ) where
   pairs_length pick (event ∷ events) = omega (arith, go (pick event), pairs_length pick events, sum_by-cons (λ event. in_file (pick event)) event events)
     where
       one : (p : ItemOwner) (b : Bool) → length ((if b then p ∷ [] else []) ++ pairs pick events) ≡ cond b 1 0 + length (pairs pick events)
-      one p true = omega arith
-      one p false = omega arith
+      one p b = grind (arith, nat_tests)
 
       go : (o : Option ItemOwner) → length (of_pair o ++ pairs pick events) ≡ in_file o + length (pairs pick events)
-      go None = omega arith
-      go (Some p) = one p (is_of file_kind f p.0)
+      go o = grind (arith, nat_tests, one)
 
   -- another item isn't of the file
   apart : (p q : ItemOwner) → is_of file_kind f p.0 ≡ true → is_of file_kind f q.0 ≡ false → one_where (same p q) ≡ 0
@@ -108,12 +104,10 @@ module _ (f : ℕ) where
   pairs_often pick p is (event ∷ events) = omega (arith, go (pick event), pairs_often pick p is events, sum_by-cons (λ event. is_it p (pick event)) event events)
     where
       one : (q : ItemOwner) (b : Bool) → is_of file_kind f q.0 ≡ b → often p ((if b then q ∷ [] else []) ++ pairs pick events) ≡ one_where (same p q) + often p (pairs pick events)
-      one q true e = often_more p q (pairs pick events)
-      one q false e = omega (arith, apart p q is e)
+      one q b e = grind (arith, nat_tests, often_more, apart)
 
       go : (o : Option ItemOwner) → often p (of_pair o ++ pairs pick events) ≡ is_it p o + often p (pairs pick events)
-      go None = omega arith
-      go (Some q) = one q (is_of file_kind f q.0) refl
+      go o = grind (arith, nat_tests, one)
 
   -- what is acquired and what is released
   abbrev acquired : What → Option ItemOwner
@@ -125,20 +119,16 @@ module _ (f : ℕ) where
   released other = None
 
   takes_is : (event : What) → takes_file f event ≡ in_file (acquired event)
-  takes_is (what.Acquire item owner) = refl
-  takes_is other = refl
+  takes_is event = grind (arith, nat_tests)
 
   leaves_is : (event : What) → leaves_file f event ≡ in_file (released event)
-  leaves_is (what.Release item owner) = refl
-  leaves_is other = refl
+  leaves_is event = grind (arith, nat_tests)
 
   acquires_is : (p : ItemOwner) (event : What) → acquires p.0 p.1 event ≡ is_it p (acquired event)
-  acquires_is p (what.Acquire item owner) = refl
-  acquires_is p other = refl
+  acquires_is p event = grind (arith, nat_tests)
 
   releases_is : (p : ItemOwner) (event : What) → releases p.0 p.1 event ≡ is_it p (released event)
-  releases_is p (what.Release item owner) = refl
-  releases_is p other = refl
+  releases_is p event = grind (arith, nat_tests)
 
   -- Where each item is acquired and released in balance, no item of the file is left.
   pub none_left_of : (events : List What) → ((item : Item) (owner : ℕ) → BalancesFrom 0 (acquires item owner) (releases item owner) events) → allows_all (item_reader f) 0 events ≡ true
@@ -195,10 +185,7 @@ module _ (file : ℕ) (items : Reader ℕ) (Fits : ℕ → Scene → Type 0) (co
         let w : IsPaired files items seen events = pair_reads files items events seen x.allowed y.allowed in
         record {
           allowed = w.allowed;
-          fits = record {
-            first = subst (λ (n : ℕ). FilesFit file AreOpened n t) (sym w.first) x.fits;
-            second = subst (λ (n : ℕ). Fits n t) (sym w.second) y.fits;
-          };
+          fits = grind (arith, nat_tests);
         };
   }
 
@@ -216,10 +203,7 @@ module _ (file : ℕ) (items : Reader ℕ) (Fits : ℕ → Scene → Type 0) (co
   pub files_life : (kinds : KindTable) → IsLife kinds (paired files items) FitsBoth nothing_seen (λ seen. seen.first ≤ seen.second)
   files_life kinds = record {
     opens = λ around table. record { first = files_open file AreOpened 0 around refl; second = covered.opens around };
-    elsewhere = λ seen session a b table descriptors fit. record {
-      first = files_elsewhere file AreOpened seen.first session a b descriptors fit.first;
-      second = covered.elsewhere seen.second session a b table descriptors fit.second;
-    };
+    elsewhere = grind (arith, nat_tests, files_elsewhere);
     error = λ error s. both_read (files_error file files AreOpened (opening_turns file) error s) (covered.error error s);
     turns = λ w line m h. both_read (files_turn file files AreOpened (opening_turns file) w line m) (covered.turns w line m h);
     exits = exits_both;

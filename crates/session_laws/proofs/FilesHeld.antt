@@ -1,7 +1,7 @@
 -- What becomes of owners makes them hold no more, and leaves each number once.
-use Rattle.session_laws.proofs.Words.{◌≡◌, ℕ, ◌≤◌, true, Some, List, [], ◌∷◌, refl, ap, inl, inr, arith, ◌+◌, ◌-◌, Bool, false, cond, nat_eq, if◌then◌else◌, ◌++◌, Option, None, sym, subst, ◌∙◌, zero, suc, find, take, ◌==◌, ◌&&◌, nat_le, nat_lt, list_any, cases_Bool, and_from, eqb-true, le-leb, Empty, Node, Once, at, children, has, moved, put, removed, subtree, size, order_at, at_absent, at_some, once_removed, put_absent, removed_absent, times_put, times_removed, changed_absent, once_changed, option_map_or, nat_tests}
-use Rattle.session_laws.proofs.Scenes.{Item, KindId, is_of, uses, without_newest, Owner, OwnerTree, held, created, forgotten, remembered, What, Phase, KindTable, Step, GivesBack, ReleasesLocks, PassesLocks, ReleasesAllLocks, release_steps, StandingPlan, file_kind, level_above, level_owner, owner_of, opening, Scene, Around, Moment, plan_at, newest, Ended, for_each, where_there, changes, in_order, say, NoOne, TheDescriptors, TheKind, ThePlans, given_back, left_to, plan_becomes, plan_settled, plan_stays, step_done, item_released, keeper_of, owner_gone, owner_moved, phase_released, table_of, own_released, released, OfLevel, OfPortal, OwnerRole, Element, new_owner_made, owner_made, limit, descriptor_given, files, item_taken, remembers, taken_by, snapshot_pushed, Error, Command, failure, refused_call, unless_refused, does, exited, Stands, StandsBetweenLines, line_elements, turn}
-use Rattle.session_laws.proofs.Rules.{Reader, allows_all, seen_after, count, allows_all-append, seen_after-append, Law, Follows, IsRun, Meets, line_runs, fallible_at, fallible_so, said_none, said_more, said_map, said_gone, said_lock_releases, said_lock_passes, said_all_locks, of_recent, of_owners}
+use Rattle.session_laws.proofs.Words.{◌≡◌, ℕ, ◌≤◌, true, Some, List, [], ◌∷◌, refl, ap, arith, ◌+◌, ◌-◌, Bool, false, cond, nat_eq, if◌then◌else◌, ◌++◌, Option, None, sym, subst, ◌∙◌, zero, suc, take, ◌==◌, ◌&&◌, nat_le, nat_lt, list_any, cases_Bool, and_from, eqb-true, le-leb, Empty, Node, Once, children, removed, subtree, size, order_at, at_absent, at_some, once_removed, put_absent, removed_absent, times_put, times_removed, changed_absent, once_changed, nat_tests}
+use Rattle.session_laws.proofs.Scenes.{Item, KindId, is_of, uses, without_newest, Owner, OwnerTree, held, created, forgotten, What, Phase, KindTable, Step, GivesBack, ReleasesLocks, PassesLocks, ReleasesAllLocks, release_steps, StandingPlan, file_kind, level_above, level_owner, owner_of, opening, Scene, Around, Moment, plan_at, newest, Ended, for_each, where_there, changes, in_order, say, NoOne, TheDescriptors, TheKind, ThePlans, given_back, left_to, plan_becomes, plan_settled, plan_stays, step_done, item_released, keeper_of, owner_gone, owner_moved, phase_released, table_of, own_released, released, OfLevel, OfPortal, OwnerRole, Element, new_owner_made, owner_made, limit, descriptor_given, files, item_taken, remembers, taken_by, snapshot_pushed, Error, Command, failure, refused_call, unless_refused, does, exited, Stands, StandsBetweenLines, line_elements, turn, is_among, without, given_events, given_file, loser, touch_events, touched_file}
+use Rattle.session_laws.proofs.Rules.{Reader, allows_all, seen_after, count, allows_all-append, seen_after-append, Law, Follows, IsRun, Meets, line_runs, fallible_at, fallible_so, said_none, said_more, said_map, said_gone, said_lock_releases, said_lock_passes, said_all_locks, of_recent, of_owners, times, times_none, times_without, below_limit, own_refusal}
 use Rattle.session_laws.proofs.Parents.{alike_swept, once_alike}
 use Rattle.session_laws.proofs.StepsOf.{AreOf, gives_up, no_step, numbers_of, passes, steps_of, unlocks, unlocks_all, warns}
 use Rattle.std.proofs.lemmas.Grind.{common_steps}
@@ -9,14 +9,10 @@ use Rattle.owner_core.specs.Sound.{total}
 use Rattle.owner_core.proofs.Sounds.{total_put, total_removed, once_of, sound_created}
 use Rattle.session_rules.specs.Counts.{all_items, holds}
 use Rattle.session_rules.proofs.HeldItems.{gives, gives_phase, held_created, held_forgotten, held_remembered}
-use Rattle.file_table.specs.Descriptors.{is_among, without}
-use Rattle.file_table.proofs.FileCounts.{times, times_none, times_without}
 use Rattle.session_laws.proofs.LocksSight.{ArePlain, hides, of_items, subject, Sees, Turns, locked_hidden, pushed_hidden, unlocked_hidden, Least, OwesUnlocks, ending_turn, least_acts, lock_owed, session_exits, unlock_owed, stack_hidden}
 use Rattle.session_laws.proofs.FilesLife.{mark, mark_swapped, times_more}
-use Rattle.file_table.specs.Files.{given_events, given_file, loser, touch_events, touched_file}
 use Rattle.session_laws.proofs.Lives.{IsRead, Reads, read_both}
 use Rattle.session_laws.proofs.OwnerEnds.{steps_stay}
-use Rattle.session_rules.proofs.StepsStand.{below_limit, own_refusal}
 use Rattle.session_laws.proofs.LocksChecked.{IsChecked, line_checked, passed_unless}
 use Rattle.pgs_step.specs.declared.events.What.TheVariants as what
 use Rattle.session_rules.specs.Elements as e
@@ -33,13 +29,6 @@ module _ (kind : KindId) (key : ℕ) where
   pub held_less_removed : (n : ℕ) (t : OwnerTree) → Once t → held kind key (removed n t) ≤ held kind key t
   held_less_removed n t once = grind (arith, nat_tests, at_some, total_removed, held_is, removed_absent)
 
-  -- an owner that moves
-  put_less : (n p : ℕ) (a : Owner) (t : OwnerTree) → Once t → Once (removed n t) → at n t ≡ Some a → held kind key (put p n a (children n t) (removed n t)) ≤ held kind key t
-  put_less n p a t once left is = grind (arith, nat_tests, total_put, total_removed, held_is, put_absent, held_less_removed)
-
-  pub held_less_moved : (n p : ℕ) (t : OwnerTree) → Once t → held kind key (moved n p t) ≤ held kind key t
-  held_less_moved n p t once = grind (arith, nat_tests, at_some, put_less, once_removed, at_absent)
-
   -- one of these items is held where some owner has it
   some_counted : (items : List Item) → list_any (is_of kind key) items ≡ true → 1 ≤ uses kind key items
   some_counted [] h = absurd (cc h)
@@ -53,12 +42,6 @@ module _ (kind : KindId) (key : ℕ) where
 
 pub once_less_removed : (n : ℕ) (t : OwnerTree) → Once t → Once (removed n t)
 once_less_removed n t once = grind (arith, nat_tests, once_removed, removed_absent)
-
-once_put_back : (n p : ℕ) (a : Owner) (t : OwnerTree) → Once t → has n t ≡ true → Once (put p n a (children n t) (removed n t))
-once_put_back n p a t once there = grind (arith, nat_tests, once_removed, times_put, times_removed, put_absent)
-
-pub once_less_moved : (n p : ℕ) (t : OwnerTree) → Once t → Once (moved n p t)
-once_less_moved n p t once = grind (arith, nat_tests, at_some, once_put_back, at_absent)
 
 -- A file has a descriptor only while an item of it is held: what a reader has seen of such items covers the file's descriptor.
 
@@ -93,12 +76,10 @@ module _ (f : ℕ) where
   still_both (still_more h hs) k = still_more h (still_both hs k)
 
   plain_takes : (event : What) → hides (subject event) of_items ≡ true → takes_file f event ≡ 0
-  plain_takes (what.Acquire item owner) h = absurd (cc h)
-  plain_takes other h = refl
+  plain_takes event h = grind (arith, nat_tests)
 
   plain_leaves : (event : What) → hides (subject event) of_items ≡ true → leaves_file f event ≡ 0
-  plain_leaves (what.Release item owner) h = absurd (cc h)
-  plain_leaves other h = refl
+  plain_leaves event h = grind (arith, nat_tests)
 
   pub plain_still : {events : List What} → ArePlain of_items events → AreStill events
   plain_still said_none = still_none
@@ -247,14 +228,7 @@ module _ (f : ℕ) where
       t = record s { session = record s.session { owners = y } }
 
       less : (item : Item) → Once x → newest owner kind key s.session ≡ Some item → held file_kind f y + of_file f item ≡ held file_kind f x
-      less item once is = elim (cases_Bool (has owner x)) [
-        | inl there ↦
-            let a = at_some owner x there in
-            held_forgotten file_kind f owner kind key item a.0 x once a.1 (ap (λ (o : Option Owner). find (is_of kind key) (option_map_or (λ owner. owner.items) o [])) (sym a.1) ∙ is)
-        | inr absent ↦
-            let none : None ≡ Some item = ap (λ (o : Option Owner). find (is_of kind key) (option_map_or (λ owner. owner.items) o [])) (sym (at_absent owner x absent)) ∙ is in
-            absurd (cc none)
-      ]
+      less item once is = grind (arith, nat_tests, cases_Bool, x, at_some, held_forgotten, once, at_absent)
 
       go : (m : ℕ) → ItemFits m s → (o : Option Item) → newest owner kind key s.session ≡ o
           → IsRead (item_reader f) ItemFits m (where_there o (λ (item : Item). in_order (changes (λ session. record session { owners = forgotten owner kind key session.owners }) ∷ say (what.Release item owner) ∷ given_back item ∷ [])) s).scene
@@ -295,7 +269,7 @@ module _ (f : ℕ) where
   }
 
   moved_so : (n parent : ℕ) (s : Scene) → ReadsItems s (owner_moved n parent s).scene (owner_moved n parent s).events
-  moved_so n parent s = grind (arith, nat_tests, fallen, falls_still, still_one, held_less_moved, once_less_moved)
+  moved_so n parent s = grind (arith, nat_tests, fallen, falls_still, still_one, at_some, total_put, total_removed, held_is, put_absent, held_less_removed, once_removed, at_absent, times_put, times_removed)
 
   -- a file that is used
   given_still : (o : Option ℕ) (file : ℕ) → AreStill f (given_events o file)
@@ -320,8 +294,7 @@ module _ (f : ℕ) where
       xs = s.session.recent
 
       marked : (b : Bool) → nat_eq f file ≡ b → is_among file xs ≡ false → cond b 1 0 + times f xs ≤ 1
-      marked true e fresh = omega (arith, times_none f xs (ap (λ (k : ℕ). is_among k xs) (eqb-true f file e) ∙ fresh))
-      marked false e fresh = omega (arith, few)
+      marked b e fresh = grind (arith, nat_tests, times_none, xs, eqb-true)
 
       go : (b : Bool) → is_among file xs ≡ b → Touched file s (if b then record (files s) { recent = file ∷ without file xs } else given_file file (files s)).recent
       go true e =
@@ -359,9 +332,6 @@ module _ (f : ℕ) where
       go false false true q = record { still = still_none; few = h.few; covered = omega (arith, h.covered); owners = refl }
       go false false false q = record { still = still_none; few = h.few; covered = omega (arith, h.covered); owners = refl }
 
-  remembered_less : (owner : ℕ) (item : Item) (x : OwnerTree) → Once x → held file_kind f (remembered owner item x) ≤ held file_kind f x + of_file f item
-  remembered_less owner item x once = grind (arith, nat_tests, at_some, held_remembered, changed_absent)
-
   taken_so : (owner : ℕ) (kind : KindId) (key : ℕ) (s : Scene) → ReadsItems s (item_taken owner kind key s).scene (item_taken owner kind key s).events
   taken_so owner kind key s = record {
     so = λ m h.
@@ -373,15 +343,7 @@ module _ (f : ℕ) where
         let same : m1 ≡ m = still_left f m t.still in
         let once : Once s1.session.owners = subst Once (sym t.owners) h.once in
         let some : held file_kind f s1.session.owners ≤ m = subst (λ (x : OwnerTree). held file_kind f x ≤ m) (sym t.owners) h.covers in
-        let now : IsRead (item_reader f) ItemFits m1 (remembers owner kind key s1).scene (what.Acquire item owner ∷ []) = record {
-          allowed = and_from (nat_le 0 m1) true (le-leb 0 m1 (omega arith)) refl;
-          fits = record {
-            few = t.few;
-            covered = omega (arith, t.covered, same);
-            covers = omega (arith, remembered_less owner item s1.session.owners once, some, same);
-            once = once_changed owner (λ (o : Owner). record o { items = item ∷ o.items }) s1.session.owners once;
-          };
-        } in
+        let now : IsRead (item_reader f) ItemFits m1 (remembers owner kind key s1).scene (what.Acquire item owner ∷ []) = grind (arith, nat_tests, and_from, le-leb, at_some, held_remembered, changed_absent, once, once_changed) in
         record {
           allowed = allows_all-append (item_reader f) m xs (what.Acquire item owner ∷ []) (still_allowed f m t.still) now.allowed;
           fits = subst (λ (k : ℕ). ItemFits k (remembers owner kind key s1).scene) (sym (seen_after-append (item_reader f) m xs (what.Acquire item owner ∷ []))) now.fits;
@@ -390,12 +352,7 @@ module _ (f : ℕ) where
 
   -- an owner that is made
   made_so : (parent : Option ℕ) (s : Scene) → Once (created parent s.session.next_owner s.session.owners) → ReadsItems s (owner_made parent s).scene (owner_made parent s).events
-  made_so None s once = grind (arith, nat_tests, fallen, falls_still, still_one, held_created)
-  made_so (Some p) s once = record {
-    so = λ m h.
-        fallen (falls_still f m m (owner_made (Some p) s).scene (still_one f (what.OwnerIn s.session.next_owner p) refl refl) h.few h.covered (omega arith))
-        (omega (arith, h.covers, held_created file_kind f (Some p) s.session.next_owner s.session.owners)) once;
-  }
+  made_so parent s once = grind (arith, nat_tests, fallen, falls_still, still_one, held_created)
 
   pub role_so : (role : OwnerRole) (s : Scene) → ((parent : Option ℕ) → Once (created parent s.session.next_owner s.session.owners)) → ReadsItems s (new_owner_made role s).scene (new_owner_made role s).events
   role_so OfLevel s once = items_seen.both (made_so (owner_of (level_above s.session)) s (once (owner_of (level_above s.session)))) (items_aside _ _ refl refl said_none)
@@ -432,8 +389,7 @@ module _ (f : ℕ) where
   made_owed : (w : Option ℕ) (role : OwnerRole) (m : Moment) → Stands m.scene → Follows (ReadsItems f) m.scene (does w (e.MakeOwner role) m)
   unfolding does
   made_owed w role m stands =
-      let done : Follows (ReadsItems f) m.scene (unless_refused (refused_call w m.fail (m.calls + 1) (limit 65536 (size m.scene.session.owners))) (record m { calls = m.calls + 1 }) (new_owner_made role)) =
-      go (refused_call w m.fail (m.calls + 1) (limit 65536 (size m.scene.session.owners))) (own_refusal w m.fail (m.calls + 1) (limit 65536 (size m.scene.session.owners))) in
+      let done : Follows (ReadsItems f) m.scene (unless_refused (refused_call w m.fail (m.calls + 1) (limit 65536 (size m.scene.session.owners))) (record m { calls = m.calls + 1 }) (new_owner_made role)) = grind (arith, nat_tests, go, own_refusal) in
       record { so = done.so }
     where
       once : limit 65536 (size m.scene.session.owners) ≡ None → (parent : Option ℕ) → Once (created parent m.scene.session.next_owner m.scene.session.owners)

@@ -1,13 +1,8 @@
 -- Descriptors are opened and closed in turns: what a reader has seen of a file fits how often it is among those that have one.
-use Rattle.session_laws.proofs.Words.{◌≡◌, ℕ, zero, suc, ◌+◌, ◌-◌, ◌≤◌, Bool, true, false, cond, nat_eq, if◌then◌else◌, List, [], ◌∷◌, length, take, Option, Some, None, refl, sym, ap, subst, ◌∙◌, arith, slice_get, and_from, and_parts, le-leb, eqb-true, nat_tests, sum_by-cons}
-use Rattle.session_laws.proofs.Scenes.{What, Scene, Around, Moment, where_so, descriptor_left, descriptor_given, files, Error, Command, SessionState, opening, exited, turn}
-use Rattle.session_laws.proofs.Rules.{Reader, count, said_none, said_one, of_recent, of_descriptors}
-use Rattle.std.proofs.lemmas.Option.{slice_get_within}
-use Rattle.lifetime_laws.specs.Once.{closes, opens}
-use Rattle.file_table.specs.Descriptors.{is_among, without}
-use Rattle.file_table.specs.Files.{given_events, given_file, loser}
+use Rattle.session_laws.proofs.Words.{◌≡◌, ℕ, zero, suc, ◌+◌, ◌-◌, ◌≤◌, Bool, true, false, cond, nat_eq, if◌then◌else◌, List, [], ◌∷◌, length, take, Option, Some, None, refl, sym, ap, subst, ◌∙◌, arith, slice_get, and_from, and_parts, le-leb, eqb-true, nat_tests, sum_by-cons, closes, opens, slice_get_within}
+use Rattle.session_laws.proofs.Scenes.{What, Scene, Around, Moment, descriptor_left, descriptor_given, files, Error, Command, SessionState, opening, exited, turn, is_among, without, given_events, given_file, loser}
+use Rattle.session_laws.proofs.Rules.{Reader, count, said_none, said_one, of_recent, of_descriptors, times, times_none, times_without}
 use Rattle.file_table.proofs.FileLists.{length-without_among, not_among_take}
-use Rattle.file_table.proofs.FileCounts.{times, times_none, times_without}
 use Rattle.session_laws.proofs.Lives.{IsRead, Reads, read_both}
 use Rattle.session_laws.proofs.LocksSight.{ArePlain, PassesOver, Sees, Subject, hides, of_files, read_plain, subject, locks_hidden, Base, least_of, locked_hidden, pushed_hidden, unlocked_hidden, any_turn, session_exits, by_owner_made, stack_hidden, Turns}
 use Rattle.pgs_step.specs.declared.events.What.TheVariants as what
@@ -111,18 +106,7 @@ module _ (f : ℕ) (reader : Reader ℕ) (Counted : ℕ → ℕ → Type 0) (tur
       go n h false e = given n s file (loser (files s)) refl e h
 
   closed_so : (file : ℕ) (s : Scene) → Reads reader Fits s (descriptor_left file s).scene (descriptor_left file s).events
-  closed_so file s = record { so = λ n h. go n h (is_among file s.session.recent) refl }
-    where
-      go : (n : ℕ) → Fits n s → (b : Bool) → is_among file s.session.recent ≡ b → IsRead reader Fits n (where_so b (λ scene. record {
-        scene = record scene { session = record scene.session { recent = without file scene.session.recent } };
-        events = what.DescriptorClosed file ∷ [];
-      }) s).scene (where_so b (λ scene. record {
-        scene = record scene { session = record scene.session { recent = without file scene.session.recent } };
-        events = what.DescriptorClosed file ∷ [];
-      }) s).events
-      go n h true e =
-          shuts n s (without file s.session.recent) file (omega (arith, times_without f file s.session.recent e, mark_swapped f file)) (omega (arith, length-without_among file s.session.recent e)) h
-      go n h false e = record { allowed = refl; fits = h }
+  closed_so file s = grind (arith, nat_tests, shuts, times_without, mark_swapped, length-without_among)
 
   pub aside_so : (s t : Scene) {events : List What} → t.session.recent ≡ s.session.recent → t.around.descriptors ≡ s.around.descriptors → ArePlain of_files events → Reads reader Fits s t events
   aside_so s t recent descriptors plain = record {
@@ -134,18 +118,10 @@ module _ (f : ℕ) (reader : Reader ℕ) (Counted : ℕ → ℕ → Type 0) (tur
   files_seen = record { both = λ a b. read_both reader Fits a b; aside = λ s t same plain. aside_so s t (same.so of_recent refl) (same.so of_descriptors refl) plain }
 
   pub files_base : Base of_files (Reads reader Fits)
-  files_base = record {
-    sees = files_seen;
-    locks = locks_hidden of_files (Reads reader Fits) files_seen refl;
-    files = record { used = λ file. record { so = used_so file }; closed = λ file. record { so = closed_so file } };
-  }
+  files_base = grind (arith, nat_tests, files_seen, locks_hidden, of_files, used_so, closed_so)
 
   pub files_ending : Turns of_files (Reads reader Fits)
-  files_ending = record {
-    least = least_of of_files (Reads reader Fits) files_base refl;
-    levels = λ levels s. aside_so s _ refl refl said_none;
-    stack = stack_hidden of_files (Reads reader Fits) files_seen refl;
-  }
+  files_ending = grind (arith, nat_tests, least_of, of_files, files_base, aside_so, said_none, stack_hidden, files_seen)
 
 -- a counter passes over what it doesn't count
 pub count_over : (k : Subject) (brings takes : What → ℕ) → ((event : What) → hides (subject event) k ≡ true → brings event ≡ 0) → ((event : What) → hides (subject event) k ≡ true → takes event ≡ 0) → PassesOver k (count brings takes)
@@ -163,8 +139,7 @@ abbrev pub MayOpen : ℕ → ℕ → Type 0
 MayOpen n t = n + t ≡ 1
 
 marked : (b : Bool) (n t : ℕ) → (b ≡ true → t ≡ 0) → n + t ≡ 1 → cond b 1 0 ≤ n
-marked true n t fresh e = omega (arith, fresh refl, e)
-marked false n t fresh e = omega arith
+marked b n t fresh e = grind (arith, nat_tests)
 
 pub closing_turns : (f : ℕ) → Turning f (count (closes f) (opens f)) MayOpen
 closing_turns f = grind (arith, nat_tests, count_over, of_files, le-leb, marked, nat_eq)

@@ -1,20 +1,13 @@
 -- A level that aborts names nothing outside it.
-use Rattle.session_laws.proofs.Words.{◌≡◌, ℕ, ◌-◌, ◌≤◌, Bool, true, false, if◌then◌else◌, List, [], ◌∷◌, ◌++◌, map, length, reverse, Option, Some, None, refl, sym, ap, ◌∙◌, subst, inl, arith, append-nil, ◌+◌, inr, ◌==◌, ◌&&◌, All, filter, option_to_list, ◌⊎◌, drop, is_none, unwrap_or, option_map_or, and_from, eqb-true, both_ways, eq-eqb, or_left, All-head, All-tail, Empty, Node, Once, at, children, has, moved, subtree, Forest, removed, order, order_at, Moves, nat_tests}
-use Rattle.session_laws.proofs.Scenes.{What, Context, Contexts, gone_events, LevelState, OpenPortal, StandingPlan, top_context, level_above, abort_context, context_of, deepest_changed, first_of, level_context, level_owner, owner_of, Scene, has_failed, Ended, children_gone, context_gone, for_each, in_order, portal_becomes, where_so, where_there, changes, portal_gone, switched, owner_moved, owner_released, owner_gone, portal_aborted, portal_failed, portal_withdrawn, stack_popped, aborted, cleaned_up, level_context_gone, level_owner_gone, level_popped, level_released, switched_up, IsAttached, IsPlan, IsPortal, active_depth, Stands}
-use Rattle.session_laws.proofs.Rules.{is_one_of, seen_after, allows_all, aborted_leads, all_aborted, off_begins, owner_when_active, resettled, settled, switched_off, Keeps, last, next, by_each, by_order, by_there, level_context_goes, level_releases, portal_aborts, portal_cleans}
-use Rattle.snap_table.specs.declared.active.Active.{Active}
-use Rattle.snap_table.specs.Snapshots.{is_deep}
-use Rattle.lifetime_laws.specs.Parents.{Node as Replayed, contexts_behind, is_there, placed_where}
-use Rattle.lifetime_laws.specs.Inside.{Begun, Leaving, level_begun, staying, Awaited, ItsOwner, Neither, awaited_behind, contexts_inside, ends_behind, owners_inside}
-use Rattle.session_rules.specs.Ending.{Ending, gone_levels}
-use Rattle.session_rules.proofs.Ending.{Leads, with_parts}
+use Rattle.session_laws.proofs.Words.{◌≡◌, ℕ, ◌-◌, ◌≤◌, Bool, true, false, if◌then◌else◌, List, [], ◌∷◌, ◌++◌, map, length, reverse, Option, Some, None, refl, sym, ap, ◌∙◌, subst, inl, arith, append-nil, ◌+◌, ◌==◌, ◌&&◌, All, filter, option_to_list, ◌⊎◌, is_none, unwrap_or, option_map_or, and_from, eqb-true, both_ways, eq-eqb, or_left, All-head, All-tail, Empty, Node, Once, at, children, has, moved, subtree, Forest, removed, order, order_at, Moves, nat_tests}
+use Rattle.session_laws.proofs.Scenes.{What, Context, Contexts, gone_events, LevelState, OpenPortal, StandingPlan, top_context, level_above, abort_context, context_of, deepest_changed, first_of, level_context, level_owner, owner_of, Scene, has_failed, Ended, children_gone, context_gone, for_each, in_order, portal_becomes, where_so, where_there, changes, portal_gone, switched, owner_moved, owner_released, owner_gone, portal_aborted, portal_failed, portal_withdrawn, stack_popped, aborted, cleaned_up, level_context_gone, level_owner_gone, level_popped, level_released, switched_up, IsAttached, IsPlan, IsPortal, active_depth, Stands, Ending, gone_levels, is_deep, Active}
+use Rattle.session_laws.proofs.Rules.{is_one_of, seen_after, allows_all, aborted_leads, all_aborted, off_begins, owner_when_active, resettled, settled, switched_off, Keeps, last, next, by_each, by_order, by_there, level_context_goes, level_releases, portal_aborts, portal_cleans, Begun, Leaving, level_begun, staying, Awaited, ItsOwner, Neither, ends_behind, Node as Replayed, contexts_behind, is_there, placed_where, protected_has, Leads, with_parts}
 use Rattle.session_laws.proofs.Lives.{IsRead, Reads, read_both, read_none, then_read}
 use Rattle.session_laws.proofs.Parents.{FitsContexts, FitsTree, fits_moved, Growth, growing_contexts}
 use Rattle.session_laws.proofs.ParentsLife.{HasContexts, KeepsContexts, contexts_end_leaves}
 use Rattle.session_laws.proofs.InsidePhases.{Confined, GoInside, below_inside, confined, confined_sees, gone_confined, is_confined, node_inside, owner_confined, root_within, roots_of, AreBare, InRelease, IsBare, owner_read, InEnd, IsOver, Stayed, confined_stays, all_in, next_in, next_over, none_left, owners_confined}
-use Rattle.session_laws.proofs.InsideWalk.{AreKnown, AreSeen, AreBegun, Lessens, Sees, nothing_ends, number_of, by_discarded, by_moved, by_switch, inside_acts, inside_phase, inside_stack}
+use Rattle.session_laws.proofs.InsideWalk.{AreKnown, AreSeen, Lessens, Sees, nothing_ends, number_of, by_discarded, by_moved, by_switch, inside_acts, inside_phase, inside_stack}
 use Rattle.session_laws.proofs.InsideHooks.{AreQuiet, no_hooks, quiet_emptied, quiet_removed}
-use Rattle.session_rules.proofs.ContextsKept.{protected_has}
 use Rattle.pgs_step.specs.declared.events.What.TheVariants as what
 use Rattle.portal_store.specs.declared.portal.PortalState.TheVariants as portal
 
@@ -68,9 +61,7 @@ module _ (entry : Begun) where
   }
     where
       inside : (o : Option Context) (leaving : Leaving) → InPortals leaving s → GoInside n leaving.parents.contexts (order (option_map_or (λ a. Node n a (children n s.session.contexts) Empty) o Empty) ++ [])
-      inside None leaving k = tt
-      inside (Some a) leaving k =
-          subst (GoInside n leaving.parents.contexts) (sym (append-nil (order_at n s.session.contexts))) (node_inside n leaving.parents.contexts s.session.contexts k.contexts.tree)
+      inside o leaving k = grind (arith, nat_tests, append-nil, node_inside)
 
   pub children_read : (n : ℕ) → is_one_of n (roots_of entry) ≡ true → (s : Scene) → Reads (confined entry) InPortals s (children_gone n s).scene (children_gone n s).events
   children_read n one s = record {
@@ -92,12 +83,7 @@ module _ (entry : Begun) where
 
   -- what changes portals alone
   pub portals_read : (ps : List OpenPortal) (s : Scene) → Reads (confined entry) InPortals s (record s { session = record s.session { portals = ps } }) []
-  portals_read ps s = record {
-    so = λ leaving k. record {
-      allowed = refl;
-      fits = record { contexts = record { tree = k.contexts.tree; below = k.contexts.below }; owners = k.owners; plans = k.plans; quiet = k.quiet };
-    };
-  }
+  portals_read ps s = grind (arith, nat_tests)
 
   -- an owner moves to that of the level
   moved_read : (o lo : ℕ) (s : Scene) → Moves o lo s.session.owners → entry.owner ≡ Some lo → Reads (confined entry) InPortals s (owner_moved o lo s).scene (owner_moved o lo s).events
@@ -106,8 +92,7 @@ module _ (entry : Begun) where
         let nodes : List Replayed = leaving.parents.owners in
         let there : (is_there o nodes && is_there lo nodes) ≡ true = and_from (is_there o nodes) (is_there lo nodes) (k.owners.there o ∙ w.node) (k.owners.there lo ∙ w.parent) in
         record {
-          allowed = and_from (is_confined entry (what.MoveOwner o lo) leaving && true) true
-              (and_from (is_confined entry (what.MoveOwner o lo) leaving) true (and_from _ true (owner_confined entry leaving lo lo is (root_within lo nodes)) refl) refl) refl;
+          allowed = grind (arith, nat_tests, and_from, is_confined, owner_confined, root_within);
           fits = record {
             contexts = record { tree = k.contexts.tree; below = k.contexts.below };
             owners = subst (λ (b : Bool). FitsTree (placed_where b o (Some lo) nodes) (moved o lo s.session.owners)) (sym there) (fits_moved o lo nodes s.session.owners k.owners w);
@@ -156,13 +141,11 @@ module _ (level : LevelState) (levels : List LevelState) (made : active_depth (l
       by_level o e (Some lo) is = moved_read entry o lo s (moves p front back s o lo h e is) (own ∙ is)
 
       by_owner : (o : Option ℕ) → p.owner ≡ o → Reads (confined entry) InPortals s (where_there o (λ owner. where_there level.owner (owner_moved owner)) s).scene (where_there o (λ owner. where_there level.owner (owner_moved owner)) s).events
-      by_owner None e = read_none (confined entry) InPortals s
-      by_owner (Some o) e = by_level o e level.owner refl
+      by_owner o e = grind (arith, nat_tests, read_none, confined, by_level)
 
       by_state : (b : Bool) → Reads (confined entry) InPortals s (in_order (where_so b (where_there p.owner (λ owner. where_there level.owner (owner_moved owner))) ∷ becomes ∷ []) s).scene
           (in_order (where_so b (where_there p.owner (λ owner. where_there level.owner (owner_moved owner))) ∷ becomes ∷ []) s).events
-      by_state true = after (where_there p.owner (λ owner. where_there level.owner (owner_moved owner))) (by_owner p.owner refl)
-      by_state false = after (where_so false (where_there p.owner (λ owner. where_there level.owner (owner_moved owner)))) (read_none (confined entry) InPortals s)
+      by_state b = grind (arith, nat_tests, after, by_owner, read_none, confined)
 
   portal_read : (p : OpenPortal) (front back : List OpenPortal) (s : Scene) → Ending level levels (gone_levels level levels) front (p ∷ back) s
       → ((c : ℕ) → p.created ≡ height → p.context ≡ Some c → is_one_of c (roots_of entry) ≡ true) → Reads (confined entry) InPortals s (portal_aborted height level.owner p s).scene (portal_aborted height level.owner p s).events
@@ -175,8 +158,7 @@ module _ (level : LevelState) (levels : List LevelState) (made : active_depth (l
       by_created : (b : Bool) → (p.created == height) ≡ b
           → Reads (confined entry) InPortals s (elim b as (λ _. Ended) [ true ↦ portal_failed p s | false ↦ where_so (p.active == height) (portal_withdrawn height level.owner p) s ]).scene
           (elim b as (λ _. Ended) [ true ↦ portal_failed p s | false ↦ where_so (p.active == height) (portal_withdrawn height level.owner p) s ]).events
-      by_created true e = failed_read entry p s (λ c is. inside c (eqb-true p.created height e) is)
-      by_created false e = by_active (p.active == height)
+      by_created b e = grind (arith, nat_tests, failed_read, inside, eqb-true, by_active)
 
   pub all_read : (ps front : List OpenPortal) (s : Scene) → Ending level levels (gone_levels level levels) front ps s → AreIn height entry ps
       → Reads (confined entry) InPortals s (for_each (portal_aborted height level.owner) ps s).scene (for_each (portal_aborted height level.owner) ps s).events
@@ -210,12 +192,7 @@ module _ (entry : Begun) where
   release_read top None s leaving own k each = record { allowed = refl; fits = record { tree = k.owners } }
   release_read top (Some root) s leaving own k each =
       let nodes : List Replayed = leaving.parents.owners in
-      let start : InRelease root nodes leaving s = record {
-        owners = refl;
-        tree = k.owners;
-        once = k.contexts.tree.once;
-        plans = bare_of s.session.plans leaving.plans s k.contexts.tree.once k.quiet each k.plans;
-      } in
+      let start : InRelease root nodes leaving s = grind (arith, nat_tests, bare_of) in
       let read : IsRead (confined entry) (InRelease root nodes) leaving (owner_released false top root s).scene (owner_released false top root s).events =
       (owner_read entry root own nodes top s (root_within root nodes)).so leaving start in
       record { allowed = read.allowed; fits = record { tree = subst (λ (x : List Replayed). FitsTree x (owner_released false top root s).scene.session.owners) (sym read.fits.owners) read.fits.tree } }
@@ -262,10 +239,6 @@ pub record Halted (leaving : Leaving) (t : Scene) : Type 0 where
 abbrev pub IsSoon : Awaited → Type 0
 IsSoon awaited = (awaited ≡ ItsOwner) ⊎ (awaited ≡ Neither)
 
-soon_none : (n : ℕ) (a : Awaited) → IsSoon a → awaited_behind (what.AbortLevel n) a ≡ Neither
-soon_none n a (inl e) = ap (awaited_behind (what.AbortLevel n)) e
-soon_none n a (inr e) = ap (awaited_behind (what.AbortLevel n)) e
-
 -- the deepest level aborts
 pub record AbortRead (leaving : Leaving) (s : Scene) : Type 0 where
   pub allowed : allows_all staying leaving (aborted s).events ≡ true
@@ -278,103 +251,6 @@ pub record MayEnd (leaving : Leaving) (s : Scene) : Type 0 where
   pub owners : FitsTree leaving.parents.owners s.session.owners
   pub quiet : AreQuiet None s.session.contexts
   pub sees : Sees leaving s
-
-module _ (level : LevelState) (levels : List LevelState) (s : Scene) (h : Stands (settled (level ∷ levels) s)) (leaving : Leaving) (k : MayEnd leaving (settled (level ∷ levels) s)) where
-  abbrev s0 : Scene
-  s0 = settled (level ∷ levels) s
-
-  abbrev n : ℕ
-  n = length (level ∷ levels)
-
-  abbrev entry : Begun
-  entry = level_begun n leaving.begun
-
-  abbrev later : Leaving
-  later = staying.next (what.AbortLevel n) leaving
-
-  same_n : length levels + 1 ≡ n
-  same_n = omega arith
-
-  own_context : entry.context ≡ level.context
-  own_context = ap (λ (m : ℕ). (level_begun m leaving.begun).context) (sym same_n) ∙ k.sees.begun.0.context
-
-  own_owner : entry.owner ≡ level.owner
-  own_owner = ap (λ (m : ℕ). (level_begun m leaving.begun).owner) (sym same_n) ∙ k.sees.begun.0.owner
-
-  abbrev z0 : Scene
-  z0 = settled (level ∷ levels) (switched_off s)
-
-  abbrev z1 : Scene
-  z1 = (for_each (portal_aborted n level.owner) s.session.portals z0).scene
-
-  made : active_depth (level ∷ levels) ≡ n → (lo : ℕ) × (level.owner ≡ Some lo)
-  made e = owner_when_active level levels h.fit.0.made (omega (arith, e))
-
-  begins : Ending level levels (gone_levels level levels) [] s.session.portals z0
-  begins = resettled level levels (gone_levels level levels) [] s.session.portals (switched_off s) (off_begins level levels (gone_levels level levels) s h)
-
-  start : InPortals later z0
-  start = grind (arith, nat_tests)
-
-  portals_part : IsRead (confined entry) InPortals later z1 (for_each (portal_aborted n level.owner) s.session.portals z0).events
-  portals_part = (all_read level levels made entry own_owner s.session.portals [] z0 begins (seen_in n leaving.begun (omega arith) s.session.portals k.sees.portals)).so later start
-
-  plans_there : All (λ plan. IsPlan plan z1.session.contexts z1.session.current) z1.session.plans
-  plans_there =
-      let loop : Leads level levels (gone_levels level levels) [] z0 z1 = all_aborted level levels made s.session.portals z0 begins in
-      subst (λ (z : Scene). All (λ plan. IsPlan plan z.session.contexts z.session.current) z.session.plans) (sym loop.goes.is) loop.goes.ending.plans.each
-
-  still_level : level_owner z1.session ≡ level.owner
-  still_level = ap (λ (ls : List LevelState). owner_of (first_of ls)) ((by_each Lessens inside_acts (portal_aborted n level.owner) (portal_aborts Lessens inside_acts by_moved n level.owner) s.session.portals).so z0).levels
-
-  abbrev tail : Scene → Ended
-  tail = in_order (level_released false (n == 1) ∷ stack_popped n ∷ changes (λ session. record session { levels = deepest_changed (λ old. record old { aborted = true }) session.levels }) ∷ [])
-
-  tail_part : (l : Leaving) → InPortals l z1 → IsRead (confined entry) HasOwnersSeen l (tail z1).scene (tail z1).events
-  tail_part l i =
-      let z2 : Scene = (level_released false (n == 1) z1).scene in
-      let z3 : Scene = (stack_popped n z2).scene in
-      then_read (confined entry) l z2 (tail z1).scene (level_released false (n == 1) z1).events ((stack_popped n z2).events ++ [])
-      (release_read entry (n == 1) (level_owner z1.session) z1 l (own_owner ∙ sym still_level) i plans_there)
-      (λ a. then_read (confined entry) _ z3 (tail z1).scene (stack_popped n z2).events [] (stack_read entry n _ z2 a) (λ b. record { allowed = refl; fits = record { tree = b.tree } }))
-
-  rest : IsRead (confined entry) HasOwnersSeen later (tail z1).scene ((for_each (portal_aborted n level.owner) s.session.portals z0).events ++ (tail z1).events)
-  rest = then_read (confined entry) later z1 (tail z1).scene (for_each (portal_aborted n level.owner) s.session.portals z0).events (tail z1).events portals_part (λ i. tail_part _ i)
-
-  first_ends : leaving.ends ≡ [] → InEnd entry later.ends
-  first_ends e = subst (λ (ends : List Begun). InEnd entry (ends_behind (what.AbortLevel n) leaving.begun ends)) (sym e) (refl, tt)
-
-  not_over : IsOver entry later
-  not_over c is away = grind (arith, nat_tests, protected_has, own_context, both_ways)
-
-  pub aborts_read : leaving.ends ≡ [] → IsSoon leaving.awaited → AbortRead leaving s0
-  aborts_read e soon =
-      let read : IsRead (confined entry) HasOwnersSeen later (aborted s0).scene ((for_each (portal_aborted n level.owner) s.session.portals z0).events ++ (tail z1).events) = rest in
-      let events : List What = (for_each (portal_aborted n level.owner) s.session.portals z0).events ++ (tail z1).events in
-      let stayed : Stayed entry later events = confined_stays entry later events (first_ends e) read.allowed in
-      let l : Lessens s0 (in_order (abort_parts n level.owner s.session.portals) s0).scene (in_order (abort_parts n level.owner s.session.portals) s0).events = (abort_lessens n level.owner s.session.portals).so s0 in
-      let now : Leaving = seen_after staying later events in
-      let same : level_begun n leaving.begun ≡ level_begun (length levels + 1) now.begun =
-      ap (λ (m : ℕ). level_begun m leaving.begun) (sym same_n) ∙ ap (level_begun (length levels + 1)) (sym stayed.begun) in
-      record {
-        allowed = and_from (staying.allows (what.AbortLevel n) leaving) _ (nothing_ends (what.AbortLevel n) leaving e) stayed.allowed;
-        halted = record {
-          level = record level { aborted = true };
-          levels = levels;
-          are = ap (deepest_changed (λ old. record old { aborted = true })) l.levels;
-          aborted = refl;
-          sees = record {
-            begun = subst (λ (ls : List LevelState). AreBegun ls now.begun) (sym (ap (deepest_changed (λ old. record old { aborted = true })) l.levels))
-                (subst (AreBegun (record level { aborted = true } ∷ levels)) (sym stayed.begun) (record { there = k.sees.begun.0.there; context = k.sees.begun.0.context; owner = k.sees.begun.0.owner }, k.sees.begun.1));
-            portals = subst (AreSeen (aborted s0).scene.session.portals) (sym stayed.begun) (l.portals leaving.begun k.sees.portals);
-            plans = subst (AreKnown (aborted s0).scene.session.plans) (sym stayed.plans) (l.plans leaving.plans k.sees.plans);
-          };
-          awaited = stayed.awaited (soon_none n leaving.awaited soon);
-          ends = subst (λ (b : Begun). InEnd b now.ends) same stayed.ends;
-          over = subst (λ (b : Begun). IsOver b now) same (stayed.over not_over);
-        };
-        owners = subst (λ (x : Leaving). FitsTree x.parents.owners (aborted s0).scene.session.owners) (confined_sees entry later events) read.fits.tree;
-      }
 
 -- A level that is aborted is cleaned up.
 abbrev sweep : ℕ → OpenPortal → Scene → Ended
@@ -398,8 +274,7 @@ module _ (entry : Begun) where
 
       go : (b : Bool) → (p.created == n) ≡ b
           → Reads (confined entry) InPortals s (where_so b (in_order (where_there p.context context_gone ∷ portal_gone p.name ∷ [])) s).scene (where_so b (in_order (where_there p.context context_gone ∷ portal_gone p.name ∷ [])) s).events
-      go true e = by_context p.context (λ c is. inside c (eqb-true p.created n e) is)
-      go false e = read_none (confined entry) InPortals s
+      go b e = grind (arith, nat_tests, by_context, inside, eqb-true, read_none, confined)
 
   sweeps_read : (n : ℕ) (ps : List OpenPortal) (s : Scene) → AreIn n entry ps → Reads (confined entry) InPortals s (for_each (sweep n) ps s).scene (for_each (sweep n) ps s).events
   sweeps_read n [] s inside = read_none (confined entry) InPortals s
@@ -440,29 +315,88 @@ pub record CleanRead (leaving : Leaving) (s : Scene) : Type 0 where
   pub ends : (seen_after staying leaving (cleaned_up s).events).ends ≡ []
 
 module _ (level : LevelState) (levels : List LevelState) (s : Scene) (leaving : Leaving) (k : MayEnd leaving (settled (level ∷ levels) s)) where
-  abbrev c0 : Scene
-  c0 = settled (level ∷ levels) s
+  abbrev s0 : Scene
+  s0 = settled (level ∷ levels) s
 
-  abbrev m : ℕ
-  m = length (level ∷ levels)
+  abbrev n : ℕ
+  n = length (level ∷ levels)
 
-  abbrev ending : Begun
-  ending = level_begun m leaving.begun
+  abbrev entry : Begun
+  entry = level_begun n leaving.begun
 
+  same_n : length levels + 1 ≡ n
+  same_n = omega arith
+
+  own_context : entry.context ≡ level.context
+  own_context = ap (λ (m : ℕ). (level_begun m leaving.begun).context) (sym same_n) ∙ k.sees.begun.0.context
+
+  own_owner : entry.owner ≡ level.owner
+  own_owner = ap (λ (m : ℕ). (level_begun m leaving.begun).owner) (sym same_n) ∙ k.sees.begun.0.owner
+
+  -- it aborts
+  module _ (h : Stands (settled (level ∷ levels) s)) where
+    abbrev later : Leaving
+    later = staying.next (what.AbortLevel n) leaving
+
+    abbrev z0 : Scene
+    z0 = settled (level ∷ levels) (switched_off s)
+
+    abbrev z1 : Scene
+    z1 = (for_each (portal_aborted n level.owner) s.session.portals z0).scene
+
+    made : active_depth (level ∷ levels) ≡ n → (lo : ℕ) × (level.owner ≡ Some lo)
+    made e = owner_when_active level levels h.fit.0.made (omega (arith, e))
+
+    begins : Ending level levels (gone_levels level levels) [] s.session.portals z0
+    begins = resettled level levels (gone_levels level levels) [] s.session.portals (switched_off s) (off_begins level levels (gone_levels level levels) s h)
+
+    start : InPortals later z0
+    start = grind (arith, nat_tests)
+
+    portals_part : IsRead (confined entry) InPortals later z1 (for_each (portal_aborted n level.owner) s.session.portals z0).events
+    portals_part = (all_read level levels made entry own_owner s.session.portals [] z0 begins (seen_in n leaving.begun (omega arith) s.session.portals k.sees.portals)).so later start
+
+    plans_there : All (λ plan. IsPlan plan z1.session.contexts z1.session.current) z1.session.plans
+    plans_there =
+        let loop : Leads level levels (gone_levels level levels) [] z0 z1 = all_aborted level levels made s.session.portals z0 begins in
+        subst (λ (z : Scene). All (λ plan. IsPlan plan z.session.contexts z.session.current) z.session.plans) (sym loop.goes.is) loop.goes.ending.plans.each
+
+    still_level : level_owner z1.session ≡ level.owner
+    still_level = ap (λ (ls : List LevelState). owner_of (first_of ls)) ((by_each Lessens inside_acts (portal_aborted n level.owner) (portal_aborts Lessens inside_acts by_moved n level.owner) s.session.portals).so z0).levels
+
+    abbrev tail : Scene → Ended
+    tail = in_order (level_released false (n == 1) ∷ stack_popped n ∷ changes (λ session. record session { levels = deepest_changed (λ old. record old { aborted = true }) session.levels }) ∷ [])
+
+    tail_part : (l : Leaving) → InPortals l z1 → IsRead (confined entry) HasOwnersSeen l (tail z1).scene (tail z1).events
+    tail_part l i =
+        let z2 : Scene = (level_released false (n == 1) z1).scene in
+        let z3 : Scene = (stack_popped n z2).scene in
+        then_read (confined entry) l z2 (tail z1).scene (level_released false (n == 1) z1).events ((stack_popped n z2).events ++ [])
+        (release_read entry (n == 1) (level_owner z1.session) z1 l (own_owner ∙ sym still_level) i plans_there)
+        (λ a. then_read (confined entry) _ z3 (tail z1).scene (stack_popped n z2).events [] (stack_read entry n _ z2 a) (λ b. record { allowed = refl; fits = record { tree = b.tree } }))
+
+    rest : IsRead (confined entry) HasOwnersSeen later (tail z1).scene ((for_each (portal_aborted n level.owner) s.session.portals z0).events ++ (tail z1).events)
+    rest = then_read (confined entry) later z1 (tail z1).scene (for_each (portal_aborted n level.owner) s.session.portals z0).events (tail z1).events portals_part (λ i. tail_part _ i)
+
+    first_ends : leaving.ends ≡ [] → InEnd entry later.ends
+    first_ends e = subst (λ (ends : List Begun). InEnd entry (ends_behind (what.AbortLevel n) leaving.begun ends)) (sym e) (refl, tt)
+
+    pub aborts_read : leaving.ends ≡ [] → IsSoon leaving.awaited → AbortRead leaving s0
+    aborts_read e soon =
+        let read : IsRead (confined entry) HasOwnersSeen later (aborted s0).scene ((for_each (portal_aborted n level.owner) s.session.portals z0).events ++ (tail z1).events) = rest in
+        let events : List What = (for_each (portal_aborted n level.owner) s.session.portals z0).events ++ (tail z1).events in
+        let stayed : Stayed entry later events = confined_stays entry later events (first_ends e) read.allowed in
+        let l : Lessens s0 (in_order (abort_parts n level.owner s.session.portals) s0).scene (in_order (abort_parts n level.owner s.session.portals) s0).events = (abort_lessens n level.owner s.session.portals).so s0 in
+        let now : Leaving = seen_after staying later events in
+        let same : level_begun n leaving.begun ≡ level_begun (length levels + 1) now.begun = grind (arith, nat_tests, same_n) in
+        grind (arith, nat_tests, and_from, nothing_ends, protected_has, own_context, both_ways, confined_sees)
+
+  -- it is cleaned up
   abbrev behind : Leaving
-  behind = staying.next (what.CleanupLevel m) leaving
-
-  same_m : length levels + 1 ≡ m
-  same_m = omega arith
-
-  ending_context : ending.context ≡ level.context
-  ending_context = ap (λ (x : ℕ). (level_begun x leaving.begun).context) (sym same_m) ∙ k.sees.begun.0.context
-
-  ending_owner : ending.owner ≡ level.owner
-  ending_owner = ap (λ (x : ℕ). (level_begun x leaving.begun).owner) (sym same_m) ∙ k.sees.begun.0.owner
+  behind = staying.next (what.CleanupLevel n) leaving
 
   abbrev c1 : Scene
-  c1 = (for_each (sweep m) s.session.portals c0).scene
+  c1 = (for_each (sweep n) s.session.portals s0).scene
 
   abbrev c2 : Scene
   c2 = (level_owner_gone c1).scene
@@ -471,16 +405,16 @@ module _ (level : LevelState) (levels : List LevelState) (s : Scene) (leaving : 
   c3 = (switched_up c2).scene
 
   abbrev sweeping : List (Scene → Ended)
-  sweeping = for_each (sweep m) s.session.portals ∷ level_owner_gone ∷ switched_up ∷ []
+  sweeping = for_each (sweep n) s.session.portals ∷ level_owner_gone ∷ switched_up ∷ []
 
-  swept_lessens : Lessens c0 c3 (in_order sweeping c0).events
-  swept_lessens = (by_order Lessens inside_acts (next (by_each Lessens inside_acts (sweep m) (sweeps m) s.session.portals) (next level_owner_goes (next switches_up last)))).so c0
+  swept_lessens : Lessens s0 c3 (in_order sweeping s0).events
+  swept_lessens = (by_order Lessens inside_acts (next (by_each Lessens inside_acts (sweep n) (sweeps n) s.session.portals) (next level_owner_goes (next switches_up last)))).so s0
 
-  swept_in : InPortals behind c0
+  swept_in : InPortals behind s0
   swept_in = record { contexts = k.contexts; owners = k.owners; plans = k.sees.plans; quiet = k.quiet }
 
   first_level : level_owner c1.session ≡ level.owner
-  first_level = ap (λ (ls : List LevelState). owner_of (first_of ls)) ((by_each Lessens inside_acts (sweep m) (sweeps m) s.session.portals).so c0).levels
+  first_level = ap (λ (ls : List LevelState). owner_of (first_of ls)) ((by_each Lessens inside_acts (sweep n) (sweeps n) s.session.portals).so s0).levels
 
   third_level : level_context c3.session ≡ level.context
   third_level = ap (λ (ls : List LevelState). context_of (first_of ls)) swept_lessens.levels
@@ -488,58 +422,45 @@ module _ (level : LevelState) (levels : List LevelState) (s : Scene) (leaving : 
   abbrev c_last : Ended
   c_last = in_order (switched_up ∷ level_context_gone ∷ level_popped ∷ []) c2
 
-  context_part : (l : Leaving) → HasContextsSeen l c2 → IsRead (confined ending) HasContextsSeen l c_last.scene c_last.events
+  context_part : (l : Leaving) → HasContextsSeen l c2 → IsRead (confined entry) HasContextsSeen l c_last.scene c_last.events
   context_part l i =
-      then_read (confined ending) l (level_context_gone c3).scene c_last.scene (level_context_gone c3).events []
-      (context_gone_read ending (level_context c3.session) l c3 (ending_context ∙ sym third_level) (record { contexts = record { tree = i.contexts.tree; below = i.contexts.below } }))
+      then_read (confined entry) l (level_context_gone c3).scene c_last.scene (level_context_gone c3).events []
+      (context_gone_read entry (level_context c3.session) l c3 (own_context ∙ sym third_level) (record { contexts = record { tree = i.contexts.tree; below = i.contexts.below } }))
       (λ a. record { allowed = refl; fits = record { contexts = record { tree = a.contexts.tree; below = a.contexts.below } } })
 
   abbrev all_events : List What
-  all_events = (for_each (sweep m) s.session.portals c0).events ++ ((level_owner_gone c1).events ++ c_last.events)
+  all_events = (for_each (sweep n) s.session.portals s0).events ++ ((level_owner_gone c1).events ++ c_last.events)
 
-  whole : IsRead (confined ending) HasContextsSeen behind c_last.scene all_events
+  whole : IsRead (confined entry) HasContextsSeen behind c_last.scene all_events
   whole =
-      then_read (confined ending) behind c1 c_last.scene (for_each (sweep m) s.session.portals c0).events ((level_owner_gone c1).events ++ c_last.events)
-      ((sweeps_read ending m s.session.portals c0 (seen_in m leaving.begun (omega arith) s.session.portals k.sees.portals)).so behind swept_in)
-      (λ i. then_read (confined ending) _ c2 c_last.scene (level_owner_gone c1).events c_last.events (owner_gone_read ending (level_owner c1.session) _ c1 (ending_owner ∙ sym first_level) i) (λ j. context_part _ j))
+      then_read (confined entry) behind c1 c_last.scene (for_each (sweep n) s.session.portals s0).events ((level_owner_gone c1).events ++ c_last.events)
+      ((sweeps_read entry n s.session.portals s0 (seen_in n leaving.begun (omega arith) s.session.portals k.sees.portals)).so behind swept_in)
+      (λ i. then_read (confined entry) _ c2 c_last.scene (level_owner_gone c1).events c_last.events (owner_gone_read entry (level_owner c1.session) _ c1 (own_owner ∙ sym first_level) i) (λ j. context_part _ j))
 
   -- in the end the level isn't in its end any more
-  none_named : level.context ≡ None → InEnd ending leaving.ends → behind.ends ≡ []
-  none_named none i = grind (arith, nat_tests, none_left, and_from, is_none, eq-eqb, number_of, ending_context)
+  none_named : level.context ≡ None → InEnd entry leaving.ends → behind.ends ≡ []
+  none_named none i = grind (arith, nat_tests, none_left, and_from, is_none, eq-eqb, number_of, own_context)
 
-  still_in : InEnd ending leaving.ends → InEnd ending behind.ends
-  still_in i = next_in ending (what.CleanupLevel m) leaving refl i
+  still_in : InEnd entry leaving.ends → InEnd entry behind.ends
+  still_in i = next_in entry (what.CleanupLevel n) leaving refl i
 
-  still_over : InEnd ending leaving.ends → IsOver ending leaving → IsOver ending behind
-  still_over i o = next_over ending (what.CleanupLevel m) leaving refl i o
+  still_over : InEnd entry leaving.ends → IsOver entry leaving → IsOver entry behind
+  still_over i o = next_over entry (what.CleanupLevel n) leaving refl i o
 
   left_away : (c : ℕ) → level.context ≡ Some c → has c c_last.scene.session.contexts ≡ false
   left_away c is =
       ap (λ (o : Option ℕ). has c (where_there o context_gone c3).scene.session.contexts) (third_level ∙ is) ∙ gone_away c c3.session.contexts
 
-  closed : InEnd ending leaving.ends → IsOver ending leaving → (stayed : Stayed ending behind all_events) → (o : Option ℕ) → level.context ≡ o → (seen_after staying behind all_events).ends ≡ []
+  closed : InEnd entry leaving.ends → IsOver entry leaving → (stayed : Stayed entry behind all_events) → (o : Option ℕ) → level.context ≡ o → (seen_after staying behind all_events).ends ≡ []
   closed i o stayed None is = stayed.closed (none_named is i)
   closed i o stayed (Some c) is =
-      let tree : FitsContexts (seen_after staying behind all_events).parents.contexts c_last.scene =
-      subst (λ (l : Leaving). FitsContexts l.parents.contexts c_last.scene) (confined_sees ending behind all_events) whole.fits.contexts in
-      stayed.over (still_over i o) c (ending_context ∙ is) (tree.tree.there c ∙ left_away c is)
+      let tree : FitsContexts (seen_after staying behind all_events).parents.contexts c_last.scene = grind (arith, nat_tests, confined_sees, whole) in
+      stayed.over (still_over i o) c (own_context ∙ is) (tree.tree.there c ∙ left_away c is)
 
-  pub cleans_read : InEnd ending leaving.ends → IsOver ending leaving → leaving.awaited ≡ Neither → CleanRead leaving c0
+  pub cleans_read : InEnd entry leaving.ends → IsOver entry leaving → leaving.awaited ≡ Neither → CleanRead leaving s0
   cleans_read i o aw =
-      let stayed : Stayed ending behind all_events = confined_stays ending behind all_events (still_in i) whole.allowed in
+      let stayed : Stayed entry behind all_events = confined_stays entry behind all_events (still_in i) whole.allowed in
       let now : Leaving = seen_after staying behind all_events in
-      let l : Lessens c0 (level_context_gone c3).scene (in_order (sweeping ++ (level_context_gone ∷ [])) c0).events =
-      (by_order Lessens inside_acts (next (by_each Lessens inside_acts (sweep m) (sweeps m) s.session.portals) (next level_owner_goes (next switches_up (next (level_context_goes Lessens inside_acts) last))))).so c0 in
-      record {
-        allowed = and_from (staying.allows (what.CleanupLevel m) leaving) _ (one_allowed i) stayed.allowed;
-        sees = record {
-          begun = subst (λ (ls : List LevelState). AreBegun ls now.begun) (sym (ap (drop 1) l.levels)) (subst (AreBegun levels) (sym stayed.begun) k.sees.begun.1);
-          portals = subst (AreSeen (cleaned_up c0).scene.session.portals) (sym stayed.begun) (l.portals leaving.begun k.sees.portals);
-          plans = subst (AreKnown (cleaned_up c0).scene.session.plans) (sym stayed.plans) (l.plans leaving.plans k.sees.plans);
-        };
-        awaited = stayed.awaited (ap (awaited_behind (what.CleanupLevel m)) aw);
-        ends = closed i o stayed level.context refl;
-      }
-    where
-      one_allowed : InEnd ending leaving.ends → staying.allows (what.CleanupLevel m) leaving ≡ true
-      one_allowed i = all_in (λ level. owners_inside (what.CleanupLevel m) leaving level && contexts_inside (what.CleanupLevel m) leaving level) ending leaving.ends i refl
+      let l : Lessens s0 (level_context_gone c3).scene (in_order (sweeping ++ (level_context_gone ∷ [])) s0).events =
+      (by_order Lessens inside_acts (next (by_each Lessens inside_acts (sweep n) (sweeps n) s.session.portals) (next level_owner_goes (next switches_up (next (level_context_goes Lessens inside_acts) last))))).so s0 in
+      grind (arith, nat_tests, and_from, closed, all_in)

@@ -1,18 +1,12 @@
 -- No hook waits on a context of the session itself below the one for caches.
-use Rattle.session_laws.proofs.Words.{◌≡◌, ℕ, Bool, true, false, if◌then◌else◌, [], Option, Some, None, refl, sym, ap, ◌∙◌, subst, inl, inr, List, ◌∷◌, ◌++◌, codes, reverse, arith, ◌==◌, ◌⊎◌, option_map_or, both_ways, cases_Bool, cond-false, eqb-true, false_from_ne_true, eq-eqb, ne_eqb, Empty, Node, Once, at, changed, children, has, is_root, moved, parent_of, put, removed, with_children, at_absent, at_some, apart_of, has_at, where_is, reverse-append, nat_tests}
-use Rattle.session_laws.proofs.Scenes.{Context, Contexts, is_protected, new_context, cache_context, LevelState, context_of, first_of, last_of, level_context, top_context, What, CtxKind, Hook, Scene, Text, context_named, hook_waits, AreLevels, Stands}
-use Rattle.session_laws.proofs.Rules.{ContextLeaves, of_contexts, EndLeaves}
-use Rattle.forest.proofs.Neighbours.{parent_root, root_absent}
+use Rattle.session_laws.proofs.Words.{◌≡◌, ℕ, Bool, true, false, if◌then◌else◌, [], Option, Some, None, refl, sym, ap, ◌∙◌, subst, inl, inr, List, ◌∷◌, ◌++◌, codes, reverse, arith, ◌==◌, ◌⊎◌, both_ways, cases_Bool, cond-false, eqb-true, false_from_ne_true, eq-eqb, ne_eqb, Empty, Node, Once, at, changed, children, has, is_root, moved, parent_of, put, removed, with_children, at_absent, at_some, apart_of, has_at, where_is, reverse-append, nat_tests, parent_root, root_absent}
+use Rattle.session_laws.proofs.Scenes.{Context, Contexts, is_protected, new_context, cache_context, LevelState, context_of, first_of, last_of, level_context, top_context, What, CtxKind, Scene, Text, context_named, AreLevels, Stands, IsContext}
+use Rattle.session_laws.proofs.Rules.{ContextLeaves, of_contexts, EndLeaves, ContextLaw, context_ends, context_makes, top_parent, StandingMoves, standing_moves}
 use Rattle.pgs_command.specs.Words.{is_text}
 use Rattle.context_rules.specs.Names.{same_name}
-use Rattle.session_rules.proofs.Aside.{ContextLaw, context_ends, context_makes}
-use Rattle.session_rules.proofs.Meeting.{StandingMoves, standing_moves}
-use Rattle.session_rules.proofs.Guarded.{top_parent}
-use Rattle.session_rules.proofs.LevelsKept.{IsContext}
 use Rattle.session_rules.proofs.PlansAmong.{above_other, some_is}
 use Rattle.session_laws.proofs.Lives.{OwesTurns, owes_by}
 use Rattle.context_rules.specs.Contexts as rules
-use Rattle.context_rules.specs.Ends as ends
 
 -- on a context of the session itself no hook waits where its parent is the one for caches
 abbrev pub IsQuiet : Option ℕ → Context → Type 0
@@ -69,16 +63,9 @@ quiet_changed_at p n f (Node m a below beside) o k h = grind (arith, nat_tests, 
 pub no_hooks : (n : ℕ) (c : Context) (t : Contexts) → Once t → AreQuiet None t → at n t ≡ Some c → is_protected n t ≡ true → parent_of n t ≡ Some cache_context → c.hooks ≡ []
 no_hooks n c t o h is own parent = grind (arith, nat_tests, has_at, false_from_ne_true, parent_root, quiet_at, cond-false)
 
--- a context is reset
-pub quiet_alone : (n : ℕ) (t : Contexts) → AreQuiet None t → AreQuiet None (ends.cleared_alone n t).contexts
-quiet_alone n t h = grind (arith, nat_tests, quiet_changed)
-
 -- a context moves that isn't one of the session itself
 pub quiet_moved : (n p : ℕ) (t : Contexts) → is_protected n t ≡ false → AreQuiet None t → AreQuiet None (moved n p t)
 quiet_moved n p t free h = grind (arith, nat_tests, quiet_put, both_ways, quiet_children, quiet_removed)
-
-pub quiet_reparented : (n p : ℕ) (t : Contexts) → is_protected n t ≡ false → AreQuiet None t → AreQuiet None (rules.reparented n p t)
-quiet_reparented n p t free h = grind (arith, nat_tests, quiet_moved)
 
 -- No hook waits on a context of the session itself below the one for caches, whatever a line does.
 
@@ -90,13 +77,7 @@ made_quiet : (parent n : ℕ) (name : Text) (kind : CtxKind) (protected : Bool) 
 made_quiet parent n name kind protected t h = quiet_put None parent n (new_context name kind protected) Empty t (λ o e own. refl) tt h
 
 quiet_leaves : ContextLeaves KeepsQuiet
-quiet_leaves = record {
-  gone = λ n. record { so = λ s. record { so = quiet_removed None n s.session.contexts } };
-  children = λ n. record { so = λ s. record { so = quiet_emptied None n s.session.contexts } };
-  alone = λ n. record { so = λ s. record { so = quiet_alone n s.session.contexts } };
-  cleared = λ n. record { so = λ s. record { so = λ k. quiet_alone n (ends.children_gone n s.session.contexts).contexts (quiet_emptied None n s.session.contexts k) } };
-  chunk = λ s n f h. record { so = quiet_changed None n f s.session.contexts (record { protected = h.protected; hooks = λ c none. h.hooks c ∙ none }) };
-}
+quiet_leaves = grind (arith, nat_tests, quiet_removed, quiet_emptied, quiet_changed)
 
 quiet_law : ContextLaw KeepsQuiet
 quiet_law = record {
@@ -110,8 +91,7 @@ quiet_ends = context_ends KeepsQuiet quiet_law
 
 -- the context of the first level of a list that is put together
 first_context : (levels : List LevelState) (n : ℕ) → context_of (first_of levels) ≡ Some n → IsContext n levels
-first_context [] n e = absurd (cc e)
-first_context (level ∷ levels) n e = inl e
+first_context levels n e = grind (arith, nat_tests)
 
 in_both : (xs ys : List LevelState) (n : ℕ) → IsContext n (xs ++ ys) → IsContext n xs ⊎ IsContext n ys
 in_both [] ys n i = inr i
@@ -161,20 +141,8 @@ named_elsewhere name s n h e own parent =
     go false false false false e = both_ways (is_protected n t) (script_free name t n h.contexts.once e) own
 
 -- a hook is registered, and a context moves
-hook_quiet : (n : ℕ) (hook : Hook) (s : Scene) → Stands s → (is_protected n s.session.contexts ≡ true → parent_of n s.session.contexts ≡ Some cache_context → ⊥) → KeepsQuiet s (hook_waits n hook s).scene (hook_waits n hook s).events
-hook_quiet n hook s h not_there = record {
-  so = λ k. quiet_changed_at None n (λ c. record c { used = true; hooks = hook ∷ c.hooks }) s.session.contexts h.contexts.once (λ c is. nowhere c is (is_root n s.session.contexts)) k;
-}
-  where
-    nowhere : (c : Context) → at n s.session.contexts ≡ Some c → (b : Bool) → (if b then None else parent_of n s.session.contexts) ≡ Some cache_context → c.protected ≡ true → hook ∷ c.hooks ≡ []
-    nowhere c is true e own = absurd (cc e)
-    nowhere c is false e own = absurd (not_there (ap (λ (x : Option Context). option_map_or (λ c. c.protected) x false) is ∙ own) e)
-
 quiet_moves : StandingMoves KeepsQuiet
-quiet_moves = record {
-  hooked = λ name n hook s h is first. hook_quiet n hook s h (named_elsewhere name s n h is);
-  shifted = λ n p s h may. record { so = quiet_reparented n p s.session.contexts may.free };
-}
+quiet_moves = grind (arith, nat_tests, quiet_changed_at, named_elsewhere, quiet_moved)
 
 pub quiet_owed : OwesTurns KeepsQuiet
 quiet_owed = owes_by KeepsQuiet quiet_ends (context_makes KeepsQuiet quiet_law) (λ error s. record { so = λ k. k }) (standing_moves KeepsQuiet quiet_ends.levels.leaves.acts quiet_moves)

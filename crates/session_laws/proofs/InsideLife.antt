@@ -1,19 +1,17 @@
 -- A line is read: its elements one by one, and what a recovery does.
 use Rattle.session_laws.proofs.Words.{◌≡◌, ℕ, Bool, true, false, not, if◌then◌else◌, List, [], ◌∷◌, ◌++◌, Option, Some, None, refl, sym, ap, ◌∙◌, subst, inl, inr, and_from, both_ways, nat_tests, arith}
 use Rattle.session_laws.proofs.Scenes.{Error, What, Command, LevelState, first_of, is_aborted, SessionState, opening, top_context, Moment, Scene, Around, Element, Ended, in_order, where_so, where_there, context_gone, for_each, say, switched, aborted, cleaned_up, given_up, level_rolled_back, recovered, exited, Done, does, does_all, then_done, Stands, StandsBetweenLines, line_elements, turn, turn_of, KindTable, table_of}
-use Rattle.session_laws.proofs.Rules.{allows_all, seen_after, allows_all-append, seen_after-append, rolled_stands, settled, AreSpoken, IsRun, Keeps, last, next, line_spoken, Meets, Runs, aborts, by_order}
-use Rattle.lifetime_laws.specs.Inside.{Leaving, awaited_behind, staying, nothing_leaving}
+use Rattle.session_laws.proofs.Rules.{allows_all, seen_after, allows_all-append, seen_after-append, rolled_stands, settled, AreSpoken, IsRun, Keeps, last, next, line_spoken, Meets, Runs, aborts, by_order, Leaving, awaited_behind, staying, nothing_leaving}
 use Rattle.session_rules.proofs.EndsStand.{Leaves as LeavesLevels}
 use Rattle.session_laws.proofs.Lives.{Reads, turn_keeps, IsLife, then_read, line_leads}
 use Rattle.session_laws.proofs.Parents.{FitsContexts}
 use Rattle.session_laws.proofs.ParentsLife.{KeepsContexts, contexts_end_leaves, KeepsOwners, contexts_owed, owners_owed, contexts_life, opening_contexts, opening_owners, owners_life}
 use Rattle.session_laws.proofs.OwnWork.{AreDue, ContextNext, Hushed, IsRest, OwnerNext, Stage, Working, above_of, line_due, stage_next, stage_of}
 use Rattle.session_laws.proofs.InsideWalk.{nothing_ends, AreBegun, Lessens, by_said, by_switch, inside_acts}
-use Rattle.session_laws.proofs.InsideHooks.{KeepsQuiet, quiet_ends, quiet_owed, AreQuiet}
+use Rattle.session_laws.proofs.InsideHooks.{KeepsQuiet, quiet_ends, quiet_owed}
 use Rattle.session_laws.proofs.InsideEnds.{contexts_fit, AbortRead, CleanRead, Halted, IsSoon}
-use Rattle.session_laws.proofs.InsideSteps.{IsLast, Active, AwaitsNothing, OneRead, At, KeepsTrees, Stepped, Trees, aborts_at, cleans_at, step_read, trees_behind, trees_element, word_stays, lessened}
+use Rattle.session_laws.proofs.InsideSteps.{Active, AwaitsNothing, OneRead, At, KeepsTrees, Stepped, Trees, aborts_at, cleans_at, step_read, trees_behind, trees_element, word_stays, lessened}
 use Rattle.pgs_step.specs.declared.events.What.TheVariants as what
-use Rattle.context_rules.specs.Opening as contexts
 
 -- where a line stands, somewhere or at its end
 pub record AtSome (leaving : Leaving) (s : Scene) : Type 0 where
@@ -35,8 +33,7 @@ pub record Walked (leaving : Leaving) (done : Done) : Type 0 where
 then_walked : (leaving : Leaving) (done : Done) (r : Option Error) (rest : Moment → Done) → done.refusal ≡ r → allows_all staying leaving done.events ≡ true → Trees (seen_after staying leaving done.events) done.moment.scene
     → (r ≡ None → Walked (seen_after staying leaving done.events) (rest done.moment)) → ((error : Error) → r ≡ Some error → AtSome (seen_after staying leaving done.events) done.moment.scene)
     → Walked leaving (then_done done r rest)
-then_walked leaving done None rest is allowed trees more stopped = grind (arith, nat_tests, seen_after-append, allows_all-append)
-then_walked leaving done (Some error) rest is allowed trees more stopped = grind (arith, nat_tests)
+then_walked leaving done r rest is allowed trees more stopped = grind (arith, nat_tests, seen_after-append, allows_all-append)
 
 -- elements in order are read
 pub walk : (w : Option ℕ) (xs : List Element) (stage : Stage) (m : Moment) (leaving : Leaving) → AreDue stage xs → AreSpoken false xs → IsRun Meets w xs m → Trees leaving m.scene → At stage leaving m.scene
@@ -56,18 +53,8 @@ pub record FitsInside (leaving : Leaving) (s : Scene) : Type 0 where
   pub trees : Trees leaving s
   pub at : At (stage_of s.session.levels) leaving s
 
-halted_of : (leaving : Leaving) (s : Scene) (level : LevelState) (levels : List LevelState) → s.session.levels ≡ level ∷ levels → level.aborted ≡ true → AwaitsNothing leaving s → Halted leaving s
-halted_of leaving s level levels are gone k = grind (arith, nat_tests)
-
-working_at : (leaving : Leaving) (s : Scene) (levels : List LevelState) → s.session.levels ≡ levels → AwaitsNothing leaving s → At (stage_of levels) leaving s
-working_at leaving s [] are k = k
-working_at leaving s (level ∷ levels) are k = grind (arith, nat_tests, halted_of)
-
-halted_at : (leaving : Leaving) (s : Scene) (k : Halted leaving s) → At (stage_of s.session.levels) leaving s
-halted_at leaving s k = subst (λ (ls : List LevelState). At (stage_of ls) leaving s) (sym k.are) (subst (λ (b : Bool). At (if b then Hushed else Working) leaving s) (sym k.aborted) k)
-
 pub rest_at : (leaving : Leaving) (s : Scene) → AtRest leaving s → At (stage_of s.session.levels) leaving s
-rest_at leaving s r = grind (arith, nat_tests, stage_of, working_at, halted_at)
+rest_at leaving s r = grind (arith, nat_tests, stage_of)
 
 one_nothing : {F : Leaving → Scene → Type 0} (leaving : Leaving) (s : Scene) → F leaving s → OneRead F leaving s []
 one_nothing leaving s k = record { allowed = refl; fits = k }
@@ -143,9 +130,7 @@ error_read error leaving s k = go k.stage k.at
     go ContextNext k =
         said k.active.ends
         (at_start_of k.is_last.level k.is_last.levels k.is_last.are k.is_last.unaborted (active_on error leaving s k.active) (inl (ap (awaited_behind (what.Error error)) k.awaited)))
-    go OwnerNext k =
-        said k.active.ends
-        (at_start_of k.is_last.level k.is_last.levels k.is_last.are k.is_last.unaborted (active_on error leaving s k.active) (inr (ap (awaited_behind (what.Error error)) k.awaited)))
+    go OwnerNext k = grind (arith, nat_tests, said, active_on)
     go Hushed k = let o : OneRead Halted leaving s (what.Error error ∷ []) = word_stays (what.Error error) s leaving (λ entry. refl) k in record { allowed = o.allowed; fits = in_end o.fits }
 
 -- what is left is at rest
@@ -241,11 +226,7 @@ turn_rests w line m leaving h k =
     turn_of_read leaving done done.refusal refl run.stands walked
 
 trees_turn : (w : Option ℕ) (line : Option Command) (m : Moment) → StandsBetweenLines m.scene → KeepsTrees m.scene (turn w line m).moment.scene (turn w line m).events
-trees_turn w line m h = record {
-  contexts = turn_keeps KeepsContexts contexts_owed w line m h;
-  owners = turn_keeps KeepsOwners owners_owed w line m h;
-  quiet = turn_keeps KeepsQuiet quiet_owed w line m h;
-}
+trees_turn w line m h = grind (arith, nat_tests, turn_keeps, contexts_owed, owners_owed, quiet_owed)
 
 -- A turn is read.
 pub turn_read : (w : Option ℕ) (line : Option Command) (m : Moment) → StandsBetweenLines m.scene → Reads staying FitsInside m.scene (turn w line m).moment.scene (turn w line m).events
@@ -264,25 +245,13 @@ turn_read w line m h = record {
 -- In the life of a session the end of a level that aborts names nothing outside the level.
 
 -- what was seen fits the same session in other surroundings
-last_elsewhere : (leaving : Leaving) (session : SessionState) (a b : Around) → IsLast leaving (record { session = session; around = a }) → IsLast leaving (record { session = session; around = b })
-last_elsewhere leaving session a b k = grind (arith, nat_tests)
-
-at_elsewhere : (stage : Stage) (leaving : Leaving) (session : SessionState) (a b : Around) → At stage leaving (record { session = session; around = a }) → At stage leaving (record { session = session; around = b })
-at_elsewhere Working leaving session a b k = assumption
-at_elsewhere ContextNext leaving session a b k = record { active = assumption; awaited = k.awaited; is_last = last_elsewhere leaving session a b k.is_last }
-at_elsewhere OwnerNext leaving session a b k = record { active = assumption; awaited = k.awaited; is_last = last_elsewhere leaving session a b k.is_last }
-at_elsewhere Hushed leaving session a b k = grind (arith, nat_tests)
-
 elsewhere_fits : (leaving : Leaving) (session : SessionState) (a b : Around) → FitsInside leaving (record { session = session; around = a }) → FitsInside leaving (record { session = session; around = b })
-elsewhere_fits leaving session a b k = grind (arith, nat_tests, at_elsewhere, stage_of)
+elsewhere_fits leaving session a b k = grind (arith, nat_tests, stage_of)
 
 -- a session as it opens
-quiet_opening : AreQuiet None contexts.opening
-quiet_opening = (λ e own. refl, (λ e own. refl, tt, (λ e own. refl, tt, (λ e own. refl, tt, (λ e own. refl, tt, tt)))), tt)
-
 opens_fit : (kinds : KindTable) (around : Around) → table_of around.kinds ≡ kinds → FitsInside nothing_leaving (record { session = opening; around = around })
 unfolding opening
-opens_fit kinds around same = grind (arith, nat_tests, opening_contexts, contexts_life, opening_owners, owners_life, quiet_opening)
+opens_fit kinds around same = grind (arith, nat_tests, opening_contexts, contexts_life, opening_owners, owners_life)
 
 -- an error that is said
 trees_said : (error : Error) (s : Scene) → KeepsTrees s s (what.Error error ∷ [])
@@ -302,12 +271,10 @@ error_at error s leaving levels are k = go levels k
         record { allowed = o.allowed; fits = record { stage = Hushed; rest = tt; at = o.fits } }
 
     by_bool : (b : Bool) → At (if b then Hushed else Working) leaving s → OneRead AtRest leaving s (what.Error error ∷ [])
-    by_bool true k = halts k
-    by_bool false k = said k
+    by_bool b k = grind (arith, nat_tests, halts, said)
 
     go : (levels : List LevelState) → At (stage_of levels) leaving s → OneRead AtRest leaving s (what.Error error ∷ [])
-    go [] k = said k
-    go (level ∷ levels) k = by_bool level.aborted k
+    go levels k = grind (arith, nat_tests, said, by_bool)
 
 error_stays : (error : Error) (s : Scene) → Reads staying FitsInside s s (what.Error error ∷ [])
 error_stays error s = record {
@@ -345,9 +312,7 @@ work_read level levels s leaving true h are e trees k =
     let c : CleanRead leaving s = cleans_at s leaving k trees.contexts trees.owners.tree trees.quiet in
     then_read {F = AwaitsNothing} {G = AwaitsNothing} staying leaving (cleaned_up s).scene (cleaned_up s).scene (cleaned_up s).events []
     (record { allowed = c.allowed; fits = record { active = record { sees = c.sees; ends = c.ends }; awaited = c.awaited } }) (λ j. record { allowed = refl; fits = j })
-work_read level levels s leaving false h are e trees k =
-    subst (λ (b : Bool). OneRead AwaitsNothing leaving (in_order (where_so (not b) aborted ∷ cleaned_up ∷ []) s).scene (in_order (where_so (not b) aborted ∷ cleaned_up ∷ []) s).events) e
-    (rolled_read level levels s leaving h are e trees k.active (inr k.awaited))
+work_read level levels s leaving false h are e trees k = grind (arith, nat_tests, rolled_read level levels s leaving h are e trees k.active (inr k.awaited))
 
 level_read : (level : LevelState) (levels : List LevelState) (s : Scene) (leaving : Leaving) → Stands s → s.session.levels ≡ level ∷ levels → Trees leaving s → At (stage_of (level ∷ levels)) leaving s
     → OneRead (LevelRead levels) leaving (level_rolled_back level s).scene (level_rolled_back level s).events
@@ -380,8 +345,7 @@ exit_read : (s : Scene) → StandsBetweenLines s → (leaving : Leaving) → Fit
 unfolding exited
 exit_read s h leaving k =
     let z : Scene = (for_each level_rolled_back s.session.levels s).scene in
-    let tail : Keeps Lessens (in_order (switched top_context ∷ context_gone top_context ∷ say what.Exit ∷ [])) =
-    by_order Lessens inside_acts (next (by_switch top_context) (next (inside_acts.gone top_context) (next (by_said what.Exit refl) last))) in
+    let tail : Keeps Lessens (in_order (switched top_context ∷ context_gone top_context ∷ say what.Exit ∷ [])) = grind (arith, nat_tests, by_order, inside_acts, next, by_switch, by_said, last) in
     let o : OneRead AwaitsNothing leaving z (for_each level_rolled_back s.session.levels s).events = levels_read s.session.levels s leaving h.stands refl k.trees k.at in
     let last_acts : Scene → Ended = in_order (switched top_context ∷ context_gone top_context ∷ say what.Exit ∷ []) in
     let t : Lessens z (last_acts z).scene (last_acts z).events = tail.so z in

@@ -1,14 +1,10 @@
 -- The end of one level, read by itself: what each event of it may name, and the events of contexts and owners that go.
-use Rattle.session_laws.proofs.Words.{◌≡◌, ℕ, ◌+◌, Bool, true, false, not, List, [], ◌∷◌, ◌++◌, map, Option, Some, refl, sym, ap, ◌∙◌, subst, inl, inr, arith, append-nil, append_assoc, ◌-◌, if◌then◌else◌, None, ◌==◌, ◌&&◌, ◌||◌, filter, option_to_list, ◌⊎◌, nat_lt, list_all, and_from, and_parts, cases_eq, eq-eqb, eqb-true, or_cases, or_left, or_right, Forest, Empty, Node, Once, children, has, is_above, removed, size, at, subtree, order, order_at, has_children, at_absent, children_absent, left_apart, removed_absent, nat_tests}
-use Rattle.session_laws.proofs.Scenes.{What, Hook, Contexts, Context, callbacks, gone_events, Item, Phase, BeforeLocks, Locks, AfterLocks, Lock, owner_count, table_of, KindTable, Owner, own_released, released, Step, ReleasesLocks, ReleasesAllLocks, release_steps, StandingPlan, Scene, plan_at, plan_changed, plans_but, Ended, for_each, where_there, Keeper, NoOne, TheDescriptors, TheKind, ThePlans, descriptor_left, given_back, left_to, owner_released, phase_released, plan_becomes, plan_left, plan_settled, plan_stays, step_done}
-use Rattle.session_laws.proofs.Rules.{Reader, allows_all, is_one_of, seen_after, allows_all-append, seen_after-append, at_left, once_left}
+use Rattle.session_laws.proofs.Words.{◌≡◌, ℕ, ◌+◌, Bool, true, false, not, List, [], ◌∷◌, ◌++◌, map, Option, Some, refl, sym, ap, ◌∙◌, subst, arith, append-nil, append_assoc, ◌-◌, if◌then◌else◌, None, ◌==◌, ◌&&◌, filter, option_to_list, ◌⊎◌, nat_lt, list_all, and_from, and_parts, eq-eqb, eqb-true, or_cases, or_left, or_right, Forest, Empty, Node, Once, children, has, is_above, removed, size, at, subtree, order, order_at, has_children, at_absent, children_absent, left_apart, removed_absent, nat_tests}
+use Rattle.session_laws.proofs.Scenes.{What, Hook, Contexts, Context, callbacks, gone_events, Item, Phase, BeforeLocks, Locks, AfterLocks, Lock, owner_count, table_of, KindTable, own_released, released, Step, ReleasesLocks, ReleasesAllLocks, release_steps, StandingPlan, Scene, plan_at, plan_changed, plans_but, Ended, for_each, where_there, Keeper, NoOne, TheDescriptors, TheKind, ThePlans, descriptor_left, given_back, left_to, owner_released, phase_released, plan_becomes, plan_left, plan_settled, plan_stays, step_done}
+use Rattle.session_laws.proofs.Rules.{Reader, allows_all, is_one_of, seen_after, allows_all-append, seen_after-append, at_left, once_left, is_there-without_other, Awaited, Begun, Leaving, Neither, awaited_behind, begun_behind, contexts_inside, ends_behind, ends_with, is_within_some, owners_inside, plans_behind, staying, with_end, Node as Kept, is_there, is_within, without, lone_left}
 use Rattle.session_laws.proofs.StepsOf.{AreOf, no_step, numbers_of, passes, steps_of, unlocks, unlocks_all, warns, gives_up}
-use Rattle.lifetime_laws.specs.Parents.{Node as Kept, is_there, is_within, placed, placed_where, without}
-use Rattle.lifetime_laws.proofs.Replays.{is_there-placed_other, is_there-placed_same, is_there-without_other}
-use Rattle.lifetime_laws.specs.Inside.{Awaited, Begun, Leaving, Neither, awaited_behind, begun_behind, contexts_inside, ends_behind, ends_with, is_within_some, owners_inside, plans_behind, staying, with_end}
 use Rattle.session_laws.proofs.Parents.{by_children, FitsTree, fits_gone, same_within, alike_swept}
 use Rattle.pgs_step.specs.declared.ids.TheConstants.KindId.{PLAN_REFERENCE, FILE, FIRST_EXTENSION}
-use Rattle.session_rules.proofs.Lone.{lone_left}
 use Rattle.session_laws.proofs.Lives.{IsRead, Reads, read_both, read_none}
 use Rattle.session_laws.proofs.ParentsLife.{fits_alike}
 use Rattle.pgs_step.specs.declared.events.What.TheVariants as what
@@ -41,24 +37,20 @@ filter_in entry test [] h = tt
 filter_in entry test (level ∷ levels) h = grind (arith, nat_tests, filter_in entry test levels h.1)
 
 no_more_ends : (event : What) (levels ends : List Begun) → is_edge event ≡ false → with_end event levels ends ≡ ends
-no_more_ends (what.AbortLevel level) levels ends h = absurd (cc h)
-no_more_ends other levels ends h = refl
+no_more_ends event levels ends h = grind (arith, nat_tests)
 
 pub next_in : (entry : Begun) (event : What) (leaving : Leaving) → is_edge event ≡ false → InEnd entry leaving.ends → InEnd entry (ends_behind event leaving.begun leaving.ends)
 next_in entry event leaving h k =
     subst (InEnd entry) (sym (no_more_ends event leaving.begun (filter (λ level. not (ends_with event level)) leaving.ends) h)) (filter_in entry (λ level. not (ends_with event level)) leaving.ends k)
 
 no_more_begun : (event : What) (awaited : Awaited) (levels : List Begun) → is_edge event ≡ false → begun_behind event awaited levels ≡ levels
-no_more_begun (what.BeginLevel level) awaited levels h = absurd (cc h)
-no_more_begun other awaited levels h = cc
+no_more_begun event awaited levels h = grind (arith, nat_tests)
 
 no_more_plans : (event : What) (plans : List ℕ) → is_edge event ≡ false → plans_behind event plans ≡ plans
-no_more_plans (what.Create context name parent) plans h = absurd (cc h)
-no_more_plans other plans h = refl
+no_more_plans event plans h = grind (arith, nat_tests)
 
 none_awaited : (event : What) → is_edge event ≡ false → awaited_behind event Neither ≡ Neither
-none_awaited (what.BeginLevel level) h = absurd (cc h)
-none_awaited other h = refl
+none_awaited event h = grind (arith, nat_tests)
 
 -- the end is over where the level's context isn't there
 abbrev pub IsOver : Begun → Leaving → Type 0
@@ -69,25 +61,12 @@ none_left entry test [] h out = refl
 none_left entry test (level ∷ levels) h out =
     rw (ap test h.0 ∙ out) (none_left entry test levels h.1 out)
 
-away_placed : (c m : ℕ) (b : Bool) (parent : Option ℕ) (nodes : List Kept) → is_there c (placed_where b m parent nodes) ≡ false → is_there c nodes ≡ false
-away_placed c m false parent nodes h = h
-away_placed c m true parent nodes h = elim (cases_eq c m) [
-  | inl e ↦
-      let bad : true ≡ false = sym (ap (λ (x : ℕ). is_there x (placed m parent nodes)) e ∙ is_there-placed_same m parent nodes) ∙ h in
-      absurd (cc bad)
-  | inr ne ↦ sym (is_there-placed_other c m parent nodes ne) ∙ h
-]
-
 -- so it is behind each event
 empty_ends : (event : What) (begun ends : List Begun) → is_edge event ≡ false → ends ≡ [] → ends_behind event begun ends ≡ []
 empty_ends event begun ends h e = ap (ends_behind event begun) e ∙ no_more_ends event begun [] h
 
 pub next_over : (entry : Begun) (event : What) (leaving : Leaving) → is_edge event ≡ false → InEnd entry leaving.ends → IsOver entry leaving → IsOver entry (staying.next event leaving)
-next_over entry (what.Create context name parent) leaving h k o c is away = absurd (cc h)
-next_over entry (what.Move context parent) leaving h k o c is away =
-    empty_ends (what.Move context parent) leaving.begun leaving.ends h (o c is (away_placed c context (is_there context leaving.parents.contexts && is_there parent leaving.parents.contexts) (Some parent) leaving.parents.contexts away))
-next_over entry (what.Delete context) leaving h k o c is away = grind (arith, nat_tests, none_left, eq-eqb, empty_ends, is_there-without_other)
-next_over entry other leaving h k o c is away = empty_ends other leaving.begun leaving.ends h (o c is away)
+next_over entry event leaving h k o c is away = grind (arith, nat_tests, empty_ends, none_left, eq-eqb, is_there-without_other)
 
 pub all_in : (test : Begun → Bool) (entry : Begun) (ends : List Begun) → InEnd entry ends → test entry ≡ true → list_all test ends ≡ true
 all_in test entry [] h k = refl
@@ -104,14 +83,12 @@ pub record Stayed (entry : Begun) (leaving : Leaving) (events : List What) : Typ
   pub closed : leaving.ends ≡ [] → (seen_after staying leaving events).ends ≡ []
 
 no_edge : (b : Bool) → not b ≡ true → b ≡ false
-no_edge true h = absurd (cc h)
-no_edge false h = refl
+no_edge b h = grind (arith, nat_tests)
 
 pub confined_stays : (entry : Begun) (leaving : Leaving) (events : List What) → InEnd entry leaving.ends → allows_all (confined entry) leaving events ≡ true → Stayed entry leaving events
 confined_stays entry leaving [] k h = record { allowed = refl; ends = k; begun = refl; plans = refl; awaited = λ aw. aw; over = λ o. o; closed = λ e. e }
 confined_stays entry leaving (event ∷ events) k h =
-    let p : ((is_confined entry event leaving && not (is_edge event)) ≡ true) × (allows_all (confined entry) (staying.next event leaving) events ≡ true) =
-    and_parts (is_confined entry event leaving && not (is_edge event)) (allows_all (confined entry) (staying.next event leaving) events) h in
+    let p : ((is_confined entry event leaving && not (is_edge event)) ≡ true) × (allows_all (confined entry) (staying.next event leaving) events ≡ true) = grind (arith, nat_tests, and_parts) in
     let q : (is_confined entry event leaving ≡ true) × (not (is_edge event) ≡ true) = and_parts (is_confined entry event leaving) (not (is_edge event)) p.0 in
     let calm : is_edge event ≡ false = no_edge (is_edge event) q.1 in
     let more : Stayed entry (staying.next event leaving) events =
@@ -198,13 +175,7 @@ module _ (entry : Begun) (root : ℕ) (one : is_one_of root (roots_of entry) ≡
   callbacks_confined n (hook ∷ hooks) leaving rest h k =
       let more : Confined entry root (staying.next (what.Callback hook.word n) leaving) rest (callbacks n hooks) =
       callbacks_confined n hooks (staying.next (what.Callback hook.word n) leaving) rest h k in
-      record {
-        allowed = and_from ((true && (false || list_all (is_within_some (roots_of entry) (λ root n. is_within root n leaving.parents.contexts)) (n ∷ []))) && true) _
-            (and_from _ true (context_confined entry leaving root n one h) refl) more.allowed;
-        left = more.left;
-        owners = more.owners;
-        plans = more.plans;
-      }
+      grind (arith, nat_tests, and_from, context_confined)
 
   deleted_confined : (n : ℕ) (leaving : Leaving) (rest : List ℕ) → GoInside root leaving.parents.contexts (n ∷ rest) → Confined entry root leaving rest (what.Delete n ∷ [])
   deleted_confined n leaving rest h = grind (arith, nat_tests, and_from, or_right, context_confined)
@@ -316,9 +287,6 @@ module _ (entry : Begun) (root : ℕ) (own : entry.owner ≡ Some root) (nodes :
     fits : InRelease root nodes leaving s
     left : leaving.plan_left ≡ true
 
-  plan_deleted : (n : ℕ) (leaving : Leaving) → leaving.plan_left ≡ true → is_one_of n leaving.plans ≡ true → (confined entry).allows (what.Delete n) leaving ≡ true
-  plan_deleted n leaving left known = grind (arith, nat_tests, and_from, or_left)
-
   gone_behind : (leaving : Leaving) (s : Scene) (p q : StandingPlan) (n : ℕ) → Behind leaving s → plan_at n s.session.plans ≡ Some p → q.context ≡ p.context
       → IsRead (confined entry) (InRelease root nodes) leaving (plan_settled q s).scene (plan_settled q s).events
   gone_behind leaving s p q n b is same =
@@ -327,17 +295,8 @@ module _ (entry : Begun) (root : ℕ) (own : entry.owner ≡ Some root) (nodes :
       let found : Found p t leaving.plans = bare_at n p t leaving.plans s.session.plans is b.fits.plans in
       let bare : IsBare k t = subst (λ (m : ℕ). IsBare m t) (sym same) found.bare in
       let known : is_one_of k leaving.plans ≡ true = ap (λ (m : ℕ). is_one_of m leaving.plans) same ∙ found.known_is in
-      let plans : AreBare (plans_but q.number s.session.plans) (removed k t) leaving.plans =
-      bare_but q.number (removed k t) leaving.plans s.session.plans (still_bare k t leaving.plans b.fits.once s.session.plans b.fits.plans) in
-      let read : (events : List What) → (events ≡ []) ⊎ (events ≡ what.Delete k ∷ []) → IsRead (confined entry) (InRelease root nodes) leaving (plan_settled q s).scene events = λ events e. elim e [
-        | inl none ↦ subst (IsRead (confined entry) (InRelease root nodes) leaving (plan_settled q s).scene) (sym none) (record { allowed = refl; fits = record { owners = b.fits.owners; tree = b.fits.tree; once = once_left k t b.fits.once; plans = plans } })
-        | inr one ↦
-            subst (IsRead (confined entry) (InRelease root nodes) leaving (plan_settled q s).scene) (sym one)
-            (record {
-              allowed = and_from ((confined entry).allows (what.Delete k) leaving) true (plan_deleted k leaving b.left known) refl;
-              fits = record { owners = b.fits.owners; tree = b.fits.tree; once = once_left k t b.fits.once; plans = plans };
-            })
-      ] in
+      let plans : AreBare (plans_but q.number s.session.plans) (removed k t) leaving.plans = grind (arith, nat_tests, bare_but, still_bare) in
+      let read : (events : List What) → (events ≡ []) ⊎ (events ≡ what.Delete k ∷ []) → IsRead (confined entry) (InRelease root nodes) leaving (plan_settled q s).scene events = grind (arith, nat_tests, once_left, and_from) in
       subst (IsRead (confined entry) (InRelease root nodes) leaving (plan_settled q s).scene) (sym (append-nil (gone_events (subtree k t)))) (read (gone_events (subtree k t)) (bare_gone k t bare))
 
   stays_behind : (leaving : Leaving) (s : Scene) (p q : StandingPlan) (n : ℕ) → Behind leaving s → plan_at n s.session.plans ≡ Some p → q.context ≡ p.context
@@ -345,23 +304,14 @@ module _ (entry : Begun) (root : ℕ) (own : entry.owner ≡ Some root) (nodes :
   stays_behind leaving s p q n b is same =
       let t : Contexts = s.session.contexts in
       let found : Found p t leaving.plans = bare_at n p t leaving.plans s.session.plans is b.fits.plans in
-      record {
-        allowed = refl;
-        fits = record {
-          owners = b.fits.owners;
-          tree = b.fits.tree;
-          once = b.fits.once;
-          plans = bare_changed q.number q t leaving.plans (ap (λ (m : ℕ). is_one_of m leaving.plans) same ∙ found.known_is) (subst (λ (m : ℕ). IsBare m t) (sym same) found.bare) s.session.plans b.fits.plans;
-        };
-      }
+      grind (arith, nat_tests, bare_changed)
 
   plan_behind : (n : ℕ) (leaving : Leaving) (s : Scene) → Behind leaving s → IsRead (confined entry) (InRelease root nodes) leaving (plan_left n s).scene (plan_left n s).events
   plan_behind n leaving s b = go (plan_at n s.session.plans) refl
     where
       by : (d : Bool) (q : StandingPlan) → IsRead (confined entry) (InRelease root nodes) leaving (plan_settled q s).scene (plan_settled q s).events → IsRead (confined entry) (InRelease root nodes) leaving (plan_stays q s).scene (plan_stays q s).events
           → IsRead (confined entry) (InRelease root nodes) leaving (elim d as (λ _. Ended) [ true ↦ plan_settled q s | false ↦ plan_stays q s ]).scene (elim d as (λ _. Ended) [ true ↦ plan_settled q s | false ↦ plan_stays q s ]).events
-      by true q a c = a
-      by false q a c = c
+      by d q a c = grind (arith, nat_tests)
 
       go : (o : Option StandingPlan) → plan_at n s.session.plans ≡ o
           → IsRead (confined entry) (InRelease root nodes) leaving (where_there o (λ plan. plan_becomes (record plan { references = plan.references - 1 })) s).scene (where_there o (λ plan. plan_becomes (record plan { references = plan.references - 1 })) s).events
@@ -376,9 +326,7 @@ module _ (entry : Begun) (root : ℕ) (own : entry.owner ≡ Some root) (nodes :
 
   other_left : (a b : Bool) (place key : ℕ) (s : Scene)
       → Released s (left_to (if a then TheDescriptors else (if b then NoOne else TheKind place)) key s).scene (left_to (if a then TheDescriptors else (if b then NoOne else TheKind place)) key s).events
-  other_left true b place key s = closed_so key s
-  other_left false true place key s = read_none (confined entry) (InRelease root nodes) s
-  other_left false false place key s = passing s _ [] refl refl refl (λ leaving k. pass_none leaving)
+  other_left a b place key s = grind (arith, nat_tests, closed_so, read_none, passing, pass_none)
 
   given_behind : (item : Item) (leaving : Leaving) (s : Scene) → InRelease root nodes leaving s → leaving.plan_left ≡ (item.kind.0 == PLAN_REFERENCE.0)
       → IsRead (confined entry) (InRelease root nodes) leaving (given_back item s).scene (given_back item s).events
@@ -449,6 +397,4 @@ module _ (entry : Begun) (root : ℕ) (own : entry.owner ≡ Some root) (nodes :
       let a : Scene = (phase_released false top root BeforeLocks s).scene in
       let b : Scene = (phase_released false top root Locks a).scene in
       let c : Scene = (phase_released false top root AfterLocks b).scene in
-      read_both (confined entry) (InRelease root nodes) (phase_read top BeforeLocks s here)
-      (read_both (confined entry) (InRelease root nodes) (phase_read top Locks a here)
-      (read_both (confined entry) (InRelease root nodes) (phase_read top AfterLocks b here) (read_none (confined entry) (InRelease root nodes) c)))
+      grind (arith, nat_tests, read_both, phase_read top BeforeLocks s here, phase_read top Locks a here, phase_read top AfterLocks b here, read_none (confined entry) (InRelease root nodes) c)

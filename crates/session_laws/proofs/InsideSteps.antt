@@ -1,10 +1,8 @@
 -- What is seen of a level that is being made.
 use Rattle.session_laws.proofs.Words.{◌≡◌, ◌≢◌, ℕ, ◌+◌, ◌<◌, Bool, true, false, not, List, [], ◌∷◌, map, length, Option, Some, None, refl, sym, ap, ◌∙◌, subst, inr, arith, ◌==◌, ◌||◌, codes, filter, drop, and_from, eq-eqb, eqb-true, ne_eqb, or_left, nat_tests}
-use Rattle.session_laws.proofs.Scenes.{What, LevelState, OpenPortal, StandingPlan, deepest_changed, level_above, owner_of, depth, level_context, top_context, Scene, Moment, LevelContext, OfLevel, Text, Element, NewContext, OwnerRole, level_context_name, level_made, level_parent, new_context_made, new_owner_made, made_event, Error, failure, Ended, changes, for_each, in_order, nothing, say, switched, where_there, level_stands, portal_closed, portal_passed, aborted, cleaned_up, committed, empty_context_gone, level_context_gone, level_owner_gone, level_released, stack_lowered, stack_popped, subcommitted, switched_up, Done, fallible, refused_call, unfailing, unless_refused, does, Stands}
-use Rattle.session_laws.proofs.Rules.{allows_all, is_one_of, seen_after, settled, Follows, IsSpoken, Keeps, last, next, Meets, by_each, by_order, element_follows, empty_context_goes, level_context_goes, level_releases, portal_closes, portal_passes, said_none}
-use Rattle.lifetime_laws.specs.Inside.{Awaited, Begun, ItsContext, ItsOwner, Leaving, Neither, awaited_behind, bare_level, ends_behind, is_named, last_changed, level_begun, plans_behind, staying, with_context, with_owner, with_portal}
-use Rattle.session_laws.proofs.InsideWalk.{AreBegun, AreKnown, AreSeen, Grows, Sees, begun_still, grows_either, has_begun, known_still, level_here, level_later, nothing_ends, plans_grow, seen_still, AreLow, Calming, Kept, Lessens, Seen, Works, calm_all, lessens_sees, by_moved, by_said, by_switch, inside_acts, inside_phase, inside_released, inside_stack, unmoved, element_works, low_of}
-use Rattle.lifetime_laws.specs.Parents.{Node as Replayed, owners_behind}
+use Rattle.session_laws.proofs.Scenes.{What, LevelState, OpenPortal, deepest_changed, level_above, owner_of, depth, top_context, Scene, Moment, LevelContext, OfLevel, Text, Element, NewContext, OwnerRole, level_context_name, level_made, level_parent, new_context_made, new_owner_made, made_event, Error, failure, Ended, for_each, in_order, nothing, say, switched, level_stands, portal_closed, portal_passed, aborted, cleaned_up, committed, empty_context_gone, level_context_gone, level_owner_gone, level_released, stack_lowered, stack_popped, subcommitted, switched_up, Done, fallible, refused_call, unfailing, unless_refused, does, Stands}
+use Rattle.session_laws.proofs.Rules.{allows_all, is_one_of, seen_after, settled, Follows, IsSpoken, Keeps, last, next, Meets, by_each, by_order, element_follows, empty_context_goes, level_context_goes, level_releases, portal_closes, portal_passes, said_none, Awaited, Begun, ItsContext, ItsOwner, Leaving, Neither, awaited_behind, bare_level, ends_behind, is_named, last_changed, level_begun, staying, with_owner, with_portal, Node as Replayed, owners_behind}
+use Rattle.session_laws.proofs.InsideWalk.{AreBegun, AreSeen, Grows, Sees, begun_still, grows_either, has_begun, known_still, level_here, level_later, nothing_ends, seen_still, AreLow, Calming, Kept, Lessens, Seen, Works, calm_all, lessens_sees, by_moved, by_said, by_switch, inside_acts, inside_phase, inside_released, inside_stack, unmoved, element_works, low_of}
 use Rattle.session_laws.proofs.Lives.{IsRead}
 use Rattle.session_laws.proofs.Parents.{FitsContexts, FitsOwners, FitsTree, Growth, growing_owners}
 use Rattle.session_laws.proofs.ParentsLife.{KeepsContexts, HasOwners, KeepsOwners, contexts_owed, owners_owed}
@@ -140,8 +138,7 @@ module _ (s : Scene) (leaving : Leaving) where
       let changed : List Begun = gets_context c l.first ∷ l.rest in
       let behind : List Begun = with_portal name c changed in
       let grows : Grows changed behind = grows_either (is_named name (codes "PortalContext")) c changed in
-      let is : (staying.next (what.Create c name parent) leaving).begun ≡ behind =
-      ap (λ (a : Awaited). with_portal name c (with_context a c leaving.begun)) aw ∙ ap (λ (b : List Begun). with_portal name c (last_changed (gets_context c) b)) l.begun in
+      let is : (staying.next (what.Create c name parent) leaving).begun ≡ behind = grind (arith, nat_tests) in
       let head = portal_head (is_named name (codes "PortalContext")) c n (gets_context c l.first) l.rest l.number in
       let were : AreBegun (l.level ∷ l.levels) (l.first ∷ l.rest) = subst (AreBegun (l.level ∷ l.levels)) l.begun (subst (λ (ls : List LevelState). AreBegun ls leaving.begun) l.are k.begun) in
       let own : level_begun n changed ≡ gets_context c l.first = altered_here (gets_context c) (alters_context c) n l.first l.rest l.number in
@@ -156,30 +153,7 @@ module _ (s : Scene) (leaving : Leaving) where
       ) in
       let seen : AreSeen s.session.portals changed =
       altered_seen (gets_context c) (alters_context c) n l.first l.rest l.number s.session.portals (subst (AreSeen s.session.portals) l.begun k.portals) in
-      record {
-        active = record {
-          sees = record {
-            begun = subst (λ (ls : List LevelState). AreBegun ls (staying.next (what.Create c name parent) leaving).begun) (sym levels)
-                (subst (AreBegun (record l.level { context = Some c } ∷ l.levels)) (sym is) (begun_still changed behind grows (record l.level { context = Some c } ∷ l.levels) now));
-            portals = subst (λ (ps : List OpenPortal). AreSeen ps (staying.next (what.Create c name parent) leaving).begun) (sym portals)
-                (subst (AreSeen s.session.portals) (sym is) (seen_still changed behind grows s.session.portals seen));
-            plans = subst (λ (x : List StandingPlan). AreKnown x (plans_behind (what.Create c name parent) leaving.plans)) (sym plans)
-                (known_still leaving.plans (plans_behind (what.Create c name parent) leaving.plans) (plans_grow (what.Create c name parent) leaving.plans) s.session.plans k.plans);
-          };
-          ends = ap (ends_behind (what.Create c name parent) leaving.begun) e;
-        };
-        awaited = ap (awaited_behind (what.Create c name parent)) aw;
-        is_last = record {
-          level = record l.level { context = Some c };
-          levels = l.levels;
-          are = levels;
-          unaborted = l.unaborted;
-          first = head.0.0;
-          rest = head.0.1;
-          begun = is ∙ head.1;
-          number = head.2;
-        };
-      }
+      grind (arith, nat_tests, next, begun_still, seen_still, known_still)
 
   pub context_begins : AwaitsContext leaving s → OneRead AwaitsOwner leaving (new_context_made LevelContext s).scene (new_context_made LevelContext s).events
   context_begins k =
@@ -209,17 +183,7 @@ module _ (s : Scene) (leaving : Leaving) where
       ) in
       let seen : AreSeen s.session.portals changed =
       altered_seen (gets_owner o) (alters_owner o) n l.first l.rest l.number s.session.portals (subst (AreSeen s.session.portals) l.begun k.portals) in
-      record {
-        active = record {
-          sees = record {
-            begun = subst (λ (ls : List LevelState). AreBegun ls (staying.next event leaving).begun) (sym levels) (subst (AreBegun (record l.level { owner = Some o } ∷ l.levels)) (sym is) now);
-            portals = subst (λ (ps : List OpenPortal). AreSeen ps (staying.next event leaving).begun) (sym portals) (subst (AreSeen s.session.portals) (sym is) seen);
-            plans = subst (λ (x : List StandingPlan). AreKnown x (staying.next event leaving).plans) (sym plans) (subst (AreKnown s.session.plans) (sym known) k.plans);
-          };
-          ends = ends;
-        };
-        awaited = aw;
-      }
+      grind (arith, nat_tests, next)
 
   pub owner_begins : AwaitsOwner leaving s → OneRead AwaitsNothing leaving (new_owner_made OfLevel s).scene (new_owner_made OfLevel s).events
   owner_begins k = go (owner_of (level_above s.session))
@@ -293,8 +257,7 @@ pub record Stepped (F G : Leaving → Scene → Type 0) (leaving : Leaving) (don
 
 unless_step : {F G : Leaving → Scene → Type 0} (refusal : Option Error) (m : Moment) (act : Scene → Ended) (leaving : Leaving) → F leaving m.scene → OneRead G leaving (act m.scene).scene (act m.scene).events
     → Stepped F G leaving (unless_refused refusal m act)
-unless_step None m act leaving k one = record { allowed = one.allowed; passed = λ e. one.fits; stopped = λ error e. absurd (cc e) }
-unless_step (Some error) m act leaving k one = record { allowed = refl; passed = λ e. absurd (cc e); stopped = λ error e. k }
+unless_step refusal m act leaving k one = grind (arith, nat_tests)
 
 fallible_step : {F G : Leaving → Scene → Type 0} (w : Option ℕ) (m : Moment) (own : Option Error) (act : Scene → Ended) (leaving : Leaving) → F leaving m.scene → OneRead G leaving (act m.scene).scene (act m.scene).events
     → Stepped F G leaving (fallible w m own act)
@@ -323,40 +286,15 @@ lessened s t u events leaving l portals plans levels k =
     let c : Calming leaving events = calm_all l.calm leaving k.active.ends in
     let now : Leaving = seen_after staying leaving events in
     let kept : Kept now t = lessens_sees s t events leaving l k.active.sees k.awaited in
-    record {
-      allowed = c.allowed;
-      fits = record {
-        active = record {
-          sees = record {
-            begun = levels now.begun (subst (λ (ls : List LevelState). AreBegun ls now.begun) l.levels kept.sees.begun);
-            portals = subst (λ (ps : List OpenPortal). AreSeen ps now.begun) (sym portals) kept.sees.portals;
-            plans = subst (λ (ps : List StandingPlan). AreKnown ps now.plans) (sym plans) kept.sees.plans;
-          };
-          ends = c.ends;
-        };
-        awaited = kept.awaited;
-      };
-    }
+    grind (arith, nat_tests)
 
 -- the level that was started stands
 stands_step : (s : Scene) (leaving : Leaving) → AwaitsNothing leaving s → OneRead AwaitsNothing leaving (level_stands s).scene (level_stands s).events
-stands_step s leaving k = go (level_context s.session)
-  where
-    started : (levels : List LevelState) (begun : List Begun) → AreBegun levels begun → AreBegun (deepest_changed (λ level. record level { starting = false }) levels) begun
-    started [] begun h = tt
-    started (level ∷ levels) begun h = (record { there = h.0.there; context = h.0.context; owner = h.0.owner }, h.1)
-
-    act : Scene → Ended
-    act = changes (λ session. record session { levels = deepest_changed (λ level. record level { starting = false }) session.levels })
-
-    go : (o : Option ℕ) → OneRead AwaitsNothing leaving (in_order (where_there o switched ∷ act ∷ []) s).scene (in_order (where_there o switched ∷ act ∷ []) s).events
-    go None = lessened s s _ [] leaving (unmoved s s [] refl refl refl said_none) refl refl (started s.session.levels) k
-    go (Some c) = lessened s (switched c s).scene _ [] leaving ((by_switch c).so s) refl refl (started s.session.levels) k
+stands_step s leaving k = grind (arith, nat_tests, lessened, unmoved, said_none, by_switch)
 
 -- the ends of levels that commit
 outer : (levels : List LevelState) (begun : List Begun) → AreBegun levels begun → AreBegun (drop 1 levels) begun
-outer [] begun h = tt
-outer (level ∷ levels) begun h = h.1
+outer levels begun h = grind (arith, nat_tests)
 
 commit_step : (s : Scene) (leaving : Leaving) → AwaitsNothing leaving s → OneRead AwaitsNothing leaving (committed s).scene (committed s).events
 commit_step s leaving k =
@@ -396,7 +334,7 @@ pub aborts_at : (level : LevelState) (levels : List LevelState) (s : Scene) (lea
 aborts_at level levels s leaving h are trees k soon =
     let stands : Stands (settled (level ∷ levels) s) = subst (λ (ls : List LevelState). Stands (settled ls s)) are h in
     let may : MayEnd leaving (settled (level ∷ levels) s) = subst (λ (ls : List LevelState). MayEnd leaving (settled ls s)) are (may_end leaving s trees k.sees) in
-    subst (λ (ls : List LevelState). AbortRead leaving (settled ls s)) (sym are) (aborts_read level levels s stands leaving may k.ends soon)
+    subst (λ (ls : List LevelState). AbortRead leaving (settled ls s)) (sym are) (aborts_read level levels s leaving may stands k.ends soon)
 
 -- a level that is in its end is cleaned up
 pub cleans_at : (s : Scene) (leaving : Leaving) (k : Halted leaving s) → FitsContexts leaving.parents.contexts s → FitsTree leaving.parents.owners s.session.owners → AreQuiet None s.session.contexts → CleanRead leaving s
@@ -420,30 +358,10 @@ word_stays event s leaving h k =
     let stayed : Stayed entry leaving (event ∷ []) = confined_stays entry leaving (event ∷ []) k.ends (h entry) in
     let now : Leaving = seen_after staying leaving (event ∷ []) in
     let same : entry ≡ level_begun (length k.levels + 1) now.begun = ap (level_begun (length k.levels + 1)) (sym stayed.begun) in
-    record {
-      allowed = stayed.allowed;
-      fits = record {
-        level = k.level;
-        levels = k.levels;
-        are = k.are;
-        aborted = k.aborted;
-        sees = record {
-          begun = subst (AreBegun s.session.levels) (sym stayed.begun) k.sees.begun;
-          portals = subst (AreSeen s.session.portals) (sym stayed.begun) k.sees.portals;
-          plans = subst (AreKnown s.session.plans) (sym stayed.plans) k.sees.plans;
-        };
-        awaited = stayed.awaited k.awaited;
-        ends = subst (λ (b : Begun). InEnd b now.ends) same stayed.ends;
-        over = subst (λ (b : Begun). IsOver b now) same (stayed.over k.over);
-      };
-    }
+    grind (arith, nat_tests)
 
 said_confined : (event : What) → IsSaid event → (leaving : Leaving) (entry : Begun) → allows_all (confined entry) leaving (event ∷ []) ≡ true
-said_confined (what.Fetched name rows) h leaving entry = refl
-said_confined what.AlreadyInTransaction h leaving entry = refl
-said_confined what.NotInTransaction h leaving entry = refl
-said_confined what.Ok h leaving entry = refl
-said_confined other h leaving entry = elim h [ ]
+said_confined event h leaving entry = grind (arith, nat_tests)
 
 -- an element of an active session
 lively_step : (w : Option ℕ) (x : Element) (m : Moment) (leaving : Leaving) → Meets x m.scene → IsLively x → Trees leaving m.scene → AwaitsNothing leaving m.scene → Stepped AwaitsNothing (At (working_next x)) leaving (does w x m)
@@ -470,8 +388,7 @@ hushed_step w other m leaving own trees k = elim own [ ]
 -- what is made for a level
 new_step : (w : Option ℕ) (new : NewContext) (m : Moment) (leaving : Leaving) → IsLevelContext (e.MakeContext new) → AwaitsContext leaving m.scene → Stepped AwaitsContext AwaitsOwner leaving (does w (e.MakeContext new) m)
 unfolding does
-new_step w LevelContext m leaving own k = fallible_step {F = AwaitsContext} {G = AwaitsOwner} w m _ (new_context_made LevelContext) leaving k (context_begins m.scene leaving k)
-new_step w other m leaving own k = elim own [ ]
+new_step w new m leaving own k = grind (arith, nat_tests, fallible_step, context_begins)
 
 context_step : (w : Option ℕ) (x : Element) (m : Moment) (leaving : Leaving) → IsLevelContext x → AwaitsContext leaving m.scene → Stepped AwaitsContext AwaitsOwner leaving (does w x m)
 context_step w (e.MakeContext new) m leaving own k = new_step w new m leaving own k
@@ -479,8 +396,7 @@ context_step w other m leaving own k = elim own [ ]
 
 role_step : (w : Option ℕ) (role : OwnerRole) (m : Moment) (leaving : Leaving) → IsLevelOwner (e.MakeOwner role) → AwaitsOwner leaving m.scene → Stepped AwaitsOwner AwaitsNothing leaving (does w (e.MakeOwner role) m)
 unfolding does
-role_step w OfLevel m leaving own k = fallible_step {F = AwaitsOwner} {G = AwaitsNothing} w m _ (new_owner_made OfLevel) leaving k (owner_begins m.scene leaving k)
-role_step w other m leaving own k = elim own [ ]
+role_step w role m leaving own k = grind (arith, nat_tests, fallible_step, owner_begins)
 
 owner_step : (w : Option ℕ) (x : Element) (m : Moment) (leaving : Leaving) → IsLevelOwner x → AwaitsOwner leaving m.scene → Stepped AwaitsOwner AwaitsNothing leaving (does w x m)
 owner_step w (e.MakeOwner role) m leaving own k = role_step w role m leaving own k

@@ -1,13 +1,11 @@
 -- What the reader of levels has seen fits the levels, the portals and the plans of a session, and what says nothing of levels keeps that.
 use Rattle.session_laws.proofs.Words.{◌≡◌, ℕ, codes, ◌+◌, ◌≤◌, Bool, true, false, if◌then◌else◌, List, [], ◌∷◌, ◌++◌, map, length, Option, Some, refl, sym, ap, ◌∙◌, subst, inl, inr, ◌-◌, None, arith, ◌==◌, ◌&&◌, ◌||◌, filter, ◌⊎◌, All, list_all, list_any, and_from, cases_Bool, eq-eqb, eqb-true, or_left, or_right, All-head, All-tail, nat_tests}
-use Rattle.session_laws.proofs.Scenes.{What, LevelState, OpenPortal, StandingPlan, portals_context, Scene, Moment, KindId, Phase, Text, Element, PortalContext, plan_at, plan_changed, plans_but, portal_changed, Ended, changes, portal_becomes, say, switched, where_there, Keeper, NoOne, TheDescriptors, TheKind, ThePlans, item_released, keeper_of, owner_gone, owner_moved, phase_released, plan_becomes, plan_left, plan_settled, plan_stays, plan_made, portal_made, new_context_made, chunk_resized, memory_taken, taken_by, contexts_become, tells, does, IsDead, IsLive, IsPortal, Stands}
-use Rattle.session_laws.proofs.Rules.{allows_all, is_one_of, seen_after, Acts, Keeps, Lowers, is_word, last, next, Follows, OwnerLeaves, item_releases, phase_keeps, AreSaid, said_more, said_none, said_report, ContextLeaves, FileLeaves, KeyLeaves, Part, Sight, StackLeaves, children_go, goes, hook_waits_so, item_comes, item_goes, locks_one, makes_context, moves_context, of_levels, of_plans, of_portals, owner_goes, owner_makes, owner_moves, pushes, says, unlocks, unseen_contexts, unseen_files, unseen_keys, unseen_locks, unseen_owners, unseen_stack, by_either, by_order, said_both, said_one}
-use Rattle.lifetime_laws.specs.Inside.{Awaited, Begun, Leaving, Neither, awaited_behind, begun_behind, contexts_inside, ends_behind, is_named, level_begun, owners_inside, plans_behind, staying, with_portal, with_context}
-use Rattle.session_laws.proofs.Lives.{Reads, read_both, read_none}
+use Rattle.session_laws.proofs.Scenes.{What, LevelState, OpenPortal, StandingPlan, portals_context, Scene, Moment, KindId, Phase, Text, Element, PortalContext, plan_at, plan_changed, plans_but, portal_changed, Ended, changes, portal_becomes, say, switched, where_there, Keeper, NoOne, TheDescriptors, TheKind, ThePlans, item_released, keeper_of, owner_gone, owner_moved, phase_released, plan_becomes, plan_left, plan_settled, plan_made, portal_made, new_context_made, chunk_resized, memory_taken, taken_by, contexts_become, tells, does, IsDead, IsLive, IsPortal, Stands}
+use Rattle.session_laws.proofs.Rules.{allows_all, is_one_of, seen_after, Acts, Keeps, Lowers, is_word, last, next, Follows, OwnerLeaves, item_releases, phase_keeps, AreSaid, said_more, said_none, said_report, ContextLeaves, FileLeaves, KeyLeaves, Part, Sight, StackLeaves, children_go, goes, hook_waits_so, item_comes, item_goes, locks_one, makes_context, moves_context, of_levels, of_plans, of_portals, owner_goes, owner_makes, owner_moves, pushes, says, unlocks, unseen_contexts, unseen_files, unseen_keys, unseen_locks, unseen_owners, unseen_stack, by_either, by_order, said_both, said_one, Awaited, Begun, Leaving, Neither, awaited_behind, begun_behind, contexts_inside, is_named, level_begun, owners_inside, staying, with_portal, with_context, depth_small}
+use Rattle.session_laws.proofs.Lives.{Reads, read_both}
 use Rattle.context_rules.specs.Reports.{report}
 use Rattle.context_rules.specs.Chunks.{freed, written}
 use Rattle.session_laws.proofs.OwnWork.{WorkLeaves, IsOwnWork, own_follows}
-use Rattle.session_rules.proofs.Stacked.{depth_small}
 use Rattle.pgs_step.specs.declared.events.What.TheVariants as what
 
 -- whether a level of this number began
@@ -57,12 +55,7 @@ grows_same : (a : List Begun) → Grows a a
 grows_same a = record { there = λ n h. h; context = λ n. refl; owner = λ n. refl; portals = λ m n h. h }
 
 grows_both : (a b c : List Begun) → Grows a b → Grows b c → Grows a c
-grows_both a b c g h = record {
-  there = λ n k. h.there n (g.there n k);
-  context = λ n. h.context n ∙ g.context n;
-  owner = λ n. h.owner n ∙ g.owner n;
-  portals = λ m n k. h.portals m n (g.portals m n k);
-}
+grows_both a b c g h = grind (arith, nat_tests)
 
 pub number_of : (n : ℕ) (begun : List Begun) → (level_begun n begun).level ≡ n
 number_of n [] = refl
@@ -87,13 +80,9 @@ has_with : (context n : ℕ) (begun : List Begun) → has_begun n (map (with_one
 has_with context n [] = refl
 has_with context n (first ∷ rest) = ap (λ (b : Bool). (first.level == n) || b) (has_with context n rest)
 
-grows_with : (context : ℕ) (begun : List Begun) → Grows begun (map (with_one context) begun)
-grows_with context begun = grind (arith, nat_tests, has_with, level_with, or_right)
-
 pub grows_either : (b : Bool) (context : ℕ) (begun : List Begun)
     → Grows begun (elim b as (λ _. List Begun) [ true ↦ map (λ (level : Begun). record level { portals = context ∷ level.portals }) begun | false ↦ begun ])
-grows_either true context begun = grows_with context begun
-grows_either false context begun = grows_same begun
+grows_either b context begun = grind (arith, nat_tests, has_with, level_with, or_right, grows_same)
 
 -- a portal's context that is made now is seen
 pub new_seen : (context n : ℕ) (begun : List Begun) → has_begun n begun ≡ true → is_one_of context (level_begun n (with_portal (codes "PortalContext") context begun)).portals ≡ true
@@ -115,17 +104,8 @@ begun_grows (what.Owner owner) begun h = grows_same begun
 begun_grows (what.OwnerIn owner parent) begun h = grows_same begun
 begun_grows other begun h = grows_same begun
 
-pub plans_grow : (event : What) (plans : List ℕ) (n : ℕ) → is_one_of n plans ≡ true → is_one_of n (plans_behind event plans) ≡ true
-plans_grow (what.Create context name parent) plans n h = grind (arith, nat_tests, or_right)
-plans_grow other plans n h = h
-
 pub none_awaited : (event : What) → is_calm event ≡ true → awaited_behind event Neither ≡ Neither
-none_awaited (what.BeginLevel level) h = absurd (cc h)
-none_awaited other h = refl
-
-pub none_ends : (event : What) (begun : List Begun) → is_calm event ≡ true → ends_behind event begun [] ≡ []
-none_ends (what.AbortLevel level) begun h = absurd (cc h)
-none_ends other begun h = refl
+none_awaited event h = grind (arith, nat_tests)
 
 -- where no level is in its end, each event is allowed
 pub nothing_ends : (event : What) (leaving : Leaving) → leaving.ends ≡ [] → staying.allows event leaving ≡ true
@@ -137,7 +117,7 @@ pub record Calming (leaving : Leaving) (events : List What) : Type 0 where
 
 pub calm_all : {events : List What} → AreCalm events → (leaving : Leaving) → leaving.ends ≡ [] → Calming leaving events
 calm_all said_none leaving en = record { allowed = refl; ends = en }
-calm_all (said_more {event = event} {events = events} h hs) leaving en = grind (arith, nat_tests, calm_all hs (staying.next event leaving), none_ends, and_from, nothing_ends)
+calm_all (said_more {event = event} {events = events} h hs) leaving en = grind (arith, nat_tests, calm_all hs (staying.next event leaving), and_from, nothing_ends)
 
 -- what fits still fits where more contexts of portals and of plans are known
 pub begun_still : (a b : List Begun) → Grows a b → (levels : List LevelState) → AreBegun levels a → AreBegun levels b
@@ -156,9 +136,6 @@ known_still a b g (plan ∷ plans) h = (g plan.context h.0, known_still a b g pl
 pub record Works (s t : Scene) (events : List What) : Type 0 where
   pub levels : t.session.levels ≡ s.session.levels
   pub reads : Reads staying Seen s t events
-
-pub works_none : (s : Scene) → Works s s []
-works_none s = record { levels = refl; reads = read_none staying Seen s }
 
 pub works_both : {s t u : Scene} {xs ys : List What} → Works s t xs → Works t u ys → Works s u (xs ++ ys)
 works_both a b = record { levels = b.levels ∙ a.levels; reads = read_both staying Seen a.reads b.reads }
@@ -181,12 +158,7 @@ pub lessens_none : (s : Scene) → Lessens s s []
 lessens_none s = record { levels = refl; portals = λ begun k. k; plans = λ known k. k; calm = said_none }
 
 pub lessens_both : {s t u : Scene} {xs ys : List What} → Lessens s t xs → Lessens t u ys → Lessens s u (xs ++ ys)
-lessens_both a b = record {
-  levels = b.levels ∙ a.levels;
-  portals = λ begun k. b.portals begun (a.portals begun k);
-  plans = λ known k. b.plans known (a.plans known k);
-  calm = said_both a.calm b.calm;
-}
+lessens_both a b = grind (arith, nat_tests, said_both)
 
 -- what is seen of levels, portals and plans, whatever is in its end
 pub record Sees (leaving : Leaving) (s : Scene) : Type 0 where
@@ -206,11 +178,7 @@ grown_all (said_more {event = event} {events = events} h hs) leaving aw =
     let later : Leaving = staying.next event leaving in
     let one : Grows leaving.begun later.begun = subst (λ (a : Awaited). Grows leaving.begun (begun_behind event a leaving.begun)) (sym aw) (begun_grows event leaving.begun h) in
     let more : Grown later (seen_after staying later events) = grown_all hs later (ap (awaited_behind event) aw ∙ none_awaited event h) in
-    record {
-      grows = grows_both leaving.begun later.begun _ one more.grows;
-      plans = λ n k. more.plans n (plans_grow event leaving.plans n k);
-      awaited = more.awaited;
-    }
+    grind (arith, nat_tests, grows_both)
 
 -- such acts keep what is seen
 pub record Kept (leaving : Leaving) (t : Scene) : Type 0 where
@@ -221,14 +189,7 @@ pub lessens_sees : (s t : Scene) (events : List What) (leaving : Leaving) → Le
 lessens_sees s t events leaving l k aw =
     let g : Grown leaving (seen_after staying leaving events) = grown_all l.calm leaving aw in
     let now : Leaving = seen_after staying leaving events in
-    record {
-      sees = record {
-        begun = subst (λ (levels : List LevelState). AreBegun levels now.begun) (sym l.levels) (begun_still leaving.begun now.begun g.grows s.session.levels k.begun);
-        portals = l.portals now.begun (seen_still leaving.begun now.begun g.grows s.session.portals k.portals);
-        plans = l.plans now.plans (known_still leaving.plans now.plans g.plans s.session.plans k.plans);
-      };
-      awaited = g.awaited;
-    }
+    grind (arith, nat_tests, begun_still, seen_still, known_still)
 
 pub works_of : {s t : Scene} {events : List What} → Lessens s t events → Works s t events
 works_of {s = s} {t = t} {events = events} l = record {
@@ -306,10 +267,7 @@ by_settled : (q : StandingPlan) → Keeps Lessens (plan_settled q)
 by_settled q = by_order Lessens inside_acts (next (plans_become (plans_but q.number) (known_but q.number)) (next (inside_acts.gone q.context) last))
 
 plan_is : (n : ℕ) (p q : StandingPlan) (s : Scene) → plan_at n s.session.plans ≡ Some p → q.context ≡ p.context → Lessens s (plan_becomes q s).scene (plan_becomes q s).events
-plan_is n p q s is same =
-    by_either Lessens inside_acts (q.discarded && (q.references == 0)) (plan_settled q s) (plan_stays q s) ((by_settled q).so s)
-    (lessening s _ [] refl (λ begun k. k)
-    (λ known k. known_changed q.number (λ old. q) known s.session.plans (λ old j. ap (λ (m : ℕ). is_one_of m known) same ∙ known_at n p known s.session.plans is k) k) said_none)
+plan_is n p q s is same = grind (arith, nat_tests, by_either, inside_acts, by_settled q, lessening, known_changed, known_at, said_none)
 
 plan_goes : (n : ℕ) → Keeps Lessens (plan_left n)
 plan_goes n = record { so = λ s. go s (plan_at n s.session.plans) refl }
@@ -360,21 +318,13 @@ quietly : (act : Scene → Ended) → ((s : Scene) → Lessens s (act s).scene (
 quietly act h = record { so = λ s. works_of (h s) }
 
 word_calm : (event : What) → is_word event ≡ true → is_calm event ≡ true
-word_calm (what.BeginLevel level) h = absurd (cc h)
-word_calm other h = cc
+word_calm event h = grind (arith, nat_tests)
 
 contexts : ContextLeaves Lessens
 contexts = unseen_contexts sees_inside is_calm Lessens sight refl refl refl (λ word n. refl) (λ n. refl) (λ n. refl)
 
 works_acts : Acts Works
-works_acts = record {
-  none = works_none;
-  both = λ a b. works_both a b;
-  portal = λ name change low. works_act (by_portal name change low);
-  portal_goes = λ name. works_act (inside_acts.portal_goes name);
-  gone = λ n. works_act (inside_acts.gone n);
-  children = λ n. works_act (inside_acts.children n);
-}
+works_acts = grind (arith, nat_tests, works_both, works_act, by_portal, inside_acts)
 
 pub work_leaves : ((plan : ℕ) → Keeps Works (plan_made plan)) → WorkLeaves Works
 work_leaves planned = record {

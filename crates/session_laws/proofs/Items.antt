@@ -1,9 +1,8 @@
 -- Items are numbered as they are acquired.
-use Rattle.session_laws.proofs.Words.{◌≡◌, ℕ, true, List, refl, sym, ap, ◌∙◌, arith, Bool, false, and_from, eq-eqb, has, nat_tests}
-use Rattle.session_laws.proofs.Scenes.{What, KindId, Scene, Around, say, remembers, item_taken, taken_by, Item, SessionState, opening, Keeper, NoOne, TheDescriptors, TheKind, ThePlans, keeper_of, HasExited, KindTable}
+use Rattle.session_laws.proofs.Words.{◌≡◌, ℕ, true, List, refl, sym, ap, ◌∙◌, arith, Bool, false, and_from, eq-eqb, has, nat_tests, numbering, acquires, releases}
+use Rattle.session_laws.proofs.Scenes.{What, KindId, Scene, Around, say, item_taken, taken_by, Item, SessionState, opening, Keeper, keeper_of, HasExited, KindTable}
 use Rattle.session_laws.proofs.Rules.{allows_all, seen_after, EndLeaves, Keeps, Law, MakeLeaves, LevelLeaves, AreSaid, said_more, said_none, said_one, Part, Sight, of_next_serial, owner_makes, unseen_keys, unseen_owners, of_next_owner, of_owners, takes, moves_owed, BalancesFrom, covers, left, KeyLeaves}
 use Rattle.session_laws.proofs.Usual.{Usual, is_usual, level_words, usual_files, usual_makes, usual_moves, plain_ends, usual_levels}
-use Rattle.lifetime_laws.specs.Once.{numbering, acquires, releases}
 use Rattle.session_laws.proofs.Lives.{OwesTurns, Reads, read_both, owes_by, IsLife, life_by}
 use Rattle.session_laws.proofs.ItemsCounted.{Counted, Counts, aside_reads, discarded_reads, forgotten_reads, made_reads, moved_reads, phase_reads, reader, remembered_reads, has_it, is_still}
 use Rattle.session_laws.proofs.OwnerEnds.{owes_where}
@@ -38,21 +37,14 @@ sees_serial other = false
 number_sight : Sight sees_serial is_past Numbers
 number_sight = record { both = λ a b. read_both numbering IsNext a b; aside = λ s t same h. past_reads s t (same.so of_next_serial refl) h }
 
--- an item is acquired with the next number
-remembered_numbers : (n : ℕ) (kind : KindId) (key : ℕ) (s : Scene) → Numbers s (remembers n kind key s).scene (remembers n kind key s).events
-remembered_numbers n kind key s = grind (arith, nat_tests, and_from, eq-eqb)
-
 usual_past : (event : What) → is_usual event ≡ true → is_past event ≡ true
-usual_past (what.Acquire item owner) h = absurd (cc h)
-usual_past other h = refl
+usual_past event h = grind (arith, nat_tests)
 
 number_usual : Usual sees_serial is_past
 number_usual = assumption usual_past
 
 number_ends : EndLeaves Numbers
-number_ends =
-    plain_ends number_sight number_usual (unseen_keys sees_serial is_past Numbers number_sight refl) refl refl refl (λ level. (refl, refl, refl, refl)) (λ item n. refl) (λ n. refl) (λ n parent. refl)
-    (unseen_owners sees_serial is_past Numbers number_sight refl (λ item n. refl) (λ item n. refl) (λ n kind key. record { so = remembered_numbers n kind key }))
+number_ends = grind (arith, nat_tests, plain_ends, number_sight, number_usual, unseen_keys, unseen_owners)
 
 number_makes : MakeLeaves Numbers
 number_makes = usual_makes number_sight number_usual (λ n parent name. refl) refl (owner_makes sees_serial is_past Numbers number_sight refl refl (λ n. refl) (λ n parent. refl))
@@ -67,18 +59,14 @@ numbers_exit = record { so = λ s. past_reads s s refl (said_one what.Exit refl)
 -- Each item that is acquired is released once, by its owner: what a line and an exit owe for that.
 
 usual_still : (event : What) → is_usual event ≡ true → is_still event ≡ true
-usual_still (what.Acquire item owner) h = absurd (cc h)
-usual_still other h = cc
+usual_still event h = grind (arith, nat_tests)
 
 usual : Usual sees_owners is_still
 usual = assumption usual_still
 
 -- what counts an item besides its owner leaves owners alone
 taken_stays : (keeper : Keeper) (key : ℕ) (s : Scene) → (taken_by keeper key s).scene.session.owners ≡ s.session.owners
-taken_stays NoOne key s = refl
-taken_stays ThePlans key s = refl
-taken_stays TheDescriptors key s = refl
-taken_stays (TheKind place) key s = refl
+taken_stays keeper key s = grind (arith, nat_tests)
 
 module _ (item : Item) (owner : ℕ) where
   abbrev R : Law

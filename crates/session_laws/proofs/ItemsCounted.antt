@@ -1,11 +1,10 @@
 -- How often the owner of a number has an item, behind each change of the owners, and how often a phase of a release says that it releases it.
-use Rattle.session_laws.proofs.Words.{◌≡◌, ℕ, ◌+◌, count_by, find, Bool, true, false, cond, Option, Some, None, List, [], ◌∷◌, ◌++◌, refl, ap, ◌∙◌, arith, ◌-◌, ◌<◌, ◌≤◌, sym, subst, ◌==◌, ◌&&◌, if◌then◌else◌, and_from, false_from_ne_true, le-leb, ne_eqb, sum_by-cons, Empty, Node, Once, has, at, changed, children, moved, put, removed, AllNodes, all_changed, swept, order_at, Moves, apart_of, at_absent, at_some, changed_absent, has_at, once_removed, parent_stays, put_absent, removed_absent, where_is, has_changed, has_of_removed, has_some, once_changed, once_front, once_put, times_moved, times_some, nat_tests}
-use Rattle.session_laws.proofs.Scenes.{Item, KindId, Phase, BeforeLocks, Locks, AfterLocks, KindTable, is_of, without_newest, is_of_phase, priority, release_order, Owner, OwnerTree, AllAt, HoldsNothing, created, forgotten, remembered, left_of, own_released, released, Said, Step, lock_step, own_steps, release_steps, releases_of, steps_below, top_locks, GivesBack, ReleasesLocks, PassesLocks, ReleasesAllLocks, made_event, What, table_of, Scene, newest, for_each, owner_made, given_back, owner_gone, owner_moved, phase_released, step_done, remembers}
-use Rattle.session_laws.proofs.Rules.{Reader, allows_all, seen_after, count, allows_all-append, seen_after-append, has_put_other, once_left, has_swept, AreReleaseSteps, IsReleaseStep, is_release, no_step, phase_release, then_step, warned_step, AreSaid, said_all_locks, said_lock_passes, said_lock_releases, said_map, said_more, said_none, said_one, said_weaker}
+use Rattle.session_laws.proofs.Words.{◌≡◌, ℕ, ◌+◌, count_by, find, Bool, true, false, cond, Option, Some, List, [], ◌∷◌, ◌++◌, refl, ap, ◌∙◌, arith, ◌-◌, ◌<◌, ◌≤◌, sym, subst, ◌==◌, ◌&&◌, and_from, false_from_ne_true, le-leb, ne_eqb, sum_by-cons, Empty, Node, Once, has, at, changed, children, moved, put, removed, AllNodes, all_changed, swept, order_at, Moves, apart_of, at_absent, at_some, changed_absent, has_at, once_removed, parent_stays, put_absent, removed_absent, where_is, has_changed, has_of_removed, has_some, once_changed, once_front, once_put, times_moved, times_some, nat_tests, releases, same_item, acquires}
+use Rattle.session_laws.proofs.Scenes.{Item, KindId, Phase, BeforeLocks, Locks, AfterLocks, KindTable, is_of, without_newest, is_of_phase, priority, release_order, Owner, OwnerTree, AllAt, HoldsNothing, created, forgotten, remembered, left_of, own_released, released, Said, Step, own_steps, release_steps, releases_of, steps_below, GivesBack, ReleasesLocks, PassesLocks, ReleasesAllLocks, made_event, What, table_of, Scene, newest, for_each, owner_made, given_back, owner_gone, owner_moved, phase_released, step_done, remembers}
+use Rattle.session_laws.proofs.Rules.{Reader, allows_all, seen_after, count, allows_all-append, seen_after-append, has_put_other, once_left, has_swept, AreReleaseSteps, IsReleaseStep, no_step, phase_release, then_step, warned_step, AreSaid, said_all_locks, said_lock_passes, said_lock_releases, said_map, said_more, said_none, said_one, said_weaker}
 use Rattle.session_laws.proofs.Parents.{alike_swept, once_alike}
 use Rattle.session_laws.proofs.Warnings.{is_aside}
 use Rattle.owner_items.proofs.Uses.{count-parts, count-without}
-use Rattle.lifetime_laws.specs.Once.{releases, same_item, acquires}
 use Rattle.session_laws.proofs.Lives.{Reads}
 use Rattle.session_laws.proofs.OwnerEnds.{Quiet, Stays, given_quiet, steps_stay}
 use Rattle.pgs_step.specs.declared.events.What.TheVariants as what
@@ -17,8 +16,7 @@ is_still (what.Release item owner) = false
 is_still other = true
 
 aside_still : (event : What) → is_aside event ≡ true → is_still event ≡ true
-aside_still (what.Acquire item owner) h = absurd (cc h)
-aside_still other h = cc
+aside_still event h = grind (arith, nat_tests)
 
 module _ (item : Item) (owner : ℕ) where
   -- whether an item of the owner of this number is the one
@@ -42,8 +40,7 @@ module _ (item : Item) (owner : ℕ) where
   it_put_bare p n (Node k b below beside) = grind (arith, nat_tests, it_put_bare p n beside, it_put_bare p n below)
 
   pub it_created : (parent : Option ℕ) (n : ℕ) (t : OwnerTree) → has_it (created parent n t) ≡ has_it t
-  it_created None n t = omega arith
-  it_created (Some p) n t = it_put_bare p n t
+  it_created parent n t = grind (arith, nat_tests, it_put_bare)
 
   -- an owner and those below it
   it_put : (p n : ℕ) (a : Owner) (sub t : OwnerTree) → Once t → has p t ≡ true → has_it (put p n a sub t) ≡ has_it t + (own n a.items + has_it sub)
@@ -113,24 +110,11 @@ module _ (item : Item) (owner : ℕ) where
   says_own kinds AfterLocks commit n o locks none =
       omega (arith, says_releases commit n (release_order kinds AfterLocks o.items), count-parts (is_it n) (is_of_phase kinds AfterLocks) (priority kinds) o.items)
 
-  lock_says : (commit : Bool) (n parent : ℕ) → said (lock_step commit n parent) ≡ 0
-  lock_says true n parent = refl
-  lock_says false n parent = refl
-
-  locks_say : (top commit : Bool) (n parent : ℕ) → says (if top then [] else lock_step commit n parent ∷ []) ≡ 0
-  locks_say true commit n parent = refl
-  locks_say false commit n parent = omega (arith, lock_says commit n parent)
-
-  top_says : (top commit : Bool) (n : ℕ) (parent : Option ℕ) → says (top_locks top commit n parent) ≡ 0
-  top_says true commit n parent = refl
-  top_says false commit n None = refl
-  top_says false commit n (Some p) = omega (arith, lock_says commit n p)
-
   -- of the owners below one
   says_below : (kinds : KindTable) (phase : Phase) (commit top : Bool) (parent : ℕ) (t : OwnerTree)
       → says (steps_below kinds phase commit top parent t) + has_it (all_changed (own_released kinds phase) t) ≡ has_it t
   says_below kinds phase commit top parent Empty = refl
-  says_below kinds phase commit top parent (Node n o below beside) = grind (arith, nat_tests, says_below kinds phase commit top n below, says_below kinds phase commit top parent beside, says_both, says_own, locks_say)
+  says_below kinds phase commit top parent (Node n o below beside) = grind (arith, nat_tests, says_below kinds phase commit top n below, says_below kinds phase commit top parent beside, says_both, says_own)
 
   -- what a change of an owner and of all below it does to the sum
   unswept : (f : Owner → Owner) (n : ℕ) (t : OwnerTree) → has n t ≡ false → swept f n t ≡ t
@@ -145,7 +129,7 @@ module _ (item : Item) (owner : ℕ) where
   -- A phase says of what it takes off the owners that it is released.
   pub says_phase : (kinds : KindTable) (phase : Phase) (commit top : Bool) (n : ℕ) (t : OwnerTree) → Once t
       → says (release_steps kinds phase commit top n t) + has_it (released kinds phase n t) ≡ has_it t
-  says_phase kinds phase commit top n t o = grind (arith, nat_tests, at_some, says_both, says_below, says_own, top_says, it_swept, at_absent, unswept)
+  says_phase kinds phase commit top n t o = grind (arith, nat_tests, at_some, says_both, says_below, says_own, it_swept, at_absent, unswept)
 
 -- How often an owner holds an item is counted by what is said: where an item is taken and given back, where owners come, are released, move and go.
 
@@ -174,8 +158,7 @@ fresh : (t : OwnerTree) (next : ℕ) → AreNumbered t next → has next t ≡ f
 fresh t next k = false_from_ne_true (has next t) (λ e. omega (arith, k.below next e))
 
 numbered_created : (parent : Option ℕ) (t : OwnerTree) (next : ℕ) → AreNumbered t next → AreNumbered (created parent next t) (next + 1)
-numbered_created None t next k = grind (arith, nat_tests, once_front, fresh, ne_eqb)
-numbered_created (Some p) t next k = grind (arith, nat_tests, once_put, fresh, has_put_other, put_absent)
+numbered_created parent t next k = grind (arith, nat_tests, once_front, fresh, ne_eqb, once_put, has_put_other, put_absent)
 
 -- The count is how often the owner of that number holds the item.
 pub record Counts (item : Item) (owner n : ℕ) (s : Scene) : Type 0 where
@@ -184,8 +167,7 @@ pub record Counts (item : Item) (owner n : ℕ) (s : Scene) : Type 0 where
 
 -- what is said of a new owner
 made_still : (parent : Option ℕ) (n : ℕ) → is_still (made_event parent n) ≡ true
-made_still None n = refl
-made_still (Some parent) n = refl
+made_still parent n = grind (arith, nat_tests)
 
 module _ (item : Item) (owner : ℕ) where
   abbrev pub reader : Reader ℕ
@@ -203,28 +185,19 @@ module _ (item : Item) (owner : ℕ) where
   one_leads : (event : What) (n a r : ℕ) → acquires item owner event ≡ a → releases item owner event ≡ r → r ≤ n → Leads n ((n + a) - r) (event ∷ [])
   one_leads event n a r brings takes few = grind (arith, nat_tests, and_from, le-leb)
 
-  brings_none : (event : What) → is_still event ≡ true → acquires item owner event ≡ 0
-  brings_none (what.Acquire other by) h = absurd (cc h)
-  brings_none other h = refl
-
   takes_none : (event : What) → is_still event ≡ true → releases item owner event ≡ 0
-  takes_none (what.Release other by) h = absurd (cc h)
-  takes_none other h = refl
+  takes_none event h = grind (arith, nat_tests)
 
   still_one_leads : (event : What) (n : ℕ) → is_still event ≡ true → Leads n n (event ∷ [])
-  still_one_leads event n h = grind (arith, nat_tests, one_leads, brings_none, takes_none)
+  still_one_leads event n h = grind (arith, nat_tests, one_leads, takes_none)
 
   still_leads : {events : List What} → AreSaid is_still events → (n : ℕ) → Leads n n events
   still_leads said_none n = record { allowed = refl; is = refl }
   still_leads (said_more {event = event} {events = events} h hs) n = leads_both n n n (event ∷ []) events (still_one_leads event n h) (still_leads hs n)
 
   -- steps of a release
-  release_brings : (event : What) → is_release event ≡ true → acquires item owner event ≡ 0
-  release_brings (what.Acquire other by) h = absurd (cc h)
-  release_brings other h = refl
-
   step_leads : (step : Step) → IsReleaseStep step → (s : Scene) (n k : ℕ) → n ≡ says item owner (step ∷ []) + k → Leads n k (step_done step s).events
-  step_leads (Said event) h s n k e = grind (arith, nat_tests, one_leads, release_brings)
+  step_leads (Said event) h s n k e = grind (arith, nat_tests, one_leads)
   step_leads (GivesBack other) h s n k e =
       let q : Quiet s (given_back other s).scene (given_back other s).events = (given_quiet other).so s in
       let z : Leads n n (given_back other s).events = still_leads (said_weaker aside_still q.said) n in
@@ -239,10 +212,7 @@ module _ (item : Item) (owner : ℕ) where
       leads_both n (says item owner steps + k) k (step_done step s).events (for_each step_done steps (step_done step s).scene).events
       (step_leads step h s n (says item owner steps + k) (omega (arith, e)))
       (steps_lead steps hs (step_done step s).scene (says item owner steps + k) k refl)
-  steps_lead (Said warning ∷ Said release ∷ steps) (warned_step {n = by} {item = other} hs) s n k e =
-      leads_both n n k (what.NotClosed other by ∷ []) (what.Release other by ∷ (for_each step_done steps s).events) (still_one_leads (what.NotClosed other by) n refl)
-      (leads_both n (says item owner steps + k) k (what.Release other by ∷ []) (for_each step_done steps s).events (step_leads (Said (what.Release other by)) refl s n (says item owner steps + k) (omega (arith, e)))
-      (steps_lead steps hs s (says item owner steps + k) k refl))
+  steps_lead (Said warning ∷ Said release ∷ steps) (warned_step {n = by} {item = other} hs) s n k e = grind (arith, nat_tests, steps_lead steps hs s (says item owner steps + k) k refl, leads_both, still_one_leads, step_leads)
 
   -- The law of the reader.
   abbrev pub Counted : Scene → Scene → List What → Type 0

@@ -1,15 +1,7 @@
 -- Each transcript keeps the laws of lifetimes.
-use Rattle.session_laws.proofs.Words.{◌≡◌, ℕ, ◌≤◌, true, false, Option, None, List, [], refl, ap, ◌==◌, IsTrue, is_none, and_from, eq-eqb}
-use Rattle.session_laws.proofs.Scenes.{Item, What, table_of, IsSound, AreDistinct, Options, Scene, exited, Reading, transcript_by}
-use Rattle.session_laws.proofs.Rules.{Reader, allows_all, events_of, seen_after, BalancesFrom, Covers, count, covers, left}
-use Rattle.pgs_step.specs.declared.events.Event.{Event}
-use Rattle.owner_kinds.specs.Kind.{Kind}
-use Rattle.reset_callbacks.specs.ShelfState.{ShelfState, held}
-use Rattle.lifetime_laws.specs.Once.{ReleasesOnce, acquires, closes, deletes, discards, ending, exits_last, first_parents, goes_childless, happens, has_context, locks, makes_owner, none_left, nothing, numbers_items, opens, pops_newest, releases, stacking, unlocks}
-use Rattle.lifetime_laws.specs.Made.{MakesOnce}
-use Rattle.lifetime_laws.specs.Order.{ReleasesInOrder, warning, warns_of_releases}
-use Rattle.lifetime_laws.specs.Inside.{StaysInside}
-use Rattle.lifetime_laws.specs.Called.{CallsBack}
+use Rattle.session_laws.proofs.Words.{◌≡◌, ℕ, ◌≤◌, true, false, Option, None, List, [], refl, ap, ◌==◌, IsTrue, is_none, and_from, eq-eqb, ReleasesOnce, acquires, closes, deletes, discards, ending, exits_last, first_parents, goes_childless, happens, has_context, locks, makes_owner, none_left, nothing, numbers_items, opens, pops_newest, releases, stacking, unlocks}
+use Rattle.session_laws.proofs.Scenes.{Item, What, table_of, IsSound, AreDistinct, Options, Scene, exited, Reading, transcript_by, Kind, Event}
+use Rattle.session_laws.proofs.Rules.{Reader, allows_all, events_of, seen_after, BalancesFrom, Covers, count, covers, left, CallsBack, StaysInside, MakesOnce, ReleasesInOrder, warning, warns_of_releases, ShelfState, held}
 use Rattle.lifetime_laws.specs.Laws.{IsLawful}
 use Rattle.session_laws.proofs.Lives.{IsLife, IsRead}
 use Rattle.session_laws.proofs.Lifts.{HaveLived, last_of_all, lives_in_run, exits_life}

@@ -1,23 +1,14 @@
 -- A line and an exit leave what never changes around a session: the names of the extension kinds, when their items are released, and how many descriptors there are.
-use Rattle.session_laws.proofs.Words.{◌≡◌, ℕ, ◌∙◌, true, false, Bool, Option, Some, None, List, ap, refl, ◌≢◌, zero, suc, ◌+◌, ◌≤◌, ◌⊎◌, inl, inr, cond, [], ◌∷◌, ◌++◌, length, sym, subst, arith, ◌-◌, ◌<◌, Result, Ok, Err, ◌==◌, replicate, slice_get, slice_set, slice_index_or, flat_map, sum_by, get_or-le-sum_by, sum_by-cons, sum_by-set, cases_eq, cases_lt, cond-false, ne_eqb, append-nil, length-set, length-replicate, nat_tests}
-use Rattle.session_laws.proofs.Scenes.{What, Error, Command, table_of, Moment, Scene, Around, Options, World, around, moment, opened, session_at, with_scene, Done, does_all, exited, recovered, level_rolled_back, line_elements, turn, turn_of, Course, Reading, Turn, after_command, after_exit, after_line, after_read, at_start, course_by, ended, exits, goes_on, missing, of_session, transcript_by, AreDistinct, Hook, waiting, SessionState, opening, top_context, AreHooks, StandsBetweenLines, IsSound, KindTable, Ended, context_gone, for_each, switched}
-use Rattle.session_laws.proofs.Rules.{EndLeaves, KeyLeaves, Part, Sight, item_comes, of_descriptors, of_kinds, owner_makes, unseen_owners, exit_follows, line_spoken, Reader, allows_all, events_of, seen_after, allows_all-append, events_of-append, events_of-other, events_of-own, seen_after-append, turn_stands, AreSaid, said_more, said_none}
+use Rattle.session_laws.proofs.Words.{◌≡◌, ℕ, ◌∙◌, true, false, Bool, Option, Some, None, List, ap, refl, ◌≢◌, zero, suc, ◌+◌, ◌≤◌, ◌⊎◌, inl, inr, cond, [], ◌∷◌, ◌++◌, length, sym, subst, arith, ◌-◌, ◌<◌, Result, Ok, Err, ◌==◌, replicate, slice_get, slice_set, slice_index_or, flat_map, sum_by, get_or-le-sum_by, sum_by-cons, sum_by-set, cases_eq, cases_lt, append-nil, length-set, length-replicate, nat_tests, ending, get_or_from_slice_get, slice_get_within, slice_get_cases}
+use Rattle.session_laws.proofs.Scenes.{What, Error, Command, table_of, Moment, Scene, Around, Options, World, around, moment, opened, session_at, with_scene, Done, does_all, exited, recovered, level_rolled_back, line_elements, turn, turn_of, Course, Reading, Turn, after_command, after_exit, after_line, after_read, at_start, course_by, ended, exits, goes_on, of_session, transcript_by, AreDistinct, Hook, waiting, SessionState, opening, top_context, AreHooks, StandsBetweenLines, IsSound, KindTable, Ended, context_gone, for_each, switched, Kind, Event, HooksCounted, hooks_of}
+use Rattle.session_laws.proofs.Rules.{EndLeaves, KeyLeaves, Part, Sight, item_comes, of_descriptors, of_kinds, owner_makes, unseen_owners, exit_follows, line_spoken, Reader, allows_all, events_of, seen_after, allows_all-append, events_of-append, events_of-other, events_of-own, seen_after-append, turn_stands, AreSaid, said_more, said_none, table-closed, table-opened, ShelfState, held, exited_counts_hooks, turn_counts_hooks, distinct_times, times_append, times_distinct, word_times}
 use Rattle.session_laws.proofs.Usual.{Usual, any, usual_any, any_turn_follows, usual_makes, usual_moves, plain_ends}
-use Rattle.owner_kinds.proofs.Places.{table-closed, table-opened}
 use Rattle.std.proofs.lemmas.List.Concat.{flat_map-cons, length-flat_map}
-use Rattle.std.proofs.lemmas.Option.{get_or_from_slice_get, slice_get_within, slice_get_cases}
-use Rattle.reset_callbacks.specs.ShelfState.{ShelfState, held}
-use Rattle.session_rules.specs.HookCounts.{HooksCounted, hooks_of}
-use Rattle.session_rules.proofs.HooksKept.{distinct_times, times_append, times_distinct, word_times}
-use Rattle.pgs_step.specs.declared.events.Event.{Event}
 use Rattle.pgs_command.specs.declared.lines.Line.{Line}
 use Rattle.pgs_command.specs.declared.lines.BadLine.{BadLine}
-use Rattle.owner_kinds.specs.Kind.{Kind}
-use Rattle.session_rules.proofs.HookLaws.{exited_counts_hooks, turn_counts_hooks}
 use Rattle.session_rules.proofs.OpeningStands.{opening_stands}
 use Rattle.session_rules.proofs.Standings.{stands_between_elsewhere}
 use Rattle.session_laws.proofs.Lives.{IsLife, IsRead, Reads, read_both, then_read}
-use Rattle.lifetime_laws.specs.Once.{ending}
 use Rattle.session_rules.proofs.Ordinary.{elements_ordinary, gone_ordinary, is_ordinary, recovery_ordinary, rollback_ordinary}
 use Rattle.pgs_step.specs.declared.events.What.TheVariants as what
 
@@ -203,16 +194,8 @@ pub record IsThere (n : ℕ) (session : SessionState) (x : World) : Type 0 where
 abbrev pub IsOutside : ℕ → ℕ → Type 0
 IsOutside sessions n = (n ≡ 0) ⊎ (sessions < n)
 
-at_suc : (n : ℕ) (x : World) → session_at (suc n) x ≡ slice_get x.sessions (suc n - 1)
-at_suc n x = cond-false (suc n == 0) None (slice_get x.sessions (suc n - 1)) (ne_eqb (suc n) 0 (λ e. omega (arith, e)))
-
 there_of : (n : ℕ) (session : SessionState) (x : World) → session_at n x ≡ Some session → IsThere n session x
-there_of zero session x h = absurd (cc h)
-there_of (suc n) session x h = record { some = omega arith; there = sym (at_suc n x) ∙ h }
-
-outside_of : (n : ℕ) (x : World) → session_at n x ≡ None → IsOutside (length x.sessions) n
-outside_of zero x h = inl refl
-outside_of (suc n) x h = grind (arith, nat_tests, slice_get_cases, at_suc)
+there_of n session x h = grind (arith, nat_tests)
 
 -- As a run stands: the sessions from this number on are between two lines.
 pub record AreStanding (kinds : KindTable) (sessions from : ℕ) (x : World) : Type 0 where
@@ -289,10 +272,7 @@ module _ (kinds : KindTable) (sessions : ℕ) where
       keeps : P from course.world course.events
 
     command_holds : (w : Option ℕ) (course : Course) (n : ℕ) (line : Option Command) (o : Option SessionState) → session_at n course.world ≡ o → Holds 1 course → Holds 1 (after_command w course n line o)
-    command_holds w course n line None is h = record {
-      stands = h.stands;
-      keeps = law.misses n course.world course.events (missing line) (subst (λ (k : ℕ). IsOutside k n) h.stands.many (outside_of n course.world is)) h.stands h.keeps;
-    }
+    command_holds w course n line None is h = grind (arith, nat_tests, slice_get_cases)
     command_holds w course n line (Some session) is h =
         let there : IsThere n session course.world = there_of n session course.world is in
         record {
@@ -433,15 +413,9 @@ module _ {Seen : Type 0} (kinds : KindTable) (reader : Reader Seen) (Fits : Seen
       let now : Has s (events_of n events) = h.going n session (omega arith) there in
       let more : (allows_all reader (seen_after reader start (events_of n events)) whats ≡ true) × Last (seen_after reader (seen_after reader start (events_of n events)) whats) =
       life.exits s (stands.lines n session (omega arith) there) (seen_after reader start (events_of n events)) now.fits in
-      let own : Ends (events_of n events ++ whats) = record {
-        allowed = allows_all-append reader start (events_of n events) whats now.allowed more.0;
-        lasts = subst Last (sym (seen_after-append reader start (events_of n events) whats)) more.1;
-      } in
+      let own : Ends (events_of n events ++ whats) = grind (arith, nat_tests, allows_all-append, seen_after-append) in
       record {
-        ended_well = λ k l u. elim (cases_eq n k) [
-          | inl e ↦ subst (λ (j : ℕ). Ends (events_of j (events ++ of_session n whats))) e (subst Ends (sym (own_events n events whats)) own)
-          | inr differ ↦ subst Ends (sym (other_events k n events whats differ)) (h.ended_well k l (omega (arith, u, differ)))
-        ];
+        ended_well = grind (arith, nat_tests, cases_eq, own_events, other_events);
         going = λ k t l u. elim (place_set x.sessions (n - 1) (exited s).scene.session (k - 1) t u.there) [
           | inl is ↦ absurd (omega (arith, is.0, l, u.some, there.some))
           | inr other ↦
@@ -469,23 +443,7 @@ module _ {Seen : Type 0} (kinds : KindTable) (reader : Reader Seen) (Fits : Seen
   }
 
   have_lived : (x : World) (events : List Event) → table_of nowhere.kinds ≡ kinds → AreReading (sessions + 1) x events → HaveLived kinds reader Fits start Last sessions events
-  have_lived x events table h = record {
-    allowed = λ n. elim (cases_le n) [
-      | inl out ↦ (h.beside n out).allowed
-      | inr own ↦ (h.ended_well n own.0 (omega (arith, own.1))).allowed
-    ];
-    lasts = λ n l u. (h.ended_well n l (omega (arith, u))).lasts;
-    opens = λ n out. (nowhere, table, (h.beside n out).fits);
-  }
-    where
-      cases_le : (n : ℕ) → IsOutside sessions n ⊎ ((1 ≤ n) × (n ≤ sessions))
-      cases_le n = elim (cases_eq n 0) [
-        | inl e ↦ inl (inl e)
-        | inr some ↦ elim (cases_lt sessions n) [
-          | inl past ↦ inl (inr past)
-          | inr within ↦ inr (omega (arith, some), within)
-        ]
-      ]
+  have_lived x events table h = grind (arith, nat_tests, cases_eq, cases_lt)
 
 -- From the life of a session to the events of each session in a transcript, where the hooks on the shelf differ and the kinds are sound.
 pub lives_in_run : {Seen : Type 0} (reader : Reader Seen) (Fits : Seen → Scene → Type 0) (start : Seen) (Last : Seen → Type 0) (reads : Reading) (w : Option ℕ) (options : Options) (kinds : List Kind) (shelf : ShelfState) (lines : List (List ℕ))
@@ -516,8 +474,7 @@ last_of_all {reader = reader} {start = start} {sessions = sessions} {events = ev
 
 -- the reader lets what says neither pass, and the session goes on
 passes : (event : What) → is_ordinary event ≡ true → (ending.allows event false ≡ true) × (ending.next event false ≡ false)
-passes what.Exit h = absurd (cc h)
-passes other h = (refl, refl)
+passes event h = grind (arith, nat_tests)
 
 all_pass : {events : List What} → AreSaid is_ordinary events → (allows_all ending false events ≡ true) × (seen_after ending false events ≡ false)
 all_pass said_none = (refl, refl)
@@ -551,13 +508,7 @@ exit_said s =
     let rest : List What = (context_gone top_context (switched top_context rolled.scene).scene).events in
     let first = all_pass (rollback_ordinary s) in
     let gone = all_pass (gone_ordinary top_context (switched top_context rolled.scene).scene) in
-    let end : (allows_all ending false (rest ++ (what.Exit ∷ [])) ≡ true) × (seen_after ending false (rest ++ (what.Exit ∷ [])) ≡ true) = (
-      allows_all-append ending false rest (what.Exit ∷ []) gone.0 (ap (λ (ended : Bool). allows_all ending ended (what.Exit ∷ [])) gone.1),
-      seen_after-append ending false rest (what.Exit ∷ []) ∙ ap (λ (ended : Bool). seen_after ending ended (what.Exit ∷ [])) gone.1,
-    ) in (
-      allows_all-append ending false rolled.events (rest ++ (what.Exit ∷ [])) first.0 (ap (λ (ended : Bool). allows_all ending ended (rest ++ (what.Exit ∷ []))) first.1 ∙ end.0),
-      seen_after-append ending false rolled.events (rest ++ (what.Exit ∷ [])) ∙ (ap (λ (ended : Bool). seen_after ending ended (rest ++ (what.Exit ∷ []))) first.1 ∙ end.1),
-    )
+    grind (arith, nat_tests, allows_all-append, seen_after-append)
 
 -- In the life of a session its end is said once, last.
 pub exits_life : (kinds : KindTable) → IsLife kinds ending IsOn false (λ ended. ended ≡ true)

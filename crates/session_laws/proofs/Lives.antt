@@ -1,5 +1,5 @@
 -- What a reader of events owes for one session, from its opening to its exit.
-use Rattle.session_laws.proofs.Words.{◌≡◌, ℕ, true, false, List, [], ◌∷◌, ◌++◌, Option, refl, subst, sym, Bool, not, Some, None}
+use Rattle.session_laws.proofs.Words.{◌≡◌, ℕ, true, false, List, [], ◌∷◌, ◌++◌, Option, refl, subst, sym, Bool, not, Some, None, arith, nat_tests}
 use Rattle.session_laws.proofs.Scenes.{Error, What, Command, KindTable, table_of, LevelState, SessionState, opening, first_of, is_aborted, top_context, Around, Moment, Scene, Element, aborted, cleaned_up, exited, level_rolled_back, given_up, recovered, Stands, StandsBetweenLines, AreOuter, HasExited, turn, line_elements, turn_of, Ended, context_gone, for_each, in_order, say, switched, where_so, where_there, Done, does_all}
 use Rattle.session_laws.proofs.Rules.{Reader, allows_all, seen_after, allows_all-append, seen_after-append, Law, Leaves, Owes, EndLeaves, Follows, Keeps, MakeLeaves, OwesMoves, last, next, Meets, Runs, command_leads, refused_leads, at_settled, behind_rollback, exited_left, is_left, rolled_stands, settled, by_order, run_follows, aborts, all_owed, cleans_up, rolls_back, line_spoken}
 use Rattle.session_rules.proofs.EndsStand.{Leaves as Leaving}
@@ -16,10 +16,7 @@ pub then_read : {Seen : Type 0} {F G : Seen → Scene → Type 0} (reader : Read
     → (F (seen_after reader seen xs) t → IsRead reader G (seen_after reader seen xs) u ys) → IsRead reader G seen u (xs ++ ys)
 then_read {Seen} {G = G} reader seen t u xs ys a more =
     let b : IsRead reader G (seen_after reader seen xs) u ys = more a.fits in
-    record {
-      allowed = allows_all-append reader seen xs ys a.allowed b.allowed;
-      fits = subst (λ (after : Seen). G after u) (sym (seen_after-append reader seen xs ys)) b.fits;
-    }
+    grind (arith, nat_tests, allows_all-append, seen_after-append)
 
 -- The law of a reader: where what it has seen fits the scene, it allows the events, and fits the scene behind.
 pub record Reads {Seen : Type 0} (reader : Reader Seen) (Fits : Seen → Scene → Type 0) (s t : Scene) (events : List What) : Type 0 where
@@ -87,8 +84,7 @@ module _ (R : Law) (o : OwesTurns R) where
 
   -- the level above one that went is aborted
   above_keeps : (levels : List LevelState) (s : Scene) → Leaving levels s → AreOuter levels → R s (where_there (first_of levels) (λ above. aborted) s).scene (where_there (first_of levels) (λ above. aborted) s).events
-  above_keeps [] s h outer = o.leaves.acts.none s
-  above_keeps (level ∷ levels) s h outer = o.ends.aborts level levels s h.between.stands h.are outer.0.unaborted
+  above_keeps levels s h outer = grind (arith, nat_tests, aborts)
 
   -- what becomes of the levels after an error
   gives_keeps : (level : LevelState) (levels : List LevelState) (s : Scene) (b i : Bool) → Stands (settled (level ∷ levels) s) → level.aborted ≡ false
@@ -121,8 +117,7 @@ module _ (R : Law) (o : OwesTurns R) where
       (λ levels z k. o.leaves.acts.both (o.error error (settled levels z)) (o.leaves.acts.both (given_keeps levels z k) (o.leaves.acts.none _))) s h
 
   turn_of_keeps : (s : Scene) (done : Done) (refusal : Option Error) → Stands done.moment.scene → Follows R s done → R s (turn_of done refusal).moment.scene (turn_of done refusal).events
-  turn_of_keeps s done None h k = k.so
-  turn_of_keeps s done (Some error) h k = o.leaves.acts.both k.so (recovered_keeps error done.moment.scene h)
+  turn_of_keeps s done refusal h k = grind (arith, nat_tests, recovered_keeps)
 
   -- A turn keeps the law.
   pub turn_keeps : (w : Option ℕ) (line : Option Command) (m : Moment) → StandsBetweenLines m.scene → R m.scene (turn w line m).moment.scene (turn w line m).events
@@ -179,12 +174,7 @@ module _ {Seen : Type 0} (kinds : KindTable) (reader : Reader Seen) (Fits : Seen
       let k : HasGone (Reads reader Fits) (settled levels s) rolled = rolled_keeps (Reads reader Fits) o levels s h in
       let read : IsRead reader Fits seen rolled.scene rolled.events = k.keeps.so seen fit in
       let between : Seen = seen_after reader seen rolled.events in
-      let owed : (allows_all reader between (tail_of rolled.scene).events ≡ true) × Last (seen_after reader between (tail_of rolled.scene).events) =
-      subst (λ (z : Scene). (allows_all reader between (tail_of z).events ≡ true) × Last (seen_after reader between (tail_of z).events)) (sym k.is)
-      (tail k.left between k.stands (subst (λ (z : Scene). Fits between z) k.is read.fits)) in (
-        allows_all-append reader seen rolled.events (tail_of rolled.scene).events read.allowed owed.0,
-        subst Last (sym (seen_after-append reader seen rolled.events (tail_of rolled.scene).events)) owed.1,
-      )
+      grind (arith, nat_tests, allows_all-append, seen_after-append)
 
   -- The life of a session, from what a law owes for lines and from what is owed for its beginning and its end.
   pub life_of : ((around : Around) → table_of around.kinds ≡ kinds → Fits start (record { session = opening; around = around }))

@@ -1,25 +1,18 @@
 -- Where no lock is held, none is behind what doesn't take one; and behind the end of level 1 none is held.
-use Rattle.session_laws.proofs.Words.{◌≡◌, ℕ, Bool, true, List, [], ◌∷◌, ◌++◌, Option, refl, ap, ◌∙◌, false, not, Some, None, sym, arith, ◌+◌, ◌≤◌, subst, option_map_or, option_and_then, children, has, at_some, ◌&&◌, is_some, ◌⊎◌, length, All, both_ways, All-head, All-tail, All-nil, nat_tests}
-use Rattle.session_laws.proofs.Scenes.{What, Mode, BeforeLocks, Locks, AfterLocks, table_of, KindTable, Owner, OwnerTree, own_released, ReleasesAllLocks, Step, own_steps, release_steps, steps_below, Scene, Moment, Around, for_each, where_so, where_there, Ended, switched, in_order, owner_released, phase_released, step_done, lock_given_back, at_owner, LevelState, OpenPortal, deepest_changed, first_of, is_aborted, level_context, owner_of, opening, portal_aborted, portal_closed, aborted, cleaned_up, committed, level_released, level_rolled_back, exited, given_up, recovered, IsLive, Stands, active_depth, AreOuter, FitLevels, IsDead, IsPortal, IsOpen, StandsBetweenLines, Contexts, Error, Element, LevelContext, NewContext, OfLevel, OfPortal, OwnerRole, PortalContext, RowContext, ScriptContext, Text, context_named, owner_in, portal_named, level_made, new_context_made, new_owner_made, lock_taken, snapshot_pushed, Done, fallible, refused_call, unless_refused, does, failing_turn, does_all, then_done, Command, AreLocks, has_owner, line_elements, turn, turn_of}
-use Rattle.session_laws.proofs.Rules.{Keeps, Follows, IsSpoken, AreSpoken, IsRun, has_swept, all_aborted, begins, off_begins, owner_when_active, resettled, settled, switched_off, aborted_stands, at_settled, is_left, rolled_stands, by_each, element_follows, fallible_so, behind_commit, cleans_up, portal_aborts, portal_closes, Meets, line_runs, allows_all, seen_after, line_spoken, said_one}
+use Rattle.session_laws.proofs.Words.{◌≡◌, ℕ, Bool, true, List, [], ◌∷◌, ◌++◌, Option, refl, ap, ◌∙◌, false, not, Some, None, sym, arith, subst, option_map_or, option_and_then, children, has, at_some, ◌&&◌, is_some, ◌⊎◌, All, both_ways, All-head, All-tail, All-nil, nat_tests}
+use Rattle.session_laws.proofs.Scenes.{What, Mode, BeforeLocks, Locks, AfterLocks, table_of, KindTable, Owner, OwnerTree, own_released, ReleasesAllLocks, Step, own_steps, release_steps, steps_below, Scene, Moment, Around, for_each, where_so, where_there, Ended, switched, in_order, owner_released, phase_released, step_done, lock_given_back, LevelState, OpenPortal, deepest_changed, first_of, is_aborted, level_context, owner_of, opening, portal_aborted, portal_closed, aborted, committed, level_released, level_rolled_back, exited, given_up, recovered, IsLive, Stands, active_depth, FitLevels, IsDead, IsPortal, StandsBetweenLines, Contexts, Error, Element, NewContext, OfLevel, OfPortal, OwnerRole, Text, owner_in, portal_named, new_context_made, new_owner_made, snapshot_pushed, Done, fallible, does, failing_turn, does_all, then_done, Command, AreLocks, has_owner, line_elements, turn, turn_of, gone_levels}
+use Rattle.session_laws.proofs.Rules.{Keeps, Follows, IsSpoken, AreSpoken, IsRun, has_swept, all_aborted, begins, off_begins, owner_when_active, resettled, settled, switched_off, aborted_stands, at_settled, is_left, rolled_stands, by_each, element_follows, fallible_so, behind_commit, cleans_up, portal_aborts, portal_closes, Meets, line_runs, allows_all, seen_after, line_spoken, said_one, WellCounted, Leads, with_parts, Named, named_in, all_closed, abort_stands, cleanup_stands, merge_stands, settled_as}
 use Rattle.session_laws.proofs.OrderEnds.{own_mild}
 use Rattle.session_laws.proofs.OwnWork.{IsOwnWork}
-use Rattle.lock_local.specs.Changes.{given_back, passed, released}
+use Rattle.lock_local.specs.Changes.{given_back}
 use Rattle.session_laws.proofs.OwnerEnds.{steps_stay}
 use Rattle.session_rules.proofs.Sight as part
 use Rattle.session_laws.proofs.LocksSight.{Sees, of_locks, files_hidden, Least, Turns, Base, least_of, least_acts, turn_ends, pushed_hidden, OwesUnlocks, least_leaves, owner_owed, touch_owed, turns_owed, unlock_owed, by_owner_made, stack_hidden}
-use Rattle.session_rules.proofs.Ending.{Leads, with_parts}
-use Rattle.session_rules.proofs.Replacing.{all_closed}
 use Rattle.session_rules.proofs.EndsStand.{Leaves}
-use Rattle.session_rules.specs.Ending.{gone_levels}
-use Rattle.session_rules.proofs.StepsStand.{abort_stands, cleanup_stands, merge_stands, settled_as}
-use Rattle.session_rules.proofs.PortalsStand.{Named, named_in}
 use Rattle.session_laws.proofs.LocksChecked.{IsChecked, line_checked, locks_exit, locks_turn}
-use Rattle.lock_local.proofs.ChangeLemmas.{WellCounted}
 use Rattle.session_laws.proofs.Lives.{IsLife, IsRead, Reads, line_leads}
 use Rattle.session_laws.proofs.LocksRead.{LocksFit, lock_reader, there, locks_aside}
 use Rattle.session_rules.specs.Elements as e
-use Rattle.pgs_step.specs.declared.events.What.TheVariants as what
 
 -- where no lock is held, none is behind
 pub record KeepsNone (s t : Scene) (events : List What) : Type 0 where
@@ -29,22 +22,10 @@ pub none_seen : Sees of_locks KeepsNone
 none_seen = record { both = λ a b. record { so = λ h. b.so (a.so h) }; aside = λ s t same plain. record { so = λ h. same.so part.of_locks refl ∙ h } }
 
 pub none_base : Base of_locks KeepsNone
-none_base = record {
-  sees = none_seen;
-  locks = record {
-    let_go = λ owner. record { so = λ s. record { so = λ h. ap (released owner) h } };
-    passed = λ from to. record { so = λ s. record { so = λ h. ap (passed from to) h } };
-    all_gone = λ top. record { so = λ s. record { so = λ h. refl } };
-  };
-  files = files_hidden of_locks KeepsNone none_seen refl;
-}
+none_base = grind (arith, nat_tests, none_seen, files_hidden, of_locks)
 
 pub none_law : Turns of_locks KeepsNone
-none_law = record {
-  least = least_of of_locks KeepsNone none_base refl;
-  levels = λ levels s. record { so = λ h. h };
-  stack = stack_hidden of_locks KeepsNone none_seen refl;
-}
+none_law = grind (arith, nat_tests, least_of, of_locks, none_base, stack_hidden, none_seen)
 
 pub none_unlocked : (object : ℕ) (mode : Mode) (n : ℕ) → Keeps KeepsNone (lock_given_back object mode n)
 none_unlocked object mode n = record { so = λ s. record { so = λ h. ap (given_back n object mode) h } }
@@ -96,8 +77,7 @@ level_none commit None s bare there = bare refl
 level_none commit (Some n) s bare there = released_none commit n s (there n refl)
 
 and_false : (b : Bool) → (b && false) ≡ false
-and_false true = refl
-and_false false = refl
+and_false b = grind (arith, nat_tests)
 
 bare_owner : (level : LevelState) (s : Scene) → Bare (settled (level ∷ []) s) → level.owner ≡ None → s.session.locks ≡ []
 bare_owner level s bare none = bare.so (ap (λ (o : Option ℕ). not level.aborted && is_some o) none ∙ and_false (not level.aborted))
@@ -110,8 +90,7 @@ committed_none level s stands bare =
     let loop : Leads level [] [] [] st (for_each portal_closed s.session.portals st).scene = all_closed level made s.session.portals st (resettled level [] [] [] s.session.portals s (begins level [] [] s stands)) in
     let kept : KeepsNone st (for_each portal_closed s.session.portals st).scene _ = (by_each KeepsNone (least_acts of_locks KeepsNone none_law.least) portal_closed (portal_closes KeepsNone (least_acts of_locks KeepsNone none_law.least) none_law.least.items.released) s.session.portals).so st in
     let z : Scene = with_parts loop.goes.parts st in
-    let none : (level_released true true z).scene.session.locks ≡ [] =
-    level_none true level.owner z (λ e. sym (ap (λ (y : Scene). y.session.locks) loop.goes.is) ∙ kept.so (bare_owner level s bare e)) (λ n e. (loop.goes.ending.all.0.owner n e).there) in
+    let none : (level_released true true z).scene.session.locks ≡ [] = grind (arith, nat_tests, level_none, bare_owner, there) in
     let behind : KeepsNone (level_released true true (for_each portal_closed s.session.portals st).scene).scene _ _ =
     (behind_commit KeepsNone (turn_ends of_locks KeepsNone none_law)).so (level_released true true (for_each portal_closed s.session.portals st).scene).scene in
     behind.so (ap (λ (y : Scene). (level_released true true y).scene.session.locks) loop.goes.is ∙ none)
@@ -122,8 +101,7 @@ aborted_none level s stands bare =
     let st : Scene = settled (level ∷ []) (switched_off s) in
     let done : List LevelState = gone_levels level [] in
     let made : active_depth (level ∷ []) ≡ 1 → (lo : ℕ) × (level.owner ≡ Some lo) = λ e. owner_when_active level [] stands.fit.0.made (omega (arith, e)) in
-    let loop : Leads level [] done [] st (for_each (portal_aborted 1 level.owner) s.session.portals st).scene =
-    all_aborted level [] made s.session.portals st (resettled level [] done [] s.session.portals (switched_off s) (off_begins level [] done s stands)) in
+    let loop : Leads level [] done [] st (for_each (portal_aborted 1 level.owner) s.session.portals st).scene = grind (arith, nat_tests, all_aborted, resettled, switched_off, off_begins) in
     let kept : KeepsNone st (for_each (portal_aborted 1 level.owner) s.session.portals st).scene _ =
     (by_each KeepsNone (least_acts of_locks KeepsNone none_law.least) (portal_aborted 1 level.owner) (portal_aborts KeepsNone (least_acts of_locks KeepsNone none_law.least) none_law.least.items.moved 1 level.owner) s.session.portals).so st in
     let z : Scene = with_parts loop.goes.parts st in
@@ -132,17 +110,7 @@ aborted_none level s stands bare =
 
 -- a level that is rolled back, where it is level 1
 pub rolled_none : (level : LevelState) (s : Scene) → Stands (settled (level ∷ []) s) → Bare (settled (level ∷ []) s) → (level_rolled_back level (settled (level ∷ []) s)).scene.session.locks ≡ []
-rolled_none level s stands bare = go level.aborted refl
-  where
-    st : Scene
-    st = settled (level ∷ []) s
-
-    cleaned : (z : Scene) → z.session.locks ≡ [] → (cleaned_up z).scene.session.locks ≡ []
-    cleaned z none = let all : KeepsNone z (cleaned_up z).scene (cleaned_up z).events = (cleans_up KeepsNone (turn_ends of_locks KeepsNone none_law)).so z in all.so none
-
-    go : (b : Bool) → level.aborted ≡ b → (cleaned_up (where_so (not b) aborted st).scene).scene.session.locks ≡ []
-    go true e = cleaned st (bare.so (ap (λ (b : Bool). not b && is_some level.owner) e))
-    go false e = cleaned (aborted st).scene (aborted_none level s stands bare)
+rolled_none level s stands bare = grind (arith, nat_tests, settled, cleans_up KeepsNone (turn_ends of_locks KeepsNone none_law), turn_ends of_locks KeepsNone none_law, of_locks, none_law, aborted_none)
 
 -- Where no lock may be held none is, behind each element, each line and the end of a session.
 
@@ -167,12 +135,6 @@ none_behind w x m spoken h none =
     let all : Follows KeepsNone m.scene (does w x m) = element_follows KeepsNone (least_leaves of_locks KeepsNone none_law.least) false w x m spoken (turns_owed of_locks KeepsNone none_law w x m (none_owed w x m h)) in
     all.so.so none
 
--- levels above another one may hold locks
-pub outer_holds : (levels : List LevelState) → AreOuter levels → 1 ≤ length levels → may_hold levels ≡ true
-outer_holds [] h some = absurd (omega (arith, some))
-outer_holds (level ∷ []) h some = ap (λ (b : Bool). not b && is_some level.owner) h.0.unaborted ∙ h.0.made.owner
-outer_holds (level ∷ (next ∷ levels)) h some = refl
-
 pub bare_held : (s : Scene) → may_hold s.session.levels ≡ true → Bare s
 bare_held s h = record { so = λ none. absurd (both_ways (may_hold s.session.levels) none h) }
 
@@ -185,57 +147,23 @@ bare_settled levels s is b = record { so = λ none. b.so (ap may_hold is ∙ non
 -- what changes levels
 fallible_holds : (w : Option ℕ) (m : Moment) (own : Option Error) (act : Scene → Ended) → (may_hold (act m.scene).scene.session.levels ≡ false → may_hold m.scene.session.levels ≡ false)
     → may_hold (fallible w m own act).moment.scene.session.levels ≡ false → may_hold m.scene.session.levels ≡ false
-fallible_holds w m own act h = go (refused_call w m.fail (m.calls + 1) own)
-  where
-    go : (r : Option Error) → may_hold (unless_refused r (record m { calls = m.calls + 1 }) act).moment.scene.session.levels ≡ false → may_hold m.scene.session.levels ≡ false
-    go None = h
-    go (Some error) = λ none. none
-
-fallible_bare : (w : Option ℕ) (m : Moment) (own : Option Error) (act : Scene → Ended) → Bare m.scene → Bare (act m.scene).scene → Bare (fallible w m own act).moment.scene
-fallible_bare w m own act b c = go (refused_call w m.fail (m.calls + 1) own)
-  where
-    go : (r : Option Error) → Bare (unless_refused r (record m { calls = m.calls + 1 }) act).moment.scene
-    go None = c
-    go (Some error) = b
-
-begun_holds : (level : LevelState) (levels : List LevelState) → may_hold (level ∷ levels) ≡ false → may_hold levels ≡ false
-begun_holds level [] h = refl
-begun_holds level (next ∷ levels) h = absurd (cc h)
-
-changed_holds : (change : LevelState → LevelState) (levels : List LevelState) → ((l : LevelState) → (change l).aborted ≡ l.aborted) → ((l : LevelState) → is_some (change l).owner ≡ false → is_some l.owner ≡ false)
-    → may_hold (deepest_changed change levels) ≡ false → may_hold levels ≡ false
-changed_holds change [] same less h = refl
-changed_holds change (level ∷ []) same less h = grind (arith, nat_tests, is_some)
-changed_holds change (level ∷ (next ∷ levels)) same less h = absurd (cc h)
-
-there_holds : {A : Type 0} (o : Option A) (act : A → Scene → Ended) (s : Scene) → ((a : A) → (act a s).scene.session.levels ≡ s.session.levels) → (where_there o act s).scene.session.levels ≡ s.session.levels
-there_holds None act s h = refl
-there_holds (Some a) act s h = h a
+fallible_holds w m own act h = grind (arith, nat_tests)
 
 context_holds : (new : NewContext) (s : Scene) → may_hold (new_context_made new s).scene.session.levels ≡ false → may_hold s.session.levels ≡ false
-context_holds LevelContext s h = changed_holds (λ level. record level { context = Some s.session.next_context }) s.session.levels (λ l. refl) (λ l n. n) h
-context_holds (PortalContext name) s h = h
-context_holds (RowContext name) s h = sym (ap may_hold (there_holds (option_and_then (λ (p : OpenPortal). p.context) (portal_named name s.session.portals)) _ s (λ n. refl))) ∙ h
-context_holds (ScriptContext name parent kind) s h = sym (ap may_hold (there_holds (context_named parent s.session) _ s (λ n. refl))) ∙ h
+context_holds new s h = grind (arith, nat_tests)
 
 owner_holds : (role : OwnerRole) (s : Scene) → may_hold (new_owner_made role s).scene.session.levels ≡ false → may_hold s.session.levels ≡ false
-owner_holds OfLevel s h = changed_holds (λ level. record level { owner = Some s.session.next_owner }) s.session.levels (λ l. refl) (λ l n. absurd (cc n)) h
-owner_holds (OfPortal name) s h = h
+owner_holds role s h = grind (arith, nat_tests)
 
 stands_holds : (o : Option ℕ) (s : Scene) → may_hold (deepest_changed (λ level. record level { starting = false }) (where_there o switched s).scene.session.levels) ≡ false → may_hold s.session.levels ≡ false
-stands_holds None s h = changed_holds (λ level. record level { starting = false }) s.session.levels (λ l. refl) (λ l n. n) h
-stands_holds (Some n) s h = changed_holds (λ level. record level { starting = false }) s.session.levels (λ l. refl) (λ l n. n) h
+stands_holds o s h = grind (arith, nat_tests)
 
 -- a lock is taken where one may be held
 level_holds : (levels : List LevelState) (n : ℕ) → is_aborted levels ≡ false → owner_of (first_of levels) ≡ Some n → may_hold levels ≡ true
-level_holds [] n active is = absurd (cc is)
-level_holds (level ∷ []) n active is = ap (λ (b : Bool). not b && is_some level.owner) active ∙ ap is_some is
-level_holds (level ∷ (next ∷ levels)) n active is = refl
+level_holds levels n active is = grind (arith, nat_tests)
 
 portal_holds : (levels : List LevelState) (t : Contexts) (x : OwnerTree) (current : ℕ) → FitLevels levels t x current → is_aborted levels ≡ false → (p : OpenPortal) → IsLive p levels ⊎ IsDead p levels → may_hold levels ≡ true
-portal_holds [] t x current fit active p stage = grind (arith, nat_tests)
-portal_holds (level ∷ []) t x current fit active p stage = grind (arith, nat_tests, owner_when_active, level_holds, both_ways)
-portal_holds (level ∷ (next ∷ levels)) t x current fit active p stage = refl
+portal_holds levels t x current fit active p stage = grind (arith, nat_tests, owner_when_active, level_holds, both_ways)
 
 one_of : (P : OpenPortal → Type 0) (p : OpenPortal) (front back : List OpenPortal) → All P (front ++ (p ∷ back)) → P p
 one_of P p [] back h = All-head P p back h
@@ -255,12 +183,7 @@ role_holds (OfPortal name) s n stands active is = go (portal_named name s.sessio
 
 taken_bare : (w : Option ℕ) (role : OwnerRole) (object : ℕ) (mode : Mode) (m : Moment) → Stands m.scene → is_aborted m.scene.session.levels ≡ false → Bare m.scene → Bare (does w (e.TakeLock role object mode) m).moment.scene
 unfolding does
-taken_bare w role object mode m stands active b =
-    fallible_bare w m _ (at_owner role (lock_taken object mode)) b (go (owner_in role m.scene.session) (λ n is. role_holds role m.scene n stands active is))
-  where
-    go : (o : Option ℕ) → ((n : ℕ) → o ≡ Some n → may_hold m.scene.session.levels ≡ true) → Bare (where_there o (lock_taken object mode) m.scene).scene
-    go None held = b
-    go (Some n) held = bare_held _ (held n refl)
+taken_bare w role object mode m stands active b = grind (arith, nat_tests, role_holds)
 
 -- the ends
 commit_bare : (w : Option ℕ) (m : Moment) → Stands m.scene → (level : LevelState) → m.scene.session.levels ≡ level ∷ [] → Bare m.scene → Bare (does w e.CommitTop m).moment.scene
@@ -273,23 +196,16 @@ unfolding does
 abort_none w m stands level is b =
     settled_as (λ (z : Scene). (aborted z).scene.session.locks ≡ []) m.scene (level ∷ []) stands is (λ k. aborted_none level m.scene k (bare_settled (level ∷ []) m.scene is b))
 
-outer_of : (m : Moment) → Stands m.scene → (level : LevelState) (levels : List LevelState) → m.scene.session.levels ≡ level ∷ levels → AreOuter levels
-outer_of m stands level levels is = settled_as (λ z. AreOuter levels) m.scene (level ∷ levels) stands is (λ k. k.fit.1)
-
 merge_bare : (w : Option ℕ) (m : Moment) → Meets e.Subcommit m.scene → Bare (does w e.Subcommit m).moment.scene
-merge_bare w m meets = grind (arith, nat_tests, merge_stands, bare_held, outer_holds, outer_of)
+merge_bare w m meets = grind (arith, nat_tests, merge_stands)
 
 abort_bare : (w : Option ℕ) (m : Moment) → Stands m.scene → (level : LevelState) (levels : List LevelState) → m.scene.session.levels ≡ level ∷ levels
     → Leaves (record level { aborted = true } ∷ levels) (does w e.Abort m).moment.scene → Bare m.scene → Bare (does w e.Abort m).moment.scene
-abort_bare w m stands level [] is left b = bare_none _ (abort_none w m stands level is b)
-abort_bare w m stands level (next ∷ levels) is left b = bare_held _ (ap may_hold left.are)
+abort_bare w m stands level levels is left b = grind (arith, nat_tests, bare_none, abort_none)
 
 cleanup_bare : (w : Option ℕ) (m : Moment) → Stands m.scene → (level : LevelState) (levels : List LevelState) → m.scene.session.levels ≡ level ∷ levels → level.aborted ≡ true
     → Leaves levels (does w e.Cleanup m).moment.scene → Bare m.scene → Bare (does w e.Cleanup m).moment.scene
-cleanup_bare w m stands level [] is gone left b =
-    bare_none _ (none_behind w e.Cleanup m tt tt (b.so (ap may_hold is ∙ ap (λ (a : Bool). not a && is_some level.owner) gone)))
-cleanup_bare w m stands level (next ∷ levels) is gone left b =
-    bare_held _ (ap may_hold left.are ∙ outer_holds (next ∷ levels) (outer_of m stands level (next ∷ levels) is) (omega arith))
+cleanup_bare w m stands level levels is gone left b = grind (arith, nat_tests, bare_none, none_behind)
 
 -- where an element leads to levels of which none may hold a lock, none of those before may
 shrinks_bare : (w : Option ℕ) (x : Element) (m : Moment) → IsSpoken false x → TakesNone x → (may_hold (does w x m).moment.scene.session.levels ≡ false → may_hold m.scene.session.levels ≡ false) → Bare m.scene → Bare (does w x m).moment.scene
@@ -299,17 +215,14 @@ own_bare : (w : Option ℕ) (x : Element) (m : Moment) → IsSpoken false x → 
 own_bare w x m spoken own takes b = shrinks_bare w x m spoken takes (λ none. sym (ap may_hold (own_mild w x m own).so.levels) ∙ none) b
 
 failing_bare : (name : Text) (done : Done) (refusal : Option Error) → Bare done.moment.scene → Bare (failing_turn name done refusal).moment.scene
-failing_bare name done None b = b
-failing_bare name done (Some error) b = record { so = b.so }
+failing_bare name done refusal b = grind (arith, nat_tests)
 
 -- Each element that a line meets keeps it.
 pub bare_behind : (w : Option ℕ) (x : Element) (m : Moment) → IsSpoken false x → Meets x m.scene → IsChecked x m.scene → Bare m.scene → Bare (does w x m).moment.scene
 unfolding does
 bare_behind w (e.InTurn name x) m spoken meets checked b =
     failing_bare name (does w x m) (does w x m).refusal (bare_behind w x m spoken (record { stands = meets.stands; asks = meets.asks }) checked b)
-bare_behind w (e.MakeLevel name implicit) m spoken meets checked b =
-    shrinks_bare w (e.MakeLevel name implicit) m tt tt (fallible_holds w m _ (level_made name implicit)
-    (begun_holds (record { name = name; context = None; owner = None; implicit = implicit; aborted = false; starting = true }) m.scene.session.levels)) b
+bare_behind w (e.MakeLevel name implicit) m spoken meets checked b = grind (arith, nat_tests, shrinks_bare, fallible_holds)
 bare_behind w (e.MakeContext new) m spoken meets checked b = shrinks_bare w (e.MakeContext new) m tt tt (fallible_holds w m _ (new_context_made new) (context_holds new m.scene)) b
 bare_behind w (e.MakeOwner role) m spoken meets checked b = shrinks_bare w (e.MakeOwner role) m tt tt (fallible_holds w m _ (new_owner_made role) (owner_holds role m.scene)) b
 bare_behind w e.LevelStands m spoken meets checked b = shrinks_bare w e.LevelStands m tt tt (stands_holds (level_context m.scene.session) m.scene) b
@@ -329,8 +242,7 @@ bare_behind w other m spoken meets checked b = own_bare w other m spoken tt tt b
 
 -- elements in order
 then_bare : (done : Done) (refusal : Option Error) (rest : Moment → Done) → Bare done.moment.scene → (refusal ≡ None → Bare (rest done.moment).moment.scene) → Bare (then_done done refusal rest).moment.scene
-then_bare done None rest b more = let k : Bare (rest done.moment).moment.scene = more refl in record { so = k.so }
-then_bare done (Some error) rest b more = b
+then_bare done refusal rest b more = grind (arith, nat_tests)
 
 run_bare : (w : Option ℕ) (xs : List Element) (m : Moment) → AreSpoken false xs → IsRun Meets w xs m → IsRun IsChecked w xs m → Bare m.scene → Bare (does_all w xs m).moment.scene
 unfolding does_all
@@ -340,30 +252,16 @@ run_bare w (x ∷ xs) m spoken meets checked b =
     then_bare (does w x m) (does w x m).refusal (does_all w xs) first (λ none. run_bare w xs (does w x m).moment spoken.1 (meets.1 none) (checked.1 none) first)
 
 -- a level that aborts, and one that is rolled back
-aborts_bare : (level : LevelState) (levels : List LevelState) (s : Scene) → level.aborted ≡ false → IsOpen level → Stands (settled (level ∷ levels) s) → Bare (settled (level ∷ levels) s) → Bare (aborted (settled (level ∷ levels) s)).scene
-aborts_bare level [] s active open_level stands b = bare_none _ (aborted_none level s stands b)
-aborts_bare level (next ∷ levels) s active open_level stands b = grind (arith, nat_tests, settled, aborted_stands, bare_held)
-
 rolled_bare : (level : LevelState) (levels : List LevelState) (s : Scene) → Stands (settled (level ∷ levels) s) → Bare (settled (level ∷ levels) s) → Bare (level_rolled_back level (settled (level ∷ levels) s)).scene
-rolled_bare level [] s stands b = bare_none _ (rolled_none level s stands b)
-rolled_bare level (next ∷ levels) s stands b = grind (arith, nat_tests, settled, rolled_stands, bare_held, outer_holds)
+rolled_bare level levels s stands b = grind (arith, nat_tests, bare_none, rolled_none, settled, rolled_stands, bare_held)
 
 -- a recovery
-above_bare : (levels : List LevelState) (s : Scene) → Leaves levels s → AreOuter levels → Bare s → Bare (where_there (first_of levels) (λ above. aborted) s).scene
-above_bare [] s left outer b = b
-above_bare (level ∷ levels) s left outer b = grind (arith, nat_tests, settled, is_left, aborts_bare)
-
 given_up_bare : (level : LevelState) (levels : List LevelState) (s : Scene) (b i : Bool) → level.starting ≡ b → level.implicit ≡ i → level.aborted ≡ false → Stands (settled (level ∷ levels) s) → Bare (settled (level ∷ levels) s)
     → Bare (elim b as (λ _. Ended) [
       | true ↦ in_order (level_rolled_back level ∷ where_there (first_of levels) (λ above. aborted) ∷ []) (settled (level ∷ levels) s)
       | false ↦ elim i as (λ _. Ended) [ true ↦ level_rolled_back level (settled (level ∷ levels) s) | false ↦ aborted (settled (level ∷ levels) s) ]
     ]).scene
-given_up_bare level levels s true i e q active h b =
-    let k : Bare (where_there (first_of levels) (λ above. aborted) (level_rolled_back level (settled (level ∷ levels) s)).scene).scene =
-    above_bare levels (level_rolled_back level (settled (level ∷ levels) s)).scene (rolled_stands level levels s h) h.fit.1 (rolled_bare level levels s h b) in
-    record { so = k.so }
-given_up_bare level levels s false true e q active h b = rolled_bare level levels s h b
-given_up_bare level levels s false false e q active h b = aborts_bare level levels s active (record { started = e; block = q }) h b
+given_up_bare level levels s b i e q active h b_9 = grind (arith, nat_tests, settled, rolled_stands, rolled_bare, bare_none, aborted_none, aborted_stands)
 
 recovered_settled : (error : Error) (levels : List LevelState) (s : Scene) → Stands (settled levels s) → Bare (settled levels s) → Bare (recovered error (settled levels s)).scene
 unfolding recovered
@@ -382,8 +280,7 @@ line_stands : (w : Option ℕ) (line : Option Command) (m : Moment) → StandsBe
 line_stands w line m h = (line_leads w line m h).stands
 
 turn_of_bare : (done : Done) (refusal : Option Error) → Stands done.moment.scene → Bare done.moment.scene → Bare (turn_of done refusal).moment.scene
-turn_of_bare done None h b = b
-turn_of_bare done (Some error) h b = let k : Bare (recovered error done.moment.scene).scene = recovered_bare error done.moment.scene h b in record { so = k.so }
+turn_of_bare done refusal h b = grind (arith, nat_tests, recovered_bare)
 
 turn_bare : (w : Option ℕ) (line : Option Command) (m : Moment) → StandsBetweenLines m.scene → Bare m.scene → Bare (turn w line m).moment.scene
 unfolding turn
@@ -423,11 +320,7 @@ module _ (object mode : ℕ) where
   opens_so around = record { fit = record { counted = refl; sound = none_sound }; bare = record { so = λ none. refl } }
 
   turns_so : (w : Option ℕ) (line : Option Command) (m : Moment) → StandsBetweenLines m.scene → Reads (lock_reader object mode) LockFits m.scene (turn w line m).moment.scene (turn w line m).events
-  turns_so w line m h = record {
-    so = λ n f.
-        let read : IsRead (lock_reader object mode) (LocksFit object mode) n (turn w line m).moment.scene (turn w line m).events = (locks_turn object mode w line m).so n f.fit in
-        record { allowed = read.allowed; fits = record { fit = read.fits; bare = turn_bare w line m h f.bare } };
-  }
+  turns_so w line m h = grind (arith, nat_tests, lock_reader object mode, locks_turn object mode w line m, turn_bare)
 
   exits_so : (s : Scene) → StandsBetweenLines s → (n : ℕ) → LockFits n s → (allows_all (lock_reader object mode) n (exited s).events ≡ true) × (seen_after (lock_reader object mode) n (exited s).events ≡ 0)
   exits_so s h n f =
@@ -439,11 +332,7 @@ module _ (object mode : ℕ) where
   lock_life kinds = record {
     opens = λ around same. opens_so around;
     elsewhere = λ n session a b same descriptors f. record { fit = record { counted = f.fit.counted; sound = f.fit.sound }; bare = record { so = f.bare.so } };
-    error = λ error s. record {
-      so = λ n f.
-          let read : IsRead (lock_reader object mode) (LocksFit object mode) n s (what.Error error ∷ []) = (locks_aside object mode s s refl (said_one (what.Error error) refl)).so n f.fit in
-          record { allowed = read.allowed; fits = record { fit = read.fits; bare = f.bare } };
-    };
+    error = grind (arith, nat_tests, lock_reader, locks_aside, said_one);
     turns = turns_so;
     exits = exits_so;
   }

@@ -1,15 +1,12 @@
 -- Locks are released as often as they are acquired: what a reader has seen of a lock fits how often owners hold it.
-use Rattle.session_laws.proofs.Words.{◌≡◌, ℕ, ◌+◌, ◌<◌, Bool, true, false, cond, List, [], ◌∷◌, map, filter, refl, sym, ap, ◌∙◌, arith, if◌then◌else◌, ◌++◌, subst, ◌==◌, ◌&&◌, sum_by, All, nat_le, and_parts, eqb-true, and_from, le-leb, All-head, All-tail, All-weaker, All-nil, sum_by-cons, nat_tests}
-use Rattle.session_laws.proofs.Scenes.{Mode, IsInOrder, Lock, comes_before, count_of, has_owner, is_lock, lock_total, owner_count, AreLocks, What, Scene, step_done, lock_given_back, lock_taken, ReleasesLocks, PassesLocks, ReleasesAllLocks}
-use Rattle.session_laws.proofs.Rules.{Reader, allows_all, seen_after, count, Law, said_none, said_lock_passes}
+use Rattle.session_laws.proofs.Words.{◌≡◌, ℕ, ◌+◌, ◌<◌, Bool, true, false, cond, List, [], ◌∷◌, map, filter, refl, sym, ap, ◌∙◌, arith, if◌then◌else◌, ◌++◌, subst, ◌==◌, ◌&&◌, sum_by, All, nat_le, and_parts, eqb-true, and_from, le-leb, All-head, All-tail, All-weaker, All-nil, sum_by-cons, nat_tests, locks, unlocks}
+use Rattle.session_laws.proofs.Scenes.{Mode, IsInOrder, Lock, comes_before, count_of, has_owner, is_lock, lock_total, owner_count, AreLocks, What, Scene, step_done, lock_given_back, lock_taken, ReleasesLocks, PassesLocks, ReleasesAllLocks, mode_number}
+use Rattle.session_laws.proofs.Rules.{Reader, allows_all, seen_after, count, Law, said_none, said_lock_passes, WellCounted, by_passing, down, none_like, passes_some, AreLocks-acquired, AreLocks-filtered, AreLocks-passed, AreLocks-released, counted-down, keeps-down}
 use Rattle.std.proofs.lemmas.List.Folds.{map_fixed}
-use Rattle.pgs_step.specs.Mode.{mode_number}
 use Rattle.lock_local.specs.declared.local_lock.OwnerCount.{OwnerCount}
 use Rattle.lock_local.specs.Changes.{acquired, counted_down, counted_up, new_lock, passed, passed_lock, without, released, releases, releases_of_all}
 use Rattle.lock_local.proofs.OwnerLemmas.{counts-added, counts-others}
-use Rattle.lock_local.proofs.ChangeLemmas.{WellCounted, by_passing, down, none_like, passes_some, AreLocks-acquired, AreLocks-filtered, AreLocks-passed, AreLocks-released, counted-down, keeps-down}
 use Rattle.lock_local.proofs.TotalLemmas.{no_total, sum_kept, sum_same, total_down, total_without}
-use Rattle.lifetime_laws.specs.Once.{locks, unlocks}
 use Rattle.session_laws.proofs.Lives.{Reads, read_both}
 use Rattle.session_rules.proofs.Sight as part
 use Rattle.session_laws.proofs.LocksSight.{PassesOver, Sees, hides, of_locks, read_plain, subject, files_hidden, Base, least_of, Turns, ArePlain, stack_hidden}
@@ -17,8 +14,7 @@ use Rattle.session_laws.proofs.FilesLife.{count_over}
 use Rattle.pgs_step.specs.declared.events.What.TheVariants as what
 
 counted_where : (b : Bool) (p q r : ℕ) → p + q ≡ r → cond b p 0 + cond b q 0 ≡ cond b r 0
-counted_where true p q r e = e
-counted_where false p q r e = refl
+counted_where b p q r e = grind (arith, nat_tests)
 
 module _ (object mode : ℕ) where
   -- whether a lock is on this object in the mode of this number
@@ -125,12 +121,10 @@ module _ (object mode : ℕ) where
   ReadsLocks = Reads lock_reader LocksFit
 
   locks_none : (event : What) → hides (subject event) of_locks ≡ true → locks object mode event ≡ 0
-  locks_none (what.AcquireLock o m owner) h = absurd (cc h)
-  locks_none other h = refl
+  locks_none event h = grind (arith, nat_tests)
 
   unlocks_none : (event : What) → hides (subject event) of_locks ≡ true → unlocks object mode event ≡ 0
-  unlocks_none (what.ReleaseLock o m n owner) h = absurd (cc h)
-  unlocks_none other h = refl
+  unlocks_none event h = grind (arith, nat_tests)
 
   lock_over : PassesOver of_locks lock_reader
   lock_over = count_over of_locks (locks object mode) (unlocks object mode) locks_none unlocks_none
@@ -165,10 +159,6 @@ module _ (object mode : ℕ) where
   one_goes o m times owner n rest events is k same left goes = grind (arith, nat_tests, and_from, le-leb)
 
   -- what an owner holds is given up
-  none_more : (b : Bool) (k : ℕ) → k ≡ 0 → cond b k 0 ≡ 0
-  none_more true k e = e
-  none_more false k e = refl
-
   releases_go : (owner : ℕ) (xs : List Lock) (rest n : ℕ) → n ≡ there object mode xs + rest → Goes n (there object mode (map (without owner) xs) + rest) (releases owner xs)
   releases_go owner [] rest n is = record { allowed = refl; left = is }
   releases_go owner (x ∷ xs) rest n is = go (owner_count owner x == 0) refl (λ (k : ℕ) (e : k ≡ there object mode xs + (weight object mode (without owner x) + rest)). releases_go owner xs (weight object mode (without owner x) + rest) k e)
@@ -188,15 +178,7 @@ module _ (object mode : ℕ) where
       go : (b : Bool) → (owner_count owner x == 0) ≡ b
           → ((k : ℕ) → k ≡ there object mode xs + (weight object mode (without owner x) + rest) → Goes k (there object mode (map (without owner) xs) + (weight object mode (without owner x) + rest)) (releases owner xs))
           → Goes n (there object mode (map (without owner) (x ∷ xs)) + rest) ((if b then [] else what.ReleaseLock x.object x.mode (owner_count owner x) owner ∷ []) ++ releases owner xs)
-      go true e ih =
-          let none : held ≡ 0 = none_more (is_this object mode x.object x.mode) (owner_count owner x) (eqb-true (owner_count owner x) 0 e) in
-          let later = ih n (omega (arith, is, whole, less, none)) in
-          record { allowed = later.allowed; left = omega (arith, later.left, all) }
-      go false e ih =
-          let later = ih (there object mode xs + (weight object mode (without owner x) + rest)) refl in
-          let now = one_goes x.object x.mode (owner_count owner x) owner n (there object mode xs + (weight object mode (without owner x) + rest)) (releases owner xs) (omega (arith, is, whole, less))
-          (there object mode xs + (weight object mode (without owner x) + rest)) refl (there object mode (map (without owner) xs) + (weight object mode (without owner x) + rest)) later in
-          record { allowed = now.allowed; left = omega (arith, now.left, all) }
+      go b e ih = grind (arith, nat_tests, held, eqb-true, whole, less, all, one_goes)
 
   let_go_so : (owner : ℕ) (s : Scene) → ReadsLocks s (step_done (ReleasesLocks owner) s).scene (step_done (ReleasesLocks owner) s).events
   let_go_so owner s = record {

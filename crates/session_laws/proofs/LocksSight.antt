@@ -1,7 +1,7 @@
 -- Laws that see locks alone, files alone, the stack of snapshots alone or items alone, and what passes them by.
 use Rattle.session_laws.proofs.Words.{◌≡◌, ℕ, Bool, true, false, List, [], refl, sym, subst, Option, and_from, nat_tests, arith}
-use Rattle.session_laws.proofs.Scenes.{What, KindId, Phase, Scene, Moment, item_released, owner_gone, owner_moved, phase_released, item_taken, files, lock_taken, snapshot_pushed, descriptor_given, Mode, LevelState, lock_given_back, at_owner, exited, Error, Command, Element, OfLevel, OwnerRole, new_context_made, new_owner_made, owner_made, plan_made, does, line_elements, turn}
-use Rattle.session_laws.proofs.Rules.{Reader, allows_all, Keeps, Law, is_word, Acts, EndLeaves, Follows, IsRun, Leaves, MoveLeaves, Owes, OwesMakes, is_level_word, runs_anyhow, LockLeaves, OwnerLeaves, FileLeaves, ContextLeaves, Part, Sight, hook_waits_so, leaves_of, makes_context, moves_context, places, plans_one, says, unseen_contexts, KeyLeaves, phase_so, releases, taken_so, unseen_keys, AreSaid, said_more, said_none, by_owner, context_is_made, fallible_so, levels_owed, moves_owed, owner_is_made, unfailing_so, ends_owed, exit_follows, StackLeaves, unseen_locks, unseen_stack, unseen_files, unlocks, locks_one, pushes, unseen_owners, item_comes, owner_makes, item_goes, owner_goes, owner_moves}
+use Rattle.session_laws.proofs.Scenes.{What, KindId, Phase, Scene, Moment, item_released, owner_gone, owner_moved, phase_released, item_taken, lock_taken, snapshot_pushed, descriptor_given, Mode, LevelState, lock_given_back, at_owner, exited, Command, Element, OfLevel, OwnerRole, new_context_made, new_owner_made, owner_made, plan_made, does, line_elements, turn}
+use Rattle.session_laws.proofs.Rules.{Reader, Keeps, Law, is_word, Acts, EndLeaves, Follows, IsRun, Leaves, MoveLeaves, Owes, OwesMakes, runs_anyhow, LockLeaves, OwnerLeaves, FileLeaves, ContextLeaves, Part, Sight, hook_waits_so, leaves_of, makes_context, moves_context, places, plans_one, says, unseen_contexts, KeyLeaves, phase_so, releases, taken_so, unseen_keys, AreSaid, said_more, said_none, by_owner, context_is_made, fallible_so, levels_owed, moves_owed, owner_is_made, unfailing_so, ends_owed, exit_follows, StackLeaves, unseen_locks, unseen_stack, unseen_files, unlocks, locks_one, pushes, unseen_owners, item_comes, owner_makes, item_goes, owner_goes, owner_moves}
 use Rattle.session_laws.proofs.Usual.{turn_follows}
 use Rattle.session_laws.proofs.Lives.{IsRead}
 use Rattle.pgs_step.specs.declared.events.What.TheVariants as what
@@ -61,12 +61,7 @@ abbrev pub Sees : Subject → Law → Type 0
 Sees k R = Sight (sees_of k) (passing k) R
 
 word_plain : (k : Subject) (event : What) → is_word event ≡ true → passing k event ≡ true
-word_plain k (what.AcquireLock object mode owner) h = absurd (cc h)
-word_plain k other h = cc
-
-level_plain : (k : Subject) (event : What) → is_level_word event ≡ true → passing k event ≡ true
-level_plain k (what.BeginLevel level) h = refl
-level_plain k other h = cc
+word_plain k event h = grind (arith, nat_tests)
 
 -- what a law owes for owners and their items
 pub record SeesItems (R : Law) : Type 0 where
@@ -87,10 +82,7 @@ module _ (k : Subject) {Seen : Type 0} (reader : Reader Seen) (Fits : Seen → S
   read_plain seen t (said_more {event = event} {events = events} p ps) h =
       let same : reader.next event seen ≡ seen = over.next event p seen in
       let rest : IsRead reader Fits (reader.next event seen) t events = read_plain (reader.next event seen) t ps (subst (λ (now : Seen). Fits now t) (sym same) h) in
-      record {
-        allowed = and_from (reader.allows event seen) (allows_all reader (reader.next event seen) events) (over.allows event p seen) rest.allowed;
-        fits = rest.fits;
-      }
+      grind (arith, nat_tests, and_from)
 
 -- What passes by a law that sees something else: locks, files, or the stack of snapshots.
 
@@ -183,7 +175,7 @@ module _ (k : Subject) (R : Law) (law : Turns k R) where
 
   -- all leaves of a law that is kept in any scene by all ends and by the snapshots that are popped
   pub turn_ends : EndLeaves R
-  turn_ends = grind (arith, nat_tests, least_leaves, says, level_plain)
+  turn_ends = grind (arith, nat_tests, least_leaves, says)
 
   abbrev a : Acts R
   a = turn_ends.levels.leaves.acts

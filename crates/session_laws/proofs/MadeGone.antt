@@ -1,17 +1,11 @@
 -- Only elements that make something say that something is made.
-use Rattle.session_laws.proofs.Words.{◌≡◌, ℕ, Bool, true, false, List, Option, refl, ◌+◌, ◌<◌, ◌≤◌, All, [], ◌∷◌, ◌++◌, Some, None, ap, ◌∙◌, subst, inl, inr, arith, ◌≢◌, zero, suc, ◌-◌, IsTrue, sym, drop, ◌==◌, option_and_then, option_map_or, and_from, cases_Bool, and_parts, both_ways, cases_eq, eq-eqb, eqb-true, ne_eqb, or_cases, All-head, All-tail, has, nat_tests}
-use Rattle.session_laws.proofs.Scenes.{Error, What, Moment, Scene, Element, OfLevel, LevelContext, NewContext, OfPortal, OwnerRole, PortalContext, RowContext, ScriptContext, Text, at_owner, lock_given_back, descriptor_given, lock_taken, snapshot_pushed, does, does_all, failing_turn, then_done, exited, recovered, Command, KindTable, LevelState, OpenPortal, cache_context, first_of, level_above, owner_of, portals_context, top_context, portal_named, Ended, where_there, level_parent, new_context_made, new_owner_made, owner_made, plan_made, Done, fallible, refused_call, unless_refused, AreLevels, IsPortal, Stands, StandsBetweenLines, line_elements, turn, turn_of, table_of}
-use Rattle.session_laws.proofs.Rules.{Acts, EndLeaves, Follows, IsSpoken, OwesMakes, AreSpoken, IsRun, by_owner, element_follows, fallible_so, levels_owed, moves_owed, unfailing_so, ends_owed, exit_follows, recovers, AreSaid, said_both, said_one, said_more, said_none, Sight, item_comes, no_part, unseen_keys, unseen_owners, line_spoken, Meets, line_runs, Reader, allows_all, seen_after, allows_all-append, BalancesFrom, count, covers, left}
+use Rattle.session_laws.proofs.Words.{◌≡◌, ℕ, Bool, true, false, List, Option, refl, ◌+◌, ◌<◌, ◌≤◌, All, [], ◌∷◌, ◌++◌, Some, None, ap, ◌∙◌, subst, inl, inr, arith, ◌≢◌, ◌-◌, IsTrue, sym, drop, ◌==◌, option_and_then, and_from, cases_Bool, and_parts, both_ways, cases_eq, eq-eqb, eqb-true, ne_eqb, or_cases, All-head, All-tail, has, nat_tests, Parents, first_parents, parents_behind, shedding, deletes, discards, happens, has_context, is_first_context, makes_context, makes_owner, nothing, one_where}
+use Rattle.session_laws.proofs.Scenes.{Error, What, Moment, Scene, Element, OfLevel, NewContext, OwnerRole, Text, at_owner, lock_given_back, descriptor_given, lock_taken, snapshot_pushed, does, does_all, failing_turn, then_done, exited, recovered, Command, KindTable, LevelState, OpenPortal, cache_context, first_of, portal_named, Ended, level_parent, new_context_made, new_owner_made, plan_made, Done, fallible, refused_call, unless_refused, AreLevels, IsPortal, Stands, StandsBetweenLines, line_elements, turn, turn_of, table_of}
+use Rattle.session_laws.proofs.Rules.{Acts, EndLeaves, Follows, IsSpoken, OwesMakes, AreSpoken, IsRun, by_owner, element_follows, fallible_so, levels_owed, moves_owed, unfailing_so, ends_owed, exit_follows, recovers, AreSaid, said_both, said_one, said_more, said_none, Sight, item_comes, no_part, unseen_keys, unseen_owners, line_spoken, Meets, line_runs, Reader, allows_all, seen_after, allows_all-append, BalancesFrom, count, covers, left, is_there-placed_other, is_there-placed_same, is_there-without_other, is_there-without_same, is_there, Node as Kept, placed, placed_where, without, protected_has, named_there, Named, named_in}
 use Rattle.session_laws.proofs.Usual.{Usual, is_usual, usual_files, usual_locked, usual_moves, usual_pushed, usual_unlocked, plain_ends}
-use Rattle.session_rules.proofs.ContextsKept.{protected_has, top_protected}
-use Rattle.session_rules.proofs.NamesStand.{named_there}
-use Rattle.session_rules.proofs.PortalsStand.{Named, named_in}
-use Rattle.lifetime_laws.specs.Once.{Parents, first_parents, parents_behind, shedding, deletes, discards, happens, has_context, is_first_context, makes_context, makes_owner, nothing, one_where}
-use Rattle.lifetime_laws.specs.Parents.{is_there, Node as Kept, placed, placed_where, without}
 use Rattle.session_laws.proofs.Lives.{IsLife, IsRead, Reads, read_both, read_none}
 use Rattle.session_laws.proofs.ParentsLife.{KeepsContexts, contexts_owed, KeepsOwners, owners_owed, opening_contexts, opening_owners}
-use Rattle.session_laws.proofs.MadeOnce.{FitsParents, NoneLeft, shed_reads, shedding_life, HasFollowed, IsFollowed, IsPaired, Pair, followed, pair_reads, paired, first_small, leaf_there, none_allowed, one_allowed, there_moved, there_placed}
-use Rattle.lifetime_laws.proofs.Replays.{is_there-placed_other, is_there-placed_same, is_there-without_other, is_there-without_same}
+use Rattle.session_laws.proofs.MadeOnce.{FitsParents, NoneLeft, shed_reads, shedding_life, HasFollowed, IsFollowed, IsPaired, Pair, followed, pair_reads, paired, first_small, leaf_there, one_allowed, there_moved, there_placed}
 use Rattle.session_laws.proofs.Parents.{Growth, growing_contexts, growing_owners}
 use Rattle.pgs_step.specs.declared.events.What.TheVariants as what
 use Rattle.session_rules.specs.Elements as e
@@ -24,8 +18,7 @@ is_unmade (what.OwnerIn owner parent) = false
 is_unmade other = true
 
 usual_unmade : (event : What) → is_usual event ≡ true → is_unmade event ≡ true
-usual_unmade (what.Create context name parent) h = absurd (cc h)
-usual_unmade other h = cc
+usual_unmade event h = grind (arith, nat_tests)
 
 -- the law that all are such ones
 record NoneMade (s t : Scene) (events : List What) : Type 0 where
@@ -72,8 +65,7 @@ owed w other m h = tt
 -- An element that makes nothing says nothing of that kind.
 pub element_silent : (w : Option ℕ) (x : Element) (m : Moment) → IsSpoken false x → is_making x ≡ false → AreSaid is_unmade (does w x m).events
 element_silent w x m spoken makes =
-    let k : Follows NoneMade m.scene (does w x m) =
-    element_follows NoneMade unmade_ends.levels.leaves false w x m spoken (levels_owed NoneMade unmade_ends.levels w x m (ends_owed NoneMade unmade_ends w x m (owed w x m makes))) in
+    let k : Follows NoneMade m.scene (does w x m) = grind (arith, nat_tests, element_follows, unmade_ends, levels_owed, ends_owed, owed) in
     k.so.said
 
 -- nor does a recovery, nor an exit
@@ -102,8 +94,7 @@ same_seen [] parents = refl
 same_seen (event ∷ events) parents = same_seen events (parents_behind event parents)
 
 one_placed : (event : What) (parents : Parents) → is_unmade event ≡ true → placing.allows event parents ≡ true
-one_placed (what.Create context name parent) parents h = absurd (cc h)
-one_placed other parents h = cc
+one_placed event parents h = grind (arith, nat_tests)
 
 none_placed : {events : List What} → AreSaid is_unmade events → (parents : Parents) → allows_all placing parents events ≡ true
 none_placed said_none parents = refl
@@ -115,44 +106,22 @@ pub record ArePlaced (s : Scene) (events : List What) : Type 0 where
   pub allowed : (parents : Parents) → FitsParents parents s → allows_all placing parents events ≡ true
 
 pub place_reads : {s t : Scene} {events : List What} → Reads shedding FitsParents s t events → ArePlaced s events → Reads placing FitsParents s t events
-place_reads {t = t} {events = events} r h = record {
-  so = λ parents fit.
-      let k : IsRead shedding FitsParents parents t events = r.so parents fit in
-      record { allowed = h.allowed parents fit; fits = subst (λ (seen : Parents). FitsParents seen t) (same_seen events parents) k.fits };
-}
+place_reads {t = t} {events = events} r h = grind (arith, nat_tests, same_seen)
 
 -- a context or an owner that is made below one that is there
 below_context : (n parent : ℕ) (name : Text) (s : Scene) → has parent s.session.contexts ≡ true → ArePlaced s (what.Create n name parent ∷ [])
 below_context n parent name s there = record { allowed = λ parents fit. and_from (is_there parent parents.contexts) true (fit.contexts.tree.there parent ∙ there) refl }
 
-owner_placed : (o : Option ℕ) (s : Scene) → ((q : ℕ) → o ≡ Some q → has q s.session.owners ≡ true) → ArePlaced s (owner_made o s).events
-owner_placed None s there = record { allowed = λ parents fit. refl }
-owner_placed (Some q) s there = record { allowed = λ parents fit. and_from (is_there q parents.owners) true (fit.owners.tree.there q ∙ there q refl) refl }
-
 -- what is there in a scene that stands
 module _ (s : Scene) (h : Stands s) where
-  top_there : has top_context s.session.contexts ≡ true
-  top_there = protected_has top_context s.session.contexts (top_protected s.session.contexts s.session.next_context h.contexts)
-
   own_there : (n : ℕ) → 1 < n → n ≤ 5 → has n s.session.contexts ≡ true
   own_there n l u = protected_has n s.session.contexts (h.contexts.own n l u).protected
 
   above_there : (o : Option LevelState) → ((level : LevelState) → o ≡ Some level → (n : ℕ) → level.context ≡ Some n → has n s.session.contexts ≡ true) → has (level_parent o) s.session.contexts ≡ true
-  above_there None there = top_there
-  above_there (Some level) there = go level.context (there level refl)
-    where
-      go : (c : Option ℕ) → ((n : ℕ) → c ≡ Some n → has n s.session.contexts ≡ true) → has (option_map_or (λ n. n) c top_context) s.session.contexts ≡ true
-      go None there = top_there
-      go (Some n) there = there n refl
+  above_there o there = grind (arith, nat_tests)
 
   second_context : (levels : List LevelState) → AreLevels levels s.session.contexts s.session.owners → (level : LevelState) → first_of (drop 1 levels) ≡ Some level → (n : ℕ) → level.context ≡ Some n → has n s.session.contexts ≡ true
-  second_context [] all level is n e = absurd (cc is)
-  second_context (first ∷ []) all level is n e = absurd (cc is)
-  second_context (first ∷ (above ∷ rest)) all level is n e = grind (arith, nat_tests, protected_has)
-
-  first_owner : (levels : List LevelState) → AreLevels levels s.session.contexts s.session.owners → (q : ℕ) → owner_of (first_of levels) ≡ Some q → has q s.session.owners ≡ true
-  first_owner [] all q e = absurd (cc e)
-  first_owner (first ∷ rest) all q e = (all.0.owner q e).there
+  second_context levels all level is n e = grind (arith, nat_tests, protected_has)
 
   middle : (p : OpenPortal) (front back : List OpenPortal) → All (λ r. IsPortal r s.session.levels s.session.contexts s.session.owners s.session.current) (front ++ (p ∷ back))
       → IsPortal p s.session.levels s.session.contexts s.session.owners s.session.current
@@ -166,36 +135,24 @@ module _ (s : Scene) (h : Stands s) where
       let i = middle p m.front m.back (subst (All (λ r. IsPortal r s.session.levels s.session.contexts s.session.owners s.session.current)) m.is h.portals.each) in
       protected_has n s.session.contexts (i.place n e).protected
 
-  placed_there : (o : Option ℕ) (act : ℕ → Scene → Ended) → ((n : ℕ) → o ≡ Some n → ArePlaced s (act n s).events) → ArePlaced s (where_there o act s).events
-  placed_there None act k = record { allowed = λ parents fit. refl }
-  placed_there (Some n) act k = k n refl
-
   context_placed : (new : NewContext) → ArePlaced s (new_context_made new s).events
-  context_placed LevelContext = below_context s.session.next_context _ _ s (above_there (level_above s.session) (second_context s.session.levels h.levels))
-  context_placed (PortalContext name) = below_context s.session.next_context portals_context _ s (own_there portals_context (omega arith) (omega arith))
-  context_placed (RowContext name) =
-      placed_there (option_and_then (λ (p : OpenPortal). p.context) (portal_named name s.session.portals)) _
-      (λ n e. below_context s.session.next_context n _ s (place_there name (portal_named name s.session.portals) refl n e))
-  context_placed (ScriptContext name parent kind) = grind (arith, nat_tests, placed_there, below_context, named_there)
+  context_placed new = grind (arith, nat_tests, below_context, above_there, second_context, own_there, place_there, named_there)
 
   new_owner_placed : (role : OwnerRole) → ArePlaced s (new_owner_made role s).events
-  new_owner_placed OfLevel = grind (arith, nat_tests)
-  new_owner_placed (OfPortal name) = grind (arith, nat_tests, first_owner, owner_placed)
+  new_owner_placed role = grind (arith, nat_tests)
 
   plan_placed : (plan : ℕ) → ArePlaced s (plan_made plan s).events
   plan_placed plan = below_context s.session.next_context cache_context _ s (own_there cache_context (omega arith) (omega arith))
 
 -- elements that make something
 unless_placed : (refusal : Option Error) (m : Moment) (act : Scene → Ended) → ArePlaced m.scene (act m.scene).events → ArePlaced m.scene (unless_refused refusal m act).events
-unless_placed None m act h = h
-unless_placed (Some error) m act h = record { allowed = λ parents fit. refl }
+unless_placed refusal m act h = grind (arith, nat_tests)
 
 fallible_placed : (w : Option ℕ) (m : Moment) (own : Option Error) (act : Scene → Ended) → ArePlaced m.scene (act m.scene).events → ArePlaced m.scene (fallible w m own act).events
 fallible_placed w m own act h = unless_placed (refused_call w m.fail (m.calls + 1) own) (record m { calls = m.calls + 1 }) act h
 
 failing_placed : (name : Text) (s : Scene) (done : Done) (refusal : Option Error) → ArePlaced s done.events → ArePlaced s (failing_turn name done refusal).events
-failing_placed name s done None h = h
-failing_placed name s done (Some error) h = h
+failing_placed name s done refusal h = grind (arith, nat_tests)
 
 making_placed : (w : Option ℕ) (x : Element) (m : Moment) → Stands m.scene → is_making x ≡ true → ArePlaced m.scene (does w x m).events
 unfolding does
@@ -220,8 +177,7 @@ element_reads w x m meets spoken =
 
 then_reads : (s : Scene) (done : Done) (refusal : Option Error) (rest : Moment → Done) → Reads placing FitsParents s done.moment.scene done.events
     → (refusal ≡ None → Reads placing FitsParents done.moment.scene (rest done.moment).moment.scene (rest done.moment).events) → Reads placing FitsParents s (then_done done refusal rest).moment.scene (then_done done refusal rest).events
-then_reads s done None rest h more = read_both placing FitsParents h (more refl)
-then_reads s done (Some error) rest h more = h
+then_reads s done refusal rest h more = grind (arith, nat_tests, read_both)
 
 -- So do elements in order, and so a line.
 pub run_reads : (w : Option ℕ) (xs : List Element) (m : Moment) → AreSpoken false xs → IsRun Meets w xs m → Reads placing FitsParents m.scene (does_all w xs m).moment.scene (does_all w xs m).events
@@ -231,14 +187,7 @@ run_reads w (x ∷ xs) m spoken run =
     then_reads m.scene (does w x m) (does w x m).refusal (does_all w xs) (element_reads w x m run.0 spoken.0) (λ none. run_reads w xs (does w x m).moment spoken.1 (run.1 none))
 
 turn_placed : (s : Scene) (done : Done) (refusal : Option Error) → Reads placing FitsParents s done.moment.scene done.events → ArePlaced s (turn_of done refusal).events
-turn_placed s done None h = record {
-  allowed = λ parents fit. let k : IsRead placing FitsParents parents done.moment.scene done.events = h.so parents fit in k.allowed;
-}
-turn_placed s done (Some error) h = record {
-  allowed = λ parents fit.
-      let k : IsRead placing FitsParents parents done.moment.scene done.events = h.so parents fit in
-      allows_all-append placing parents done.events (recovered error done.moment.scene).events k.allowed (none_placed (recovers_silent error done.moment.scene) (seen_after placing parents done.events));
-}
+turn_placed s done refusal h = grind (arith, nat_tests, allows_all-append, none_placed, recovers_silent)
 
 line_placed : (w : Option ℕ) (line : Option Command) (m : Moment) → StandsBetweenLines m.scene → ArePlaced m.scene (turn w line m).events
 unfolding turn
@@ -250,15 +199,7 @@ line_placed w line m h =
 pub placing_life : (kinds : KindTable) → IsLife kinds placing FitsParents first_parents NoneLeft
 placing_life kinds =
     let life : IsLife kinds shedding FitsParents first_parents NoneLeft = shedding_life kinds in
-    record {
-      opens = life.opens;
-      elsewhere = life.elsewhere;
-      error = λ error s. place_reads (life.error error s) (record { allowed = λ parents fit. refl });
-      turns = λ w line m stands. place_reads (life.turns w line m stands) (line_placed w line m stands);
-      exits = λ s stands parents fit.
-          let k : (allows_all shedding parents (exited s).events ≡ true) × NoneLeft (seen_after shedding parents (exited s).events) = life.exits s stands parents fit in
-          (none_placed (exits_silent s) parents, subst NoneLeft (same_seen (exited s).events parents) k.1);
-    }
+    grind (arith, nat_tests, place_reads, line_placed, none_placed, exits_silent, same_seen)
 
 -- Each context and each owner of a session goes exactly once.
 
@@ -302,7 +243,7 @@ context_step c (what.Delete x) seen n same h a b = going_gone c 6 x seen.first.n
 context_step c other seen n same h a b = going_same c 6 seen.first.nodes seen.first.nodes seen.first.next n (λ t. t) (λ t. t) h
 
 contexts_going : (c : ℕ) → IsFollowed (paired growing_contexts placing) (count nothing (deletes c)) (GoesContext c)
-contexts_going c = grind (arith, nat_tests, and_parts, context_step, one_allowed, leaf_there, none_allowed)
+contexts_going c = grind (arith, nat_tests, and_parts, context_step, one_allowed, leaf_there)
 
 -- the same of owners
 pub record GoesOwner (o : ℕ) (seen : Pair Growth Parents) (n : ℕ) : Type 0 where
@@ -320,15 +261,12 @@ owner_step o (what.OwnerGone x) seen n same h a b = going_gone o 1 x seen.first.
 owner_step o other seen n same h a b = going_same o 1 seen.first.nodes seen.first.nodes seen.first.next n (λ t. t) (λ t. t) h
 
 owners_going : (o : ℕ) → IsFollowed (paired growing_owners placing) (count nothing (discards o)) (GoesOwner o)
-owners_going o = grind (arith, nat_tests, and_parts, owner_step, one_allowed, leaf_there, none_allowed)
+owners_going o = grind (arith, nat_tests, and_parts, owner_step, one_allowed, leaf_there)
 
 -- a number that is made is below the next one then
 pub record IsGiven (m least next : ℕ) : Type 0 where
   pub least_is : least ≤ m
   pub below : m < next
-
-one_happens : (m x : ℕ) → (one_where (m == x) == 1) ≡ true → m ≡ x
-one_happens m x h = grind (arith, nat_tests, eqb-true)
 
 contexts_rise : (events : List What) (g : Growth) → allows_all growing_contexts g events ≡ true → g.next ≤ (seen_after growing_contexts g events).next
 contexts_rise [] g h = omega arith
@@ -336,7 +274,7 @@ contexts_rise (event ∷ events) g h = grind (arith, nat_tests, contexts_rise ev
 
 context_given : (c : ℕ) (events : List What) (g : Growth) → allows_all growing_contexts g events ≡ true → 6 ≤ g.next → happens (makes_context c) events ≡ true → IsGiven c 6 (seen_after growing_contexts g events).next
 context_given c [] g h l made = absurd (cc made)
-context_given c (event ∷ events) g h l made = grind (arith, nat_tests, context_given c events (growing_contexts.next event g), growing_contexts, and_parts, contexts_rise, or_cases, one_happens, eqb-true)
+context_given c (event ∷ events) g h l made = grind (arith, nat_tests, context_given c events (growing_contexts.next event g), growing_contexts, and_parts, contexts_rise, or_cases, eqb-true)
 
 owners_rise : (events : List What) (g : Growth) → allows_all growing_owners g events ≡ true → g.next ≤ (seen_after growing_owners g events).next
 owners_rise [] g h = omega arith
@@ -344,13 +282,12 @@ owners_rise (event ∷ events) g h = grind (arith, nat_tests, owners_rise events
 
 owner_given : (o : ℕ) (events : List What) (g : Growth) → allows_all growing_owners g events ≡ true → 1 ≤ g.next → happens (makes_owner o) events ≡ true → IsGiven o 1 (seen_after growing_owners g events).next
 owner_given o [] g h l made = absurd (cc made)
-owner_given o (event ∷ events) g h l made = grind (arith, nat_tests, owner_given o events (growing_owners.next event g), growing_owners, and_parts, owners_rise, or_cases, one_happens, eqb-true)
+owner_given o (event ∷ events) g h l made = grind (arith, nat_tests, owner_given o events (growing_owners.next event g), growing_owners, and_parts, owners_rise, or_cases, eqb-true)
 
 -- the contexts that a session begins with may go once
 
 first_some : (c : ℕ) → is_first_context c ≡ true → 1 ≤ c
-first_some zero h = absurd (cc h)
-first_some (suc n) h = omega arith
+first_some c h = grind (arith, nat_tests)
 
 first_going : (c : ℕ) → IsGoing c 6 opening_contexts.nodes 6 1
 first_going c = grind (arith, nat_tests, first_small)
@@ -391,8 +328,7 @@ owners_gone_of events h k none o made =
     let f : HasFollowed one two (GoesOwner o) seen 1 events = followed one two (owners_going o) events seen 1 (record { same = refl; going = no_owner_going o }) p.allowed in
     let nodes : (seen_after one seen events).first.nodes ≡ [] = f.related.same ∙ ap (λ (parents : Parents). parents.owners) p.second ∙ none.owners in
     let w : IsGiven o 1 (seen_after growing_owners opening_owners events).next = owner_given o events opening_owners h (omega arith) made in
-    let end : left nothing (discards o) 1 events ≡ 0 =
-    all_gone o 1 (seen_after one seen events).first.nodes (seen_after one seen events).first.next (left nothing (discards o) 1 events) nodes w.least_is (omega (arith, w.below, ap (λ (g : Growth). g.next) p.first)) f.related.going in
+    let end : left nothing (discards o) 1 events ≡ 0 = grind (arith, nat_tests, all_gone) in
     and_from (covers nothing (discards o) 1 events) (left nothing (discards o) 1 events == 0) f.allowed (eq-eqb (left nothing (discards o) 1 events) 0 end)
 
 -- Wherever a line stands between two of its elements, the replayed parents are those of the session's trees.

@@ -1,14 +1,10 @@
 -- A reader that allows what another one allows, by what both have seen.
-use Rattle.session_laws.proofs.Words.{◌≡◌, true, List, [], ◌∷◌, refl, ℕ, not, sym, ap, ◌∙◌, subst, ◌≢◌, ◌+◌, ◌-◌, ◌<◌, ◌≤◌, Bool, false, Option, Some, nat_le, inl, inr, arith, ◌&&◌, ◌==◌, and_from, and_parts, both_ways, cases_eq, eqb-false, eqb-true, false_from_ne_true, le-leb, nat_tests}
+use Rattle.session_laws.proofs.Words.{◌≡◌, true, List, [], ◌∷◌, refl, ℕ, not, sym, ap, ◌∙◌, ◌≢◌, ◌+◌, ◌-◌, ◌<◌, ◌≤◌, Bool, false, Option, Some, nat_le, inl, inr, arith, ◌&&◌, ◌==◌, and_from, and_parts, both_ways, cases_eq, eqb-false, eqb-true, false_from_ne_true, le-leb, nat_tests, Parents, first_parents, shedding, deletes, discards, is_first_context, makes_context, makes_owner, nothing, one_where}
 use Rattle.session_laws.proofs.Scenes.{What, Scene, KindTable, exited}
-use Rattle.session_laws.proofs.Rules.{Reader, allows_all, seen_after, count}
-use Rattle.lifetime_laws.specs.Parents.{Node as Kept, has_child, is_there, placed_where}
-use Rattle.lifetime_laws.specs.Once.{Parents, first_parents, shedding, deletes, discards, is_first_context, makes_context, makes_owner, nothing, one_where}
+use Rattle.session_laws.proofs.Rules.{Reader, allows_all, seen_after, count, is_there-placed_other, is_there-without_other, is_there-without_same, IsMadeOnce, Node as Kept, has_child, is_there, placed_where}
 use Rattle.session_laws.proofs.Lives.{IsLife, IsRead, Reads}
 use Rattle.session_laws.proofs.Parents.{FitsContexts, FitsOwners, Growth, growing_contexts, growing_owners, is_leaf}
 use Rattle.session_laws.proofs.ParentsLife.{HasContexts, KeepsContexts, HasOwners, KeepsOwners, contexts_life, opening_contexts, opening_owners, owners_life}
-use Rattle.lifetime_laws.specs.Made.{IsMadeOnce}
-use Rattle.lifetime_laws.proofs.Replays.{is_there-placed_other, is_there-without_other, is_there-without_same}
 
 module _ {A B : Type 0} (one : Reader A) (two : Reader B) where
   -- where what both have seen is related, the second allows each event that the first allows, and so it is behind
@@ -85,11 +81,7 @@ shed_events events parents contexts owners c o h k =
     let seen : Pair Growth Growth = record { first = contexts; second = owners } in
     let p : IsPaired growing_contexts growing_owners seen events = pair_reads growing_contexts growing_owners events seen h k in
     let f : HasFollowed (paired growing_contexts growing_owners) shedding AreSame seen parents events = followed (paired growing_contexts growing_owners) shedding sheds events seen parents (record { contexts = c; owners = o }) p.allowed in
-    record {
-      allowed = f.allowed;
-      contexts = ap (λ (g : Growth). g.nodes) (sym p.first) ∙ f.related.contexts;
-      owners = ap (λ (g : Growth). g.nodes) (sym p.second) ∙ f.related.owners;
-    }
+    grind (arith, nat_tests)
 
 -- Where a part of what a session does keeps the replayed contexts and the replayed owners, it keeps the replayed parents, and lets nothing go that has a child.
 pub shed_reads : {s t : Scene} {events : List What} → KeepsContexts s t events → KeepsOwners s t events → Reads shedding FitsParents s t events
@@ -102,10 +94,7 @@ shed_reads {s} {t} {events} c o = record {
       let w : AreShed parents contexts owners events = shed_events events parents contexts owners refl refl x.allowed y.allowed in
       record {
         allowed = w.allowed;
-        fits = record {
-          contexts = subst (λ (nodes : List Kept). FitsContexts nodes t) w.contexts x.fits.fits;
-          owners = subst (λ (nodes : List Kept). FitsOwners nodes t) w.owners y.fits.fits;
-        };
+        fits = grind (arith, nat_tests);
       };
 }
 
@@ -159,9 +148,6 @@ leaf_there n nodes h = let p : (is_there n nodes ≡ true) × (not (has_child n 
 pub one_allowed : (m x n : ℕ) → (m ≡ x → 1 ≤ n) → nat_le (one_where (m == x)) n ≡ true
 one_allowed m x n h = grind (arith, nat_tests, le-leb, eqb-true)
 
-pub none_allowed : (n : ℕ) → nat_le 0 n ≡ true
-none_allowed n = le-leb 0 n (omega arith)
-
 pub one_less : (m x n : ℕ) → m ≢ x → 1 ≤ n → 1 ≤ (n + 0) - one_where (m == x)
 one_less m x n ne h = grind (arith, nat_tests, eqb-true)
 
@@ -177,20 +163,20 @@ pub record IsToMake (m least : ℕ) (growth : Growth) (n : ℕ) : Type 0 where
   pub may : growth.next ≤ m → 1 ≤ n
 
 contexts_made : (c : ℕ) → IsFollowed growing_contexts (count nothing (makes_context c)) (IsToMake c 6)
-contexts_made c = grind (arith, nat_tests, one_allowed, eqb-true, none_allowed, one_less, still_one)
+contexts_made c = grind (arith, nat_tests, one_allowed, eqb-true, one_less, still_one)
 
 owners_made : (o : ℕ) → IsFollowed growing_owners (count nothing (makes_owner o)) (IsToMake o 1)
-owners_made o = grind (arith, nat_tests, one_allowed, eqb-true, none_allowed, one_less, still_one)
+owners_made o = grind (arith, nat_tests, one_allowed, eqb-true, one_less, still_one)
 
 -- what is there may go
 pub record IsToGo (m : ℕ) (growth : Growth) (n : ℕ) : Type 0 where
   pub may : is_there m growth.nodes ≡ true → 1 ≤ n
 
 contexts_go : (c : ℕ) → IsFollowed growing_contexts (count (makes_context c) (deletes c)) (IsToGo c)
-contexts_go c = grind (arith, nat_tests, one_allowed, leaf_there, none_allowed, one_more, there_placed, still_one, there_moved, both_ways, is_there-without_same, one_less, is_there-without_other)
+contexts_go c = grind (arith, nat_tests, one_allowed, leaf_there, one_more, still_one, both_ways, is_there-without_same, one_less, is_there-without_other)
 
 owners_go : (o : ℕ) → IsFollowed growing_owners (count (makes_owner o) (discards o)) (IsToGo o)
-owners_go o = grind (arith, nat_tests, one_allowed, leaf_there, none_allowed, one_more, is_there-placed_other, there_placed, still_one, there_moved, both_ways, is_there-without_same, one_less, is_there-without_other)
+owners_go o = grind (arith, nat_tests, one_allowed, leaf_there, one_more, is_there-placed_other, still_one, both_ways, is_there-without_same, one_less, is_there-without_other)
 
 -- the contexts that a session begins with
 first_to_go : (c : ℕ) → is_there c opening_contexts.nodes ≡ true → 1 ≤ one_where (is_first_context c)

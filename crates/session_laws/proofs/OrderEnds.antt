@@ -1,24 +1,15 @@
 -- A reader of releases, where none is open, as one opens, and as it closes.
-use Rattle.session_laws.proofs.Words.{◌≡◌, ℕ, Bool, true, false, not, List, [], ◌∷◌, ◌++◌, map, Option, Some, None, refl, sym, subst, codes, ◌∙◌, ◌+◌, ◌<◌, All, ap, arith, ◌≤◌, length, option_and_then, ◌==◌, option_map_or, list_all, and_from, All-filter, All-nil, All-weaker, Empty, Node, AllNodes, children, order, nat_tests}
-use Rattle.session_laws.proofs.Scenes.{What, KindTable, portals_context, opening, LevelState, OpenPortal, deepest_changed, depth, first_of, level_owner, owner_of, top_context, Moment, Scene, Around, Element, Text, new_context_made, owner_made, owner_gone, descriptor_left, owner_moved, owner_released, does, Item, Phase, BeforeLocks, Locks, AfterLocks, table_of, is_of, without_newest, is_of_phase, Owner, OwnerTree, remembered, own_released, IsInOrder, Lock, has_owner, Ended, changes, context_gone, for_each, in_order, portal_gone, switched, where_so, where_there, portal_aborted, portal_closed, portal_passed, aborted, cleaned_up, committed, empty_context_gone, level_context_gone, level_owner_gone, level_popped, level_released, stack_lowered, stack_popped, subcommitted, switched_up, Stands, active_depth}
-use Rattle.session_laws.proofs.Rules.{allows_all, seen_after, allows_all-append, seen_after-append, AreSaid, said_more, said_none, said_both, said_one, said_pops, Acts, Follows, Keeps, last, next, EndLeaves, Law, MakeLeaves, Leaves, OwnerLeaves, KeyLeaves, Part, Sight, acts_of, children_go, goes, item_comes, item_goes, leaves_of, of_levels, owner_goes, owner_makes, places, releases, unseen_keys, unseen_owners, of_kinds, of_locks, of_next_serial, of_owners, owner_moves, by_order, moves_owed, by_each, by_so, by_there, all_swept, begins, off_begins, owner_when_active, resettled, settled, switched_off, aborted_leads, empty_context_goes, level_context_goes, portal_aborts, portal_cleans, portal_closes, portal_passes}
+use Rattle.session_laws.proofs.Words.{◌≡◌, ℕ, Bool, true, false, not, List, [], ◌∷◌, ◌++◌, map, Option, Some, None, refl, sym, subst, codes, ◌∙◌, ◌+◌, ◌<◌, All, ap, arith, ◌≤◌, length, ◌==◌, and_from, All-filter, All-weaker, Empty, Node, AllNodes, children, order, nat_tests}
+use Rattle.session_laws.proofs.Scenes.{What, KindTable, portals_context, opening, LevelState, OpenPortal, deepest_changed, depth, first_of, level_owner, owner_of, top_context, Moment, Scene, Around, Element, Text, new_context_made, owner_made, owner_gone, descriptor_left, owner_moved, owner_released, does, Item, Phase, BeforeLocks, Locks, AfterLocks, table_of, is_of, without_newest, is_of_phase, Owner, OwnerTree, remembered, own_released, IsInOrder, Lock, has_owner, Ended, changes, context_gone, for_each, in_order, portal_gone, switched, where_so, where_there, portal_aborted, portal_closed, portal_passed, aborted, cleaned_up, committed, empty_context_gone, level_context_gone, level_owner_gone, level_popped, level_released, stack_lowered, stack_popped, subcommitted, switched_up, Stands, active_depth, is_among, gone_levels}
+use Rattle.session_laws.proofs.Rules.{allows_all, seen_after, allows_all-append, seen_after-append, AreSaid, said_more, said_none, said_both, said_one, said_pops, Acts, Follows, Keeps, last, next, EndLeaves, Law, MakeLeaves, Leaves, OwnerLeaves, KeyLeaves, Part, Sight, acts_of, children_go, goes, item_comes, item_goes, leaves_of, of_levels, owner_goes, owner_makes, places, releases, unseen_keys, unseen_owners, of_kinds, of_locks, of_next_serial, of_owners, owner_moves, by_order, moves_owed, by_each, by_so, by_there, all_swept, begins, off_begins, owner_when_active, resettled, settled, switched_off, aborted_leads, empty_context_goes, level_context_goes, portal_aborts, portal_cleans, portal_closes, portal_passes, Member, Releasing, ordering, owners_behind, IsInOrder-acquired, down, keeps-down, keeps-passed, keeps-without, IsInOrder-filter, IsInOrder-map, table-closed, table-opened, all_changed, all_moved, all_put, all_removed, passed_leads}
 use Rattle.session_laws.proofs.Usual.{Usual, any, usual_any, is_usual, usual_contexts, usual_files, usual_locked, usual_locks, usual_made, usual_moves, usual_placed, usual_planned, usual_pushed, usual_stack, usual_unlocked, usual_words, usual_ends, usual_released, usual_taken, usual_phase}
-use Rattle.lifetime_laws.specs.Order.{Batch, Member, Releasing, may_precede, member_in, members_so_far, ordering}
-use Rattle.lifetime_laws.specs.Parents.{owners_behind}
 use Rattle.session_laws.proofs.Parents.{Growth, growing_owners, FitsOwners}
 use Rattle.session_laws.proofs.Warnings.{is_aside, is_line}
 use Rattle.session_laws.proofs.OrderSteps.{Adds, adds_aside, in_batch, falling_filter, Falls}
 use Rattle.session_laws.proofs.OwnWork.{IsOwnWork, WorkLeaves, own_follows}
-use Rattle.owner_kinds.proofs.Places.{table-closed, table-opened}
 use Rattle.owner_items.proofs.Order.{All-without, falling-without}
 use Rattle.lock_local.specs.Changes.{passed_lock, without}
-use Rattle.lock_local.proofs.ChangeLemmas.{IsInOrder-acquired, down, keeps-down, keeps-passed, keeps-without}
-use Rattle.lock_local.proofs.OrderLemmas.{IsInOrder-filter, IsInOrder-map}
-use Rattle.session_rules.proofs.Guarded.{all_changed, all_moved, all_put, all_removed}
 use Rattle.session_laws.proofs.Lives.{owes_by, OwesTurns, IsRead}
-use Rattle.file_table.specs.Descriptors.{is_among}
-use Rattle.session_rules.specs.Ending.{gone_levels}
-use Rattle.session_rules.proofs.Passing.{passed_leads}
 use Rattle.session_laws.proofs.ParentsLife.{HasOwners, KeepsOwners, owner_level_leaves, owners_moved}
 use Rattle.session_laws.proofs.OwnerEnds.{released_levels, aborted_reads, each_reads, passed_reads}
 use Rattle.session_laws.proofs.OrderPhase.{HasBatch, owner_release}
@@ -76,17 +67,12 @@ module _ (kinds : KindTable) where
   closed_goes said_none seen is = goes_none seen IsClosed is
   closed_goes (said_more {event = event} {events = events} h hs) seen is = grind (arith, nat_tests, closed_goes hs, and_from)
 
-  -- an event that is no member of a release
-  pub lone_allows : (event : What) (seen : Releasing) → ((b : Option Batch) → option_and_then (λ batch. member_in kinds seen.warning event batch) b ≡ None) → (ordering kinds).allows event seen ≡ true
-  lone_allows event seen none =
-      subst (λ (o : Option Member). option_map_or (λ member. list_all (λ earlier. may_precede seen.owners earlier member) (members_so_far seen.batch)) o true ≡ true) (sym (none seen.batch)) refl
-
   -- a level's line opens one, whatever was open before
   pub commit_opens : (level : ℕ) (seen : Releasing) → Goes seen (what.CommitLevel level ∷ []) (λ behind. behind ≡ in_batch seen.owners false [])
-  commit_opens level seen = grind (arith, nat_tests, and_from, lone_allows)
+  commit_opens level seen = grind (arith, nat_tests, and_from)
 
   pub abort_opens : (level : ℕ) (seen : Releasing) → Goes seen (what.AbortLevel level ∷ []) (λ behind. behind ≡ in_batch seen.owners true [])
-  abort_opens level seen = grind (arith, nat_tests, and_from, lone_allows)
+  abort_opens level seen = grind (arith, nat_tests, and_from)
 
   -- an event that closes one
   pub data Closes : What → Type 0 where
@@ -96,7 +82,7 @@ module _ (kinds : KindTable) where
     by_ok : Closes what.Ok
 
   pub closes : {event : What} → Closes event → (seen : Releasing) → Goes seen (event ∷ []) IsClosed
-  closes {event = event} h seen = grind (arith, nat_tests, and_from, lone_allows)
+  closes {event = event} h seen = grind (arith, nat_tests, and_from)
 
   -- what passes over a release that has released nothing so far
   pub passing_goes : (aborts : Bool) (nodes : List replayed.Node) {events : List What} → AreSaid (is_passing aborts) events → Goes (in_batch nodes aborts []) events (λ behind. behind ≡ in_batch (nodes_after nodes events) aborts [])
@@ -149,8 +135,7 @@ abbrev unlined_sight : Sight sees_levels is_unlined Unlined
 unlined_sight = mild_sight is_unlined
 
 usual_unlined : (event : What) → is_usual event ≡ true → is_unlined event ≡ true
-usual_unlined (what.CommitLevel level) h = absurd (cc h)
-usual_unlined other h = cc
+usual_unlined event h = grind (arith, nat_tests)
 
 unlined_usual : Usual sees_levels is_unlined
 unlined_usual = assumption usual_unlined
@@ -225,12 +210,8 @@ module _ (kinds : KindTable) where
     aside = λ s t alike said. same s t _ (alike.so of_locks refl) (alike.so of_owners refl) (alike.so of_next_serial refl) (ap table_of (alike.so of_kinds refl));
   }
 
-  new_recalls : (bound : ℕ) → Recalls bound (record { begun = false; items = [] })
-  new_recalls bound = record { falls = tt; older = All-nil (λ (item : Item). item.serial < bound) }
-
   owner_so : (parent : Option ℕ) (s : Scene) → R s (owner_made parent s).scene (owner_made parent s).events
-  owner_so None s = record { so = λ h. record { places = h.places; locks = h.locks; items = (new_recalls s.session.next_serial, tt, h.items) } }
-  owner_so (Some parent) s = grind (arith, nat_tests, places, all_put, new_recalls)
+  owner_so parent s = grind (arith, nat_tests, places, all_put)
 
   forget : (bound : ℕ) (test : Item → Bool) (owner : Owner) → Recalls bound owner → Recalls bound (record owner { items = without_newest test owner.items })
   forget bound test owner h = record { falls = falling-without test owner.items h.falls; older = All-without (λ (item : Item). item.serial < bound) test owner.items h.older }
@@ -271,9 +252,7 @@ module _ (kinds : KindTable) where
       }) refl (λ event h. refl) (record {
         releasing = λ item n. record { so = λ s. record { so = λ h. h } };
         warned = λ item n s. record { so = λ h. h };
-        remembered = λ n kind key. record {
-          so = λ s. record { so = λ h. record { places = h.places; locks = h.locks; items = recalled n (record { kind = kind; key = key; serial = s.session.next_serial }) s.session.owners h.items } };
-        };
+        remembered = grind (arith, nat_tests, places, recalled, owners);
         swept = λ places phase n s. owners_change s _ (all_swept (own_released places phase) (Recalls s.session.next_serial) n s.session.owners (released_recalls places phase s.session.next_serial));
       }) (record {
         let_go = λ owner. record { so = λ s. locks_change s _ (λ h. IsInOrder-filter has_owner (map (without owner) s.session.locks) (IsInOrder-map (without owner) (keeps-without owner) s.session.locks h)) };
@@ -412,10 +391,8 @@ module _ (kinds : KindTable) where
   close_fits : (ps : List OpenPortal) (s : Scene) (nodes : List replayed.Node) → Fit kinds nodes s → Fit kinds (nodes_after nodes (for_each portal_closed ps s).events) (for_each portal_closed ps s).scene
   close_fits ps s nodes h =
       let l : Leaves (KeepsBase kinds) = (base_leaves kinds).levels.leaves in
-      let o : KeepsOwners s (for_each portal_closed ps s).scene (for_each portal_closed ps s).events =
-      (by_each KeepsOwners own portal_closed (portal_closes KeepsOwners own owner_level_leaves.leaves.released) ps).so s in
-      let b : KeepsBase kinds s (for_each portal_closed ps s).scene (for_each portal_closed ps s).events =
-      (by_each (KeepsBase kinds) l.acts portal_closed (portal_closes (KeepsBase kinds) l.acts l.released) ps).so s in
+      let o : KeepsOwners s (for_each portal_closed ps s).scene (for_each portal_closed ps s).events = grind (arith, nat_tests, by_each KeepsOwners own portal_closed (portal_closes KeepsOwners own owner_level_leaves.leaves.released) ps, portal_closes KeepsOwners own owner_level_leaves.leaves.released, owner_level_leaves) in
+      let b : KeepsBase kinds s (for_each portal_closed ps s).scene (for_each portal_closed ps s).events = grind (arith, nat_tests, by_each (KeepsBase kinds) l.acts portal_closed (portal_closes (KeepsBase kinds) l.acts l.released) ps, portal_closes (KeepsBase kinds) l.acts l.released) in
       keeps_fit o b nodes h
 
   commit_rest : (s : Scene) → AreSaid is_unlined (in_order (switched top_context ∷ level_context_gone ∷ level_popped ∷ []) s).events

@@ -1,16 +1,12 @@
 -- In each session's life the end of a level releases descendants first, by phase and priority.
 use Rattle.session_laws.proofs.Words.{◌≡◌, ℕ, ◌+◌, Bool, true, false, List, [], ◌∷◌, ◌++◌, Option, Some, None, refl, sym, ap, ◌∙◌, subst, inl, inr, not, ◌⊎◌, is_some, and_from, both_ways, subtree, nat_tests, arith}
-use Rattle.session_laws.proofs.Scenes.{Error, What, KindTable, LevelState, deepest_changed, is_aborted, level_above, owner_of, first_of, opening, top_context, Moment, Scene, Around, Element, failure, Ended, nothing, switched, where_there, for_each, in_order, where_so, context_gone, say, aborted, cleaned_up, committed, subcommitted, given_up, level_rolled_back, recovered, exited, level_made, new_context_made, new_owner_made, owner_made, Done, fallible, refused_call, unless_refused, does, does_all, then_done, AreOuter, IsOpen, Stands, AreOpen, FitLevels, StandsBetweenLines, Command, table_of, line_elements, turn, turn_of}
-use Rattle.session_laws.proofs.Rules.{allows_all, seen_after, aborted_stands, at_settled, is_left, rolled_stands, settled, AreSpoken, Follows, IsRun, IsSpoken, Meets, Runs, element_follows, AreSaid, said_both, said_none, said_one, said_gone, line_spoken}
-use Rattle.lifetime_laws.specs.Order.{Releasing, ordering, nothing_releasing}
-use Rattle.lifetime_laws.specs.Parents.{Node}
+use Rattle.session_laws.proofs.Scenes.{Error, What, KindTable, LevelState, is_aborted, first_of, opening, top_context, Moment, Scene, Around, Element, failure, Ended, nothing, switched, where_there, for_each, in_order, where_so, context_gone, say, aborted, cleaned_up, committed, subcommitted, given_up, level_rolled_back, recovered, exited, level_made, Done, fallible, refused_call, unless_refused, does, does_all, then_done, AreOuter, IsOpen, Stands, StandsBetweenLines, Command, table_of, line_elements, turn, turn_of, is_there}
+use Rattle.session_laws.proofs.Rules.{allows_all, seen_after, aborted_stands, at_settled, is_left, rolled_stands, settled, AreSpoken, Follows, IsRun, IsSpoken, Meets, Runs, element_follows, AreSaid, said_both, said_none, said_one, said_gone, line_spoken, Releasing, ordering, nothing_releasing, Node, abort_stands, cleanup_stands, commit_stands, merge_stands, settled_as}
 use Rattle.session_rules.proofs.EndsStand.{Leaves as Leaving}
-use Rattle.session_rules.proofs.LevelsKept.{is_there}
-use Rattle.session_rules.proofs.StepsStand.{abort_stands, cleanup_stands, commit_stands, merge_stands, settled_as}
 use Rattle.session_laws.proofs.Lives.{OwesTurns, level_keeps, IsLife, Reads, turn_keeps, line_leads}
 use Rattle.session_laws.proofs.OwnWork.{AreDue, ContextNext, Hushed, IsDue, IsHushed, IsLevelContext, IsLevelOwner, IsLively, IsOwnWork, IsRest, IsSaid, OwnerNext, Stage, Working, above_of, hushed_next, stage_next, working_next, line_due, stage_of}
 use Rattle.session_laws.proofs.ParentsLife.{KeepsOwners, owners_owed, HasOwners, opening_owners, owners_life}
-use Rattle.session_laws.proofs.OrderEnds.{Mild, own_mild, KeepsBase, base_owed, Fit, abort_goes, clean_goes, commit_goes, keeps_fit, merge_goes, Goes, IsClosed, closed_goes, goes_both, goes_none, goes_weaker, lone_allows, is_unlined, nodes_after, ordered_nodes, by_error, closes, opening_based}
+use Rattle.session_laws.proofs.OrderEnds.{Mild, own_mild, KeepsBase, base_owed, Fit, abort_goes, clean_goes, commit_goes, keeps_fit, merge_goes, Goes, IsClosed, closed_goes, goes_both, goes_none, goes_weaker, is_unlined, nodes_after, ordered_nodes, by_error, closes, opening_based}
 use Rattle.pgs_step.specs.declared.events.What.TheVariants as what
 use Rattle.session_rules.specs.Elements as e
 
@@ -48,41 +44,14 @@ lively e.Cleanup h = elim h [ ]
 lively other h = inr (tt, refl)
 
 outer_owned : (levels : List LevelState) → AreOuter levels → HasOwner levels
-outer_owned [] h = tt
-outer_owned (level ∷ levels) h = h.0.made.owner
+outer_owned levels h = grind (arith, nat_tests)
 
 -- a fallible step says what its act says, or nothing
 unless_said : (refusal : Option Error) (m : Moment) (act : Scene → Ended) → AreSaid is_unlined (act m.scene).events → AreSaid is_unlined (unless_refused refusal m act).events
-unless_said None m act h = h
-unless_said (Some error) m act h = said_none
+unless_said refusal m act h = grind (arith, nat_tests, said_none)
 
 try_said : (w : Option ℕ) (m : Moment) (own : Option Error) (act : Scene → Ended) → AreSaid is_unlined (act m.scene).events → AreSaid is_unlined (fallible w m own act).events
 try_said w m own act h = unless_said (refused_call w m.fail (m.calls + 1) own) (record m { calls = m.calls + 1 }) act h
-
-unless_at : (P : Scene → Type 0) (refusal : Option Error) (m : Moment) (act : Scene → Ended) → P (act m.scene).scene → (unless_refused refusal m act).refusal ≡ None → P (unless_refused refusal m act).moment.scene
-unless_at P None m act h none = h
-unless_at P (Some error) m act h none = absurd (cc none)
-
--- a level that stands, and an owner that is made for a level
-stands_said : (o : Option ℕ) (s : Scene) → AreSaid is_unlined ((where_there o switched s).events ++ ([] ++ []))
-stands_said None s = said_none
-stands_said (Some n) s = said_none
-
-stands_levels : (o : Option ℕ) (s : Scene) → (where_there o switched s).scene.session.levels ≡ s.session.levels
-stands_levels None s = refl
-stands_levels (Some n) s = refl
-
-changed_owned : (levels : List LevelState) → HasOwner levels → HasOwner (deepest_changed (λ level. record level { starting = false }) levels)
-changed_owned [] h = tt
-changed_owned (level ∷ levels) h = h
-
-made_owned : (n : ℕ) (levels : List LevelState) → HasOwner (deepest_changed (λ level. record level { owner = Some n }) levels)
-made_owned n [] = tt
-made_owned n (level ∷ levels) = refl
-
-owner_said : (parent : Option ℕ) (s : Scene) → AreSaid is_unlined (owner_made parent s).events
-owner_said None s = said_one (what.Owner s.session.next_owner) refl
-owner_said (Some parent) s = said_one (what.OwnerIn s.session.next_owner parent) refl
 
 module _ (kinds : KindTable) (w : Option ℕ) where
   -- what an element says is in order, and the line stands so behind it where it was not refused
@@ -100,7 +69,7 @@ module _ (kinds : KindTable) (w : Option ℕ) where
   unfolding does
   level_step x m (makes name implicit) meets seen fit at =
       goes_weaker kinds (λ b closed none. closed) (closed_goes kinds (try_said w m _ (level_made name implicit) (said_one (what.BeginLevel _) refl)) seen at.0)
-  level_step x m stands meets seen fit at = grind (arith, nat_tests, goes_weaker, stands_levels, changed_owned, closed_goes, stands_said)
+  level_step x m stands meets seen fit at = grind (arith, nat_tests, goes_weaker, closed_goes)
   level_step x m tops meets seen fit at =
       let level : LevelState = meets.asks.0 in
       let lo = is_there level.owner (subst HasOwner meets.asks.1 at.1) in
@@ -120,8 +89,7 @@ module _ (kinds : KindTable) (w : Option ℕ) where
       let level : LevelState = meets.asks.0.0 in
       let levels : List LevelState = meets.asks.0.1 in
       let left : Leaving (record level { aborted = true } ∷ levels) (aborted m.scene).scene = abort_stands w m meets.stands level levels meets.asks.1 meets.asks.2 meets.asks.3 in
-      let goes : Fit kinds seen.owners m.scene → Goes kinds seen (aborted m.scene).events (λ b. Unit {0}) =
-      settled_as (λ (z : Scene). Fit kinds seen.owners z → Goes kinds seen (aborted z).events (λ b. Unit {0})) m.scene (level ∷ levels) meets.stands meets.asks.1 (λ k h. abort_goes kinds level levels m.scene k seen h) in
+      let goes : Fit kinds seen.owners m.scene → Goes kinds seen (aborted m.scene).events (λ b. Unit {0}) = grind (arith, nat_tests, settled_as, abort_goes) in
       goes_weaker kinds (λ b any none. ap is_aborted left.are) (goes fit)
 
   working_step : (x : Element) (m : Moment) → IsLively x → Meets x m.scene → IsStep Working (working_next x) x m
@@ -133,28 +101,19 @@ module _ (kinds : KindTable) (w : Option ℕ) where
   -- a level's context, and its owner
   context_step : (x : Element) (m : Moment) → IsLevelContext x → IsStep ContextNext OwnerNext x m
   unfolding does
-  context_step (e.MakeContext e.LevelContext) m h seen fit at =
-      goes_weaker kinds (λ b closed none. closed) (closed_goes kinds (try_said w m _ (new_context_made e.LevelContext) (said_one (what.Create _ _ _) refl)) seen at)
-  context_step (e.MakeContext other) m h seen fit at = elim h [ ]
-  context_step other m h seen fit at = elim h [ ]
+  context_step x m h seen fit at = grind (arith, nat_tests, goes_weaker, closed_goes, try_said, said_one)
 
   owner_step : (x : Element) (m : Moment) → IsLevelOwner x → IsStep OwnerNext Working x m
   unfolding does
-  owner_step (e.MakeOwner e.OfLevel) m h seen fit at =
-      goes_weaker kinds
-      (λ b closed none. (closed, unless_at (λ (z : Scene). HasOwner z.session.levels) _ (record m { calls = m.calls + 1 }) (new_owner_made e.OfLevel) (made_owned m.scene.session.next_owner _) none))
-      (closed_goes kinds (try_said w m _ (new_owner_made e.OfLevel) (said_both (owner_said (owner_of (level_above m.scene.session)) m.scene) (said_both said_none said_none))) seen at)
-  owner_step (e.MakeOwner other) m h seen fit at = elim h [ ]
-  owner_step other m h seen fit at = elim h [ ]
+  owner_step x m h seen fit at = grind (arith, nat_tests, goes_weaker, closed_goes, try_said, said_both, said_none)
 
   -- where the deepest level is aborted
   said_goes : (event : What) → IsSaid event → (seen : Releasing) → Goes kinds seen (event ∷ []) (λ b. Unit {0})
-  said_goes event h seen = grind (arith, nat_tests, and_from, lone_allows)
+  said_goes event h seen = grind (arith, nat_tests, and_from)
 
   check_step : (r : Option Error) (m : Moment) → is_aborted m.scene.session.levels ≡ true → (seen : Releasing)
       → Goes kinds seen (unless_refused r m nothing).events (λ b. (unless_refused r m nothing).refusal ≡ None → is_aborted (unless_refused r m nothing).moment.scene.session.levels ≡ true)
-  check_step None m at seen = goes_none kinds seen (λ b. _) (λ none. at)
-  check_step (Some error) m at seen = goes_none kinds seen (λ b. _) (λ none. at)
+  check_step r m at seen = grind (arith, nat_tests, goes_none)
 
   hushed_step : (x : Element) (m : Moment) → IsHushed x → Meets x m.scene → IsStep Hushed (hushed_next x) x m
   unfolding does
@@ -194,8 +153,7 @@ module _ (kinds : KindTable) (w : Option ℕ) where
   run_goes stage (x ∷ xs) m spoken due run seen fit at =
       let step : Goes kinds seen (does w x m).events (λ b. (does w x m).refusal ≡ None → At (stage_next stage x) b (does w x m).moment.scene) = one_step stage x m due.0 run.0 seen fit at in
       let mid : Releasing = seen_after (ordering kinds) seen (does w x m).events in
-      let fits : Fit kinds mid.owners (does w x m).moment.scene =
-      subst (λ (nodes : List Node). Fit kinds nodes (does w x m).moment.scene) (sym (ordered_nodes kinds (does w x m).events seen)) (fits_step x m spoken.0 run.0 seen.owners fit) in
+      let fits : Fit kinds mid.owners (does w x m).moment.scene = grind (arith, nat_tests, ordered_nodes, fits_step) in
       then_goes (does w x m) xs seen step.allowed fits (λ none. run_goes (stage_next stage x) xs (does w x m).moment spoken.1 due.1 (run.1 none) mid fits (step.behind none)) (does w x m).refusal refl
     where
       then_goes : (done : Done) (xs : List Element) (seen : Releasing) → allows_all (ordering kinds) seen done.events ≡ true → Fit kinds (seen_after (ordering kinds) seen done.events).owners done.moment.scene
@@ -214,10 +172,7 @@ abbrev pub IsOpened : Releasing → Scene → Type 0
 IsOpened seen s = is_aborted s.session.levels ≡ false → seen.batch ≡ None
 
 pub rest_opened : (stage : Stage) (seen : Releasing) (s : Scene) → IsRest stage → At stage seen s → IsOpened seen s
-rest_opened Working seen s rest at = λ un. at.0
-rest_opened ContextNext seen s rest at = elim rest [ ]
-rest_opened OwnerNext seen s rest at = elim rest [ ]
-rest_opened Hushed seen s rest at = λ un. absurd (both_ways (is_aborted s.session.levels) un at)
+rest_opened stage seen s rest at = grind (arith, nat_tests, both_ways)
 
 -- Recoveries, lines and exits are said in order.
 
@@ -243,14 +198,7 @@ module _ (kinds : KindTable) where
       → Goes kinds seen (level_rolled_back level (settled (level ∷ levels) s)).events (λ b. (b.batch ≡ None) × Fit kinds b.owners (level_rolled_back level (settled (level ∷ levels) s)).scene)
   rolls level levels s k seen fit =
       let g : Goes kinds seen (level_rolled_back level (settled (level ∷ levels) s)).events (IsClosed kinds) = rolled_goes level levels s k seen fit in
-      record {
-        allowed = g.allowed;
-        behind = (
-          g.behind,
-          subst (λ (nodes : List Node). Fit kinds nodes (level_rolled_back level (settled (level ∷ levels) s)).scene) (sym (ordered_nodes kinds (level_rolled_back level (settled (level ∷ levels) s)).events seen))
-              (rolled_fits level levels s k seen.owners fit),
-        );
-      }
+      grind (arith, nat_tests, settled, ordered_nodes, rolled_fits)
 
   -- the deepest level aborts, and is aborted then
   abort_opened : (level : LevelState) (levels : List LevelState) (s : Scene) → level.aborted ≡ false → IsOpen level → Stands (settled (level ∷ levels) s) → (seen : Releasing) → Fit kinds seen.owners (settled (level ∷ levels) s)
@@ -335,12 +283,8 @@ pub record FitsOrder (kinds : KindTable) (seen : Releasing) (s : Scene) : Type 0
   pub fit : Fit kinds seen.owners s
   pub opened : IsOpened seen s
 
-between_owned : (levels : List LevelState) (s : Scene) → AreOpen levels → FitLevels levels s.session.contexts s.session.owners s.session.current → HasOwner levels
-between_owned [] s free fit = tt
-between_owned (level ∷ levels) s free fit = (fit.0.made free.0.started).owner
-
 begins_at : (s : Scene) → StandsBetweenLines s → (seen : Releasing) → IsOpened seen s → At (stage_of s.session.levels) seen s
-begins_at s h seen opened = grind (arith, nat_tests, between_owned)
+begins_at s h seen opened = grind (arith, nat_tests)
 
 module _ (kinds : KindTable) where
   turn_opened : (w : Option ℕ) (done : Done) (refusal : Option Error) → done.refusal ≡ refusal → Stands done.moment.scene → (seen : Releasing) → Goes kinds seen done.events (HasRun kinds w done)
@@ -373,13 +317,6 @@ module _ (kinds : KindTable) where
         };
   }
 
-  error_reads : (error : Error) (s : Scene) → Reads (ordering kinds) (FitsOrder kinds) s s (what.Error error ∷ [])
-  error_reads error s = record {
-    so = λ seen fits.
-        let g : Goes kinds seen (what.Error error ∷ []) (IsClosed kinds) = closes kinds by_error seen in
-        record { allowed = g.allowed; fits = record { fit = fits.fit; opened = λ un. g.behind } };
-  }
-
   -- an exit
   tail_said : (s : Scene) → AreSaid is_unlined (in_order (switched top_context ∷ context_gone top_context ∷ say what.Exit ∷ []) s).events
   tail_said s = said_both (said_gone (λ word n. refl) (λ n. refl) (subtree top_context s.session.contexts)) (said_one what.Exit refl)
@@ -397,16 +334,4 @@ module _ (kinds : KindTable) where
 
   -- In each session's life what the end of a level releases comes in order.
   pub order : IsLife kinds (ordering kinds) (FitsOrder kinds) nothing_releasing (λ last. Unit {0})
-  order = record {
-    opens = opening_fits;
-    elsewhere = λ seen session a b same descriptors fits. record {
-      fit = record { owners = fits.fit.owners; based = record { places = same ∙ fits.fit.based.places; locks = fits.fit.based.locks; items = fits.fit.based.items } };
-      opened = fits.opened;
-    };
-    error = error_reads;
-    turns = turn_reads;
-    exits = λ s h seen fits.
-        let g : Goes kinds seen (exited s).events (IsClosed kinds) =
-        at_settled (λ (z : Scene). FitsOrder kinds seen z → Goes kinds seen (exited z).events (IsClosed kinds)) (λ levels z k f. exit_goes levels z k seen f) s h.stands fits in
-        (g.allowed, tt);
-  }
+  order = grind (arith, nat_tests, opening_fits, turn_reads, at_settled, exit_goes)

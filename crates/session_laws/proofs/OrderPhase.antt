@@ -1,13 +1,9 @@
 -- The three phases of a release, of an owner and all below it.
-use Rattle.session_laws.proofs.Words.{◌≡◌, ℕ, ◌<◌, Bool, true, false, not, List, [], ◌++◌, All, Option, Some, None, refl, sym, subst, ap, ◌∙◌, inl, inr, arith, option_map_or, cond-false, cond-true, both_ways, eq-eqb, false_from_ne_true, ne_eqb, or_left, or_right, append-nil, All-append, All-nil, All-weaker, Forest, Empty, Node, Once, AllNodes, at, children, has, parent_of, Apart, apart_of, first_child_other, has_at, has_children, nat_tests}
-use Rattle.session_laws.proofs.Scenes.{What, Phase, BeforeLocks, Locks, AfterLocks, is_of_phase, KindTable, table_of, Owner, OwnerTree, own_released, Step, own_steps, release_steps, steps_below, top_locks, IsInOrder, Scene, Ended, for_each, owner_released, phase_released, step_done}
-use Rattle.session_laws.proofs.Rules.{all_swept}
+use Rattle.session_laws.proofs.Words.{◌≡◌, ℕ, ◌<◌, Bool, true, false, not, List, [], ◌++◌, All, Option, Some, refl, sym, subst, ap, ◌∙◌, inl, inr, arith, option_map_or, cond-false, cond-true, both_ways, eq-eqb, false_from_ne_true, ne_eqb, or_left, or_right, append-nil, All-append, All-nil, All-weaker, Forest, Empty, Node, Once, AllNodes, at, children, has, parent_of, apart_of, first_child_other, has_at, has_children, nat_tests, children_in, once_children}
+use Rattle.session_laws.proofs.Scenes.{What, Phase, BeforeLocks, Locks, AfterLocks, KindTable, table_of, Owner, OwnerTree, own_released, Step, own_steps, release_steps, steps_below, top_locks, IsInOrder, Scene, Ended, for_each, owner_released, phase_released, step_done}
+use Rattle.session_laws.proofs.Rules.{all_swept, Member, owner_of, place_of, place_of_phase, is_above, all_at, all_children}
 use Rattle.session_laws.proofs.ParentsLife.{fits_alike}
-use Rattle.forest.proofs.Walks.{children_in, once_children}
-use Rattle.lifetime_laws.specs.Parents.{is_above}
-use Rattle.lifetime_laws.specs.Order.{Member, owner_of, place_of, place_of_phase}
-use Rattle.session_rules.proofs.Guarded.{all_at, all_children}
-use Rattle.session_laws.proofs.OrderSteps.{Adds, AreApart, adds_both, adds_none, falling_filter, Grows, IsOwn, Releases, each_both, own_release, releases_both, releases_none, releases_weaker, AreClear, AreWalked, Falls, IsClear, IsOf, Splits, below_release, may_release, owner_locks}
+use Rattle.session_laws.proofs.OrderSteps.{Adds, AreApart, adds_both, adds_none, falling_filter, Grows, IsOwn, Releases, each_both, own_release, releases_both, releases_none, releases_weaker, AreClear, AreWalked, Falls, IsClear, IsOf, below_release, may_release, owner_locks}
 use Rattle.session_laws.proofs.Parents.{FitsTree, same_above, alike_swept}
 use Rattle.lifetime_laws.specs.Parents as replayed
 
@@ -25,20 +21,10 @@ module _ {A : Type 0} (nodes : List replayed.Node) (whole : Forest A) (fit : Fit
   not_above : (a n : ℕ) (part : Forest A) → Once part → IsInside a part whole → has n whole ≡ true → (has n part ≡ true → ⊥) → is_above a n nodes ≡ false
   not_above a n part once inside there away = above_is a n part inside there ∙ false_from_ne_true (has n (children a part)) (λ h. away (has_children n a part once h))
 
-  -- a number of the children, or of the siblings, of a node has its children there
-  inside_below : (k : ℕ) (a : A) (below beside : Forest A) → Apart k below beside → (x : ℕ) → has x below ≡ true → IsInside x (Node k a below beside) whole → IsInside x below whole
-  inside_below k a below beside p x h inside = grind (arith, nat_tests, cond-false, ne_eqb, both_ways, cond-true)
-
-  inside_beside : (k : ℕ) (a : A) (below beside : Forest A) → Apart k below beside → (x : ℕ) → has x beside ≡ true → IsInside x (Node k a below beside) whole → IsInside x beside whole
-  inside_beside k a below beside p x h inside = grind (arith, nat_tests, cond-false, ne_eqb, both_ways)
-
 module _ (nodes : List replayed.Node) (whole : OwnerTree) (fit : FitsTree nodes whole) where
-  splits_of : (k : ℕ) (a : Owner) (below beside : OwnerTree) → Once (Node k a below beside) → ((x : ℕ) → has x (Node k a below beside) ≡ true → IsInside x (Node k a below beside) whole) → Splits nodes k below beside
-  splits_of k a below beside once inside = grind (arith, nat_tests, apart_of, or_left, eq-eqb, or_right, cond-true, above_is, not_above, both_ways, ne_eqb)
-
   walked_of : (part : OwnerTree) → Once part → ((x : ℕ) → has x part ≡ true → IsInside x part whole) → AreWalked nodes part
   walked_of Empty once inside = tt
-  walked_of (Node k a below beside) once inside = grind (arith, nat_tests, walked_of below, walked_of beside, apart_of, splits_of, inside_below, or_right, or_left, inside_beside)
+  walked_of (Node k a below beside) once inside = grind (arith, nat_tests, walked_of below, walked_of beside, apart_of, eq-eqb, cond-true, above_is, not_above, both_ways, ne_eqb, or_right, or_left, cond-false)
 
   inside_children : (n x : ℕ) → has x (children n whole) ≡ true → IsInside x (children n whole) whole
   inside_children n x h = record { there = has_children x n whole fit.once h; same = sym (children_in x n whole fit.once h) }
@@ -48,11 +34,7 @@ module _ (nodes : List replayed.Node) (whole : OwnerTree) (fit : FitsTree nodes 
   walked_children n = walked_of (children n whole) (once_children n whole fit.once) (inside_children n)
 
   pub below_top : (n x : ℕ) → has n whole ≡ true → has x (children n whole) ≡ true → AreApart nodes x n
-  below_top n x there h = record {
-    below = not_above nodes whole fit x n (children n whole) (once_children n whole fit.once) (inside_children n x h) there
-        (λ e. both_ways (has n (children n whole)) (first_child_other n whole fit.once there) e);
-    other = ne_eqb x n (λ e. both_ways (has n (children n whole)) (first_child_other n whole fit.once there) (subst (λ (m : ℕ). has m (children n whole) ≡ true) e h));
-  }
+  below_top n x there h = grind (arith, nat_tests, not_above, once_children n whole fit.once, inside_children n x h, both_ways, first_child_other n whole fit.once there, ne_eqb)
 
   pub top_self : (n : ℕ) → has n whole ≡ true → is_above n n nodes ≡ false
   top_self n there = same_above n n nodes whole fit there ∙ first_child_other n whole fit.once there
@@ -93,8 +75,7 @@ module _ (kinds : KindTable) (nodes : List replayed.Node) (phase : Phase) (commi
 
       go : (o : Option Owner) → at n owners ≡ o
           → Releases kinds nodes (not commit) (IsAt p) old s (for_each step_done (option_map_or (λ owner. steps_below kinds phase commit top n (children n owners) ++ own_steps kinds phase commit n owner (top_locks top commit n (parent_of n owners))) o []) s)
-      go None is = releases_none kinds nodes (not commit) (IsAt p) old s
-      go (Some owner) is = from owner is
+      go o is = grind (arith, nat_tests, releases_none, p, from)
 
 -- A phase said in order, and what it leaves.
 pub record HasPhase (kinds : KindTable) (nodes : List replayed.Node) (phase : Phase) (commit : Bool) (old : List Member) (ended : Ended) : Type 0 where
@@ -105,9 +86,7 @@ pub record HasPhase (kinds : KindTable) (nodes : List replayed.Node) (phase : Ph
   pub locks : IsInOrder ended.scene.session.locks
 
 still_falls : (kinds : KindTable) (phase : Phase) (owner : Owner) → Falls owner → Falls (own_released kinds phase owner)
-still_falls kinds Locks owner h = h
-still_falls kinds BeforeLocks owner h = falling_filter (λ item. not (is_of_phase kinds BeforeLocks item)) owner.items h
-still_falls kinds AfterLocks owner h = falling_filter (λ item. not (is_of_phase kinds AfterLocks item)) owner.items h
+still_falls kinds phase owner h = grind (arith, nat_tests, falling_filter)
 
 module _ (nodes : List replayed.Node) (phase : Phase) (commit top : Bool) (n : ℕ) where
   own_phase : (s : Scene) (old : List Member) → FitsTree nodes s.session.owners → AllNodes Falls s.session.owners → IsInOrder s.session.locks → All (λ m. place_of m < place_of_phase phase) old

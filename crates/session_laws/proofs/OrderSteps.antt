@@ -1,12 +1,8 @@
 -- The items that a phase releases, in order: by rising priority, and of one priority the newest first.
-use Rattle.session_laws.proofs.Words.{◌≡◌, ℕ, ◌<◌, ◌≤◌, Bool, true, false, cond, nat_le, List, [], ◌∷◌, filter, All, refl, inl, inr, arith, not, ◌++◌, Option, Some, None, sym, subst, ap, ◌∙◌, if◌then◌else◌, ◌⊎◌, ◌==◌, ◌&&◌, ◌||◌, and_from, eq-eqb, lt-ltb, not_from_false, or_left, or_right, nat_tests, All-nil, All-cons, All-head, All-tail, All-filter, All-append, All-weaker, option_map, list_all-from_AllPass, append_assoc, append-nil, Empty, Node, AllNodes, has}
-use Rattle.session_laws.proofs.Scenes.{Item, AreFalling, with_item, by_rank, is_of_phase, priority, release_order, What, Phase, BeforeLocks, Locks, AfterLocks, Mode, KindTable, row_of, Owner, OwnerTree, Step, ReleasesLocks, PassesLocks, ReleasesAllLocks, own_steps, releases_of, lock_step, steps_below, top_locks, Lock, IsInOrder, comes_before, lock_total, owner_count, Scene, Ended, behind, for_each, nothing, given_back, step_done}
-use Rattle.session_laws.proofs.Rules.{allows_all, seen_after, allows_all-append, seen_after-append, AreSaid, said_more, said_none}
+use Rattle.session_laws.proofs.Words.{◌≡◌, ℕ, ◌<◌, ◌≤◌, Bool, true, false, cond, nat_le, List, [], ◌∷◌, filter, All, refl, inl, inr, arith, not, ◌++◌, Option, Some, None, sym, subst, ap, ◌∙◌, if◌then◌else◌, ◌⊎◌, ◌==◌, ◌&&◌, ◌||◌, and_from, eq-eqb, lt-ltb, not_from_false, or_left, or_right, nat_tests, All-nil, All-cons, All-head, All-tail, All-filter, All-append, All-weaker, option_map, list_all-from_AllPass, append_assoc, append-nil, Empty, Node, AllNodes, has, same_item}
+use Rattle.session_laws.proofs.Scenes.{Item, AreFalling, with_item, by_rank, is_of_phase, priority, release_order, What, Phase, BeforeLocks, Locks, AfterLocks, Mode, KindTable, row_of, Owner, OwnerTree, Step, ReleasesLocks, PassesLocks, ReleasesAllLocks, own_steps, releases_of, lock_step, steps_below, top_locks, Lock, IsInOrder, comes_before, lock_total, owner_count, Scene, Ended, behind, for_each, nothing, given_back, step_done, mode_number}
+use Rattle.session_laws.proofs.Rules.{allows_all, seen_after, allows_all-append, seen_after-append, AreSaid, said_more, said_none, AnItem, ALock, Member, Owned, Releasing, goes_before, is_warned, may_precede, member_of, ordering, owner_of, place_of, place_of_phase, is_above}
 use Rattle.session_laws.proofs.OwnerEnds.{Stays, given_quiet, step_stays, stays, stays_both}
-use Rattle.pgs_step.specs.Mode.{mode_number}
-use Rattle.lifetime_laws.specs.Once.{same_item}
-use Rattle.lifetime_laws.specs.Order.{AnItem, ALock, Member, Owned, Releasing, goes_before, is_warned, may_precede, member_of, ordering, owner_of, place_of, place_of_phase}
-use Rattle.lifetime_laws.specs.Parents.{is_above}
 use Rattle.session_laws.proofs.Warnings.{is_aside, same_itself}
 use Rattle.pgs_step.specs.declared.events.What.TheVariants as what
 use Rattle.lifetime_laws.specs.Parents as replayed
@@ -108,11 +104,7 @@ module _ (kinds : KindTable) (nodes : List replayed.Node) (aborts : Bool) where
 
   -- what is said besides is passed over
   aside_adds : (members : List Member) (event : What) → is_aside event ≡ true → Adds members members (event ∷ [])
-  aside_adds members (what.Callback word context) h = record { allowed = refl; behind = refl }
-  aside_adds members (what.Delete context) h = record { allowed = refl; behind = refl }
-  aside_adds members (what.DescriptorClosed file) h = record { allowed = refl; behind = refl }
-  aside_adds members (what.Pop snapshot) h = record { allowed = refl; behind = refl }
-  aside_adds members other h = absurd (cc h)
+  aside_adds members event h = grind (arith, nat_tests)
 
   pub adds_aside : (members : List Member) {events : List What} → AreSaid is_aside events → Adds members members events
   adds_aside members said_none = adds_none members
@@ -155,8 +147,7 @@ module _ (kinds : KindTable) (nodes : List replayed.Node) (phase : Phase) (n : �
       → Adds kinds nodes false members (item_member kinds phase n item ∷ members) (what.NotClosed item n ∷ what.Release item n ∷ [])
   adds_warned members item h may =
       let same : (same_item item item && (n == n)) ≡ true = and_from (same_item item item) (n == n) (same_itself item) (eq-eqb n n refl) in
-      let is : member_of kinds (same_item item item && (n == n)) (what.Release item n) ≡ Some (item_member kinds phase n item) =
-      ap (λ (b : Bool). member_of kinds b (what.Release item n)) same ∙ member_is kinds phase n item h in
+      let is : member_of kinds (same_item item item && (n == n)) (what.Release item n) ≡ Some (item_member kinds phase n item) = grind (arith, nat_tests, member_is) in
       let all = release_counts kinds nodes false (Some (record { item = item; owner = n })) members item n (item_member kinds phase n item) is may in
       record { allowed = all.0; behind = all.1 }
 
@@ -233,8 +224,7 @@ module _ (kinds : KindTable) (nodes : List replayed.Node) (phase : Phase) (n : �
       adds_both kinds nodes true (adds_release kinds nodes phase n old item passes may) (subst (Adds kinds nodes true (item_member kinds phase n item ∷ old) (item_member kinds phase n item ∷ old)) (sym (append-nil _)) aside)
 
   one_stays : (commit : Bool) (item : Item) (s : Scene) → Stays s (for_each step_done (releases_of commit n (item ∷ [])) s).scene
-  one_stays true item s = ((given_quiet item).so s).stays
-  one_stays false item s = ((given_quiet item).so s).stays
+  one_stays commit item s = grind (arith, nat_tests, given_quiet item, stays)
 
 -- one act for each of a list and then of another
 pub each_both : {A : Type 0} (act : A → Scene → Ended) (xs ys : List A) (s : Scene) → for_each act (xs ++ ys) s ≡ behind (for_each act xs s).events (for_each act ys (for_each act xs s).scene)
@@ -242,8 +232,7 @@ each_both act [] ys s = refl
 each_both act (x ∷ xs) ys s = search (each_both act xs ys, append_assoc)
 
 releases_more : (commit : Bool) (n : ℕ) (item : Item) (items : List Item) → releases_of commit n (item ∷ items) ≡ releases_of commit n (item ∷ []) ++ releases_of commit n items
-releases_more true n item items = refl
-releases_more false n item items = refl
+releases_more commit n item items = grind (arith, nat_tests)
 
 module _ (kinds : KindTable) (nodes : List replayed.Node) (phase : Phase) (n : ℕ) (out : is_above n n nodes ≡ false) (commit : Bool) where
   -- the items of a phase, in its order
@@ -265,9 +254,7 @@ module _ (kinds : KindTable) (nodes : List replayed.Node) (phase : Phase) (n : �
       (All-tail (λ (i : Item). MayFollow nodes old (item_member kinds phase n i)) item items may) in
       let rest : Releases kinds nodes (not commit) (IsOwn (place_of_phase phase) n) (m ∷ old) mid (for_each step_done (releases_of commit n items) mid) =
       items_release items mid (m ∷ old) ranked.1 (All-tail (λ (i : Item). is_of_phase kinds phase i ≡ true) item items passes) follow in
-      subst (λ (e : Ended). Releases kinds nodes (not commit) (IsOwn (place_of_phase phase) n) old s e)
-      (sym (ap (λ (steps : List Step). for_each step_done steps s) (releases_more commit n item items) ∙ each_both step_done (releases_of commit n (item ∷ [])) (releases_of commit n items) s))
-      (releases_both kinds nodes (not commit) first rest)
+      grind (arith, nat_tests, releases_more commit n item items, each_both, releases_both kinds nodes (not commit) first rest)
 
   pub ordered_release : (items : List Item) (s : Scene) (old : List Member) → AreFalling items → MayRelease nodes (place_of_phase phase) n old
       → Releases kinds nodes (not commit) (IsOwn (place_of_phase phase) n) old s (for_each step_done (releases_of commit n (release_order kinds phase items)) s)

@@ -1,22 +1,10 @@
 -- Where a line stands between its elements. While the deepest level is aborted a line says nothing until it cleans that level up: an
 -- element is a check then, or a word at the line's end, or the cleanup.
-use Rattle.session_laws.proofs.Words.{◌≡◌, ℕ, zero, suc, ◌+◌, ◌-◌, ◌≤◌, Bool, true, false, if◌then◌else◌, List, [], ◌∷◌, ◌++◌, map, length, replicate, Option, Some, None, refl, sym, subst, inl, inr, arith, append_assoc, codes, le-ltb, ◌⊎◌, option_map_or, option_and_then, nat_tests}
-use Rattle.session_laws.proofs.Scenes.{Error, What, Command, LevelState, OpenPortal, SessionState, is_aborted, level_owner, Check, Element, LevelContext, NewContext, OfLevel, OwnerRole, Text, portal_named, context_named, Scene, Moment, AreOuter, Stands, line_elements, KindId, Phase, Mode, CtxKind, owner_gone, phase_released, portal_ended, at_kind, at_owner, at_portal, lock_given_back, snapshot_popped, context_made, new_context_made, new_owner_made, owner_made, plan_made, descriptor_given, item_taken, lock_taken, snapshot_pushed, does, TransactionCommand, Work, ContextCommand, ChunkCommand, ItemCommand, LockCommand, SnapshotCommand, PlanCommand, PortalCommand, TellCommand, Scan, after_turn, chunk_row, context_row, fetch_steps, item_row, lock_row, plan_row, portal_row, snapshot_row, tell_row, work_of, at_savepoint, begin, commit, committed_to, elements_of, ends_aborted, in_transaction, is_end, refused, rollback, rolled_back_to, save, savepoint, start, then_ok, transaction_of, unaborted}
+use Rattle.session_laws.proofs.Words.{◌≡◌, ℕ, zero, suc, ◌+◌, ◌≤◌, Bool, true, false, if◌then◌else◌, List, [], ◌∷◌, ◌++◌, map, length, replicate, Option, Some, refl, sym, subst, arith, append_assoc, codes, le-ltb, option_and_then, nat_tests}
+use Rattle.session_laws.proofs.Scenes.{What, Command, LevelState, OpenPortal, SessionState, is_aborted, level_owner, Check, Element, LevelContext, NewContext, OfLevel, OwnerRole, Text, portal_named, context_named, Scene, Moment, AreOuter, Stands, line_elements, KindId, Phase, Mode, CtxKind, owner_gone, phase_released, portal_ended, at_owner, at_portal, lock_given_back, snapshot_popped, context_made, new_context_made, new_owner_made, owner_made, plan_made, descriptor_given, item_taken, lock_taken, snapshot_pushed, does, Work, Scan, after_turn, fetch_steps, work_of, elements_of, rolled_back_to, savepoint}
 use Rattle.session_rules.specs.Works.{row_of}
 use Rattle.session_laws.proofs.Rules.{Acts, Follows, IsSpoken, Keeps, Law, Leaves, MoveLeaves, Owes, is_word, last, next, by_kind, by_order, by_owner, by_portal, by_portal_named, by_there, element_follows, fallible_at, fallible_so, moves_owed, unfailing_so, portal_ends}
-use Rattle.pgs_step.specs.declared.errors.Error.TheVariants as error
 use Rattle.pgs_step.specs.declared.events.What.TheVariants as what
-use Rattle.pgs_command.specs.declared.commands.Command.TheVariants as command
-use Rattle.pgs_command.specs.declared.commands.TransactionCommand.TheVariants as transaction
-use Rattle.pgs_command.specs.declared.commands.Work.TheVariants as work
-use Rattle.pgs_command.specs.declared.commands.ContextCommand.TheVariants as context
-use Rattle.pgs_command.specs.declared.commands.ChunkCommand.TheVariants as chunk
-use Rattle.pgs_command.specs.declared.commands.ItemCommand.TheVariants as item
-use Rattle.pgs_command.specs.declared.commands.LockCommand.TheVariants as lock
-use Rattle.pgs_command.specs.declared.commands.SnapshotCommand.TheVariants as snapshot
-use Rattle.pgs_command.specs.declared.commands.PlanCommand.TheVariants as plan
-use Rattle.pgs_command.specs.declared.commands.PortalCommand.TheVariants as portal
-use Rattle.pgs_command.specs.declared.commands.TellCommand.TheVariants as tell
 use Rattle.session_rules.specs.Elements as e
 use Rattle.any_ctx.specs.declared.any.CtxKind.TheVariants as kind
 
@@ -142,93 +130,29 @@ checks_work (check ∷ checks) = (tt, checks_work checks)
 -- of a scan
 
 last_or_more : (b : Bool) (xs ys : List Element) → AreWork xs → AreWork ys → AreWork (elim b as (λ _. List Element) [ true ↦ xs | false ↦ ys ])
-last_or_more true xs ys h k = h
-last_or_more false xs ys h k = k
+last_or_more b xs ys h k = grind (arith, nat_tests)
 
 fetch_work : (name : Text) (count : ℕ) (scan : Scan) (rows : ℕ) → AreWork (fetch_steps name count scan rows)
 fetch_work name zero scan rows = (tt, tt)
 fetch_work name (suc count) scan rows = grind (arith, nat_tests, fetch_work name count (after_turn scan), both_work, last_or_more)
 
-fetches_work : (name : Text) (count : ℕ) (o : Option OpenPortal) → AreWork (option_map_or (λ portal. fetch_steps name count portal.scan 0) o [])
-fetches_work name count None = tt
-fetches_work name count (Some portal) = fetch_work name count portal.scan 0
-
 -- of what is done within a transaction
-chunks_work : (c : ChunkCommand) → AreWork (chunk_row c).steps
-chunks_work (chunk.Free name) = (tt, tt)
-chunks_work other = (tt, tt)
-
-contexts_work : (c : ContextCommand) → AreWork (context_row c).steps
-contexts_work (context.Create name parent kind) = (tt, tt)
-contexts_work other = (tt, tt)
-
-items_work : (c : ItemCommand) → AreWork (item_row c).steps
-items_work (item.Pin buffer) = (tt, (tt, tt))
-items_work (item.Open file) = (tt, (tt, tt))
-items_work (item.Reference class key) = (tt, (tt, tt))
-items_work (item.Acquire kind key) = (tt, (tt, tt))
-items_work (item.Snapshot key) = (tt, (tt, tt))
-items_work other = (tt, tt)
-
-locks_work : (c : LockCommand) → AreWork (lock_row c).steps
-locks_work (lock.Lock object mode) = (tt, tt)
-locks_work other = (tt, tt)
-
-snapshots_work : (c : SnapshotCommand) → AreWork (snapshot_row c).steps
-snapshots_work snapshot.Pop = (tt, tt)
-snapshots_work other = (tt, tt)
-
-plans_work : (c : PlanCommand) → AreWork (plan_row c).steps
-plans_work (plan.Reference number) = (tt, (tt, tt))
-plans_work other = (tt, tt)
-
-portals_work : (c : PortalCommand) (portals : List OpenPortal) → AreWork (portal_row c portals).steps
-portals_work (portal.Open name object rows bad) portals = (tt, (tt, (tt, (tt, (tt, (tt, (tt, (tt, (tt, (tt, (tt, tt)))))))))))
-portals_work (portal.Fetch name count) portals = (tt, fetches_work name count (portal_named name portals))
-portals_work other portals = (tt, tt)
-
-tells_work : (c : TellCommand) → AreWork (tell_row c).steps
-tells_work tell.Report = (tt, tt)
-tells_work other = (tt, tt)
-
 steps_work : (w : Work) (portals : List OpenPortal) → AreWork (row_of w portals).steps
-steps_work work.Raise portals = tt
-steps_work (work.Contexts c) portals = contexts_work c
-steps_work (work.Chunks c) portals = chunks_work c
-steps_work (work.Items c) portals = items_work c
-steps_work (work.Locks c) portals = locks_work c
-steps_work (work.Snapshots c) portals = snapshots_work c
-steps_work (work.Plans c) portals = plans_work c
-steps_work (work.Portals c) portals = portals_work c portals
-steps_work (work.Tells c) portals = tells_work c
+steps_work w portals = grind (arith, nat_tests, fetch_work)
 
 work_is_work : (w : Work) (session : SessionState) → AreWork (work_of w session)
 work_is_work w s = both_work (map e.Checks (row_of w s.portals).checks) (row_of w s.portals).steps (checks_work (row_of w s.portals).checks) (steps_work w s.portals)
 
 -- such work may come in an active session, and leaves it active
-own_due : (x : Element) → IsOwnWork x → IsLively x × (working_next x ≡ Working)
-own_due (e.MakeLevel name implicit) h = elim h [ ]
-own_due (e.Says event) h = (h, refl)
-own_due (e.MakeContext new) h = (h, refl)
-own_due (e.MakeOwner role) h = (h, refl)
-own_due (e.InTurn name x) h = (h, refl)
-own_due e.Abort h = elim h [ ]
-own_due e.Cleanup h = elim h [ ]
-own_due other h = (tt, refl)
-
 work_due : (xs ys : List Element) → AreWork xs → AreDue Working ys → AreDue Working (xs ++ ys)
 work_due [] ys h k = k
-work_due (x ∷ xs) ys h k = grind (arith, nat_tests, work_due xs ys h.1 k, own_due)
+work_due (x ∷ xs) ys h k = grind (arith, nat_tests, work_due xs ys h.1 k)
 
 commits_due : (n : ℕ) (ys : List Element) → AreDue Working ys → AreDue Working (replicate n e.Subcommit ++ ys)
 commits_due zero ys k = k
 commits_due (suc n) ys k = (tt, commits_due n ys k)
 
 -- a refusal may come anywhere between two lines
-
-refused_alone : (b : Bool) (x : Error) → AreDue (if b then Hushed else Working) (refused x)
-refused_alone true x = (tt, tt)
-refused_alone false x = (tt, tt)
 
 -- levels that are rolled back, of which none is aborted
 rolled_outer : (n : ℕ) (levels : List LevelState) (ys : List Element) → AreOuter levels → AreDue Working ys → AreDue Working (rolled_back_to n levels ++ ys)
@@ -245,86 +169,20 @@ savepoint_within : (name : Text) (levels : List LevelState) (n : ℕ) → savepo
 savepoint_within name [] n is = absurd (cc is)
 savepoint_within name (level ∷ levels) n is = grind (arith, nat_tests, savepoint_within name levels n)
 
--- what is done at a savepoint
-at_due : (name : Text) (levels : List LevelState) (go_on : ℕ → List Element)
-    → ((n : ℕ) → savepoint name levels ≡ Some n → AreDue (stage_of levels) (go_on n ++ (e.Says what.Ok ∷ [])))
-    → AreDue (stage_of levels) (at_savepoint name levels go_on ++ (e.Says what.Ok ∷ []))
-at_due name [] go_on h = (tt, (tt, tt))
-at_due name (level ∷ levels) go_on h = grind (arith, nat_tests)
-
--- the ends of transactions, and back to a savepoint, in an aborted one too
-rollback_due : (levels : List LevelState) → AreAbove levels → AreDue (stage_of levels) (rollback levels ++ (e.Says what.Ok ∷ []))
-rollback_due [] h = (tt, (tt, tt))
-rollback_due (level ∷ levels) h = rolled_due 1 level levels (e.Says what.Ok ∷ []) (omega arith) h (tt, tt)
-
-commit_due : (levels : List LevelState) → AreAbove levels → AreDue (stage_of levels) (commit levels ++ (e.Says what.Ok ∷ []))
-commit_due [] h = (tt, (tt, tt))
-commit_due (level ∷ levels) h = go level.aborted refl
-  where
-    go : (b : Bool) → level.aborted ≡ b
-        → AreDue (if b then Hushed else Working) ((if b then rolled_back_to 1 (level ∷ levels) else committed_to 2 (level ∷ levels) ++ (e.CommitTop ∷ [])) ++ (e.Says what.Ok ∷ []))
-    go true is = subst (λ (b : Bool). AreDue (if b then Hushed else Working) (rolled_back_to 1 (level ∷ levels) ++ (e.Says what.Ok ∷ []))) is (rollback_due (level ∷ levels) h)
-    go false is = rw append_assoc (commits_due (length (level ∷ levels) + 1 - 2) _ (tt, (tt, tt)))
-
-back_due : (name : Text) (levels : List LevelState) → AreAbove levels
-    → AreDue (stage_of levels) (at_savepoint name levels (λ n. rolled_back_to n levels ++ start (Some name) false) ++ (e.Says what.Ok ∷ []))
-back_due name [] h = (tt, (tt, tt))
-back_due name (level ∷ levels) h = grind (arith, nat_tests, at_due, savepoint_within, append_assoc, rolled_due)
-
--- the other commands on transactions, in an active session or in none
-begin_due : (levels : List LevelState) → AreDue Working (begin levels ++ (e.Says what.Ok ∷ []))
-begin_due [] = (tt, (tt, (tt, (tt, (tt, tt)))))
-begin_due (level ∷ levels) = (tt, (tt, tt))
-
-save_due : (name : Text) (levels : List LevelState) → AreDue Working (save name levels ++ (e.Says what.Ok ∷ []))
-save_due name [] = (tt, (tt, tt))
-save_due name (level ∷ levels) = (tt, (tt, (tt, (tt, (tt, tt)))))
-
-release_due : (name : Text) (levels : List LevelState) → is_aborted levels ≡ false → AreDue (stage_of levels) (at_savepoint name levels (λ n. committed_to n levels) ++ (e.Says what.Ok ∷ []))
-release_due name levels un = grind (arith, nat_tests, at_due, commits_due)
-
 -- a stage that is known
 active_due : (levels : List LevelState) (xs : List Element) → is_aborted levels ≡ false → AreDue Working xs → AreDue (stage_of levels) xs
 active_due levels xs un k = subst (λ (b : Bool). AreDue (if b then Hushed else Working) xs) (sym un) k
 
-transaction_due : (c : TransactionCommand) (levels : List LevelState) → AreAbove levels → ((is_aborted levels ≡ false) ⊎ (ends_aborted c ≡ true))
-    → AreDue (stage_of levels) (then_ok (transaction_of c levels))
-transaction_due transaction.Begin levels h (inl un) = active_due levels _ un (begin_due levels)
-transaction_due transaction.Begin levels h (inr an) = absurd (cc an)
-transaction_due transaction.Commit levels h either = commit_due levels h
-transaction_due transaction.Rollback levels h either = rollback_due levels h
-transaction_due (transaction.Savepoint name) levels h (inl un) = active_due levels _ un (save_due name levels)
-transaction_due (transaction.Savepoint name) levels h (inr an) = absurd (cc an)
-transaction_due (transaction.Release name) levels h (inl un) = release_due name levels un
-transaction_due (transaction.Release name) levels h (inr an) = absurd (cc an)
-transaction_due (transaction.RollbackTo name) levels h either = back_due name levels h
-
-in_transaction_due : (levels : List LevelState) (work : List Element) → AreWork work → AreDue Working (in_transaction levels work)
-in_transaction_due [] work h = (tt, (tt, (tt, (tt, work_due work _ h (tt, (tt, tt))))))
-in_transaction_due (level ∷ levels) work h = work_due work _ h (tt, tt)
-
-rest_of : (b : Bool) → IsRest (if b then Hushed else Working)
-rest_of true = tt
-rest_of false = tt
-
-unaborted_due : (c : Command) (session : SessionState) → AreAbove session.levels → ((is_aborted session.levels ≡ false) ⊎ (is_end c ≡ true)) → AreDue (stage_of session.levels) (unaborted c session)
-unaborted_due command.Nothing s h either = rest_of (is_aborted s.levels)
-unaborted_due (command.Transaction c) s h either = transaction_due c s.levels h either
-unaborted_due (command.Work w) s h (inl un) = active_due s.levels _ un (in_transaction_due s.levels (work_of w s) (work_is_work w s))
-unaborted_due (command.Work w) s h (inr an) = absurd (cc an)
-
 elements_due : (c : Command) (session : SessionState) → AreAbove session.levels → AreDue (stage_of session.levels) (elements_of c session)
 unfolding elements_of
-elements_due c s h = grind (arith, nat_tests, unaborted_due, refused_alone)
+elements_due c s h = grind (arith, nat_tests, active_due, append_assoc, commits_due, rolled_due, savepoint_within, work_due, work_is_work)
 
 -- Each element of a line may come where the line stands by then.
 pub line_due : (line : Option Command) (session : SessionState) → AreAbove session.levels → AreDue (stage_of session.levels) (line_elements line session)
-line_due None s h = refused_alone (is_aborted s.levels) error.SyntaxError
-line_due (Some c) s h = elements_due c s h
+line_due line s h = grind (arith, nat_tests, elements_due)
 
 pub above_of : (levels : List LevelState) (s : Scene) → Stands s → s.session.levels ≡ levels → AreAbove levels
-above_of [] s h is = tt
-above_of (level ∷ levels) s h is = grind (arith, nat_tests)
+above_of levels s h is = grind (arith, nat_tests)
 
 -- What an element owes that neither makes nor ends a level, where a law is kept by what it is made of.
 
@@ -365,19 +223,11 @@ module _ (R : Law) (k : WorkLeaves R) where
   pub own_owed : (w : Option ℕ) (x : Element) (m : Moment) → IsOwnWork x → ((name : Text) → R m.scene (new_context_made (e.PortalContext name) m.scene).scene (new_context_made (e.PortalContext name) m.scene).events) → Owes R w x m
   unfolding does
   own_owed w (e.InTurn name x) m own places = own_owed w x m own places
-  own_owed w (e.MakeLevel name implicit) m own places = elim own [ ]
-  own_owed w e.LevelStands m own places = elim own [ ]
-  own_owed w e.CommitTop m own places = elim own [ ]
-  own_owed w e.Subcommit m own places = elim own [ ]
-  own_owed w e.Abort m own places = elim own [ ]
-  own_owed w e.Cleanup m own places = elim own [ ]
   own_owed w (e.MakeContext new) m own places = fallible_at R a w m _ (new_context_made new) (context_is_made new m.scene own places)
   own_owed w (e.MakeOwner role) m own places = fallible_so R a w m _ (new_owner_made role) (owner_is_made role own)
   own_owed w (e.MakePlan plan) m own places = fallible_so R a w m _ (plan_made plan) (k.planned plan)
   own_owed w (e.Take role kind key) m own places = fallible_so R a w m _ (at_owner role (λ owner. item_taken owner kind key)) (by_owner R a role (λ owner. item_taken owner kind key) (λ owner. k.taken owner kind key))
-  own_owed w (e.TakeNamed name key) m own places =
-      fallible_so R a w m _ (at_kind name (λ kind. at_owner OfLevel (λ owner. item_taken owner kind key)))
-      (by_kind R a name (λ kind. at_owner OfLevel (λ owner. item_taken owner kind key)) (λ kind. by_owner R a OfLevel (λ owner. item_taken owner kind key) (λ owner. k.taken owner kind key)))
+  own_owed w (e.TakeNamed name key) m own places = grind (arith, nat_tests, fallible_so, by_kind, by_owner)
   own_owed w (e.TakeLock role object mode) m own places = fallible_so R a w m _ (at_owner role (lock_taken object mode)) (by_owner R a role (lock_taken object mode) (k.locked object mode))
   own_owed w (e.Unlock object mode) m own places = unfailing_so R a m (at_owner OfLevel (lock_given_back object mode)) (by_owner R a OfLevel (lock_given_back object mode) (k.unlocked object mode))
   own_owed w (e.Touch file) m own places = fallible_so R a w m _ (descriptor_given file) (k.used file)
@@ -386,15 +236,11 @@ module _ (R : Law) (k : WorkLeaves R) where
   own_owed w (e.EndPortal name) m own places = unfailing_so R a m (at_portal name portal_ended) (by_portal_named R a name portal_ended (portal_ends R a k.phase k.leaves.released k.discarded))
   own_owed w (e.Register name) m own places = moves_owed R a k.moves w (e.Register name) m
   own_owed w (e.Reparent name parent) m own places = moves_owed R a k.moves w (e.Reparent name parent) m
-  own_owed w other m own places = tt
+  own_owed w other m own places = grind (arith, nat_tests)
 
 -- such an element says no more than a word by itself
 said_word : (event : What) → IsSaid event → is_word event ≡ true
-said_word (what.Fetched name rows) h = refl
-said_word what.AlreadyInTransaction h = refl
-said_word what.NotInTransaction h = refl
-said_word what.Ok h = refl
-said_word other h = elim h [ ]
+said_word event h = grind (arith, nat_tests)
 
 own_spoken : (x : Element) → IsOwnWork x → IsSpoken false x
 own_spoken (e.Says event) h = said_word event h

@@ -1,18 +1,9 @@
 -- What follows the release of an item, and the steps of a phase, leave of a session; and that they acquire and release no item besides.
-use Rattle.session_laws.proofs.Words.{◌≡◌, Bool, true, false, List, [], ◌∷◌, refl, ap, ◌∙◌, ℕ, ◌≤◌, length, Option, Some, None, sym, subst, inl, inr, not, arith, ◌==◌, has, AllNodes, Moves, map, nat_tests}
-use Rattle.session_laws.proofs.Scenes.{What, Item, table_of, OwnerTree, AllAt, HoldsNothing, Step, Said, GivesBack, ReleasesLocks, PassesLocks, ReleasesAllLocks, release_steps, Scene, Moment, for_each, Ended, where_so, where_there, changes, context_gone, in_order, portal_gone, switched, given_back, step_done, owner_moved, owner_gone, owner_released, phase_released, LevelState, OpenPortal, first_of, owner_of, abort_context, deepest_changed, depth, level_owner, top_context, has_failed, portal_aborted, portal_failed, portal_passed, portal_withdrawn, executor_ended, is_ready, portal_closed, portal_ended, portal_owner_ended, IsAttached, IsOwner, IsPortal, HasItems, IsLive, IsWorking, Stands, active_depth, Error, KindId, Phase, BeforeLocks, Locks, AfterLocks, KindTable, IsSound as IsSoundTable, released, Element, OfLevel, OfPortal, OwnerRole, Text, kind_named, owner_in, portal_named, aborted, cleaned_up, committed, empty_context_gone, level_context_gone, level_owner_gone, level_popped, level_released, level_rolled_back, stack_lowered, stack_popped, subcommitted, switched_up, at_kind, at_owner, item_taken, does, IsInOrder, has_owner, descriptor_left}
-use Rattle.session_laws.proofs.Rules.{Acts, Keeps, Law, AllKeep, Leaves, LevelLeaves, MakeLeaves, OwesEnds as OwesEndings, OwesMoves, last, next, AreSaid, said_both, said_none, Part, Sight, acts_of, children_go, gives_back, goes, of_kinds, of_levels, of_next_owner, of_next_serial, of_owners, by_either, by_each, by_order, fallible_at, levels_owed, makes_owed, portal_fails, portal_lowers, portal_returns, context_goes, empty_context_goes, executor_ends, level_context_goes, level_marks, level_pops, level_releases, owner_releases, portal_cleans, portal_closes, switches_up, begins, is_settled, off_begins, owner_when_active, resettled, settled, switched_off, aborted_leads, all_aborted, has_swept, Meets, said_one, of_locks, by_so}
+use Rattle.session_laws.proofs.Words.{◌≡◌, Bool, true, false, List, [], ◌∷◌, refl, ap, ◌∙◌, ℕ, ◌≤◌, length, Option, Some, None, sym, subst, inr, not, arith, ◌==◌, has, AllNodes, Moves, map, nat_tests}
+use Rattle.session_laws.proofs.Scenes.{What, Item, table_of, OwnerTree, AllAt, HoldsNothing, Step, Said, GivesBack, ReleasesLocks, PassesLocks, ReleasesAllLocks, release_steps, Scene, Moment, for_each, Ended, where_so, where_there, changes, context_gone, in_order, portal_gone, switched, given_back, step_done, owner_moved, owner_gone, owner_released, phase_released, LevelState, OpenPortal, first_of, owner_of, abort_context, deepest_changed, depth, level_owner, top_context, portal_aborted, portal_failed, portal_passed, portal_withdrawn, executor_ended, is_ready, portal_closed, portal_ended, portal_owner_ended, IsAttached, IsOwner, IsPortal, HasItems, IsLive, IsWorking, Stands, active_depth, Error, KindId, Phase, BeforeLocks, Locks, AfterLocks, KindTable, IsSound as IsSoundTable, released, Element, OfLevel, OwnerRole, Text, kind_named, portal_named, aborted, cleaned_up, committed, empty_context_gone, level_context_gone, level_owner_gone, level_popped, level_released, level_rolled_back, stack_lowered, stack_popped, subcommitted, switched_up, at_kind, at_owner, item_taken, does, IsInOrder, has_owner, descriptor_left, is_among, left_nothing, no_value, Ending, gone_levels}
+use Rattle.session_laws.proofs.Rules.{Acts, Keeps, Law, AllKeep, Leaves, LevelLeaves, MakeLeaves, OwesEnds as OwesEndings, OwesMoves, last, next, AreSaid, said_both, said_none, Part, Sight, acts_of, children_go, gives_back, goes, of_kinds, of_levels, of_next_owner, of_next_serial, of_owners, by_either, by_each, by_order, fallible_at, levels_owed, makes_owed, portal_fails, portal_lowers, portal_returns, context_goes, empty_context_goes, executor_ends, level_context_goes, level_marks, level_pops, level_releases, owner_releases, portal_cleans, portal_closes, switches_up, begins, is_settled, off_begins, owner_when_active, resettled, settled, switched_off, aborted_leads, all_aborted, has_swept, Meets, said_one, of_locks, by_so, keeps-passed, keeps-without, IsInOrder-filter, IsInOrder-map, table-closed, Leads, with_parts, above_owner, above_there, all_passed, passed_leads, first_of_rest, all_closed}
 use Rattle.session_laws.proofs.Warnings.{is_aside}
-use Rattle.owner_kinds.proofs.Places.{table-closed}
-use Rattle.file_table.specs.Descriptors.{is_among}
-use Rattle.lock_local.proofs.ChangeLemmas.{keeps-passed, keeps-without}
-use Rattle.lock_local.proofs.OrderLemmas.{IsInOrder-filter, IsInOrder-map}
-use Rattle.session_rules.specs.Ending.{Ending, gone_levels}
-use Rattle.session_rules.proofs.Ending.{Leads, with_parts}
-use Rattle.session_rules.proofs.Passing.{above_owner, above_there, all_passed, passed_leads}
-use Rattle.session_rules.proofs.Replacing.{first_of_rest, all_closed}
 use Rattle.session_rules.proofs.ItemsStand.{owner_there}
-use Rattle.session_rules.proofs.LevelsKept.{left_nothing, no_value}
 use Rattle.session_rules.proofs.PortalEnds.{executor_beside, owner_in as portal_owner_there}
 use Rattle.session_rules.proofs.PortalWorks.{Beside}
 use Rattle.session_rules.proofs.Releasing.{HasSwept, released_swept}
@@ -78,9 +69,7 @@ closed_quiet : (file : ℕ) (s : Scene) → Quiet s (descriptor_left file s).sce
 closed_quiet file s = (by_so Quiet quiet_acts (is_among file s.session.recent) _ (record { so = λ z. record { stays = record { owners = refl; next_owner = refl; next_serial = refl; levels = refl; kinds = refl; locks = λ h. h }; said = said_one (what.DescriptorClosed file) refl } })).so s
 
 pub given_quiet : (item : Item) → Keeps Quiet (given_back item)
-given_quiet item =
-    gives_back sees_rest is_aside Quiet sight refl refl quiet_acts.gone quiet_acts.children (λ file. record { so = closed_quiet file })
-    (λ place key. record { so = λ s. record { stays = record { owners = refl; next_owner = refl; next_serial = refl; levels = refl; kinds = table-closed s.around.kinds place key; locks = λ h. h }; said = said_none } }) item
+given_quiet item = grind (arith, nat_tests, gives_back, is_aside, sight, quiet_acts, closed_quiet, stays, table-closed, said_none)
 
 -- steps of a release leave owners to the phase
 pub step_stays : (step : Step) (s : Scene) → Stays s (step_done step s).scene
@@ -107,10 +96,7 @@ module _ (R : Law) (a : Acts R) (moved : (n p : ℕ) (s : Scene) → Moves n p s
   -- an owner moves, where there are two and where it may
   passes : (b : Bool) (own above : Option ℕ) (s : Scene) → ((o q : ℕ) → own ≡ Some o → above ≡ Some q → Moves o q s.session.owners)
       → R s (where_so b (where_there own (λ owner. where_there above (owner_moved owner))) s).scene (where_so b (where_there own (λ owner. where_there above (owner_moved owner))) s).events
-  passes false own above s may = a.none s
-  passes true None above s may = a.none s
-  passes true (Some o) None s may = a.none s
-  passes true (Some o) (Some q) s may = moved o q s (may o q refl refl)
+  passes b own above s may = grind (arith, nat_tests)
 
   -- acts for each portal
   pub each_reads : (level : LevelState) (levels done : List LevelState) (act : OpenPortal → Scene → Ended)
@@ -146,12 +132,7 @@ module _ (R : Law) (a : Acts R) (moved : (n p : ℕ) (s : Scene) → Moves n p s
       → R s (portal_withdrawn (length (level ∷ levels)) level.owner p s).scene (portal_withdrawn (length (level ∷ levels)) level.owner p s).events
   withdrawn_reads level levels p front back s k =
       let i : IsPortal p (level ∷ levels) s.session.contexts s.session.owners s.session.current = first_of_rest level levels (gone_levels level levels) p front back s k in
-      a.both
-      (passes (has_failed p.state) p.owner level.owner s
-      (λ o lo owned is.
-      let at : IsAttached o p.created (level ∷ levels) s.session.owners = i.owner o owned in
-      record { node = at.there; parent = (k.all.0.owner lo is).there; other = λ z. at.other (inl (is ∙ ap (λ (j : ℕ). Some j) z)); apart = ap (has lo) at.lone }))
-      (a.both ((portal_returns R a (length (level ∷ levels)) p).so _) (a.none _))
+      grind (arith, nat_tests, passes, portal_returns R a (length (level ∷ levels)) p)
 
   pub aborted_reads : (level : LevelState) (levels : List LevelState) (p : OpenPortal) (front back : List OpenPortal) (s : Scene) → Ending level levels (gone_levels level levels) front (p ∷ back) s
       → R s (portal_aborted (length (level ∷ levels)) level.owner p s).scene (portal_aborted (length (level ∷ levels)) level.owner p s).events
@@ -199,14 +180,9 @@ release_leaves commit top p s =
     let one : StaysBut (released kinds BeforeLocks p x) s a = phase_stays commit top p BeforeLocks s in
     let two : StaysBut (released (table_of a.around.kinds) Locks p a.session.owners) a b = phase_stays commit top p Locks a in
     let three : StaysBut (released (table_of b.around.kinds) AfterLocks p b.session.owners) b c = phase_stays commit top p AfterLocks b in
-    let second : b.session.owners ≡ released kinds Locks p (released kinds BeforeLocks p x) =
-    two.owners ∙ ap (λ (k : KindTable). released k Locks p a.session.owners) one.kinds ∙ ap (released kinds Locks p) one.owners in
-    let third : c.session.owners ≡ released kinds AfterLocks p (released kinds Locks p (released kinds BeforeLocks p x)) =
-    three.owners ∙ ap (λ (k : KindTable). released k AfterLocks p b.session.owners) (two.kinds ∙ one.kinds) ∙ ap (released kinds AfterLocks p) second in
-    record {
-      swept = record { is = third ∙ released_swept kinds p x; phases = third };
-      levels = three.levels ∙ two.levels ∙ one.levels;
-    }
+    let second : b.session.owners ≡ released kinds Locks p (released kinds BeforeLocks p x) = grind (arith, nat_tests) in
+    let third : c.session.owners ≡ released kinds AfterLocks p (released kinds Locks p (released kinds BeforeLocks p x)) = grind (arith, nat_tests) in
+    grind (arith, nat_tests, released_swept)
 
 -- An owner that is there, and of which all nodes hold nothing, may go.
 pub record MayLeave (n : ℕ) (s : Scene) : Type 0 where
@@ -259,11 +235,6 @@ pub record OwnerEnds (R : Law) : Type 0 where
   pub gone : (n : ℕ) (s : Scene) → MayLeave n s → R s (owner_gone n s).scene (owner_gone n s).events
   pub moved : (n p : ℕ) (s : Scene) → Moves n p s.session.owners → R s (owner_moved n p s).scene (owner_moved n p s).events
 
--- an owner that takes an item is there
-role_there : (role : OwnerRole) (s : Scene) → Stands s → IsWorking s.session.levels → (n : ℕ) → owner_in role s.session ≡ Some n → has n s.session.owners ≡ true
-role_there OfLevel s h working n e = owner_there s.session.levels s.session.contexts s.session.owners n h.levels e
-role_there (OfPortal name) s h working n e = grind (arith, nat_tests, no_value, portal_owner_there)
-
 module _ (R : Law) (h : OwnerEnds R) where
   abbrev v : LevelLeaves R
   v = h.levels
@@ -276,8 +247,7 @@ module _ (R : Law) (h : OwnerEnds R) where
 
   -- an act on what may be there
   if_there : {A : Type 0} (o : Option A) (act : A → Scene → Ended) (s : Scene) → ((x : A) → o ≡ Some x → R s (act x s).scene (act x s).events) → R s (where_there o act s).scene (where_there o act s).events
-  if_there None act s reads = a.none s
-  if_there (Some x) act s reads = reads x refl
+  if_there o act s reads = grind (arith, nat_tests)
 
   -- a portal ends
   owner_ends : (o : Option ℕ) (s : Scene) → Known s → ((n : ℕ) → o ≡ Some n → has n s.session.owners ≡ true)
@@ -301,7 +271,7 @@ module _ (R : Law) (h : OwnerEnds R) where
 
   -- an item is taken
   role_takes : (role : OwnerRole) (kind : KindId) (key : ℕ) (s : Scene) → Stands s → IsWorking s.session.levels → R s (at_owner role (λ o. item_taken o kind key) s).scene (at_owner role (λ o. item_taken o kind key) s).events
-  role_takes role kind key s k working = grind (arith, nat_tests, role_there)
+  role_takes role kind key s k working = grind (arith, nat_tests, owner_there, no_value, portal_owner_there)
 
   kind_takes : (o : Option KindId) (key : ℕ) (s : Scene) → Stands s → IsWorking s.session.levels
       → R s (where_there o (λ kind. at_owner OfLevel (λ n. item_taken n kind key)) s).scene (where_there o (λ kind. at_owner OfLevel (λ n. item_taken n kind key)) s).events
@@ -368,8 +338,7 @@ module _ (R : Law) (h : OwnerEnds R) where
       let loop : Leads level levels done [] off (for_each act s.session.portals off).scene = all_aborted level levels made s.session.portals off begin in
       let z : Scene = with_parts loop.goes.parts off in
       let behind : Scene → Ended = in_order (level_released false (n == 1) ∷ stack_popped n ∷ changes (λ session. record session { levels = deepest_changed (λ old. record old { aborted = true }) session.levels }) ∷ []) in
-      let may : MayEndLevel (level_released false (n == 1) z).scene =
-      level_leaves false (n == 1) z (known_ending level levels done loop.front [] z loop.goes.ending) (λ m is. (loop.goes.ending.all.0.owner m is).there) in
+      let may : MayEndLevel (level_released false (n == 1) z).scene = grind (arith, nat_tests, level_leaves, known_ending, goes) in
       record {
         keeps = a.both ((v.level_word (what.AbortLevel n) refl).so st)
             (a.both ((l.switch abort_context).so st)
@@ -379,8 +348,7 @@ module _ (R : Law) (h : OwnerEnds R) where
       }
     where
       still_owner : (levels : List LevelState) → owner_of (first_of (deepest_changed (λ old. record old { aborted = true }) levels)) ≡ owner_of (first_of levels)
-      still_owner [] = refl
-      still_owner (first ∷ rest) = refl
+      still_owner levels = grind (arith, nat_tests)
 
   -- an aborted level is cleaned up
   clean_reads : (s : Scene) → MayEndLevel s → R s (cleaned_up s).scene (cleaned_up s).events

@@ -1,16 +1,9 @@
 -- Replayed parents that fit the trees of a session.
-use Rattle.session_laws.proofs.Words.{◌≡◌, ◌≢◌, ℕ, zero, suc, ◌+◌, ◌<◌, ◌≤◌, Bool, true, false, not, List, [], ◌∷◌, length, Option, Some, None, refl, sym, ap, ◌∙◌, subst, unwrap_or, inl, inr, arith, ◌++◌, append-nil, ◌==◌, ◌||◌, ◌&&◌, option_map_or, both_ways, cases_Bool, cases_eq, cond-true, eq-eqb, eqb-true, false_from_ne_true, ne_eqb, or_from, or_parts, and_from, Forest, Empty, Node, Once, children, has, is_above, moved, parent_of, put, removed, size, times, with_children, changed, mapped, Moves, at_some, has_at, has_none, has_some, once_front, once_moved, once_put, parent_stays, removed_has, size_moved, size_put, size_removed, times_moved, times_none, times_some, apart_of, first_child_other, has_children, once_removed, removed_absent, lead, order, order_at, all_changed, swept, nat_tests}
+use Rattle.session_laws.proofs.Words.{◌≡◌, ◌≢◌, ℕ, zero, suc, ◌+◌, ◌<◌, ◌≤◌, Bool, true, false, not, List, [], ◌∷◌, length, Option, Some, None, refl, sym, ap, ◌∙◌, subst, unwrap_or, inl, inr, arith, ◌++◌, append-nil, ◌==◌, ◌||◌, ◌&&◌, option_map_or, both_ways, cases_Bool, cases_eq, cond-true, eq-eqb, eqb-true, false_from_ne_true, ne_eqb, or_from, or_parts, and_from, Forest, Empty, Node, Once, children, has, is_above, moved, parent_of, put, removed, size, times, with_children, changed, mapped, Moves, at_some, has_at, has_none, has_some, once_front, once_moved, once_put, parent_stays, removed_has, size_moved, size_put, size_removed, times_moved, times_none, times_some, apart_of, first_child_other, has_children, once_removed, removed_absent, lead, order, order_at, all_changed, swept, nat_tests, mapped-times, above_by_parent, above_none, below_parent, level_up, parent_absent, parent_in, children_in, children_removed, lead_leaf, lead_of_node, once_children, order_lead}
 use Rattle.session_laws.proofs.Scenes.{Scene, Contexts, What}
-use Rattle.session_laws.proofs.Rules.{at_put, children_put, has_left, has_put_other, once_left, parent_left, parent_put, parent_put_other, emptied_absent, has_emptied, is_one_of, Reader, allows_all, seen_after, AreSaid, said_more, said_none}
-use Rattle.forest.proofs.Mapped.{mapped-times}
+use Rattle.session_laws.proofs.Rules.{at_put, children_put, has_left, has_put_other, once_left, parent_left, parent_put, parent_put_other, emptied_absent, has_emptied, is_one_of, Reader, allows_all, seen_after, AreSaid, said_more, said_none, IsLine, above-line, is_there-placed_other, is_there-placed_same, is_there-without_other, is_there-without_same, parent_of-placed_other, parent_of-placed_same, parent_of-without_other, parent_of-without_same, Node as Kept, above, has_child, is_there, is_within, placed, without, contexts_behind, owners_behind, own_emptied}
 use Rattle.forest.specs.Preorder.{level}
-use Rattle.forest.proofs.Moved.{above_by_parent, above_none, below_parent, level_up}
-use Rattle.forest.proofs.Neighbours.{parent_absent}
 use Rattle.forest.proofs.Preorders.{level_small}
-use Rattle.forest.proofs.Walks.{parent_in, children_in, children_removed, lead_leaf, lead_of_node, once_children, order_lead}
-use Rattle.lifetime_laws.specs.Parents.{Node as Kept, above, has_child, is_there, is_within, node, placed, without, contexts_behind, owners_behind}
-use Rattle.lifetime_laws.proofs.Replays.{IsLine, above-line, is_there-placed_other, is_there-placed_same, is_there-without_other, is_there-without_same, parent_of-placed_other, parent_of-placed_same, parent_of-without_other, parent_of-without_same}
-use Rattle.session_rules.proofs.Lone.{own_emptied}
 use Rattle.lifetime_laws.specs.Parents as replayed
 use Rattle.pgs_step.specs.declared.events.What.TheVariants as what
 use Rattle.context_rules.specs.Ends as ends
@@ -73,10 +66,7 @@ module _ {A : Type 0} where
       | inl e ↦ subst (λ (x : ℕ). is_there x (placed n parent nodes) ≡ has x u) (sym e) (is_there-placed_same n parent nodes ∙ sym here)
       | inr ne ↦ is_there-placed_other m n parent nodes ne ∙ f.there m ∙ sym (others m ne).0
     ];
-    parent = λ m. elim (cases_eq m n) [
-      | inl e ↦ subst (λ (x : ℕ). replayed.parent_of x (placed n parent nodes) ≡ parent_of x u) (sym e) (parent_of-placed_same n parent nodes ∙ sym above)
-      | inr ne ↦ parent_of-placed_other m n parent nodes ne ∙ f.parent m ∙ sym (others m ne).1
-    ];
+    parent = grind (arith, nat_tests, cases_eq, parent_of-placed_same, parent_of-placed_other);
     single = single_placed n parent nodes f.single;
     length = omega (arith, counts);
   }
@@ -108,10 +98,7 @@ module _ {A : Type 0} where
   moved_fits n p a nodes t f w =
       let u : Forest A = put p n a (children n t) (removed n t) in
       let same : (m : ℕ) → times m u ≡ times m t = λ m. times_moved m n p a t f.once w in
-      let kept : (m : ℕ) → has m u ≡ has m t = λ m. elim (cases_Bool (has m t)) [
-        | inl y ↦ has_some m u (omega (arith, same m, times_some m t y)) ∙ sym y
-        | inr z ↦ has_none m u (omega (arith, same m, times_none m t z)) ∙ sym z
-      ] in
+      let kept : (m : ℕ) → has m u ≡ has m t = grind (arith, nat_tests, cases_Bool, has_some, times_some, has_none, times_none) in
       fits_placed n (Some p) nodes t u f (once_moved n p a t f.once w) (kept n ∙ w.node) (parent_put p n a (children n t) (removed n t) (once_left n t f.once) (parent_stays n p t f.once w) (removed_has n t f.once w.node))
       (λ m ne. (kept m, moved_parent m n p a t f.once w ne)) (omega (arith, length_without n nodes f.single (f.there n ∙ w.node), f.length, size_moved n p a t f.once w))
 
@@ -133,12 +120,7 @@ module _ {A : Type 0} where
     line = p ∷ h.line;
     is = (f.parent n ∙ e, h.is);
     short = omega (arith, h.short, level_up 0 n p t f.once e);
-    above = λ a. elim (cases_eq p a) [
-      | inl same ↦
-          ap (λ (b : Bool). b || is_one_of a h.line) (eq-eqb p a same)
-          ∙ sym (ap (λ (x : ℕ). is_above x n t) (sym same) ∙ below_parent n p t f.once e)
-      | inr ne ↦ ap (λ (b : Bool). b || is_one_of a h.line) (ne_eqb p a ne) ∙ h.above a ∙ sym (above_by_parent n p a t f.once e ne)
-    ];
+    above = grind (arith, nat_tests, cases_eq, eq-eqb, below_parent, ne_eqb, above_by_parent);
   }
 
   line_from : (k : ℕ) (nodes : List Kept) (t : Forest A) (n : ℕ) → FitsTree nodes t → level 0 n t < k → HasLine nodes t n
@@ -179,12 +161,7 @@ childless n (first ∷ rest) single none =
         (λ y. none first.number (cond-true (first.number == first.number) first.parent (replayed.parent_of first.number rest) (eq-eqb first.number first.number refl) ∙ e ∙ ap (λ (x : ℕ). Some x) (eqb-true p n y)))
 
     up : (m : ℕ) → replayed.parent_of m rest ≡ Some n → replayed.parent_of m (first ∷ rest) ≡ Some n
-    up m e = elim (cases_Bool (first.number == m)) [
-      | inl y ↦
-          let none : None ≡ Some n = sym (no_parent m rest (ap (λ (x : ℕ). is_there x rest) (sym (eqb-true first.number m y)) ∙ single.0)) ∙ e in
-          absurd (cc none)
-      | inr z ↦ rw z e
-    ]
+    up m e = grind (arith, nat_tests, cases_Bool, no_parent, eqb-true)
 
 -- a node without children has none in the replay
 pub same_childless : {A : Type 0} (n : ℕ) (nodes : List Kept) (t : Forest A) → FitsTree nodes t → children n t ≡ Empty → has_child n nodes ≡ false
@@ -354,17 +331,10 @@ is_not_of_owners (what.OwnerGone owner) = false
 is_not_of_owners other = true
 
 pub passed_context : (event : What) → is_not_of_contexts event ≡ true → IsPassed growing_contexts event
-passed_context (what.Create context name parent) h = absurd (cc h)
-passed_context (what.Delete context) h = absurd (cc h)
-passed_context (what.Move context parent) h = absurd (cc h)
-passed_context other h = record { same = λ growth. refl; allowed = λ growth. refl }
+passed_context event h = grind (arith, nat_tests)
 
 pub passed_owner : (event : What) → is_not_of_owners event ≡ true → IsPassed growing_owners event
-passed_owner (what.Owner owner) h = absurd (cc h)
-passed_owner (what.OwnerIn owner parent) h = absurd (cc h)
-passed_owner (what.MoveOwner owner parent) h = absurd (cc h)
-passed_owner (what.OwnerGone owner) h = absurd (cc h)
-passed_owner other h = record { same = λ growth. refl; allowed = λ growth. refl }
+passed_owner event h = grind (arith, nat_tests)
 
 pub taken_context : (n : ℕ) → IsTaken growing_contexts n (what.Delete n)
 taken_context n = record { next = λ growth. refl; allowed = λ growth. refl }

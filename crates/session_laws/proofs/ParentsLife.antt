@@ -1,15 +1,10 @@
 -- The replayed contexts are those of the session, whatever a line does.
-use Rattle.session_laws.proofs.Words.{◌≡◌, ℕ, ◌+◌, ◌<◌, Bool, true, false, List, [], ◌∷◌, Some, None, refl, sym, ap, ◌∙◌, subst, inl, inr, arith, length, map, Option, ◌==◌, ◌&&◌, ◌||◌, and_from, cases_Bool, eq-eqb, false_from_ne_true, ne_eqb, Forest, Empty, Node, Once, at, children, has, moved, parent_of, put, size, with_children, removed, order, order_at, Moves, at_absent, at_some, has_of_removed, has_some, put_absent, removed_absent, times_moved, times_some, nat_tests}
-use Rattle.session_laws.proofs.Scenes.{What, CtxKind, Hook, Contexts, is_child, move_events, new_context, placed_under, gone_events, Scene, Around, Text, children_gone, context_cleared, context_cleared_alone, context_gone, context_moved, context_made, owner_made, hook_waits, item_taken, KindTable, opening, KindId, Phase, Owner, OwnerTree, own_released, owner_gone, owner_moved, phase_released}
-use Rattle.session_laws.proofs.Rules.{has_put_other, times_emptied, EndLeaves, Keeps, Law, LevelLeaves, MakeLeaves, MoveLeaves, AreSaid, said_alone, said_map, said_weaker, said_more, said_none, said_one, of_contexts, of_next_context, KeyLeaves, Part, Sight, of_next_owner, of_owners, unseen_keys, seen_after, OwnerLeaves, moves_owed, Reader, allows_all}
-use Rattle.session_laws.proofs.Usual.{Usual, is_usual, level_words, usual_levels, usual_locks, usual_makes, usual_moves, usual_phase, usual_taken}
-use Rattle.forest.proofs.Mapped.{mapped-has, mapped-parent, mapped-size}
-use Rattle.session_rules.proofs.Aside.{ContextLaw, context_ends, is_apart, context_makes}
-use Rattle.lifetime_laws.specs.Parents.{Node as Kept, is_there, placed_where, first_contexts}
+use Rattle.session_laws.proofs.Words.{◌≡◌, ℕ, ◌+◌, ◌<◌, Bool, true, false, List, [], ◌∷◌, Some, None, refl, sym, ap, ◌∙◌, subst, inl, inr, arith, length, map, Option, ◌==◌, ◌&&◌, ◌||◌, and_from, cases_Bool, eq-eqb, false_from_ne_true, ne_eqb, Forest, Empty, Node, Once, at, children, has, moved, parent_of, put, size, with_children, removed, order, order_at, Moves, at_absent, at_some, has_of_removed, has_some, put_absent, removed_absent, times_moved, times_some, nat_tests, mapped-has, mapped-parent, mapped-size}
+use Rattle.session_laws.proofs.Scenes.{What, CtxKind, Hook, Contexts, new_context, gone_events, Scene, Around, Text, children_gone, context_cleared, context_cleared_alone, context_gone, context_moved, context_made, owner_made, hook_waits, item_taken, KindTable, opening, KindId, Phase, Owner, OwnerTree, own_released, owner_gone, owner_moved, phase_released}
+use Rattle.session_laws.proofs.Rules.{has_put_other, times_emptied, EndLeaves, Keeps, Law, LevelLeaves, MakeLeaves, AreSaid, said_alone, said_map, said_weaker, said_more, said_none, said_one, of_contexts, of_next_context, KeyLeaves, Part, Sight, of_next_owner, of_owners, unseen_keys, seen_after, OwnerLeaves, moves_owed, Reader, allows_all, Node as Kept, is_there, placed_where, first_contexts, ContextLaw, context_ends, is_apart, context_makes, moves_by, StandingMoves, standing_moves}
+use Rattle.session_laws.proofs.Usual.{Usual, is_usual, level_words, usual_levels, usual_locks, usual_makes, usual_phase, usual_taken}
 use Rattle.session_laws.proofs.Lives.{Reads, read_both, IsLife, OwesTurns, life_by, owes_by}
 use Rattle.session_laws.proofs.Parents.{FitsTree, fits_moved, fits_put, Plucked, plucked_children, plucked_gone, AreAlike, alike_alone, alike_changed, alike_same, bare, AreRead, Growth, IsPruned, Takes, growing_contexts, is_not_of_contexts, passed_context, pruned, read_past, taken_context, takes_both, takes_none, takes_one, takes_past, takes_quiet, fits_front, alike_swept, growing_owners, is_not_of_owners, passed_owner, taken_owner, once_alike, FitsBelow}
-use Rattle.session_rules.proofs.ContextsKept.{moves_by}
-use Rattle.session_rules.proofs.Meeting.{StandingMoves, standing_moves}
 use Rattle.session_laws.proofs.OwnerEnds.{OwnerEnds, owes_where}
 use Rattle.pgs_step.specs.declared.events.What.TheVariants as what
 use Rattle.context_rules.specs.Ends as ends
@@ -138,8 +133,7 @@ made_so parent name protected kind s = record {
 }
 
 not_of_contexts : (event : What) → is_apart event ≡ true → is_not_of_contexts event ≡ true
-not_of_contexts (what.Create context name parent) h = absurd (cc h)
-not_of_contexts other h = cc
+not_of_contexts event h = grind (arith, nat_tests)
 
 same_contexts : (s t : Scene) {events : List What} → t.session.contexts ≡ s.session.contexts → t.session.next_context ≡ s.session.next_context → AreSaid is_not_of_contexts events → KeepsContexts s t events
 same_contexts s t contexts next h = contexts_past s t (subst (AreAlike s.session.contexts) (sym contexts) (alike_same s.session.contexts)) next (takes_quiet growing_contexts passed_context h)
@@ -160,13 +154,7 @@ contexts_law = record {
     both = λ h k. read_both growing_contexts HasContexts h k;
     aside = λ s t same h. same_contexts s t (same.so of_contexts refl) (same.so of_next_context refl) (said_weaker not_of_contexts h);
   };
-  contexts = record {
-    gone = λ n. record { so = gone_so n };
-    children = λ n. record { so = children_so n };
-    alone = λ n. record { so = alone_so n };
-    cleared = λ n. record { so = cleared_so n };
-    chunk = λ s n f h. contexts_past s _ (alike_changed n f s.session.contexts) refl takes_none;
-  };
+  contexts = grind (arith, nat_tests, gone_so, children_so, alone_so, cleared_so, contexts_past, alike_changed, takes_none);
   made = λ parent name protected kind. record { so = made_so parent name protected kind };
 }
 
@@ -181,11 +169,7 @@ moved_so : (n p : ℕ) (s : Scene) → Moves n p s.session.contexts → KeepsCon
 moved_so n p s w = record { so = λ growth h. record { allowed = refl; fits = moved_grows s.session.contexts s.session.next_context growth h n p w } }
 
 pub contexts_moved : (n p : ℕ) (s : Scene) → Moves n p s.session.contexts → KeepsContexts s (context_moved n p s).scene (context_moved n p s).events
-contexts_moved n p s w = go (is_child n p s.session.contexts)
-  where
-    go : (b : Bool) → KeepsContexts s (record s { session = record s.session { contexts = placed_under b n p s.session.contexts } }) (move_events b n p)
-    go true = contexts_past s _ (alike_same s.session.contexts) refl takes_none
-    go false = moved_so n p s w
+contexts_moved n p s w = grind (arith, nat_tests, contexts_past, alike_same, takes_none, moved_so)
 
 -- The replayed contexts of a session, from its opening to its exit.
 
@@ -298,8 +282,7 @@ owner_keys : KeyLeaves KeepsOwners
 owner_keys = unseen_keys sees_owners is_not_of_owners KeepsOwners owners_sight refl
 
 usual_owners : (event : What) → is_usual event ≡ true → is_not_of_owners event ≡ true
-usual_owners (what.Owner owner) h = absurd (cc h)
-usual_owners other h = cc
+usual_owners event h = grind (arith, nat_tests)
 
 owner_usual : Usual sees_owners is_not_of_owners
 owner_usual = assumption usual_owners
@@ -329,9 +312,6 @@ owner_taken = usual_taken owners_sight owner_usual owner_keys owner_leaves
 
 pub owner_make_leaves : MakeLeaves KeepsOwners
 owner_make_leaves = usual_makes owners_sight owner_usual (λ n parent name. refl) refl (λ parent. record { so = owner_so parent })
-
-pub owner_move_leaves : MoveLeaves KeepsOwners
-owner_move_leaves = usual_moves owners_sight owner_usual
 
 -- an owner that is there goes with all below it
 takes_owners : (ns : List ℕ) → Takes growing_owners ns (map (λ n. what.OwnerGone n) ns)
@@ -364,9 +344,7 @@ owner_ends = record {
 
 -- So each line keeps them.
 pub owners_owed : OwesTurns KeepsOwners
-owners_owed =
-    owes_where KeepsOwners owner_ends
-    (λ error s. owners_past s s (alike_same s.session.owners) refl (takes_past (passed_owner (what.Error error) refl) takes_none)) (λ w x m meets. moves_owed KeepsOwners owner_level_leaves.leaves.acts owner_move_leaves w x m)
+owners_owed = grind (arith, nat_tests, owes_where, owner_ends, owners_past, alike_same, takes_past, passed_owner, takes_none, moves_owed, owner_level_leaves)
 
 abbrev pub opening_owners : Growth
 opening_owners = record { nodes = []; next = 1 }

@@ -53,3 +53,13 @@ unfoldable pub use Rattle.session_rules.specs.Does.{does, does_all}
 pub use Rattle.session_rules.specs.Standing.{AreHooks, AreLevels, AreOpen, AreOuter, AreStacked, FitLevels, HasExited, HasItems, IsAttached, IsDead, IsLive, IsOpen, IsOwner, IsPlan, IsPortal, IsWorking, Stands, StandsBetweenLines, active_depth}
 pub use Rattle.session_rules.specs.Transcript.{Course, Reading, Turn, after_command, after_exit, after_line, after_read, at_start, ended, exits, goes_on, line_elements, missing, of_session, turn_of}
 unfoldable pub use Rattle.session_rules.specs.Transcript.{course_by, transcript_by, turn}
+pub use Rattle.file_table.specs.Descriptors.{is_among, without}
+pub use Rattle.file_table.specs.Files.{given_events, given_file, loser, touch_events, touched_file}
+pub use Rattle.owner_kinds.specs.Kind.{Kind}
+pub use Rattle.pgs_step.specs.Mode.{mode_number}
+pub use Rattle.pgs_step.specs.declared.events.Event.{Event}
+pub use Rattle.session_rules.proofs.LevelsKept.{IsContext, is_there, left_nothing, no_value}
+pub use Rattle.session_rules.specs.Ending.{Ending, gone_levels}
+pub use Rattle.session_rules.specs.HookCounts.{HooksCounted, hooks_of, is_registered, registered_of}
+pub use Rattle.snap_table.specs.Snapshots.{is_deep, kept_below, lowered, pops}
+pub use Rattle.snap_table.specs.declared.active.Active.{Active}

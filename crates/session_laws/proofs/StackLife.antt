@@ -1,12 +1,8 @@
 -- The stack of active snapshots: each pop is of the newest one.
-use Rattle.session_laws.proofs.Words.{◌≡◌, ℕ, zero, suc, ◌+◌, ◌-◌, ◌≤◌, Bool, true, false, List, [], ◌∷◌, ◌++◌, length, map, reverse, take, Some, refl, sym, ap, ◌∙◌, inl, inr, arith, drop, Option, None, subst, ◌==◌, ◌⊎◌, filter, nat_lt, if◌then◌else◌, cases_Bool, eqb-true, eqb-false, lt-leb, le-leb, ltb-true, ltb-false, le-ltb, and_from, eq-eqb, append-nil, append_assoc, map-append, reverse-append, reverse-reverse, length-append, take_at, filter-append, nat_tests}
-use Rattle.session_laws.proofs.Scenes.{first_of, last_of, opening, AreStacked, Stands, StandsBetweenLines, What, Command, KindTable, Around, Moment, Scene, Element, changes, in_order, say, where_there, snapshot_popped, snapshot_pushed, does, exited, stack_lowered, stack_popped, turn}
-use Rattle.session_laws.proofs.Rules.{allows_all, seen_after, Law, exited_stands, Meets, line_runs, fallible_at, said_none, said_one, of_snapshots}
-use Rattle.snap_table.specs.declared.active.Active.{Active}
-use Rattle.snap_table.specs.Snapshots.{is_deep, kept_below, lowered, pops}
-use Rattle.lifetime_laws.specs.Once.{is_newest, none_left, stacking}
-use Rattle.session_rules.proofs.Stacked.{depth_small}
-use Rattle.session_laws.proofs.Lives.{IsLife, IsRead, Reads, read_both}
+use Rattle.session_laws.proofs.Words.{◌≡◌, ℕ, zero, suc, ◌+◌, ◌-◌, ◌≤◌, Bool, true, false, List, [], ◌∷◌, ◌++◌, length, map, reverse, take, Some, refl, sym, ap, ◌∙◌, inl, inr, arith, Option, subst, ◌==◌, ◌⊎◌, filter, nat_lt, if◌then◌else◌, cases_Bool, lt-leb, le-leb, ltb-true, ltb-false, le-ltb, and_from, eq-eqb, append-nil, append_assoc, map-append, reverse-append, reverse-reverse, length-append, take_at, filter-append, nat_tests, none_left, stacking}
+use Rattle.session_laws.proofs.Scenes.{first_of, last_of, opening, AreStacked, Stands, StandsBetweenLines, What, Command, KindTable, Around, Moment, Scene, Element, snapshot_pushed, does, exited, stack_popped, turn, is_deep, kept_below, lowered, pops, Active}
+use Rattle.session_laws.proofs.Rules.{allows_all, seen_after, Law, exited_stands, Meets, line_runs, fallible_at, said_none, said_one, of_snapshots, depth_small}
+use Rattle.session_laws.proofs.Lives.{IsLife, Reads, read_both}
 use Rattle.session_laws.proofs.LocksSight.{PassesOver, Sees, hides, of_stack, read_plain, subject, files_hidden, locked_hidden, locks_hidden, unlocked_hidden, OwesUnlocks, Turns, ending_turn, least_acts, lock_owed, owner_owed, session_exits, touch_owed, unlock_owed, Base, by_owner_made, least_of, ArePlain}
 use Rattle.pgs_step.specs.declared.events.What.TheVariants as what
 use Rattle.session_rules.specs.Elements as e
@@ -51,15 +47,9 @@ lower level n = (if n == level then level - 1 else n)
 lowered_level : (level : ℕ) (entry : Active) → (lowered level entry).level ≡ lower level entry.level
 lowered_level level entry = grind (arith, nat_tests)
 
-lower_rises : (level a b : ℕ) → a ≤ b → lower level a ≤ lower level b
-lower_rises level a b h = grind (arith, nat_tests, eqb-true, eqb-false)
-
 rising_lowered_from : (level low least : ℕ) (entries : List Active) → low ≤ lower level least → IsRising least entries → IsRising low (map (lowered level) entries)
 rising_lowered_from level low least [] l h = tt
-rising_lowered_from level low least (entry ∷ entries) l h = (
-  omega (arith, l, lower_rises level least entry.level h.0, lowered_level level entry),
-  rising_lowered_from level (lowered level entry).level entry.level entries (omega (arith, lowered_level level entry)) h.1,
-)
+rising_lowered_from level low least (entry ∷ entries) l h = grind (arith, nat_tests, rising_lowered_from level (lowered level entry).level entry.level entries (omega (arith, lowered_level level entry)) h.1, lowered_level)
 
 pub rising_lowered : (level : ℕ) (entries : List Active) → IsRising 0 entries → IsRising 0 (map (lowered level) entries)
 rising_lowered level entries h = rising_lowered_from level 0 0 entries (omega arith) h
@@ -74,9 +64,7 @@ newest_again x xs = reverse-append (x ∷ []) xs
 
 reverse_numbers : (entries : List Active) → newest_first entries ≡ reverse (numbers entries)
 reverse_numbers [] = refl
-reverse_numbers (entry ∷ entries) =
-    ap numbers (newest_again entry entries) ∙ map-append (λ (e : Active). e.snapshot) (reverse entries) (entry ∷ [])
-    ∙ ap (λ (ns : List ℕ). ns ++ (entry.snapshot ∷ [])) (reverse_numbers entries) ∙ sym (reverse-append (entry.snapshot ∷ []) (numbers entries))
+reverse_numbers (entry ∷ entries) = grind (arith, nat_tests, reverse_numbers entries, newest_again entry entries, map-append, reverse-append (entry.snapshot ∷ []) (numbers entries))
 
 pub newest_lowered : (level : ℕ) (entries : List Active) → newest_first (map (lowered level) entries) ≡ newest_first entries
 newest_lowered level entries = reverse_numbers (map (lowered level) entries) ∙ ap (λ (ns : List ℕ). reverse ns) (numbers_lowered level entries) ∙ sym (reverse_numbers entries)
@@ -115,22 +103,18 @@ popped_first level least (entry ∷ entries) h = go (cases_Bool (nat_lt entry.le
     deep = filter (is_deep level) (reverse entries)
 
     one : (b : Bool) → is_deep level entry ≡ b → filter (is_deep level) (reverse (entry ∷ entries)) ≡ deep ++ (if b then entry ∷ [] else [])
-    one b e =
-        ap (filter (is_deep level)) (newest_again entry entries) ∙ filter-append (is_deep level) (reverse entries) (entry ∷ [])
-        ∙ ap (λ (t : Bool). deep ++ (if t then entry ∷ [] else [])) e
+    one b e = grind (arith, nat_tests, newest_again, filter-append, deep)
 
     go : (nat_lt entry.level level ≡ true) ⊎ (nat_lt entry.level level ≡ false) → reverse entries ≡ deep ++ reverse (kept_below level entries)
         → reverse (entry ∷ entries) ≡ filter (is_deep level) (reverse (entry ∷ entries)) ++ reverse (kept_below level (entry ∷ entries))
     go (inl y) rest =
-        let kept : reverse (kept_below level (entry ∷ entries)) ≡ reverse (kept_below level entries) ++ (entry ∷ []) =
-        ap (λ (t : Bool). reverse (if t then entry ∷ kept_below level entries else kept_below level entries)) y ∙ newest_again entry (kept_below level entries) in
+        let kept : reverse (kept_below level (entry ∷ entries)) ≡ reverse (kept_below level entries) ++ (entry ∷ []) = grind (arith, nat_tests, newest_again) in
         newest_again entry entries ∙ ap (λ (zs : List Active). zs ++ (entry ∷ [])) rest ∙ append_assoc deep (reverse (kept_below level entries)) (entry ∷ [])
         ∙ sym (joined (one false (lt-leb level entry.level (ltb-true entry.level level y)) ∙ append-nil deep) kept)
     go (inr z) rest =
         let more : level ≤ entry.level = ltb-false entry.level level z in
         let none : kept_below level entries ≡ [] = none_kept level entry.level entries more h.1 in
-        let kept : reverse (kept_below level (entry ∷ entries)) ≡ [] =
-        ap (λ (t : Bool). reverse (if t then entry ∷ kept_below level entries else kept_below level entries)) z ∙ ap (λ (zs : List Active). reverse zs) none in
+        let kept : reverse (kept_below level (entry ∷ entries)) ≡ [] = grind (arith, nat_tests) in
         let all : reverse entries ≡ deep = rest ∙ ap (λ (zs : List Active). deep ++ reverse zs) none ∙ append-nil deep in
         newest_again entry entries ∙ ap (λ (zs : List Active). zs ++ (entry ∷ [])) all ∙ sym (append-nil (deep ++ (entry ∷ [])))
         ∙ sym (joined (one true (le-leb level entry.level more)) kept)
@@ -146,12 +130,10 @@ abbrev ReadsStack : Law
 ReadsStack = Reads stacking StackFits
 
 stacking_next : (event : What) → hides (subject event) of_stack ≡ true → (stack : List ℕ) → stacking.next event stack ≡ stack
-stacking_next (what.Push snapshot) h stack = absurd (cc h)
-stacking_next other h stack = cc
+stacking_next event h stack = grind (arith, nat_tests)
 
 stacking_allows : (event : What) → hides (subject event) of_stack ≡ true → (stack : List ℕ) → stacking.allows event stack ≡ true
-stacking_allows (what.Pop snapshot) h stack = absurd (cc h)
-stacking_allows other h stack = refl
+stacking_allows event h stack = grind (arith, nat_tests)
 
 stacking_over : PassesOver of_stack stacking
 stacking_over = record { next = stacking_next; allows = stacking_allows }
@@ -163,22 +145,6 @@ stack_aside s t same plain = record {
 
 stack_seen : Sees of_stack ReadsStack
 stack_seen = record { both = λ a b. read_both stacking StackFits a b; aside = λ s t same plain. stack_aside s t (same.so of_snapshots refl) plain }
-
--- the newest is popped
-popped_so : (s : Scene) → ReadsStack s (snapshot_popped s).scene (snapshot_popped s).events
-popped_so s = record { so = λ stack h. go stack h (last_of s.session.snapshots) refl }
-  where
-    go : (stack : List ℕ) → StackFits stack s → (o : Option Active) → last_of s.session.snapshots ≡ o
-        → IsRead stacking StackFits stack
-        (where_there o (λ entry. in_order (changes (λ session. record session { snapshots = take (length session.snapshots - 1) session.snapshots }) ∷ say (what.Pop entry.snapshot) ∷ [])) s).scene
-        (where_there o (λ entry. in_order (changes (λ session. record session { snapshots = take (length session.snapshots - 1) session.snapshots }) ∷ say (what.Pop entry.snapshot) ∷ [])) s).events
-    go stack h None e = record { allowed = refl; fits = h }
-    go stack h (Some entry) e =
-        let is : stack ≡ entry.snapshot ∷ newest_first (take (length s.session.snapshots - 1) s.session.snapshots) = h.is ∙ newest_taken s.session.snapshots entry e in
-        record {
-          allowed = and_from (is_newest entry.snapshot stack) true (ap (is_newest entry.snapshot) is ∙ eq-eqb entry.snapshot entry.snapshot refl) refl;
-          fits = record { is = ap (λ (ns : List ℕ). drop 1 ns) is; rises = rising_taken (length s.session.snapshots - 1) 0 s.session.snapshots h.rises };
-        }
 
 -- those of a level and of deeper ones are popped
 pops_allowed : (entries : List Active) (rest : List ℕ) → allows_all stacking (numbers entries ++ rest) (map (λ entry. what.Pop entry.snapshot) entries) ≡ true
@@ -202,14 +168,11 @@ gone_so level s = record {
       };
 }
 
-lowered_so : (level : ℕ) (s : Scene) → ReadsStack s (stack_lowered level s).scene (stack_lowered level s).events
-lowered_so level s = grind (arith, nat_tests, newest_lowered, rising_lowered)
-
 stack_base : Base of_stack ReadsStack
 stack_base = record { sees = stack_seen; locks = locks_hidden of_stack ReadsStack stack_seen refl; files = files_hidden of_stack ReadsStack stack_seen refl }
 
 stack_law : Turns of_stack ReadsStack
-stack_law = grind (arith, nat_tests, least_of, of_stack, stack_base, stack_aside, said_none, popped_so, gone_so, lowered_so)
+stack_law = grind (arith, nat_tests, least_of, of_stack, stack_base, stack_aside, said_none, newest_taken, and_from, eq-eqb, rising_taken, gone_so, newest_lowered, rising_lowered)
 
 -- one is pushed where the scene stands
 pushed_so : (snapshot : ℕ) (s : Scene) → Stands s → ReadsStack s (snapshot_pushed snapshot s).scene (snapshot_pushed snapshot s).events

@@ -1,5 +1,5 @@
 -- Laws that see neither contexts, portals and plans nor descriptors and snapshots, and take no notice of what is said of these: the leaves that they have.
-use Rattle.session_laws.proofs.Words.{◌≡◌, ℕ, Bool, true, false, Option, Some, None, refl}
+use Rattle.session_laws.proofs.Words.{◌≡◌, ℕ, Bool, true, false, Option, Some, None, refl, arith, nat_tests}
 use Rattle.session_laws.proofs.Scenes.{What, Error, Item, CtxKind, context_made, plan_made, portal_becomes, snapshot_pushed, Command, Mode, Text, Element, Moment, Scene, Done, say, lock_given_back, lock_taken, owner_made, does_all, line_elements, turn, turn_of, KindId, Phase, item_taken, item_released, phase_released, owner_gone, owner_moved}
 use Rattle.session_laws.proofs.Rules.{EndLeaves, Follows, IsRun, Keeps, Law, MakeLeaves, MoveLeaves, Owes, is_level_word, is_word, runs_anyhow, ContextLeaves, FileLeaves, KeyLeaves, LockLeaves, OwnerLeaves, Part, Sight, StackLeaves, Words, of_contexts, of_levels, of_locks, of_next_context, of_owners, of_plans, of_portals, of_recent, of_shelf, of_snapshots, hook_waits_so, item_goes, locks_one, makes_context, moves_context, owner_goes, owner_moves, places, plans_one, pushes, unlocks, unseen_contexts, unseen_files, unseen_locks, unseen_stack, all_owed, moves_owed, recovers, run_follows, line_spoken, phase_so, releases, taken_so, level_leaves_of, LevelLeaves, ItemGoes}
 use Rattle.pgs_step.specs.declared.events.What.TheVariants as what
@@ -21,16 +21,11 @@ is_usual (what.CleanupLevel level) = false
 is_usual other = true
 
 word_usual : (event : What) → is_word event ≡ true → is_usual event ≡ true
-word_usual (what.Acquire item owner) h = absurd (cc h)
-word_usual other h = cc
+word_usual event h = grind (arith, nat_tests)
 
 -- what is so of each word on a level
 pub level_words : (P : What → Bool) → ((level : ℕ) → (P (what.BeginLevel level) ≡ true) × (P (what.CommitLevel level) ≡ true) × (P (what.AbortLevel level) ≡ true) × (P (what.CleanupLevel level) ≡ true)) → (event : What) → is_level_word event ≡ true → P event ≡ true
-level_words P so (what.BeginLevel level) h = (so level).0
-level_words P so (what.CommitLevel level) h = (so level).1
-level_words P so (what.AbortLevel level) h = (so level).2
-level_words P so (what.CleanupLevel level) h = (so level).3
-level_words P so other h = absurd (cc h)
+level_words P so event h = grind (arith, nat_tests)
 
 -- the test that all pass
 abbrev pub any : What → Bool
@@ -67,10 +62,7 @@ module _ {sees : Part → Bool} {P : What → Bool} {R : Law} (o : Sight sees P 
   usual_words = record { word = λ event h. u.said event (word_usual event h); line = λ depth n name stats. u.said _ refl; total = λ total. u.said _ refl }
 
   pub usual_moves : MoveLeaves R
-  usual_moves = record {
-    hooked = hook_waits_so sees P R o u.contexts u.next_context u.shelf (λ word n. u.said (what.Hook word n) refl);
-    shifted = moves_context sees P R o u.contexts u.next_context u.shelf (λ n parent. u.said (what.Move n parent) refl);
-  }
+  usual_moves = grind (arith, nat_tests, hook_waits_so, moves_context)
 
   -- where it sees no lock
   module _ (off : sees of_locks ≡ false) where
@@ -95,16 +87,7 @@ module _ {sees : Part → Bool} {P : What → Bool} {R : Law} (o : Sight sees P 
     usual_placed = places sees P R o u.portals u.plans
 
     pub usual_makes : sees of_locks ≡ false → ((parent : Option ℕ) → Keeps R (owner_made parent)) → MakeLeaves R
-    usual_makes off owner = record {
-      made = usual_made;
-      placed = usual_placed;
-      planned = usual_planned;
-      owner = owner;
-      locked = usual_locked off;
-      unlocked = usual_unlocked off;
-      used = usual_files.used;
-      pushed = usual_pushed;
-    }
+    usual_makes off owner = grind (arith, nat_tests, usual_made, usual_placed, usual_planned, usual_locked, usual_unlocked, usual_files, usual_pushed)
 
   -- what it has of owners and their items, and of extension kinds, in all else that they are part of
   module _ (keys : KeyLeaves R) where

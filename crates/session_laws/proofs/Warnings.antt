@@ -1,10 +1,8 @@
 -- Which events open a release, warn, or stand beside what a release releases.
-use Rattle.session_laws.proofs.Words.{Bool, true, false, ◌≡◌, ℕ, not, List, [], ◌∷◌, Option, None, refl, subst, sym, and_from, eq-eqb, nat_tests, arith}
-use Rattle.session_laws.proofs.Scenes.{What, Error, Item, Command, KindTable, Moment, Scene, exited, turn}
-use Rattle.session_laws.proofs.Rules.{allows_all, seen_after, EndLeaves, Law, OwnerLeaves, AreSaid, said_more, said_none, said_one, Sight, item_comes, no_part, owner_makes, unseen_keys, exit_follows}
+use Rattle.session_laws.proofs.Words.{Bool, true, false, ◌≡◌, ℕ, not, List, [], ◌∷◌, Option, None, refl, subst, sym, and_from, eq-eqb, nat_tests, arith, same_item}
+use Rattle.session_laws.proofs.Scenes.{What, Item, Command, KindTable, Moment, Scene, turn}
+use Rattle.session_laws.proofs.Rules.{allows_all, seen_after, EndLeaves, Law, OwnerLeaves, AreSaid, said_more, said_none, said_one, Sight, item_comes, no_part, owner_makes, unseen_keys, exit_follows, Owned, warning, warning_behind}
 use Rattle.session_laws.proofs.Usual.{Usual, any_turn_follows, is_usual, usual_makes, usual_moves, plain_ends}
-use Rattle.lifetime_laws.specs.Once.{same_item}
-use Rattle.lifetime_laws.specs.Order.{Owned, warning, warning_behind}
 use Rattle.session_laws.proofs.Lives.{IsLife, IsRead, Reads, read_both}
 use Rattle.pgs_step.specs.declared.events.What.TheVariants as what
 
@@ -40,12 +38,10 @@ abbrev is_calm : What → Bool
 is_calm event = not (is_warning event)
 
 usual_calm : (event : What) → is_usual event ≡ true → is_calm event ≡ true
-usual_calm (what.NotClosed item owner) h = absurd (cc h)
-usual_calm other h = refl
+usual_calm event h = grind (arith, nat_tests)
 
 no_warning : (event : What) → is_calm event ≡ true → warning_behind event ≡ None
-no_warning (what.NotClosed item owner) h = absurd (cc h)
-no_warning other h = refl
+no_warning event h = grind (arith, nat_tests)
 
 calm_allowed : {events : List What} → AreSaid is_calm events → allows_all warning None events ≡ true
 calm_allowed said_none = refl
@@ -78,12 +74,7 @@ sight : Sight no_part is_calm Warns
 sight = record { both = λ h k. read_both warning IsSettled h k; aside = λ s t same h. calm_reads s t h }
 
 owners : OwnerLeaves Warns
-owners = record {
-  releasing = λ item n. record { so = λ s. one_reads s s (what.Release item n) refl };
-  warned = λ item n s. pair_reads s item n;
-  remembered = item_comes no_part is_calm Warns sight refl refl (λ item n. refl);
-  swept = λ kinds phase n s. calm_reads s _ said_none;
-}
+owners = grind (arith, nat_tests, one_reads, pair_reads, item_comes, no_part, sight, calm_reads, said_none)
 
 usual : Usual no_part is_calm
 usual = assumption usual_calm
@@ -97,13 +88,4 @@ turn_warns =
 
 -- In each session's life a warning stands directly before the release of its item, and none is left behind.
 pub warnings : (kinds : KindTable) → IsLife kinds warning IsSettled None (λ last. last ≡ None)
-warnings kinds = record {
-  opens = λ around same. refl;
-  elsewhere = λ seen session a b same descriptors h. h;
-  error = λ error s. one_reads s s (what.Error error) refl;
-  turns = λ w line m h. turn_warns w line m;
-  exits = λ s h seen fits.
-      let all : Warns s (exited s).scene (exited s).events = exit_follows Warns end_leaves (record { so = λ s. one_reads s s what.Exit refl }) s in
-      let read : IsRead warning IsSettled seen (exited s).scene (exited s).events = all.so seen fits in
-      (read.allowed, read.fits);
-}
+warnings kinds = grind (arith, nat_tests, one_reads, turn_warns, exit_follows, end_leaves)

@@ -11,3 +11,9 @@ pub use Rattle.std.proofs.lemmas.List.Sums.{get_or-le-sum_by, list_all-from_AllP
 pub use Rattle.forest.specs.Forest.{AllNodes, Empty, Forest, Node, Once, at, changed, children, either, has, is_above, is_root, mapped, moved, parent_of, put, removed, size, subtree, times, with_children}
 pub use Rattle.forest.specs.Walk.{all_changed, lead, order, order_at, swept}
 pub use Rattle.forest.proofs.Trees.{Apart, Moves, apart_of, at_absent, at_some, changed_absent, children_absent, first_child_other, has_at, has_changed, has_children, has_none, has_of_removed, has_some, left_apart, once_changed, once_front, once_moved, once_put, once_removed, parent_stays, put_absent, removed_absent, removed_has, size_moved, size_put, size_removed, times_moved, times_none, times_put, times_removed, times_some, where_is}
+pub use Rattle.forest.proofs.Mapped.{at_changed, at_changed_other, mapped-has, mapped-parent, mapped-size, mapped-times}
+pub use Rattle.forest.proofs.Moved.{above_by_parent, above_none, at_moved, below_parent, level_up}
+pub use Rattle.forest.proofs.Neighbours.{parent_absent, parent_root, root_absent}
+pub use Rattle.forest.proofs.Walks.{children_in, children_removed, lead_leaf, lead_of_node, once_children, order_lead, parent_in}
+pub use Rattle.lifetime_laws.specs.Once.{Parents, ReleasesOnce, acquires, closes, deletes, discards, ending, exits_last, first_parents, goes_childless, happens, has_context, is_first_context, is_newest, locks, makes_context, makes_owner, none_left, nothing, numbering, numbers_items, one_where, opens, parents_behind, pops_newest, releases, same_item, shedding, stacking, unlocks}
+pub use Rattle.std.proofs.lemmas.Option.{get_or_from_slice_get, slice_get_cases, slice_get_within}
