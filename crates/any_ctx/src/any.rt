@@ -177,6 +177,7 @@ impl AnyCtx {
         // The chunk was not live, and every other chunk keeps its size.
         ensures fresh { IfOk result (λ at. (footprint self.old).live at ≡ None) }
         ensures live { IfOk result (λ at. PutsLive (footprint self.old) (footprint self.new) at (Some size)) }
+        ensures aligned { IfOk result (λ at. at.offset % 8 ≡ 0) }
         ensures moves { Moves (footprint self.old) (footprint self.new) space.old space.new }
         ensures keeps { Keeps (footprint self.old) (footprint self.new) space.old space.new }
 
@@ -294,6 +295,18 @@ impl AnyCtx {
         }
     }
 
+    /// The address of each live chunk is a multiple of 8: PostgreSQL's `MAXALIGN`. A caller cites the clause.
+    pub fn aligned(&self)
+        ensures { (at : Addr) (size : ℕ) → (footprint self.now).live at ≡ Some size → at.offset % 8 ≡ 0 }
+    {
+        match self {
+            AnyCtx::AllocSet(set) => set.aligned(),
+            AnyCtx::Slab(slab) => slab.aligned(),
+            AnyCtx::Generation(generation) => generation.aligned(),
+            AnyCtx::Bump(bump) => bump.aligned(),
+        }
+    }
+
     /// Gives a live chunk a size of `size` bytes, which may be 0, and answers where it is now: `repalloc`. `keep` is how
     /// many of its first bytes are known; they are kept, as far as the new size goes.
     ///
@@ -323,6 +336,7 @@ impl AnyCtx {
         // those that were known.
         ensures fresh { IfOk result (λ to. to ≢ at → (footprint self.old).live to ≡ None) }
         ensures live { IfOk result (λ to. MovesLive (footprint self.old) (footprint self.new) at to size) }
+        ensures aligned { IfOk result (λ to. to.offset % 8 ≡ 0) }
         ensures bytes { IfOk result (λ to. HasBytesOf space.old space.new at to (min keep size)) }
         ensures known { IfOk result (λ to. IsKnown space.new to (min keep size)) }
         ensures moves { Moves (footprint self.old) (footprint self.new) space.old space.new }

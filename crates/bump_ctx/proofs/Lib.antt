@@ -3,4 +3,3 @@ pub mod Ledgers
 pub mod Allocated
 pub mod Resets
 pub mod Rows
-pub mod Aligned

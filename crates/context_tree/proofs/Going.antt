@@ -17,7 +17,7 @@ use Rattle.context_rules.specs.Ends.{Ended, and_then, gone, children_gone, gone_
 use Rattle.context_node.specs.State.{context_of}
 use Rattle.context_tree.specs.State.{TreeState, stands_for}
 use Rattle.context_tree.proofs.Composed.{ended_same}
-use Rattle.context_tree.proofs.Fewer.{told, told_first, at_with, bare_with, removed_with, with_bare, with_removed}
+use Rattle.context_tree.proofs.Fewer.{told, told_lead, told_first, at_with, bare_with, removed_with, with_bare, with_removed}
 
 -- what is said of a context that goes
 abbrev last_words : ℕ → Context → List What
@@ -57,6 +57,24 @@ rest_of n m t o e h =
     (ap (λ (xs : List Hook). xs ++ waiting (children n (removed m t))) (hooks_told (subtree m t))
     ∙ ap (λ (xs : List Hook). told own_hooks (subtree m t) ++ xs) (hooks_told (children n (removed m t)))
     ∙ sym (told_first own_hooks n m t o e h) ∙ sym (hooks_told (children n t)))
+
+-- what becomes of contexts when all of them go
+abbrev pub none_left : Contexts → Ended
+none_left t = record { contexts = Empty; events = gone_events t; hooks = waiting t }
+
+-- the first leaf of all goes, and then the others
+pub first_gone : (up m : ℕ) (t : Contexts) → Once t → has m t ≡ true → m ≡ lead up t → and_then (gone m t) (none_left (removed m t)) ≡ none_left t
+first_gone up m t o h e =
+    let i : has (lead up t) t ≡ true = ap (λ (x : ℕ). has x t) (sym e) ∙ h in
+    ended_same (and_then (gone m t) (none_left (removed m t))) (none_left t) refl
+    (ap (λ (xs : List What). xs ++ gone_events (removed m t)) (events_told (subtree m t))
+    ∙ ap (λ (xs : List What). told last_words (subtree m t) ++ xs) (events_told (removed m t))
+    ∙ ap (λ (x : ℕ). told last_words (subtree x t) ++ told last_words (removed x t)) e
+    ∙ sym (told_lead last_words up t o i) ∙ sym (events_told t))
+    (ap (λ (xs : List Hook). xs ++ waiting (removed m t)) (hooks_told (subtree m t))
+    ∙ ap (λ (xs : List Hook). told own_hooks (subtree m t) ++ xs) (hooks_told (removed m t))
+    ∙ ap (λ (x : ℕ). told own_hooks (subtree x t) ++ told own_hooks (removed x t)) e
+    ∙ sym (told_lead own_hooks up t o i) ∙ sym (hooks_told t))
 
 pub turn : (n m next : ℕ) (t : Contexts) → Once t → has n t ≡ true → m ≡ lead n (children n t) → m ≢ n → next ≡ follows m n (children n t) → Turn n m next t
 turn n m next t o stands e ne q =
@@ -142,6 +160,10 @@ module _ (tree : TreeState) (s : Space) where
   pub lead_stands : (n : ℕ) → lead n (children n (stands_for tree s)) ≡ lead n (children n tree.kept)
   unfolding stands_for
   lead_stands n = ap (λ (x : Contexts). lead n x) (sym (mapped-children (context_of s) n tree.kept)) ∙ mapped-lead (context_of s) n (children n tree.kept)
+
+  pub lead_all : (n : ℕ) → lead n (stands_for tree s) ≡ lead n tree.kept
+  unfolding stands_for
+  lead_all n = mapped-lead (context_of s) n tree.kept
 
   pub follows_stands : (m n : ℕ) → follows m n (children n (stands_for tree s)) ≡ follows m n (children n tree.kept)
   unfolding stands_for

@@ -24,6 +24,7 @@ pub mod Forgetting
 pub mod Resetting
 pub mod Leaving
 pub mod Emptying
+pub mod Ending
 pub mod Beside
 pub mod Placing
 pub mod Opening

@@ -6,14 +6,14 @@ ghost use Rattle.pgs_step.specs.Name.{IsName};
 ghost use Rattle.forest.specs.Forest.{Empty, Once, has, size, put, children, removed, is_above};
 ghost use Rattle.context_rules.specs.Contexts as rules;
 ghost use Rattle.context_rules.specs.Contexts.{is_protected, found, context_named, is_child};
-ghost use Rattle.context_rules.specs.Ends.{gone, children_gone, cleared, cleared_alone};
+ghost use Rattle.context_rules.specs.Ends.{gone, gone_events, waiting, handed_in, children_gone, cleared, cleared_alone};
 ghost use Rattle.context_rules.specs.Opening.{opening, topmost};
 ghost use Rattle.context_rules.specs.Chunks.{allocated, asked, zeros, freed, resized, resized_asked, written, shown, registered};
 ghost use Rattle.any_ctx.specs.Kinds.{first_size, IsSlabSize};
 ghost use Rattle.context_rules.specs.Refusals.{create_refusal, alloc_refusal, realloc_refusal, free_refusal, put_refusal, bytes_refusal, set_parent_refusal, reset_refusal, reset_only_refusal, delete_refusal, is_within};
 ghost use Rattle.context_rules.specs.Reports as reports;
 ghost use Rattle.context_tree.specs.Calls.{Did, DidNothing};
-ghost use Rattle.context_tree.specs.State.{TreeState, IsLive, place_of, stands_for, no_contexts, Agrees, Moves, left_of, SameRegions, StaysPut, HooksFit, error_of};
+ghost use Rattle.context_tree.specs.State.{TreeState, IsLive, place_of, stands_for, no_contexts, total_of, Agrees, Moves, left_of, SameRegions, StaysPut, HooksFit, error_of};
 ghost use Rattle.context_tree.specs.Lookup.{Leads};
 ghost use Rattle.context_tree.specs.Making.{Added, AsksInVain, AsksPart, AsksPartInVain, CameBack};
 ghost use Rattle.context_node.specs.declared.chunk_id.ChunkId.{ChunkId as Id};
@@ -745,6 +745,35 @@ impl<H: ResetHook> ContextTree<H> {
             let next = self.nodes.following(leaf, top);
             self.drop_one(space, shelf, context_at(leaf), out);
             leaf = next;
+        }
+    }
+
+    /// Ends the tree: all of its contexts go, as with `gone`, and it gives all that it has to the space.
+    ///
+    /// What is below a context goes before it, the newest child first, and its callbacks run directly before it goes, the
+    /// newest first. Each hook that waited has run once and is on the shelf, spent (`shelf`). The account holds less by
+    /// the bytes of all contexts (`held`), and no region of the space is the tree's (`moves`). It takes no memory, however
+    /// deep the tree is.
+    pub fn end<E: Emit>(self, space: &mut Space, shelf: &mut Shelf<H>, out: &mut E)
+        requires agrees { Agrees self space.old }
+        requires hooks { HooksFit (stands_for self space.old) shelf.old }
+        ensures moves { Moves self (no_contexts self.account) space.old space.new }
+        ensures held { held space.new self.account + total_of (stands_for self space.old) ≡ held space.old self.account }
+        ensures shelf { shelf.new ≡ handed_in (waiting (stands_for self space.old)) shelf.old }
+        ensures emits { E.emits out.old (gone_events (stands_for self space.old)) out.new }
+        ensures asked { Asks self.account 0 space.old space.new }
+    {
+        let ContextTree {
+            mut nodes,
+            mut boxes,
+            mut chunk_names,
+            ..
+        } = self;
+        while let Some(root) = nodes.first() {
+            let leaf = nodes.first_leaf(root);
+            let node = nodes.remove(leaf);
+            node.end(space, &mut boxes, shelf, &mut chunk_names, leaf.number, out);
+            tell_deleted(leaf.number, out);
         }
     }
 

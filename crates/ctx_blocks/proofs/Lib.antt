@@ -1,4 +1,5 @@
 pub mod Laid
+pub mod Aligned
 pub mod Changed
 pub mod Counts
 pub mod LiveChunks

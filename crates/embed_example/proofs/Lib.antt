@@ -1,2 +1,3 @@
 mod Echo
 mod Below
+mod Level

@@ -1,3 +1,4 @@
--- What contracts cite: what a release says, and the owners of a scene.
+-- What contracts cite: what a release says, the owners of a scene, and what is said of a tree.
 pub mod Spoken
 pub mod Filled
+pub mod Level

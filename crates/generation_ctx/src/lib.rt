@@ -109,6 +109,13 @@ impl GenerationCtx {
         self.books.headed();
     }
 
+    /// The address of each live chunk is a multiple of 8. A caller cites the clause.
+    pub fn aligned(&self)
+        ensures { (at : Addr) (size : ℕ) → (footprint self.now).live at ≡ Some size → at.offset % 8 ≡ 0 }
+    {
+        self.books.blocks.laid();
+    }
+
     /// Takes a chunk of `size` bytes, which may be 0, and answers its address: `GenerationAlloc`.
     ///
     /// `TooBig`, `NoSpace` and `Memory` are tried in this order. A refused call changes nothing.
@@ -122,6 +129,7 @@ impl GenerationCtx {
         // The chunk was not live, and every other chunk stays.
         ensures fresh { IfOk result (λ at. (footprint self.old).live at ≡ None) }
         ensures live { IfOk result (λ at. PutsLive (footprint self.old) (footprint self.new) at (Some size)) }
+        ensures aligned { IfOk result (λ at. at.offset % 8 ≡ 0) }
         ensures moves { Moves (footprint self.old) (footprint self.new) space.old space.new }
         ensures keeps { Keeps (footprint self.old) (footprint self.new) space.old space.new }
 
@@ -131,7 +139,9 @@ impl GenerationCtx {
         ensures err { OnErr result (self.new ≡ self.old) }
         ensures err_space { OnErr result (space.new ≡ space.old) }
     {
-        self.books.alloc(space, size)
+        let taken = self.books.alloc(space, size);
+        self.books.blocks.laid();
+        taken
     }
 
     /// Frees a live chunk: `GenerationFree`. It never refuses, and takes no memory. A block that the chunk had for
@@ -178,6 +188,7 @@ impl GenerationCtx {
         // Where the chunk is at another address none was live there, the old address has none, and every other chunk stays.
         ensures fresh { IfOk result (λ to. to ≢ at → (footprint self.old).live to ≡ None) }
         ensures live { IfOk result (λ to. MovesLive (footprint self.old) (footprint self.new) at to size) }
+        ensures aligned { IfOk result (λ to. to.offset % 8 ≡ 0) }
         ensures bytes { IfOk result (λ to. HasBytesOf space.old space.new at to (min keep size)) }
         ensures known { IfOk result (λ to. IsKnown space.new to (min keep size)) }
         ensures moves { Moves (footprint self.old) (footprint self.new) space.old space.new }
@@ -189,7 +200,9 @@ impl GenerationCtx {
         ensures err { OnErr result (self.new ≡ self.old) }
         ensures err_space { OnErr result (space.new ≡ space.old) }
     {
-        self.books.realloc(space, at, keep, size)
+        let resized = self.books.realloc(space, at, keep, size);
+        self.books.blocks.laid();
+        resized
     }
 
     /// Frees all chunks and gives every block but the first back: the context is as it was created

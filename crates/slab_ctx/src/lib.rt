@@ -1,7 +1,7 @@
 //! A Slab: a memory context whose chunks all have one size.
 #![tactic(auto)]
 
-ghost use Rattle.std.specs.Prelude.{◌≡◌, ℕ, ◌+◌, ◌-◌, ◌<◌, ◌≤◌, ◌↔◌, ◌⊎◌, Ok, Err, None, Some, IsSome, IfOk, IfErr, IfSome, OnOk, OnErr};
+ghost use Rattle.std.specs.Prelude.{◌≡◌, ℕ, ◌+◌, ◌-◌, ◌%◌, ◌<◌, ◌≤◌, ◌↔◌, ◌⊎◌, Ok, Err, None, Some, IsSome, IfOk, IfErr, IfSome, OnOk, OnErr};
 ghost use Rattle.addr_space.specs.declared.Addr.{Addr};
 ghost use Rattle.slab_ctx.specs.Ledger.{stats, take, give, reset, chunk_bytes};
 ghost use Rattle.chunk_header.specs.declared.TheConstants.{LARGEST};
@@ -115,6 +115,13 @@ impl SlabCtx {
         self.books.headed();
     }
 
+    /// The address of each live chunk is a multiple of 8. A caller cites the clause.
+    pub fn aligned(&self)
+        ensures { (at : Addr) (size : ℕ) → (footprint self.now).live at ≡ Some size → at.offset % 8 ≡ 0 }
+    {
+        self.books.slots.blocks.laid();
+    }
+
     /// Takes a chunk of `size` bytes, which must be the size of the context's chunks, and answers its address:
     /// `SlabAlloc`.
     ///
@@ -129,6 +136,7 @@ impl SlabCtx {
         // The chunk was not live, and every other chunk stays.
         ensures fresh { IfOk result (λ at. (footprint self.old).live at ≡ None) }
         ensures live { IfOk result (λ at. PutsLive (footprint self.old) (footprint self.new) at (Some size)) }
+        ensures aligned { IfOk result (λ at. at.offset % 8 ≡ 0) }
         ensures moves { Moves (footprint self.old) (footprint self.new) space.old space.new }
         ensures keeps { Keeps (footprint self.old) (footprint self.new) space.old space.new }
 
@@ -139,7 +147,9 @@ impl SlabCtx {
         ensures err { OnErr result (self.new ≡ self.old) }
         ensures err_space { OnErr result (space.new ≡ space.old) }
     {
-        self.books.alloc(space, size)
+        let taken = self.books.alloc(space, size);
+        self.books.slots.blocks.laid();
+        taken
     }
 
     /// Frees a live chunk: `SlabFree`. It never refuses, and takes no memory: another request may have the chunk
@@ -179,6 +189,7 @@ impl SlabCtx {
         ensures resized { IfOk result (λ to. IfSome (place_at self.old at) (λ place. Resizes self.old self.new place size at to space.old space.new)) }
         ensures stays { IfOk result (λ to. to ≡ at) }
         ensures live { IfOk result (λ to. MovesLive (footprint self.old) (footprint self.new) at to size) }
+        ensures aligned { IfOk result (λ to. to.offset % 8 ≡ 0) }
         ensures moves { Moves (footprint self.old) (footprint self.new) space.old space.new }
         ensures keeps { Keeps (footprint self.old) (footprint self.new) space.old space.new }
 
@@ -188,6 +199,7 @@ impl SlabCtx {
         ensures same { self.new ≡ self.old }
         ensures same_space { space.new ≡ space.old }
     {
+        self.aligned();
         self.books.realloc(at, size)
     }
 

@@ -1,6 +1,6 @@
 use Rattle.std.proofs.Common.{ap, ◌∙◌}
 use Rattle.bump_ctx.specs.Kept.{state_of}
-use Rattle.bump_ctx.proofs.Aligned.{live_whole}
+use Rattle.ctx_blocks.proofs.Aligned.{live_whole}
 use Rattle.bump_ctx.proofs.BumpCtx.aligned.Goals as goal
 
 pub returns : goal.returns

@@ -4,7 +4,7 @@ use Rattle.addr_space.proofs.Steps.{Moves-same, Keeps-same}
 use Rattle.bump_ctx.specs.State.{footprint}
 use Rattle.bump_ctx.specs.Kept.{state_of}
 use Rattle.bump_ctx.specs.declared.books.Books.{Books}
-use Rattle.bump_ctx.proofs.Aligned.{put_whole}
+use Rattle.ctx_blocks.proofs.Aligned.{put_whole}
 use Rattle.bump_ctx.proofs.BumpCtx.alloc.Goals as goal
 
 pub returns-clause-moves : goal.returns-clause-moves

@@ -1,10 +1,12 @@
-use Rattle.std.proofs.Common.{ap, ◌∙◌}
+use Rattle.std.proofs.Common.{◌≡◌, ◌%◌, ap, sym, subst, ◌∙◌}
+use Rattle.addr_space.specs.declared.Addr.{Addr}
+use Rattle.addr_space.proofs.Options.{if_ok}
 use Rattle.addr_space.proofs.Steps.{Moves-none}
 use Rattle.slab_ctx.specs.State.{footprint, place_at}
 use Rattle.slab_ctx.specs.Kept.{state_of}
 use Rattle.slab_ctx.specs.declared.books.Books.{Books}
 use Rattle.slab_ctx.proofs.Trees.{some_with}
-use Rattle.slab_ctx.proofs.Public.{resizes_same, live_stays, both_ok}
+use Rattle.slab_ctx.proofs.Public.{some_is, resizes_same, live_stays, both_ok}
 use Rattle.slab_ctx.proofs.SlabCtx.realloc.Goals as goal
 
 pub returns-clause-resized : goal.returns-clause-resized
@@ -21,3 +23,8 @@ returns-clause-live c =
 
 pub returns-clause-moves : goal.returns-clause-moves
 returns-clause-moves c = Moves-none (footprint c.args.self.now) c.args.space.now c.requires.agrees
+
+pub returns-clause-aligned : goal.returns-clause-aligned
+returns-clause-aligned c =
+    let live = some_is ((footprint c.args.self.now).live c.args.at) c.requires.live in
+    if_ok c.realloc.result (λ to same. subst (λ (x : Addr). x.offset % 8 ≡ 0) (sym same) (c.aligned.ensures c.args.at live.0 live.1)) c.realloc.ensures.at
