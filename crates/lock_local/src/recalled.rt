@@ -246,6 +246,10 @@ fn put_in(recalled: &mut VecDeque<OwnerLocks>, at: usize, recall: OwnerLocks)
     requires room { deque_len recalled.old < deque_capacity recalled.old }
     ensures { recalled.new.items ≡ insert recalled.old.items at recall }
 {
+    if at == recalled.len() {
+        recalled.push_back_reserved(recall);
+        return;
+    }
     let _ = recalled.insert(at, recall);
 }
 
