@@ -235,7 +235,7 @@ fn put_create<const N: usize>(out: &mut ArrayVec<u8, N>, context: u64, name: &Na
 }
 
 /// "row NAME R V"
-#[inline(never)]
+#[inline(always)]
 fn put_row<const N: usize>(out: &mut ArrayVec<u8, N>, portal: &Name, row: u32, value: u32)
     requires { array_vec_len out.old + 200 ≤ N }
     ensures text { out.new.items ≡ out.old.items ++ (codes "row " ++ portal.now ++ codes " " ++ decimal row ++ codes " " ++ decimal value) }
