@@ -411,6 +411,34 @@ module _ (xs ys : List Lock) (from to : ℕ) (both : HoldsBoth xs ys from to) wh
       let none = known rs xs from None h was in
       changed rs ss xs ys from None h left (λ a n. passed_none none from a n ∙ none a n) (λ v e a n. passed_none none v a n)
 
+  -- of one owner alone something is remembered, and for the other one then
+  remembers_only : (r s : Recall) → s ≡ cond (nat_eq r.owner from) (record { owner = to; tags = r.tags; more = r.more }) r → Remembers (r ∷ []) xs → Remembers (s ∷ []) ys
+  remembers_only r s is h = by_owner (nat_eq r.owner from) refl
+    where
+      both_none : (t : Bool) (o : Option Recall) → None ≡ cond t None (cond t o None)
+      both_none true o = refl
+      both_none false o = refl
+
+      by_owner : (t : Bool) → nat_eq r.owner from ≡ t → Remembers (s ∷ []) ys
+      by_owner false e =
+          let same : s ≡ r = is ∙ ap (λ b. cond b (record { owner = to; tags = r.tags; more = r.more }) r) e in
+          let none : recall_of (r ∷ []) from ≡ None = ap (λ b. cond b (Some r) None) e in
+          subst (λ (z : Recall). Remembers (z ∷ []) ys) (sym same) (remembers_unpassed (r ∷ []) (r ∷ []) h none (absent from (r ∷ []) none))
+      by_owner true e =
+          let named : s ≡ record { owner = to; tags = r.tags; more = r.more } = is ∙ ap (λ b. cond b (record { owner = to; tags = r.tags; more = r.more }) r) e in
+          let owner : s.owner ≡ to = ap (λ (z : Recall). z.owner) named in
+          let only : (v : ℕ) → recall_of (s ∷ []) v ≡ cond (nat_eq to v) (Some s) None = λ v. ap (λ (n : ℕ). cond (nat_eq n v) (Some s) None) owner in
+          remembers_passed (r ∷ []) [] (s ∷ []) r s h (ap (λ b. cond b (Some r) None) e)
+          (λ v. subst (λ (n : ℕ). None ≡ cond (nat_eq from v) None (cond (nat_eq n v) (Some r) None)) (sym (eqb-true r.owner from e)) (both_none (nat_eq from v) (Some r)))
+          named (only to ∙ ap (λ t. cond t (Some s) None) (eq-eqb to to refl)) (λ v f. only v ∙ ap (λ t. cond t (Some s) None) f)
+
+  pub remembers_alone : (rs : List Recall) (x s : Recall) → length rs ≡ 1 → x ≡ get_or rs 0 x → s ≡ cond (nat_eq x.owner from) (record { owner = to; tags = x.tags; more = x.more }) x
+      → Remembers rs xs → Remembers (set rs 0 s) ys
+  remembers_alone [] x s one here is h = absurd (omega (arith, one))
+  remembers_alone (r ∷ []) x s one here is h =
+      remembers_only r s (subst (λ (z : Recall). s ≡ cond (nat_eq z.owner from) (record { owner = to; tags = z.tags; more = z.more }) z) here is) h
+  remembers_alone (r ∷ q ∷ rs) x s one here is h = absurd (omega (arith, one))
+
 -- what is remembered of two owners, joined
 pub joined_at : (w : ℕ) (rs : List Recall) (i : ℕ) (x y added : Recall) → IsByOwner rs → HasOwnerAt w rs i → x ≡ get_or rs i x → y.owner ≡ w → (0 < length x.tags → 0 < length y.tags) → (y.more ≡ false → (x.more ≡ false) × (added.more ≡ false) × ((a : ℕ) (n : Mode) → recalls y a n ≡ (recalls added a n || recalls x a n))) → Joins added (recall_of rs w) (recall_of (set rs i y) w)
 joined_at w rs i x y added b h r e some just =

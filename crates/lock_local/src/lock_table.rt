@@ -1,5 +1,5 @@
 //! The locks of one session.
-ghost use Rattle.std.specs.Prelude.{◌≡◌, ◌↔◌, ◌<◌, ◌+◌, ◌^◌, ℕ, nat_lt, List, [], ◌∷◌, length, OnOk, OnErr, IsErrOf, IsOkUnless};
+ghost use Rattle.std.specs.Prelude.{◌≡◌, true, ◌↔◌, ◌<◌, ◌+◌, ◌^◌, ℕ, nat_lt, List, [], ◌∷◌, length, OnOk, OnErr, IsErrOf, IsOkUnless};
 ghost use Rattle.std.specs.List.{list_any};
 ghost use Rattle.std.specs.Set.{distinct_count};
 ghost use Rattle.pgs_step.specs.declared.lock_modes.Mode.{Mode};
@@ -153,7 +153,27 @@ impl LockTable {
     }
 
     /// All that the owner holds is released, as at the abort of a subtransaction.
+    #[inline]
     pub fn release_owner<E: Emit>(&mut self, shared: &mut SharedLocks, owner: OwnerId, out: &mut E)
+        requires { Agrees self.old shared.old }
+        ensures state { self.new ≡ record self.old { locks = released owner.number self.old.locks } }
+        ensures counts { HoldsNothing self.old.locks self.new.locks owner.number }
+        ensures wholes { WholeLess self.old.locks self.new.locks owner.number }
+        ensures total { total self.new.locks + owner_total owner.number self.old.locks ≡ total self.old.locks }
+        ensures events { E.emits out.old (releases owner.number self.old.locks) out.new }
+        ensures agrees { Agrees self.new shared.new }
+        ensures others { OthersStay self.old.session shared.old shared.new }
+        ensures locks { AreLocks self.new.locks }
+    {
+        if self.is_idle() {
+            return;
+        }
+        self.release_recalled(shared, owner, out);
+    }
+
+    /// The same, where the session perhaps holds a lock.
+    #[inline(never)]
+    fn release_recalled<E: Emit>(&mut self, shared: &mut SharedLocks, owner: OwnerId, out: &mut E)
         requires { Agrees self.old shared.old }
         ensures state { self.new ≡ record self.old { locks = released owner.number self.old.locks } }
         ensures counts { HoldsNothing self.old.locks self.new.locks owner.number }
@@ -177,7 +197,25 @@ impl LockTable {
 
     /// All that the owner `from` holds goes to the owner `to`, its parent, as at the commit of a
     /// subtransaction. The counts are added to those that `to` has.
+    #[inline]
     pub fn pass_owner<E: Emit>(&mut self, from: OwnerId, to: OwnerId, out: &mut E)
+        ensures state { self.new ≡ record self.old { locks = passed from.number to.number self.old.locks } }
+        ensures counts { HoldsBoth self.old.locks self.new.locks from.number to.number }
+        ensures wholes { WholeStays self.old.locks self.new.locks }
+        ensures total { total self.new.locks ≡ total self.old.locks }
+        ensures events { E.emits out.old (passes from.number to.number self.old.locks) out.new }
+        ensures held { (object : ℕ) (mode : Mode) → is_held self.new.locks object mode ≡ is_held self.old.locks object mode }
+        ensures locks { AreLocks self.new.locks }
+    {
+        if self.is_idle() {
+            return;
+        }
+        self.pass_held(from, to, out);
+    }
+
+    /// The same, where the session perhaps holds a lock.
+    #[inline(never)]
+    fn pass_held<E: Emit>(&mut self, from: OwnerId, to: OwnerId, out: &mut E)
         ensures state { self.new ≡ record self.old { locks = passed from.number to.number self.old.locks } }
         ensures counts { HoldsBoth self.old.locks self.new.locks from.number to.number }
         ensures wholes { WholeStays self.old.locks self.new.locks }
@@ -192,7 +230,25 @@ impl LockTable {
 
     /// All that the session holds is released, as at the end of a transaction: each lock with the sum of
     /// its counts, in the name of the topmost owner.
+    #[inline]
     pub fn release_all<E: Emit>(&mut self, shared: &mut SharedLocks, top: OwnerId, out: &mut E)
+        requires { Agrees self.old shared.old }
+        ensures state { self.new ≡ record self.old { locks = [] } }
+        ensures events { E.emits out.old (releases_of_all top.number self.old.locks) out.new }
+        ensures agrees { Agrees self.new shared.new }
+        ensures others { OthersStay self.old.session shared.old shared.new }
+        ensures was { AreLocks self.old.locks }
+    {
+        if self.is_idle() {
+            self.taken = 0;
+            return;
+        }
+        self.release_every(shared, top, out);
+    }
+
+    /// The same, where the session perhaps holds a lock.
+    #[inline(never)]
+    fn release_every<E: Emit>(&mut self, shared: &mut SharedLocks, top: OwnerId, out: &mut E)
         requires { Agrees self.old shared.old }
         ensures state { self.new ≡ record self.old { locks = [] } }
         ensures events { E.emits out.old (releases_of_all top.number self.old.locks) out.new }
@@ -229,6 +285,14 @@ impl LockTable {
         ensures locks { AreLocks self.now.locks }
     {
         self.locks.len() as u64
+    }
+
+    /// Whether the session holds no lock, and none is remembered for any owner. Most levels end so.
+    #[inline(always)]
+    fn is_idle(&self) -> bool
+        ensures { result ≡ true → self.now.locks ≡ [] }
+    {
+        self.locks.is_empty() && self.recalled.is_empty()
     }
 
     /// The owner holds the lock once more. It fails for want of memory, or where locks were taken too often.

@@ -179,6 +179,16 @@ impl OwnerLocks {
         }
     }
 
+    /// Where these are the locks of the one owner, they are remembered for the other.
+    #[inline]
+    fn rename(&mut self, from: u64, to: u64)
+        ensures { self.new ≡ (if self.old.owner == from then record self.old { owner = to } else self.old) }
+    {
+        if self.owner == from {
+            self.owner = to;
+        }
+    }
+
     /// The same locks are remembered for another owner.
     #[inline]
     fn renamed(self, owner: u64) -> OwnerLocks
@@ -246,6 +256,10 @@ fn put_in(recalled: &mut VecDeque<OwnerLocks>, at: usize, recall: OwnerLocks)
     requires room { deque_len recalled.old < deque_capacity recalled.old }
     ensures { recalled.new.items ≡ insert recalled.old.items at recall }
 {
+    if at == recalled.len() {
+        recalled.push_back_reserved(recall);
+        return;
+    }
     let _ = recalled.insert(at, recall);
 }
 
@@ -323,6 +337,21 @@ pub fn forget_owner(recalled: &mut VecDeque<OwnerLocks>, owner: u64)
 
 /// What is remembered of one owner's locks is remembered for another one. It takes no memory.
 pub fn hand_on(recalled: &mut VecDeque<OwnerLocks>, from: u64, to: u64)
+    requires by_owner { IsByOwner recalled.old.items }
+    ensures by_owner { IsByOwner recalled.new.items }
+    ensures remembers { (xs : List Lock) (ys : List Lock) → Remembers recalled.old.items xs → HoldsBoth xs ys from to → Remembers recalled.new.items ys }
+{
+    if recalled.len() == 1 {
+        let only = &mut recalled[0];
+        only.rename(from, to);
+        return;
+    }
+    move_on(recalled, from, to);
+}
+
+/// The same, where something is perhaps remembered of several owners.
+#[inline(never)]
+fn move_on(recalled: &mut VecDeque<OwnerLocks>, from: u64, to: u64)
     requires by_owner { IsByOwner recalled.old.items }
     ensures by_owner { IsByOwner recalled.new.items }
     ensures remembers { (xs : List Lock) (ys : List Lock) → Remembers recalled.old.items xs → HoldsBoth xs ys from to → Remembers recalled.new.items ys }

@@ -37,12 +37,18 @@ pub(crate) fn first_from(bytes: &[u8], start: usize, byte: u8) -> Option<usize>
     None
 }
 
-/// How many bytes at the beginning are certainly others, by whole pieces.
+/// How many bytes at the beginning are certainly others, by whole pieces. No piece is read where the first byte is that one, as in an
+/// empty line.
 #[inline(always)]
 fn free_pieces(bytes: &[u8], byte: u8) -> usize
     ensures within { result ≤ length bytes.now }
     ensures others { All (λ b. b ≢ byte) (take result bytes.now) }
 {
+    if let [first, ..] = bytes
+        && *first == byte
+    {
+        return 0;
+    }
     let mut at = 0;
     while bytes.len() - at >= PIECE && is_free(&bytes[at..at + PIECE], byte) {
         at += PIECE;

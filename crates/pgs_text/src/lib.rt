@@ -5,4 +5,4 @@ mod pieces;
 mod report_texts;
 mod texts;
 
-pub use texts::{append_text, text, text_with};
+pub use texts::{append_create, append_row, append_text, text, text_with};

@@ -1,10 +1,11 @@
 //! The line of text of an event.
-ghost use Rattle.std.specs.Prelude.{◌≡◌, ◌+◌, ◌≤◌, [], ◌++◌, length, codes, decimal, IfSome};
+ghost use Rattle.std.specs.Prelude.{◌≡◌, ◌+◌, ◌<◌, ◌≤◌, ℕ, List, [], ◌++◌, length, codes, decimal, IfSome};
 ghost use Rattle.std.specs.Option.{is_some};
 ghost use Rattle.hex.specs.Hex.{encode_lower};
 ghost use Rattle.arrayvec.specs.ArrayVec.{array_vec_len};
 ghost use Rattle.pgs_step.specs.Text.{kind_name, error_text, by_owner, item_text, lock_text, lock_counts, what_text, text_of};
 ghost use Rattle.pgs_step.specs.Mode.{mode_name};
+ghost use Rattle.pgs_step.specs.declared.events.What.TheVariants.{Create, Row};
 
 use crate::pieces::{
     has_room, put, put_both, put_counted, put_named, put_number, put_small, put_word,
@@ -51,9 +52,61 @@ pub fn append_text<const N: usize>(
             put_small(out, session);
             out.push(b' ');
             put_what(out, what, names);
-            out.push(b'\n');
+            put_newline(out);
         }
     }
+}
+
+/// Writes the line of `What::Create`, as `append_text` does. The name stays where it is, and an event would hold a copy of it.
+#[inline(always)]
+pub fn append_create<const N: usize>(
+    session: u8,
+    context: u64,
+    name: &Name,
+    parent: u64,
+    out: &mut ArrayVec<u8, N>,
+)
+    requires { array_vec_len out.old + 512 ≤ N }
+    ensures text { (names : List (List ℕ)) → out.new.items ≡ out.old.items ++ text_of names (record { session = session; what = Create context name.now parent }) }
+    ensures short { array_vec_len out.new ≤ array_vec_len out.old + 512 }
+{
+    if has_room(out, 512) {
+        put_small(out, session);
+        out.push(b' ');
+        put_create(out, context, name, parent);
+        put_newline(out);
+    }
+}
+
+/// Writes the line of `What::Row`, as `append_text` does. The portal's name stays where it is.
+#[inline(always)]
+pub fn append_row<const N: usize>(
+    session: u8,
+    portal: &Name,
+    row: u32,
+    value: u32,
+    out: &mut ArrayVec<u8, N>,
+)
+    requires { array_vec_len out.old + 512 ≤ N }
+    ensures text { (names : List (List ℕ)) → out.new.items ≡ out.old.items ++ text_of names (record { session = session; what = Row portal.now row value }) }
+    ensures short { array_vec_len out.new ≤ array_vec_len out.old + 512 }
+{
+    if has_room(out, 512) {
+        put_small(out, session);
+        out.push(b' ');
+        put_row(out, portal, row, value);
+        put_newline(out);
+    }
+}
+
+/// The end of a line.
+#[inline(always)]
+fn put_newline<const N: usize>(out: &mut ArrayVec<u8, N>)
+    requires { array_vec_len out.old < N }
+    ensures text { out.new.items ≡ out.old.items ++ codes "\n" }
+    ensures len { array_vec_len out.new ≡ array_vec_len out.old + 1 }
+{
+    out.push(b'\n');
 }
 
 /// Whether an event has a text: false where it names a kind without a name.
@@ -182,7 +235,7 @@ fn put_create<const N: usize>(out: &mut ArrayVec<u8, N>, context: u64, name: &Na
 }
 
 /// "row NAME R V"
-#[inline(never)]
+#[inline(always)]
 fn put_row<const N: usize>(out: &mut ArrayVec<u8, N>, portal: &Name, row: u32, value: u32)
     requires { array_vec_len out.old + 200 ≤ N }
     ensures text { out.new.items ≡ out.old.items ++ (codes "row " ++ portal.now ++ codes " " ++ decimal row ++ codes " " ++ decimal value) }

@@ -9,7 +9,7 @@ ghost use Rattle.session_rules.specs.Transcript.{is_error};
 use arrayvec::ArrayVec;
 use pgs_io::{Sink, put_all};
 use pgs_step::{Emit, Error, Item, Mode, Name, What};
-use pgs_text::append_text;
+use pgs_text::{append_create, append_row, append_text};
 use pgs_turns::Transcript;
 
 /// How many bytes are gathered before they are handed to the sink.
@@ -118,6 +118,46 @@ impl<'a, K: Sink> Printer<'a, K> {
         self.append(what);
     }
 
+    /// Appends the line of a context that was made where no write has failed. The name stays where it is.
+    #[inline(always)]
+    fn append_create(&mut self, context: u64, name: &Name, parent: u64)
+        requires { self.old.failed ≡ false → array_vec_len self.old.gathered + LINE ≤ GATHERED }
+        ensures { TakesBytes K.written K.faults self.old (text_of self.old.names.now (record { session = self.old.session; what = a_what.Create context name.now parent })) self.new }
+    {
+        if !self.failed {
+            append_create(self.session, context, name, parent, &mut self.gathered);
+        }
+    }
+
+    /// Gathers that line, which is handed on with what comes behind it.
+    #[inline(always)]
+    fn gather_create(&mut self, context: u64, name: &Name, parent: u64)
+        ensures { TakesBytes K.written K.faults self.old (text_of self.old.names.now (record { session = self.old.session; what = a_what.Create context name.now parent })) self.new }
+    {
+        self.make_room();
+        self.append_create(context, name, parent);
+    }
+
+    /// Appends the line of a row of a scan where no write has failed. The portal's name stays where it is.
+    #[inline(always)]
+    fn append_row(&mut self, portal: &Name, row: u32, value: u32)
+        requires { self.old.failed ≡ false → array_vec_len self.old.gathered + LINE ≤ GATHERED }
+        ensures { TakesBytes K.written K.faults self.old (text_of self.old.names.now (record { session = self.old.session; what = a_what.Row portal.now row value })) self.new }
+    {
+        if !self.failed {
+            append_row(self.session, portal, row, value, &mut self.gathered);
+        }
+    }
+
+    /// Gathers that line, which is handed on with what comes behind it.
+    #[inline(always)]
+    fn gather_row(&mut self, portal: &Name, row: u32, value: u32)
+        ensures { TakesBytes K.written K.faults self.old (text_of self.old.names.now (record { session = self.old.session; what = a_what.Row portal.now row value })) self.new }
+    {
+        self.make_room();
+        self.append_row(portal, row, value);
+    }
+
     /// Prints an event, which stays where it is: `emit` would copy it.
     #[inline(never)]
     fn print(&mut self, what: &What)
@@ -164,11 +204,8 @@ impl<'a, K: Sink> Printer<'a, K> {
     fn print_create(&mut self, context: u64, name: &Name, parent: u64)
         ensures { TakesEvents K.written K.faults self.old (a_what.Create context name.now parent ∷ []) self.new }
     {
-        self.print_here(&What::Create {
-            context,
-            name: *name,
-            parent,
-        });
+        self.count(&What::Ok);
+        self.gather_create(context, name, parent);
     }
 
     /// Prints that a context is deleted.
@@ -303,11 +340,8 @@ impl<'a, K: Sink> Printer<'a, K> {
     fn print_row(&mut self, portal: &Name, row: u32, value: u32)
         ensures { TakesEvents K.written K.faults self.old (a_what.Row portal.now row value ∷ []) self.new }
     {
-        self.print_here(&What::Row {
-            portal: *portal,
-            row,
-            value,
-        });
+        self.count(&What::Ok);
+        self.gather_row(portal, row, value);
     }
 
     /// Prints how many rows a fetch gave.

@@ -134,7 +134,20 @@ impl SnapTable {
 
     /// Takes each entry of that level or of a greater one off the stack, the newest first, and emits that. It is
     /// what an abort of the level does.
+    #[inline]
     pub fn sub_abort<E: Emit>(&mut self, level: u32, out: &mut E)
+        ensures kept { self.new ≡ record self.old { stack = kept_below level self.old.stack } }
+        ensures emitted { E.emits out.old (pops level (reverse self.old.stack)) out.new }
+    {
+        if self.stack.is_empty() {
+            return;
+        }
+        self.pop_deep(level, out);
+    }
+
+    /// The same, where the stack isn't empty. Most levels end without a snapshot.
+    #[inline(never)]
+    fn pop_deep<E: Emit>(&mut self, level: u32, out: &mut E)
         ensures kept { self.new ≡ record self.old { stack = kept_below level self.old.stack } }
         ensures emitted { E.emits out.old (pops level (reverse self.old.stack)) out.new }
     {
@@ -146,7 +159,20 @@ impl SnapTable {
 
     /// Lowers each entry of that level, which is at least 1, to the level below. It is what a commit of the level
     /// does.
+    #[inline]
     pub fn sub_commit(&mut self, level: u32)
+        requires { 1 ≤ level }
+        ensures { self.new ≡ record self.old { stack = map (lowered level) self.old.stack } }
+    {
+        if self.stack.is_empty() {
+            return;
+        }
+        self.lower_deepest(level);
+    }
+
+    /// The same, where the stack isn't empty.
+    #[inline(never)]
+    fn lower_deepest(&mut self, level: u32)
         requires { 1 ≤ level }
         ensures { self.new ≡ record self.old { stack = map (lowered level) self.old.stack } }
     {

@@ -5,7 +5,7 @@ use Rattle.lock_local.proofs.ChangeLemmas.{fit_passed, is_held-passed}
 use Rattle.lock_local.proofs.CountLemmas.{counts_both}
 use Rattle.lock_local.proofs.TotalLemmas.{wholes_passed, totals_passed}
 use Rattle.lock_local.proofs.TableLemmas.{by_view}
-use Rattle.lock_local.proofs.lock_table.LockTable.pass_owner.Goals as goal
+use Rattle.lock_local.proofs.lock_table.LockTable.pass_held.Goals as goal
 
 pub invariant_of-self : goal.invariant_of-self
 invariant_of-self g c = record {

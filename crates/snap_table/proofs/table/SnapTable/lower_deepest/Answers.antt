@@ -6,7 +6,7 @@ use Rattle.snap_table.specs.declared.active.Active.{Active}
 use Rattle.snap_table.specs.Snapshots.{snapshots_of, IsRising}
 use Rattle.snap_table.proofs.SnapLemmas.{snapshots-lowered}
 use Rattle.snap_table.proofs.StackLemmas.{rising_lowered}
-use Rattle.snap_table.proofs.table.SnapTable.sub_commit.Goals as goal
+use Rattle.snap_table.proofs.table.SnapTable.lower_deepest.Goals as goal
 
 pub invariant_of-self : goal.invariant_of-self
 invariant_of-self c = (

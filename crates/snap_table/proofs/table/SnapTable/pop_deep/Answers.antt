@@ -9,7 +9,7 @@ use Rattle.snap_table.specs.declared.active.Active.{Active}
 use Rattle.snap_table.specs.Snapshots.{Snapshots, snapshots_of, is_deep, kept_below, AreBelow}
 use Rattle.snap_table.proofs.SnapLemmas.{both-kept}
 use Rattle.snap_table.proofs.StackLemmas.{deep_above, deep_reversed}
-use Rattle.snap_table.proofs.table.SnapTable.sub_abort.Goals as goal
+use Rattle.snap_table.proofs.table.SnapTable.pop_deep.Goals as goal
 
 pub invariant_of-self : goal.invariant_of-self
 invariant_of-self g c =

@@ -6,7 +6,7 @@ use Rattle.lock_local.proofs.ChangeLemmas.{agrees_by, fit_released}
 use Rattle.lock_local.proofs.CountLemmas.{counts_released}
 use Rattle.lock_local.proofs.TotalLemmas.{wholes_released, totals_released}
 use Rattle.lock_local.proofs.TableLemmas.{by_view}
-use Rattle.lock_local.proofs.lock_table.LockTable.release_owner.Goals as goal
+use Rattle.lock_local.proofs.lock_table.LockTable.release_recalled.Goals as goal
 
 pub give_up_recalled-requires-clause-agrees : goal.give_up_recalled-requires-clause-agrees
 give_up_recalled-requires-clause-agrees g c = agrees_by _ _ _ c.self.view_is c.requires

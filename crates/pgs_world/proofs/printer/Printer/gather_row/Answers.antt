@@ -1,0 +1,14 @@
+use Rattle.std.proofs.Common.{ℕ, List, refl, subst}
+use Rattle.pgs_step.specs.declared.events.What.TheVariants as a_what
+use Rattle.pgs_step.specs.Text.{text_of}
+use Rattle.pgs_world.specs.PrinterLaws.{TakesBytes-more}
+use Rattle.pgs_world.specs.PrinterView.{TakesBytes}
+use Rattle.pgs_world.proofs.printer.Printer.gather_row.Goals as goal
+
+pub returns : goal.returns
+returns g c =
+    let line : TakesBytes g.K.Sink.written g.K.Sink.faults c.make_room.new.self (text_of c.args.self.now.names.now (record { session = c.args.self.now.session; what = a_what.Row c.args.portal.now c.args.row c.args.value })) c.append_row.new.self =
+    subst (λ (names : List (List ℕ)). TakesBytes g.K.Sink.written g.K.Sink.faults c.make_room.new.self (text_of names (record { session = c.args.self.now.session; what = a_what.Row c.args.portal.now c.args.row c.args.value })) c.append_row.new.self) c.make_room.ensures.bytes.names
+    (subst (λ (session : ℕ). TakesBytes g.K.Sink.written g.K.Sink.faults c.make_room.new.self (text_of c.make_room.new.self.names.now (record { session = session; what = a_what.Row c.args.portal.now c.args.row c.args.value })) c.append_row.new.self) c.make_room.ensures.bytes.session c.append_row.ensures)
+    in
+    TakesBytes-more g.K.Sink.written g.K.Sink.faults c.args.self.now c.make_room.new.self c.append_row.new.self _ _ _ c.make_room.ensures.bytes line refl
