@@ -1,6 +1,6 @@
 -- The steps of a portal lead from a session that stands to one that stands.
 use Rattle.session_rules.proofs.Base.{◌≡◌, ◌≢◌, ◌⊎◌, ℕ, ◌+◌, ◌≤◌, ◌<◌, true, false, Option, Some, None, List, [], ◌∷◌, ◌++◌, length, refl, sym, ap, ◌∙◌, subst, inl, inr, arith, ◌==◌, ◌||◌, All, codes, option_and_then, cases_eq, cases_Bool, both_ways, eq-eqb, or_parts, All-nil, All-cons, All-head, All-tail, All-append, All-weaker, nat_tests}
-use Rattle.session_rules.proofs.Below.{Forest, Empty, Node, Once, at, has, children, parent_of, put, size, apart_of, Contexts, created, is_protected, new_context, table_of, OwnerTree, once_of, fresh, sound_created, new_scan, Scan, is_text, is_text-means, is_text-same, PortalState, CtxKind}
+use Rattle.session_rules.proofs.Below.{Forest, Empty, Node, Once, has, children, parent_of, put, size, apart_of, Contexts, created, is_protected, new_context, table_of, OwnerTree, once_of, fresh, sound_created, new_scan, Scan, is_text, is_text-means, is_text-same, PortalState, CtxKind}
 use Rattle.session_rules.proofs.Rules.{LevelState, OpenPortal, cache_context, first_of, level_owner, plan_reference, portals_context, Scene, OfPortal, PortalContext, Text, portal_changed, portal_named, in_order, portal_becomes, context_made, new_context_made, new_owner_made, owner_made, portal_made, WasReleased, AreContexts, AreDifferent, AreHooks, AreLevels, AreOther, AreOwners, ArePlans, ArePortals, IsAtRest, IsAtWork, IsDead, IsLive, IsOfPortal, IsOwner, IsPlace, IsPortal, IsWorking, Stands, active_depth, owner_at, referred}
 use Rattle.session_rules.proofs.Kept.{children_put, has_put_other, Stay, contexts_created, has_created, is_unused, new_parent, new_protected, protected_has, stay_created, stay_same, held_created, hooks_put, levels_stay, no_value, one_value, lone_put, plans_counted, Changes, all_back, all_front, changed_one, different_new, different_changed, different_owned, others_back, others_front, owner_beside, owner_here, owner_split, IsRowOf, attached_by, own_rows, place_same, row_of, row_put, depth_small, depth_working}
 use Rattle.owner_core.specs.Owners as owners
