@@ -75,13 +75,7 @@ many_in session = length (waiting session.contexts)
 
 words_together : (n : ℕ) (sessions : List SessionState) → word_times n (all_waiting sessions) ≡ sum_by (words_in n) sessions
 words_together n [] = refl
-words_together n (session ∷ sessions) =
-    ap (word_times n) (flat_map-cons (λ (s : SessionState). waiting s.contexts) session sessions) ∙ omega (
-      arith,
-      times_append n (waiting session.contexts) (all_waiting sessions),
-      words_together n sessions,
-      sum_by-cons (words_in n) session sessions,
-    )
+words_together n (session ∷ sessions) = search (arith, words_together n sessions, word_times, flat_map-cons, times_append, sum_by-cons)
 
 many_together : (sessions : List SessionState) → length (all_waiting sessions) ≡ sum_by many_in sessions
 many_together sessions = length-flat_map (λ (s : SessionState). waiting s.contexts) sessions
