@@ -359,7 +359,7 @@ module _ (f : ℕ) where
   role_so (OfPortal name) s once = items_seen.both (made_so (level_owner s.session) s (once (level_owner s.session))) (items_aside _ _ refl refl said_none)
 
   pub items_law : Turns of_items ReadsItems
-  items_law = search (arith, items_seen, taken_so, released_so, phase_so, gone_so, moved_so, items_aside, said_none, stack_hidden, of_items)
+  items_law = search (arith, items_seen, taken_so, released_so, phase_so, gone_so, moved_so, items_aside, said_none, stack_hidden)
 
 -- A line keeps the law of the items of a file, and so does the end of a session.
 

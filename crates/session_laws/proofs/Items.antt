@@ -418,7 +418,7 @@ IsNone n = n ≡ 0
 
 -- of each item and owner
 pub items_life : (kinds : KindTable) (item : Item) (owner : ℕ) → IsLife kinds (reader item owner) (Counts item owner) 0 IsNone
-items_life kinds item owner = search (arith, life_by, reader, counts_turns, counts_open, counts_elsewhere, counts_exit, counts_ended)
+items_life kinds item owner = search (arith, life_by, counts_turns, counts_open, counts_elsewhere, counts_exit, counts_ended)
 
 -- of a session that has just opened there is nothing either
 numbers_open : (around : Around) → IsNext 1 (record { session = opening; around = around })

@@ -501,8 +501,7 @@ exit_said s =
     let rolled : Ended = for_each level_rolled_back s.session.levels s in
     let rest : List What = (context_gone top_context (switched top_context rolled.scene).scene).events in
     let first = all_pass (rollback_ordinary s) in
-    let gone = all_pass (gone_ordinary top_context (switched top_context rolled.scene).scene) in
-    grind (arith, nat_tests, allows_all-append, seen_after-append)
+    grind (arith, nat_tests, allows_all-append, seen_after-append, all_pass, gone_ordinary)
 
 -- In the life of a session its end is said once, last.
 pub exits_life : (kinds : KindTable) → IsLife kinds ending IsOn false (λ ended. ended ≡ true)

@@ -1,6 +1,6 @@
 -- Locks are released as often as they are acquired: what a reader has seen of a lock fits how often owners hold it.
 use Rattle.session_laws.proofs.Words.{◌≡◌, ℕ, ◌+◌, ◌<◌, Bool, true, false, cond, List, [], ◌∷◌, map, filter, refl, sym, ap, ◌∙◌, arith, if◌then◌else◌, ◌++◌, subst, ◌==◌, ◌&&◌, sum_by, All, nat_le, and_parts, eqb-true, and_from, le-leb, All-head, All-tail, All-weaker, All-nil, sum_by-cons, nat_tests, locks, unlocks, zero, suc, replicate, Option, None, ◌⊎◌, option_map_or, ltb-true}
-use Rattle.session_laws.proofs.Scenes.{Mode, IsInOrder, Lock, comes_before, count_of, has_owner, is_lock, lock_total, owner_count, AreLocks, What, Scene, step_done, lock_given_back, lock_taken, ReleasesLocks, PassesLocks, ReleasesAllLocks, mode_number, Command, LevelState, OpenPortal, SessionState, is_aborted, Check, Element, LevelContext, OfLevel, OwnerRole, PortalContext, Text, portal_named, line_elements, turn, Error, Moment, failure, unless, does, at_owner, snapshot_pushed, exited, ItemCommand, LockCommand, PortalCommand, Scan, Row, after_turn, elements, fetch_steps, item_row, lock_row, portal_row, at_savepoint, begin, elements_of, in_transaction, rollback, rolled_back_to, save, then_ok}
+use Rattle.session_laws.proofs.Scenes.{Mode, IsInOrder, Lock, comes_before, count_of, has_owner, is_lock, lock_total, owner_count, AreLocks, What, Scene, step_done, lock_given_back, lock_taken, ReleasesLocks, PassesLocks, ReleasesAllLocks, mode_number, Command, LevelState, OpenPortal, SessionState, is_aborted, Check, Element, LevelContext, OfLevel, OwnerRole, PortalContext, Text, portal_named, line_elements, turn, Error, Moment, failure, unless, does, at_owner, snapshot_pushed, exited, ItemCommand, LockCommand, PortalCommand, Scan, Row, after_turn, elements, fetch_steps, item_row, lock_row, portal_row, at_savepoint, begin, elements_of, in_transaction, rolled_back_to, save, then_ok}
 use Rattle.session_laws.proofs.Rules.{Reader, allows_all, seen_after, count, Law, said_none, said_lock_passes, WellCounted, by_passing, down, none_like, passes_some, AreLocks-acquired, AreLocks-filtered, AreLocks-passed, AreLocks-released, counted-down, keeps-down, IsRun, fallible_so}
 use Rattle.std.proofs.lemmas.List.Folds.{map_fixed}
 use Rattle.lock_local.specs.declared.local_lock.OwnerCount.{OwnerCount}
@@ -350,9 +350,6 @@ then_ok_free : (es : List Element) → AreFree es → AreFree (then_ok es)
 then_ok_free es h = both_are_free es (e.Says what.Ok ∷ []) h (tt, tt)
 
 -- of the commands on transactions
-rollback_free : (levels : List LevelState) → AreFree (rollback levels)
-rollback_free levels = grind (arith, nat_tests, rolled_back_free)
-
 save_free : (name : Text) (levels : List LevelState) → AreFree (save name levels)
 save_free name levels = grind (arith, nat_tests)
 
@@ -398,7 +395,7 @@ in_transaction_safe (level ∷ levels) work h = then_free (e.Says what.Ok ∷ []
 -- A line is free of these, or its session isn't aborted and they are safe.
 elements_safe : (c : Command) (session : SessionState) → AreFree (elements_of c session) ⊎ ((is_aborted session.levels ≡ false) × Safe (elements_of c session))
 unfolding elements_of
-elements_safe c s = grind (arith, nat_tests, then_ok_free, begin_free, rollback_free, save_free, savepoint_free, commits_are_free, both_are_free, rolled_back_free, in_transaction_safe, row_free, items_safe, locks_safe, portals_safe)
+elements_safe c s = grind (arith, nat_tests, then_ok_free, begin_free, save_free, savepoint_free, commits_are_free, both_are_free, rolled_back_free, in_transaction_safe, row_free, items_safe, locks_safe, portals_safe)
 
 -- Each element of a line meets a scene in which what was checked for it holds.
 pub line_checked : (w : Option ℕ) (line : Option Command) (m : Moment) → IsRun IsChecked w (line_elements line m.scene.session) m

@@ -31,7 +31,7 @@ usual : Usual no_part is_unmade
 usual = assumption usual_unmade
 
 unmade_ends : EndLeaves NoneMade
-unmade_ends = search (arith, plain_ends, sight, usual, unseen_keys, no_part, unseen_owners, item_comes)
+unmade_ends = search (arith, plain_ends, sight, usual, unseen_keys, unseen_owners, item_comes)
 
 abbrev acts : Acts NoneMade
 acts = unmade_ends.levels.leaves.acts
