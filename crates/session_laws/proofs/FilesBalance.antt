@@ -220,14 +220,7 @@ unfolding opening
 items_open file around = record { few = omega arith; covered = omega arith; covers = omega arith; once = record { once = λ n. omega arith } }
 
 pub items_cover : (file : ℕ) → CoversFile file (item_reader file) (ItemFits file)
-items_cover file = record {
-  few = λ n s fit. fit.covered;
-  opens = items_open file;
-  elsewhere = λ n session a b table descriptors fit. record { few = fit.few; covered = fit.covered; covers = fit.covers; once = fit.once };
-  error = λ error s. items_aside file s s refl refl (said_one (what.Error error) refl);
-  turns = items_turn file;
-  exits = λ s h. items_exit file s;
-}
+items_cover file = search (arith, items_open, items_aside, said_one, items_turn, items_exit)
 
 -- So descriptors balance where items do.
 pub files_balance : (file : ℕ) (events : List What) → ((item : Item) (owner : ℕ) → BalancesFrom 0 (acquires item owner) (releases item owner) events)

@@ -359,20 +359,7 @@ module _ (f : ℕ) where
   role_so (OfPortal name) s once = items_seen.both (made_so (level_owner s.session) s (once (level_owner s.session))) (items_aside _ _ refl refl said_none)
 
   pub items_law : Turns of_items ReadsItems
-  items_law = record {
-    least = record {
-      sees = items_seen;
-      items = record {
-        taken = λ owner kind key. record { so = taken_so owner kind key };
-        released = λ owner kind key. record { so = released_so owner kind key };
-        phase = λ commit top n phase. record { so = phase_so commit top n phase };
-        gone = λ n. record { so = gone_so n };
-        moved = λ n parent. record { so = moved_so n parent };
-      };
-    };
-    levels = λ levels s. items_aside s _ refl refl said_none;
-    stack = stack_hidden of_items ReadsItems items_seen refl;
-  }
+  items_law = search (arith, items_seen, taken_so, released_so, phase_so, gone_so, moved_so, items_aside, said_none, stack_hidden)
 
 -- A line keeps the law of the items of a file, and so does the end of a session.
 

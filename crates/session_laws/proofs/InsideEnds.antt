@@ -388,8 +388,7 @@ module _ (level : LevelState) (levels : List LevelState) (s : Scene) (leaving : 
         let stayed : Stayed entry later events = confined_stays entry later events (first_ends e) read.allowed in
         let l : Lessens s0 (in_order (abort_parts n level.owner s.session.portals) s0).scene (in_order (abort_parts n level.owner s.session.portals) s0).events = (abort_lessens n level.owner s.session.portals).so s0 in
         let now : Leaving = seen_after staying later events in
-        let same : level_begun n leaving.begun ≡ level_begun (length levels + 1) now.begun = grind (arith, nat_tests, same_n) in
-        grind (arith, nat_tests, and_from, nothing_ends, protected_has, own_context, both_ways, confined_sees)
+        grind (arith, nat_tests, and_from, nothing_ends, protected_has, own_context, both_ways, confined_sees, same_n)
 
   -- it is cleaned up
   abbrev behind : Leaving

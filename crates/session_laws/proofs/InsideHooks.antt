@@ -1,5 +1,5 @@
 -- No hook waits on a context of the session itself below the one for caches.
-use Rattle.session_laws.proofs.Words.{◌≡◌, ℕ, Bool, true, false, if◌then◌else◌, [], Option, Some, None, refl, sym, ap, ◌∙◌, subst, inl, inr, List, ◌∷◌, ◌++◌, codes, reverse, arith, ◌==◌, ◌⊎◌, both_ways, cases_Bool, cond-false, eqb-true, false_from_ne_true, eq-eqb, ne_eqb, Empty, Node, Once, at, changed, children, has, is_root, moved, parent_of, put, removed, with_children, at_absent, at_some, apart_of, has_at, where_is, reverse-append, nat_tests, parent_root, root_absent}
+use Rattle.session_laws.proofs.Words.{◌≡◌, ℕ, Bool, true, false, if◌then◌else◌, [], Option, Some, None, refl, sym, ap, ◌∙◌, subst, inl, inr, List, ◌∷◌, ◌++◌, codes, reverse, arith, ◌==◌, ◌⊎◌, both_ways, cases_Bool, cond-false, eqb-true, false_from_ne_true, eq-eqb, ne_eqb, Empty, Node, Once, at, changed, children, has, is_root, parent_of, put, removed, with_children, at_absent, at_some, apart_of, has_at, where_is, reverse-append, nat_tests, parent_root, root_absent}
 use Rattle.session_laws.proofs.Scenes.{Context, Contexts, is_protected, new_context, cache_context, LevelState, context_of, first_of, last_of, level_context, top_context, What, CtxKind, Scene, Text, context_named, AreLevels, Stands, IsContext}
 use Rattle.session_laws.proofs.Rules.{ContextLeaves, of_contexts, EndLeaves, ContextLaw, context_ends, context_makes, top_parent, StandingMoves, standing_moves}
 use Rattle.pgs_command.specs.Words.{is_text}
@@ -62,10 +62,6 @@ quiet_changed_at p n f (Node m a below beside) o k h = grind (arith, nat_tests, 
 -- what waits nowhere
 pub no_hooks : (n : ℕ) (c : Context) (t : Contexts) → Once t → AreQuiet None t → at n t ≡ Some c → is_protected n t ≡ true → parent_of n t ≡ Some cache_context → c.hooks ≡ []
 no_hooks n c t o h is own parent = grind (arith, nat_tests, has_at, false_from_ne_true, parent_root, quiet_at, cond-false)
-
--- a context moves that isn't one of the session itself
-pub quiet_moved : (n p : ℕ) (t : Contexts) → is_protected n t ≡ false → AreQuiet None t → AreQuiet None (moved n p t)
-quiet_moved n p t free h = grind (arith, nat_tests, quiet_put, both_ways, quiet_children, quiet_removed)
 
 -- No hook waits on a context of the session itself below the one for caches, whatever a line does.
 
@@ -142,7 +138,7 @@ named_elsewhere name s n h e own parent =
 
 -- a hook is registered, and a context moves
 quiet_moves : StandingMoves KeepsQuiet
-quiet_moves = grind (arith, nat_tests, quiet_changed_at, named_elsewhere, quiet_moved)
+quiet_moves = grind (arith, nat_tests, quiet_changed_at, named_elsewhere, quiet_put, both_ways, quiet_children, quiet_removed)
 
 pub quiet_owed : OwesTurns KeepsQuiet
 quiet_owed = owes_by KeepsQuiet quiet_ends (context_makes KeepsQuiet quiet_law) (λ error s. record { so = λ k. k }) (standing_moves KeepsQuiet quiet_ends.levels.leaves.acts quiet_moves)

@@ -7,7 +7,7 @@ use Rattle.session_laws.proofs.Lives.{Reads, turn_keeps, IsLife, then_read, line
 use Rattle.session_laws.proofs.Parents.{FitsContexts}
 use Rattle.session_laws.proofs.ParentsLife.{KeepsContexts, contexts_end_leaves, KeepsOwners, contexts_owed, owners_owed, contexts_life, opening_contexts, opening_owners, owners_life}
 use Rattle.session_laws.proofs.OwnWork.{AreDue, ContextNext, Hushed, IsRest, OwnerNext, Stage, Working, above_of, line_due, stage_next, stage_of}
-use Rattle.session_laws.proofs.InsideWalk.{nothing_ends, AreBegun, Lessens, by_said, by_switch, inside_acts}
+use Rattle.session_laws.proofs.InsideWalk.{nothing_ends, Lessens, by_said, by_switch, inside_acts}
 use Rattle.session_laws.proofs.InsideHooks.{KeepsQuiet, quiet_ends, quiet_owed}
 use Rattle.session_laws.proofs.InsideEnds.{contexts_fit, AbortRead, CleanRead, Halted, IsSoon}
 use Rattle.session_laws.proofs.InsideSteps.{Active, AwaitsNothing, OneRead, At, KeepsTrees, Stepped, Trees, aborts_at, cleans_at, step_read, trees_behind, trees_element, word_stays, lessened}
@@ -104,11 +104,7 @@ pub rolled_left : (level : LevelState) (levels : List LevelState) (s : Scene) (l
     → RolledBack levels (seen_after staying leaving (level_rolled_back level s).events) (level_rolled_back level s).scene
 rolled_left level levels s leaving h are un trees =
     let l : LeavesLevels levels (level_rolled_back level s).scene = left_behind level levels s h are in
-    record {
-      stands = l.between.stands;
-      are = l.are;
-      trees = trees_behind s (level_rolled_back level s).scene (level_rolled_back level s).events leaving (trees_rolled level levels s h are un) trees;
-    }
+    search (arith, trees_behind, trees_rolled)
 
 -- what is seen behind an error
 data After (leaving : Leaving) (s : Scene) : Type 0 where
@@ -319,15 +315,7 @@ level_read : (level : LevelState) (levels : List LevelState) (s : Scene) (leavin
 level_read level levels s leaving h are trees k =
     let o : OneRead AwaitsNothing leaving (level_rolled_back level s).scene (level_rolled_back level s).events = work_read level levels s leaving level.aborted h are refl trees k in
     let l : LeavesLevels levels (level_rolled_back level s).scene = left_behind level levels s h are in
-    record {
-      allowed = o.allowed;
-      fits = record {
-        work = o.fits;
-        trees = trees_behind s (level_rolled_back level s).scene (level_rolled_back level s).events leaving (trees_gone level levels s level.aborted h are refl) trees;
-        stands = l.between.stands;
-        are = l.are;
-      };
-    }
+    search (arith, trees_behind, trees_gone)
 
 -- all levels are rolled back
 levels_read : (levels : List LevelState) (s : Scene) (leaving : Leaving) → Stands s → s.session.levels ≡ levels → Trees leaving s → At (stage_of levels) leaving s
@@ -350,8 +338,7 @@ exit_read s h leaving k =
     let last_acts : Scene → Ended = in_order (switched top_context ∷ context_gone top_context ∷ say what.Exit ∷ []) in
     let t : Lessens z (last_acts z).scene (last_acts z).events = tail.so z in
     let after : Leaving = seen_after staying leaving (for_each level_rolled_back s.session.levels s).events in
-    let e : OneRead AwaitsNothing after (last_acts z).scene (last_acts z).events =
-    lessened z (last_acts z).scene (last_acts z).scene (last_acts z).events after t refl refl (λ begun x. subst (λ (ls : List LevelState). AreBegun ls begun) (sym t.levels) x) o.fits in
+    let e : OneRead AwaitsNothing after (last_acts z).scene (last_acts z).events = search (arith, lessened) in
     allows_all-append staying leaving (for_each level_rolled_back s.session.levels s).events (last_acts z).events o.allowed e.allowed
 
 -- In the life of a session the end of a level that aborts, from its abort to the deletion of its context, names no owner but that of the level

@@ -357,7 +357,6 @@ word_stays event s leaving h k =
     let entry : Begun = level_begun (length k.levels + 1) leaving.begun in
     let stayed : Stayed entry leaving (event ∷ []) = confined_stays entry leaving (event ∷ []) k.ends (h entry) in
     let now : Leaving = seen_after staying leaving (event ∷ []) in
-    let same : entry ≡ level_begun (length k.levels + 1) now.begun = ap (level_begun (length k.levels + 1)) (sym stayed.begun) in
     grind (arith, nat_tests)
 
 said_confined : (event : What) → IsSaid event → (leaving : Leaving) (entry : Begun) → allows_all (confined entry) leaving (event ∷ []) ≡ true

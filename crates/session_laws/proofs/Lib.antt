@@ -7,7 +7,6 @@ pub mod Lifts
 pub mod OwnWork
 pub mod Calls
 pub mod OwnerEnds
-pub mod ItemsCounted
 pub mod Parents
 pub mod ParentsLife
 pub mod Items
@@ -17,11 +16,9 @@ pub mod Warnings
 pub mod LocksSight
 pub mod FilesLife
 pub mod StackLife
-pub mod LocksRead
 pub mod LocksChecked
 pub mod LocksLife
 pub mod OrderSteps
-pub mod OrderPhase
 pub mod OrderEnds
 pub mod OrderLife
 pub mod StepsOf

@@ -75,13 +75,7 @@ many_in session = length (waiting session.contexts)
 
 words_together : (n : ℕ) (sessions : List SessionState) → word_times n (all_waiting sessions) ≡ sum_by (words_in n) sessions
 words_together n [] = refl
-words_together n (session ∷ sessions) =
-    ap (word_times n) (flat_map-cons (λ (s : SessionState). waiting s.contexts) session sessions) ∙ omega (
-      arith,
-      times_append n (waiting session.contexts) (all_waiting sessions),
-      words_together n sessions,
-      sum_by-cons (words_in n) session sessions,
-    )
+words_together n (session ∷ sessions) = search (arith, words_together n sessions, word_times, flat_map-cons, times_append, sum_by-cons)
 
 many_together : (sessions : List SessionState) → length (all_waiting sessions) ≡ sum_by many_in sessions
 many_together sessions = length-flat_map (λ (s : SessionState). waiting s.contexts) sessions
@@ -507,8 +501,7 @@ exit_said s =
     let rolled : Ended = for_each level_rolled_back s.session.levels s in
     let rest : List What = (context_gone top_context (switched top_context rolled.scene).scene).events in
     let first = all_pass (rollback_ordinary s) in
-    let gone = all_pass (gone_ordinary top_context (switched top_context rolled.scene).scene) in
-    grind (arith, nat_tests, allows_all-append, seen_after-append)
+    grind (arith, nat_tests, allows_all-append, seen_after-append, all_pass, gone_ordinary)
 
 -- In the life of a session its end is said once, last.
 pub exits_life : (kinds : KindTable) → IsLife kinds ending IsOn false (λ ended. ended ≡ true)

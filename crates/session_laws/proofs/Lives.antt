@@ -14,9 +14,7 @@ pub record IsRead {Seen : Type 0} (reader : Reader Seen) (Fits : Seen → Scene 
 -- one part of what is read and then another
 pub then_read : {Seen : Type 0} {F G : Seen → Scene → Type 0} (reader : Reader Seen) (seen : Seen) (t u : Scene) (xs ys : List What) → IsRead reader F seen t xs
     → (F (seen_after reader seen xs) t → IsRead reader G (seen_after reader seen xs) u ys) → IsRead reader G seen u (xs ++ ys)
-then_read {Seen} {G = G} reader seen t u xs ys a more =
-    let b : IsRead reader G (seen_after reader seen xs) u ys = more a.fits in
-    grind (arith, nat_tests, allows_all-append, seen_after-append)
+then_read {Seen} {G = G} reader seen t u xs ys a more = grind (arith, nat_tests, allows_all-append, seen_after-append)
 
 -- The law of a reader: where what it has seen fits the scene, it allows the events, and fits the scene behind.
 pub record Reads {Seen : Type 0} (reader : Reader Seen) (Fits : Seen → Scene → Type 0) (s t : Scene) (events : List What) : Type 0 where
@@ -173,7 +171,6 @@ module _ {Seen : Type 0} (kinds : KindTable) (reader : Reader Seen) (Fits : Seen
       let rolled : Ended = for_each level_rolled_back levels (settled levels s) in
       let k : HasGone (Reads reader Fits) (settled levels s) rolled = rolled_keeps (Reads reader Fits) o levels s h in
       let read : IsRead reader Fits seen rolled.scene rolled.events = k.keeps.so seen fit in
-      let between : Seen = seen_after reader seen rolled.events in
       grind (arith, nat_tests, allows_all-append, seen_after-append)
 
   -- The life of a session, from what a law owes for lines and from what is owed for its beginning and its end.

@@ -9,9 +9,8 @@ use Rattle.session_laws.proofs.OwnerEnds.{steps_stay}
 use Rattle.session_rules.proofs.Sight as part
 use Rattle.session_laws.proofs.LocksSight.{Sees, of_locks, files_hidden, Least, Turns, Base, least_of, least_acts, turn_ends, pushed_hidden, OwesUnlocks, least_leaves, owner_owed, touch_owed, turns_owed, unlock_owed, by_owner_made, stack_hidden}
 use Rattle.session_rules.proofs.EndsStand.{Leaves}
-use Rattle.session_laws.proofs.LocksChecked.{IsChecked, line_checked, locks_exit, locks_turn}
+use Rattle.session_laws.proofs.LocksChecked.{IsChecked, line_checked, locks_exit, locks_turn, LocksFit, lock_reader, there, locks_aside}
 use Rattle.session_laws.proofs.Lives.{IsLife, IsRead, Reads, line_leads}
-use Rattle.session_laws.proofs.LocksRead.{LocksFit, lock_reader, there, locks_aside}
 use Rattle.session_rules.specs.Elements as e
 
 -- where no lock is held, none is behind
@@ -229,12 +228,8 @@ bare_behind w e.LevelStands m spoken meets checked b = shrinks_bare w e.LevelSta
 bare_behind w (e.TakeLock role object mode) m spoken meets checked b = taken_bare w role object mode m meets.stands checked b
 bare_behind w e.CommitTop m spoken meets checked b = commit_bare w m meets.stands meets.asks.0 meets.asks.1 b
 bare_behind w e.Subcommit m spoken meets checked b = merge_bare w m meets
-bare_behind w e.Abort m spoken meets checked b =
-    abort_bare w m meets.stands meets.asks.0.0 meets.asks.0.1 meets.asks.1
-    (abort_stands w m meets.stands meets.asks.0.0 meets.asks.0.1 meets.asks.1 meets.asks.2 meets.asks.3) b
-bare_behind w e.Cleanup m spoken meets checked b =
-    cleanup_bare w m meets.stands meets.asks.0.0 meets.asks.0.1 meets.asks.1 meets.asks.2
-    (cleanup_stands w m meets.stands meets.asks.0.0 meets.asks.0.1 meets.asks.1 meets.asks.2) b
+bare_behind w e.Abort m spoken meets checked b = search (arith, abort_bare, abort_stands)
+bare_behind w e.Cleanup m spoken meets checked b = search (arith, cleanup_bare, cleanup_stands)
 bare_behind w (e.Says event) m spoken meets checked b = shrinks_bare w (e.Says event) m spoken tt (λ none. none) b
 bare_behind w other m spoken meets checked b = own_bare w other m spoken tt tt b
 

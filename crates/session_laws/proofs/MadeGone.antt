@@ -31,9 +31,7 @@ usual : Usual no_part is_unmade
 usual = assumption usual_unmade
 
 unmade_ends : EndLeaves NoneMade
-unmade_ends =
-    plain_ends sight usual (unseen_keys no_part is_unmade NoneMade sight refl) refl refl refl (λ level. (refl, refl, refl, refl)) (λ item n. refl) (λ n. refl) (λ n parent. refl)
-    (unseen_owners no_part is_unmade NoneMade sight refl (λ item n. refl) (λ item n. refl) (item_comes no_part is_unmade NoneMade sight refl refl (λ item n. refl)))
+unmade_ends = search (arith, plain_ends, sight, usual, unseen_keys, unseen_owners, item_comes)
 
 abbrev acts : Acts NoneMade
 acts = unmade_ends.levels.leaves.acts
@@ -230,10 +228,10 @@ going_made m least x nodes now next n is there others h = grind (arith, nat_test
 going_gone : (m least x : ℕ) (nodes : List Kept) (next n : ℕ) → is_there x nodes ≡ true → IsGoing m least nodes next n → IsGoing m least (without x nodes) next ((n + 0) - one_where (m == x))
 going_gone m least x nodes next n there h = grind (arith, nat_tests, is_there-without_same, eq-eqb, both_ways, ne_eqb, is_there-without_other)
 
--- what is seen of contexts, of the parents, and of how often a context may go
-pub record GoesContext (c : ℕ) (seen : Pair Growth Parents) (n : ℕ) : Type 0 where
-  pub same : seen.first.nodes ≡ seen.second.contexts
-  pub going : IsGoing c 6 seen.first.nodes seen.first.next n
+-- what is seen of a number, of the parents, and of how often it may go
+pub record Goes (m least : ℕ) (of : Parents → List Kept) (seen : Pair Growth Parents) (n : ℕ) : Type 0 where
+  pub same : seen.first.nodes ≡ of seen.second
+  pub going : IsGoing m least seen.first.nodes seen.first.next n
 
 context_step : (c : ℕ) (event : What) (seen : Pair Growth Parents) (n : ℕ) → seen.first.nodes ≡ seen.second.contexts → IsGoing c 6 seen.first.nodes seen.first.next n → growing_contexts.allows event seen.first ≡ true → placing.allows event seen.second ≡ true
     → IsGoing c 6 (growing_contexts.next event seen.first).nodes (growing_contexts.next event seen.first).next ((n + nothing event) - deletes c event)
@@ -242,14 +240,10 @@ context_step c (what.Move x parent) seen n same h a b = grind (arith, nat_tests,
 context_step c (what.Delete x) seen n same h a b = going_gone c 6 x seen.first.nodes seen.first.next n (leaf_there x seen.first.nodes a) h
 context_step c other seen n same h a b = going_same c 6 seen.first.nodes seen.first.nodes seen.first.next n (λ t. t) (λ t. t) h
 
-contexts_going : (c : ℕ) → IsFollowed (paired growing_contexts placing) (count nothing (deletes c)) (GoesContext c)
+contexts_going : (c : ℕ) → IsFollowed (paired growing_contexts placing) (count nothing (deletes c)) (Goes c 6 (λ parents. parents.contexts))
 contexts_going c = grind (arith, nat_tests, and_parts, context_step, one_allowed, leaf_there)
 
 -- the same of owners
-pub record GoesOwner (o : ℕ) (seen : Pair Growth Parents) (n : ℕ) : Type 0 where
-  pub same : seen.first.nodes ≡ seen.second.owners
-  pub going : IsGoing o 1 seen.first.nodes seen.first.next n
-
 owner_step : (o : ℕ) (event : What) (seen : Pair Growth Parents) (n : ℕ) → seen.first.nodes ≡ seen.second.owners → IsGoing o 1 seen.first.nodes seen.first.next n → growing_owners.allows event seen.first ≡ true → placing.allows event seen.second ≡ true
     → IsGoing o 1 (growing_owners.next event seen.first).nodes (growing_owners.next event seen.first).next ((n + nothing event) - discards o event)
 owner_step o (what.Owner x) seen n same h a b =
@@ -260,7 +254,7 @@ owner_step o (what.MoveOwner x parent) seen n same h a b = grind (arith, nat_tes
 owner_step o (what.OwnerGone x) seen n same h a b = going_gone o 1 x seen.first.nodes seen.first.next n (leaf_there x seen.first.nodes a) h
 owner_step o other seen n same h a b = going_same o 1 seen.first.nodes seen.first.nodes seen.first.next n (λ t. t) (λ t. t) h
 
-owners_going : (o : ℕ) → IsFollowed (paired growing_owners placing) (count nothing (discards o)) (GoesOwner o)
+owners_going : (o : ℕ) → IsFollowed (paired growing_owners placing) (count nothing (discards o)) (Goes o 1 (λ parents. parents.owners))
 owners_going o = grind (arith, nat_tests, and_parts, owner_step, one_allowed, leaf_there)
 
 -- a number that is made is below the next one then
@@ -299,37 +293,36 @@ no_owner_going o = grind (arith, nat_tests)
 all_gone : (m least : ℕ) (nodes : List Kept) (next n : ℕ) → nodes ≡ [] → 1 ≤ m → m < next → IsGoing m least nodes next n → n ≡ 0
 all_gone m least nodes next n none i u h = grind (arith, nat_tests, both_ways)
 
+gone_of : (growing : Reader Growth) (of : Parents → List Kept) (goes : What → ℕ) (m least : ℕ) (start : Growth) → IsFollowed (paired growing placing) (count nothing goes) (Goes m least of) → start.nodes ≡ of first_parents
+    → IsGoing m least start.nodes start.next 1 → (events : List What) → allows_all growing start events ≡ true → allows_all placing first_parents events ≡ true → of (seen_after placing first_parents events) ≡ []
+    → 1 ≤ m → (least ≤ (seen_after growing start events).next → m < (seen_after growing start events).next) → BalancesFrom 1 nothing goes events
+gone_of growing of goes m least start follows same going events h k none i below =
+    let seen : Pair Growth Parents = record { first = start; second = first_parents } in
+    let both = paired growing placing in
+    let p : IsPaired growing placing seen events = pair_reads growing placing events seen h k in
+    let f : HasFollowed both (count nothing goes) (Goes m least of) seen 1 events = followed both (count nothing goes) follows events seen 1 (record { same = same; going = going }) p.allowed in
+    let next : (seen_after both seen events).first.next ≡ (seen_after growing start events).next = ap (λ (g : Growth). g.next) p.first in
+    let nodes : (seen_after both seen events).first.nodes ≡ [] = f.related.same ∙ ap of p.second ∙ none in
+    let end : left nothing goes 1 events ≡ 0 =
+    all_gone m least _ (seen_after both seen events).first.next _ nodes i (omega (arith, next, below (omega (arith, next, f.related.going.least_is)))) f.related.going in
+    and_from (covers nothing goes 1 events) (left nothing goes 1 events == 0) f.allowed (eq-eqb (left nothing goes 1 events) 0 end)
+
 -- Where contexts grow and are placed as they are in a session, each that it has goes exactly once.
 pub contexts_gone_of : (events : List What) → allows_all growing_contexts opening_contexts events ≡ true → allows_all placing first_parents events ≡ true → NoneLeft (seen_after placing first_parents events)
     → (context : ℕ) → IsTrue (has_context context events) → BalancesFrom 1 nothing (deletes context) events
 contexts_gone_of events h k none c has =
-    let seen : Pair Growth Parents = record { first = opening_contexts; second = first_parents } in
-    let one = paired growing_contexts placing in
-    let two = count nothing (deletes c) in
-    let p : IsPaired growing_contexts placing seen events = pair_reads growing_contexts placing events seen h k in
-    let f : HasFollowed one two (GoesContext c) seen 1 events = followed one two (contexts_going c) events seen 1 (record { same = refl; going = first_going c }) p.allowed in
-    let nodes : (seen_after one seen events).first.nodes ≡ [] = f.related.same ∙ ap (λ (parents : Parents). parents.contexts) p.second ∙ none.contexts in
-    let given : (1 ≤ c) × (c < (seen_after one seen events).first.next) = elim (or_cases (is_first_context c) (happens (makes_context c) events) has) [
-      | inl y ↦ (first_some c y, omega (arith, first_small c y, f.related.going.least_is))
-      | inr z ↦ let w : IsGiven c 6 (seen_after growing_contexts opening_contexts events).next = context_given c events opening_contexts h (omega arith) z in
-          (omega (arith, w.least_is), omega (arith, w.below, ap (λ (g : Growth). g.next) p.first))
-    ] in
-    let end : left nothing (deletes c) 1 events ≡ 0 = all_gone c 6 (seen_after one seen events).first.nodes (seen_after one seen events).first.next (left nothing (deletes c) 1 events) nodes given.0 given.1 f.related.going in
-    and_from (covers nothing (deletes c) 1 events) (left nothing (deletes c) 1 events == 0) f.allowed (eq-eqb (left nothing (deletes c) 1 events) 0 end)
+    let gone = gone_of growing_contexts (λ parents. parents.contexts) (deletes c) c 6 opening_contexts (contexts_going c) refl (first_going c) events h k none.contexts in
+    elim (or_cases (is_first_context c) (happens (makes_context c) events) has) [
+      | inl y ↦ gone (first_some c y) (λ l. omega (arith, first_small c y, l))
+      | inr z ↦ let w : IsGiven c 6 _ = context_given c events opening_contexts h (omega arith) z in gone (omega (arith, w.least_is)) (λ l. w.below)
+    ]
 
 -- and each owner that is made
 pub owners_gone_of : (events : List What) → allows_all growing_owners opening_owners events ≡ true → allows_all placing first_parents events ≡ true → NoneLeft (seen_after placing first_parents events)
     → (owner : ℕ) → IsTrue (happens (makes_owner owner) events) → BalancesFrom 1 nothing (discards owner) events
 owners_gone_of events h k none o made =
-    let seen : Pair Growth Parents = record { first = opening_owners; second = first_parents } in
-    let one = paired growing_owners placing in
-    let two = count nothing (discards o) in
-    let p : IsPaired growing_owners placing seen events = pair_reads growing_owners placing events seen h k in
-    let f : HasFollowed one two (GoesOwner o) seen 1 events = followed one two (owners_going o) events seen 1 (record { same = refl; going = no_owner_going o }) p.allowed in
-    let nodes : (seen_after one seen events).first.nodes ≡ [] = f.related.same ∙ ap (λ (parents : Parents). parents.owners) p.second ∙ none.owners in
-    let w : IsGiven o 1 (seen_after growing_owners opening_owners events).next = owner_given o events opening_owners h (omega arith) made in
-    let end : left nothing (discards o) 1 events ≡ 0 = grind (arith, nat_tests, all_gone) in
-    and_from (covers nothing (discards o) 1 events) (left nothing (discards o) 1 events == 0) f.allowed (eq-eqb (left nothing (discards o) 1 events) 0 end)
+    let w : IsGiven o 1 _ = owner_given o events opening_owners h (omega arith) made in
+    gone_of growing_owners (λ parents. parents.owners) (discards o) o 1 opening_owners (owners_going o) refl (no_owner_going o) events h k none.owners w.least_is (λ l. w.below)
 
 -- Wherever a line stands between two of its elements, the replayed parents are those of the session's trees.
 

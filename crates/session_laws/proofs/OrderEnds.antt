@@ -5,14 +5,13 @@ use Rattle.session_laws.proofs.Rules.{allows_all, seen_after, allows_all-append,
 use Rattle.session_laws.proofs.Usual.{Usual, any, usual_any, is_usual, usual_contexts, usual_files, usual_locked, usual_locks, usual_made, usual_moves, usual_placed, usual_planned, usual_pushed, usual_stack, usual_unlocked, usual_words, usual_ends, usual_released, usual_taken, usual_phase}
 use Rattle.session_laws.proofs.Parents.{Growth, growing_owners, FitsOwners}
 use Rattle.session_laws.proofs.Warnings.{is_aside, is_line}
-use Rattle.session_laws.proofs.OrderSteps.{Adds, adds_aside, in_batch, falling_filter, Falls}
+use Rattle.session_laws.proofs.OrderSteps.{Adds, adds_aside, in_batch, falling_filter, Falls, HasBatch, owner_release}
 use Rattle.session_laws.proofs.OwnWork.{IsOwnWork, WorkLeaves, own_follows}
 use Rattle.owner_items.proofs.Order.{All-without, falling-without}
 use Rattle.lock_local.specs.Changes.{passed_lock, without}
 use Rattle.session_laws.proofs.Lives.{owes_by, OwesTurns, IsRead}
 use Rattle.session_laws.proofs.ParentsLife.{HasOwners, KeepsOwners, owner_level_leaves, owners_moved}
 use Rattle.session_laws.proofs.OwnerEnds.{released_levels, aborted_reads, each_reads, passed_reads}
-use Rattle.session_laws.proofs.OrderPhase.{HasBatch, owner_release}
 use Rattle.pgs_step.specs.declared.events.What.TheVariants as what
 use Rattle.lifetime_laws.specs.Parents as replayed
 use Rattle.any_ctx.specs.declared.any.CtxKind.TheVariants as kind
@@ -477,6 +476,5 @@ module _ (kinds : KindTable) where
       let act : OpenPortal → Scene → Ended = λ p. where_so (p.created == n) (in_order (where_there p.context context_gone ∷ portal_gone p.name ∷ [])) in
       let z : Scene = (for_each act s.session.portals s).scene in
       let y : Scene = (switched_up (level_owner_gone z).scene).scene in
-      let rest : AreSaid is_unlined (in_order (for_each act s.session.portals ∷ level_owner_gone ∷ switched_up ∷ level_context_gone ∷ level_popped ∷ []) s).events =
-      said_both (clean_portals n s.session.portals s) (said_both (gone_quiet z) (said_both (context_quiet y) (said_both said_none said_none))) in
+      let rest : AreSaid is_unlined (in_order (for_each act s.session.portals ∷ level_owner_gone ∷ switched_up ∷ level_context_gone ∷ level_popped ∷ []) s).events = search (arith, said_both, clean_portals, gone_quiet, context_quiet, said_none) in
       goes_both kinds {xs = what.CleanupLevel n ∷ []} (closes kinds (by_cleanup n) seen) (λ mid closed. closed_goes kinds rest mid closed)

@@ -1,6 +1,6 @@
 -- Where a line stands between its elements. While the deepest level is aborted a line says nothing until it cleans that level up: an
 -- element is a check then, or a word at the line's end, or the cleanup.
-use Rattle.session_laws.proofs.Words.{◌≡◌, ℕ, zero, suc, ◌+◌, ◌≤◌, Bool, true, false, if◌then◌else◌, List, [], ◌∷◌, ◌++◌, map, length, replicate, Option, Some, refl, sym, subst, arith, append_assoc, codes, le-ltb, option_and_then, nat_tests}
+use Rattle.session_laws.proofs.Words.{◌≡◌, ℕ, zero, suc, ◌≤◌, Bool, true, false, if◌then◌else◌, List, [], ◌∷◌, ◌++◌, map, length, replicate, Option, Some, refl, sym, subst, arith, append_assoc, codes, le-ltb, option_and_then, nat_tests}
 use Rattle.session_laws.proofs.Scenes.{What, Command, LevelState, OpenPortal, SessionState, is_aborted, level_owner, Check, Element, LevelContext, NewContext, OfLevel, OwnerRole, Text, portal_named, context_named, Scene, Moment, AreOuter, Stands, line_elements, KindId, Phase, Mode, CtxKind, owner_gone, phase_released, portal_ended, at_owner, at_portal, lock_given_back, snapshot_popped, context_made, new_context_made, new_owner_made, owner_made, plan_made, descriptor_given, item_taken, lock_taken, snapshot_pushed, does, Work, Scan, after_turn, fetch_steps, work_of, elements_of, rolled_back_to, savepoint}
 use Rattle.session_rules.specs.Works.{row_of}
 use Rattle.session_laws.proofs.Rules.{Acts, Follows, IsSpoken, Keeps, Law, Leaves, MoveLeaves, Owes, is_word, last, next, by_kind, by_order, by_owner, by_portal, by_portal_named, by_there, element_follows, fallible_at, fallible_so, moves_owed, unfailing_so, portal_ends}
@@ -152,17 +152,10 @@ commits_due : (n : ℕ) (ys : List Element) → AreDue Working ys → AreDue Wor
 commits_due zero ys k = k
 commits_due (suc n) ys k = (tt, commits_due n ys k)
 
--- a refusal may come anywhere between two lines
-
 -- levels that are rolled back, of which none is aborted
 rolled_outer : (n : ℕ) (levels : List LevelState) (ys : List Element) → AreOuter levels → AreDue Working ys → AreDue Working (rolled_back_to n levels ++ ys)
 rolled_outer n [] ys h k = k
 rolled_outer n (level ∷ levels) ys h k = grind (arith, nat_tests, rolled_outer n levels ys h.2 k)
-
--- the deepest level and some above it
-rolled_due : (n : ℕ) (level : LevelState) (levels : List LevelState) (ys : List Element) → n ≤ length levels + 1 → AreOuter levels → AreDue Working ys
-    → AreDue (stage_of (level ∷ levels)) (rolled_back_to n (level ∷ levels) ++ ys)
-rolled_due n level levels ys l h k = grind (arith, nat_tests, le-ltb, rolled_outer)
 
 -- the level of a savepoint is one of these
 savepoint_within : (name : Text) (levels : List LevelState) (n : ℕ) → savepoint name levels ≡ Some n → n ≤ length levels
@@ -175,7 +168,7 @@ active_due levels xs un k = subst (λ (b : Bool). AreDue (if b then Hushed else 
 
 elements_due : (c : Command) (session : SessionState) → AreAbove session.levels → AreDue (stage_of session.levels) (elements_of c session)
 unfolding elements_of
-elements_due c s h = grind (arith, nat_tests, active_due, append_assoc, commits_due, rolled_due, savepoint_within, work_due, work_is_work)
+elements_due c s h = grind (arith, nat_tests, active_due, append_assoc, commits_due, le-ltb, rolled_outer, savepoint_within, work_due, work_is_work)
 
 -- Each element of a line may come where the line stands by then.
 pub line_due : (line : Option Command) (session : SessionState) → AreAbove session.levels → AreDue (stage_of session.levels) (line_elements line session)

@@ -181,7 +181,6 @@ release_leaves commit top p s =
     let two : StaysBut (released (table_of a.around.kinds) Locks p a.session.owners) a b = phase_stays commit top p Locks a in
     let three : StaysBut (released (table_of b.around.kinds) AfterLocks p b.session.owners) b c = phase_stays commit top p AfterLocks b in
     let second : b.session.owners ≡ released kinds Locks p (released kinds BeforeLocks p x) = grind (arith, nat_tests) in
-    let third : c.session.owners ≡ released kinds AfterLocks p (released kinds Locks p (released kinds BeforeLocks p x)) = grind (arith, nat_tests) in
     grind (arith, nat_tests, released_swept)
 
 -- An owner that is there, and of which all nodes hold nothing, may go.

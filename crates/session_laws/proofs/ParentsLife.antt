@@ -73,10 +73,7 @@ module _ {A : Type 0} (t : Forest A) (n : ℕ) (growth : Growth) (h : HasGrown g
 
   -- a node that is made below another one, and one that moves
   made_grows : (p : ℕ) (a : A) → HasGrown (record { nodes = placed_where (is_there p growth.nodes) n (Some p) growth.nodes; next = growth.next + 1 }) (put p n a Empty t) (n + 1)
-  made_grows p a = record {
-    fits = record { tree = made_fits p n a growth.nodes t h.fits.tree h.fits.below; below = λ m v. put_has m p n a t h.fits.below v };
-    next = ap (λ (k : ℕ). k + 1) h.next;
-  }
+  made_grows p a = search (arith, made_fits, put_has)
 
   moved_grows : (m p : ℕ) → Moves m p t → HasGrown (record { nodes = placed_where (is_there m growth.nodes && is_there p growth.nodes) m (Some p) growth.nodes; next = growth.next }) (moved m p t) n
   moved_grows m p w =

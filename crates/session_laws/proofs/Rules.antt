@@ -10,7 +10,7 @@ pub use Rattle.session_rules.proofs.WalkEnds.{aborts, all_owed, behind_commit, c
 pub use Rattle.session_rules.proofs.Spoken.{line_spoken}
 pub use Rattle.session_rules.proofs.EndsStand.{aborted_stands, at_settled, begins, behind_rollback, exited_left, exited_stands, is_left, is_settled, off_begins, owner_when_active, resettled, rolled_stands, settled, switched_off}
 pub use Rattle.session_rules.proofs.TurnStands.{Meets, Runs, command_leads, line_runs, refused_leads, turn_stands}
-pub use Rattle.session_rules.proofs.ReleaseSteps.{AreReleaseSteps, IsReleaseStep, ItemGoes, LockLeaves, OwnerLeaves, is_release, item_releases, no_step, phase_keeps, phase_release, then_step, warned_step}
+pub use Rattle.session_rules.proofs.ReleaseSteps.{AreReleaseSteps, IsReleaseStep, ItemGoes, LockLeaves, OwnerLeaves, item_releases, no_step, phase_keeps, phase_release, then_step, warned_step}
 pub use Rattle.session_rules.proofs.Swept.{all_swept, has_swept}
 pub use Rattle.session_rules.proofs.Forests.{at_children, at_emptied, at_left, at_put, at_put_other, children_put, emptied_absent, has_emptied, has_left, has_put_other, once_left, parent_left, parent_put, parent_put_other, times_emptied}
 pub use Rattle.session_rules.proofs.Failing.{aborted_leads, all_aborted}
@@ -19,14 +19,14 @@ pub use Rattle.lifetime_laws.proofs.Replays.{IsLine, above-line, is_there-placed
 pub use Rattle.lifetime_laws.specs.Called.{CallsBack, Waiting, all_differ, calling, is_awaited, is_next, without_next, words_in}
 pub use Rattle.lifetime_laws.specs.Inside.{Awaited, Begun, ItsContext, ItsOwner, Leaving, Neither, StaysInside, awaited_behind, bare_level, begun_behind, contexts_inside, ends_behind, ends_with, is_named, is_within_some, last_changed, level_begun, nothing_leaving, owners_inside, plans_behind, staying, with_context, with_end, with_owner, with_portal}
 pub use Rattle.lifetime_laws.specs.Made.{IsMadeOnce, MakesOnce}
-pub use Rattle.lifetime_laws.specs.Order.{ALock, AnItem, Batch, Member, Owned, ReleasesInOrder, Releasing, goes_before, is_warned, may_precede, member_in, member_of, members_so_far, nothing_releasing, ordering, owner_of, place_of, place_of_phase, warning, warning_behind, warns_of_releases}
-pub use Rattle.lifetime_laws.specs.Parents.{Node, above, contexts_behind, first_contexts, has_child, is_above, is_there, is_within, node, owners_behind, placed, placed_where, without}
+pub use Rattle.lifetime_laws.specs.Order.{ALock, AnItem, Member, Owned, ReleasesInOrder, Releasing, goes_before, is_warned, may_precede, member_of, nothing_releasing, ordering, owner_of, place_of, place_of_phase, warning, warning_behind, warns_of_releases}
+pub use Rattle.lifetime_laws.specs.Parents.{Node, above, contexts_behind, first_contexts, has_child, is_above, is_there, is_within, owners_behind, placed, placed_where, without}
 pub use Rattle.lock_local.proofs.ChangeLemmas.{AreLocks-acquired, AreLocks-filtered, AreLocks-passed, AreLocks-released, IsInOrder-acquired, WellCounted, by_passing, counted-down, down, keeps-down, keeps-passed, keeps-without, none_like, passes_some}
 pub use Rattle.lock_local.proofs.OrderLemmas.{IsInOrder-filter, IsInOrder-map}
 pub use Rattle.owner_kinds.proofs.Places.{table-closed, table-opened}
 pub use Rattle.reset_callbacks.specs.ShelfState.{ShelfState, held}
 pub use Rattle.session_rules.proofs.Aside.{ContextLaw, context_ends, context_makes, is_apart, is_of_contexts}
-pub use Rattle.session_rules.proofs.ContextsKept.{moves_by, protected_has, top_protected}
+pub use Rattle.session_rules.proofs.ContextsKept.{moves_by, protected_has}
 pub use Rattle.session_rules.proofs.Ending.{Leads, with_parts}
 pub use Rattle.session_rules.proofs.Guarded.{all_at, all_changed, all_children, all_moved, all_put, all_removed, top_parent}
 pub use Rattle.session_rules.proofs.HookLaws.{exited_counts_hooks, turn_counts_hooks}

@@ -7,19 +7,13 @@ pub use Rattle.pgs_step.specs.declared.ids.Phase.{Phase}
 pub use Rattle.pgs_step.specs.declared.ids.Phase.TheVariants.{AfterLocks, BeforeLocks, Locks}
 pub use Rattle.pgs_step.specs.declared.lock_modes.Mode.{Mode}
 pub use Rattle.pgs_command.specs.declared.commands.Command.{Command}
-pub use Rattle.pgs_command.specs.declared.commands.TransactionCommand.{TransactionCommand}
 pub use Rattle.pgs_command.specs.declared.commands.Work.{Work}
-pub use Rattle.pgs_command.specs.declared.commands.ContextCommand.{ContextCommand}
-pub use Rattle.pgs_command.specs.declared.commands.ChunkCommand.{ChunkCommand}
 pub use Rattle.pgs_command.specs.declared.commands.ItemCommand.{ItemCommand}
 pub use Rattle.pgs_command.specs.declared.commands.LockCommand.{LockCommand}
-pub use Rattle.pgs_command.specs.declared.commands.SnapshotCommand.{SnapshotCommand}
-pub use Rattle.pgs_command.specs.declared.commands.PlanCommand.{PlanCommand}
 pub use Rattle.pgs_command.specs.declared.commands.PortalCommand.{PortalCommand}
-pub use Rattle.pgs_command.specs.declared.commands.TellCommand.{TellCommand}
 pub use Rattle.exec_core.specs.declared.scan.Scan.{Scan}
-pub use Rattle.session_rules.specs.Works.{Row, after_turn, chunk_row, context_row, elements, fetch_steps, item_row, lock_row, plan_row, portal_row, snapshot_row, tell_row, work_of}
-pub use Rattle.session_rules.specs.Commands.{at_savepoint, begin, commit, committed_to, ends_aborted, in_transaction, is_end, refused, rollback, rolled_back_to, save, savepoint, start, then_ok, transaction_of, unaborted}
+pub use Rattle.session_rules.specs.Works.{Row, after_turn, elements, fetch_steps, item_row, lock_row, portal_row, work_of}
+pub use Rattle.session_rules.specs.Commands.{at_savepoint, begin, in_transaction, rollback, rolled_back_to, save, savepoint, then_ok}
 unfoldable pub use Rattle.session_rules.specs.Commands.{elements_of}
 pub use Rattle.reset_callbacks.specs.Hook.{AreDistinct, Hook}
 pub use Rattle.owner_kinds.specs.KindTable.{IsSound, KindTable, row_of}
@@ -36,7 +30,7 @@ pub use Rattle.context_rules.specs.Ends.{callbacks, emptied, gone, gone_events, 
 pub use Rattle.session_rules.specs.State.{LevelState, OpenPortal, SessionState, StandingPlan, abort_context, cache_context, context_of, deepest_changed, depth, file_kind, first_of, is_aborted, last_of, level_above, level_context, level_owner, owner_of, portals_context, top_context}
 unfoldable pub use Rattle.session_rules.specs.State.{opening}
 pub use Rattle.session_rules.specs.World.{Around, Moment, Options, Scene, World, around, moment, opened, session_at, with_scene}
-pub use Rattle.session_rules.specs.Elements.{Check, Element, LevelContext, NewContext, OfLevel, OfPortal, OwnerRole, PortalContext, RowContext, ScriptContext, Text}
+pub use Rattle.session_rules.specs.Elements.{Check, Element, LevelContext, NewContext, OfLevel, OfPortal, OwnerRole, PortalContext, Text}
 pub use Rattle.session_rules.specs.Lookup.{context_named, kind_named, newest, owner_in, plan_at, plan_changed, plans_but, portal_changed, portal_named}
 pub use Rattle.session_rules.specs.Acts.{Ended, behind, changes, children_gone, context_cleared, context_cleared_alone, context_gone, for_each, in_order, nothing, portal_becomes, portal_gone, say, switched, where_so, where_there}
 pub use Rattle.session_rules.specs.Releases.{Keeper, NoOne, TheDescriptors, TheKind, ThePlans, descriptor_left, given_back, item_released, keeper_of, left_to, owner_gone, owner_moved, owner_released, phase_released, plan_becomes, plan_left, plan_settled, plan_stays, step_done}
@@ -50,8 +44,8 @@ pub use Rattle.session_rules.specs.Checks.{failure, has_failed, unless}
 pub use Rattle.session_rules.specs.Calls.{Done, fallible, refused_call, unfailing, unless_refused}
 pub use Rattle.session_rules.specs.Does.{failing_turn, then_done}
 unfoldable pub use Rattle.session_rules.specs.Does.{does, does_all}
-pub use Rattle.session_rules.specs.Standing.{AreHooks, AreLevels, AreOpen, AreOuter, AreStacked, FitLevels, HasExited, HasItems, IsAttached, IsDead, IsLive, IsOpen, IsOwner, IsPlan, IsPortal, IsWorking, Stands, StandsBetweenLines, active_depth}
-pub use Rattle.session_rules.specs.Transcript.{Course, Reading, Turn, after_command, after_exit, after_line, after_read, at_start, ended, exits, goes_on, line_elements, missing, of_session, turn_of}
+pub use Rattle.session_rules.specs.Standing.{AreHooks, AreLevels, AreOuter, AreStacked, FitLevels, HasExited, HasItems, IsAttached, IsDead, IsLive, IsOpen, IsOwner, IsPlan, IsPortal, IsWorking, Stands, StandsBetweenLines, active_depth}
+pub use Rattle.session_rules.specs.Transcript.{Course, Reading, Turn, after_command, after_exit, after_line, after_read, at_start, ended, exits, goes_on, line_elements, of_session, turn_of}
 unfoldable pub use Rattle.session_rules.specs.Transcript.{course_by, transcript_by, turn}
 pub use Rattle.file_table.specs.Descriptors.{is_among, without}
 pub use Rattle.file_table.specs.Files.{given_events, given_file, loser, touch_events, touched_file}

@@ -1,4 +1,4 @@
--- Words of numbers, lists and trees that most proofs of this crate take.
+-- Words of numbers, lists, trees and laws that most proofs of this crate take.
 pub use Rattle.std.proofs.Common.{All, Bool, Err, IsTrue, List, None, Ok, Option, Result, Some, [], ap, append-nil, append_assoc, arith, codes, cond, count_by, drop, false, filter, find, flat_map, if◌then◌else◌, inl, inr, length, map, nat_eq, nat_le, nat_lt, not, refl, replicate, reverse, subst, suc, sym, take, true, unwrap_or, zero, ℕ, ◌++◌, ◌+◌, ◌-◌, ◌<◌, ◌∙◌, ◌∷◌, ◌≡◌, ◌≢◌, ◌≤◌, ◌⊎◌}
 pub use Rattle.std.specs.Prelude.{is_none, is_some, option_and_then, option_to_list, slice_get, slice_index_or, slice_set, sum_by, ◌&&◌, ◌==◌, ◌||◌}
 pub use Rattle.std.specs.Option.{option_map, option_map_or}
@@ -15,5 +15,5 @@ pub use Rattle.forest.proofs.Mapped.{at_changed, at_changed_other, mapped-has, m
 pub use Rattle.forest.proofs.Moved.{above_by_parent, above_none, at_moved, below_parent, level_up}
 pub use Rattle.forest.proofs.Neighbours.{parent_absent, parent_root, root_absent}
 pub use Rattle.forest.proofs.Walks.{children_in, children_removed, lead_leaf, lead_of_node, once_children, order_lead, parent_in}
-pub use Rattle.lifetime_laws.specs.Once.{Parents, ReleasesOnce, acquires, closes, deletes, discards, ending, exits_last, first_parents, goes_childless, happens, has_context, is_first_context, is_newest, locks, makes_context, makes_owner, none_left, nothing, numbering, numbers_items, one_where, opens, parents_behind, pops_newest, releases, same_item, shedding, stacking, unlocks}
+pub use Rattle.lifetime_laws.specs.Once.{Parents, ReleasesOnce, acquires, closes, deletes, discards, ending, exits_last, first_parents, goes_childless, happens, has_context, is_first_context, locks, makes_context, makes_owner, none_left, nothing, numbering, numbers_items, one_where, opens, parents_behind, pops_newest, releases, same_item, shedding, stacking, unlocks}
 pub use Rattle.std.proofs.lemmas.Option.{get_or_from_slice_get, slice_get_cases, slice_get_within}
