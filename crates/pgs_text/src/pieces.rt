@@ -20,7 +20,7 @@ pub fn has_room<const N: usize>(out: &ArrayVec<u8, N>, bytes: usize) -> bool
 }
 
 /// A word, a name and a number behind it.
-#[inline(never)]
+#[inline(always)]
 pub fn put_named<const W: usize, const N: usize>(
     out: &mut ArrayVec<u8, N>,
     word: &[u8; W],

@@ -475,6 +475,37 @@ impl Resources {
             self.release_phase(owner, Phase::Locks, commit, top, place, commons, out);
             return;
         }
+        self.release_in_turn(owner, commit, top, place, commons, out);
+    }
+
+    /// The same, by the three phases. Most owners of levels are bare.
+    #[inline(never)]
+    fn release_in_turn<K: ExtKind, P: PlanContexts, E: Emit>(
+        &mut self,
+        owner: OwnerId,
+        commit: bool,
+        top: bool,
+        place: &mut P,
+        commons: &mut Commons<K>,
+        out: &mut E,
+    )
+        requires live { IsLive self.old owner }
+        requires top { (top ≡ true) ↔ (parent_of owner.number (owners_of self.old) ≡ None) }
+        requires serves { Serves self.old commons.old }
+        requires fit { PlansFit (P.MayGo place.old) self.old.plans.standing }
+        ensures owners { owners_of self.new ≡ all_released (table_of commons.old.kinds) owner.number (owners_of self.old) }
+        ensures nothing_left { AllAt HoldsNothing owner.number (owners_of self.new) }
+        ensures places { self.new.places ≡ self.old.places }
+        ensures stack { self.new.stack ≡ self.old.stack }
+        ensures next_owner { self.new.next_owner ≡ self.old.next_owner }
+        ensures next_serial { self.new.next_serial ≡ self.old.next_serial }
+        ensures acted { ActedOn (owner_released commit top owner.number) self.old self.new (hosting_of (P.contexts place.old) (P.shelf place.old)) (hosting_of (P.contexts place.new) (P.shelf place.new)) commons.old commons.new (λ events. E.emits out.old events out.new) }
+        ensures balances { Balances self.old self.new commons.old commons.new }
+        ensures serves { Serves self.new commons.new }
+        ensures went { P.went place.old place.new }
+        ensures fit { PlansFit (P.MayGo place.new) self.new.plans.standing }
+        ensures left { AreLeft self.old.plans.standing self.new.plans.standing }
+    {
         self.release_phase(owner, Phase::BeforeLocks, commit, top, place, commons, out);
         self.release_phase(owner, Phase::Locks, commit, top, place, commons, out);
         self.release_phase(owner, Phase::AfterLocks, commit, top, place, commons, out);
