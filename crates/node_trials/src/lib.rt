@@ -1,0 +1,5 @@
+//! Worked examples on the files of nodes.
+#![tactic(auto)]
+
+#[cfg(test)]
+mod files;
