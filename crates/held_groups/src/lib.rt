@@ -4,7 +4,7 @@
 
 mod held;
 mod places;
-mod told_rows;
+pub mod told_rows;
 mod totals;
 
 pub use held::{HeldGroups, MOST_ROWS};
