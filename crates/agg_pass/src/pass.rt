@@ -13,6 +13,7 @@ ghost use Rattle.agg_rules.specs.Steps.{meets};
 ghost use Rattle.held_groups.specs.declared.held.TheConstants.{FIRST_BLOCK};
 ghost use Rattle.held_groups.specs.Held.{footprint, HasTotals, Grows};
 ghost use Rattle.agg_pass.specs.PassState.{HasSpilled, way_of};
+ghost use Rattle.agg_pass.specs.Spilled.{SparesOthers};
 
 use crate::spilling::{of_context, spill_row};
 use addr_space::Space;
@@ -119,6 +120,7 @@ impl AggPass {
         requires there { list_any (nat_eq row.group) (kept_groups self.old.budget self.old.rows) ≡ true }
         ensures rows { self.new.rows ≡ self.old.rows ++ row ∷ [] }
         ensures budget { self.new.budget ≡ self.old.budget }
+        ensures file { self.new.file ≡ self.old.file }
         ensures totals { HasTotals self.new.groups space.new }
         ensures spilled { (temp : Temp) → HasSpilled self.old temp → HasSpilled self.new temp }
         ensures moves { Moves (footprint self.old.groups) (footprint self.new.groups) space.old space.new }
@@ -136,6 +138,7 @@ impl AggPass {
         requires room { length (kept_groups self.old.budget self.old.rows) < self.old.budget }
         ensures rows { OnOk result (self.new.rows ≡ self.old.rows ++ row ∷ []) }
         ensures budget { self.new.budget ≡ self.old.budget }
+        ensures file { self.new.file ≡ self.old.file }
         ensures totals { HasTotals self.new.groups space.new }
         ensures spilled { (temp : Temp) → HasSpilled self.old temp → HasSpilled self.new temp }
         ensures moves { Moves (footprint self.old.groups) (footprint self.new.groups) space.old space.new }
@@ -163,6 +166,7 @@ impl AggPass {
         ensures budget { self.new.budget ≡ self.old.budget }
         ensures groups { self.new.groups ≡ self.old.groups }
         ensures spilled { HasSpilled self.new temp.new }
+        ensures others { SparesOthers temp.old self.old.file temp.new self.new.file }
         ensures room { OnOk result (stored temp.old + ROW_BYTES ≤ temp.old.limit) }
         ensures no_room { (result ≡ Err NodeError.Full) → temp.old.limit < stored temp.old + ROW_BYTES }
         ensures no_other { IfErr result (λ e. (e ≡ NodeError.Full) ⊎ (e ≡ NodeError.Memory)) }
@@ -196,6 +200,9 @@ impl AggPass {
         ensures spilled { HasSpilled self.new temp.new }
         ensures moves { Moves (footprint self.old.groups) (footprint self.new.groups) space.old space.new }
         ensures limit { temp.new.limit ≡ temp.old.limit }
+
+        // Every file but its own is as it was.
+        ensures others { SparesOthers temp.old self.old.file temp.new self.new.file }
 
         // It isn't refused where the rules let it go on, and what refuses it is what they say, but for want of memory.
         ensures went { OnOk result (IsOk (meets self.old.budget (way_of self.old space.old temp.old) row.group)) }

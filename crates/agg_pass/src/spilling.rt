@@ -5,7 +5,7 @@ ghost use Rattle.temp_store.specs.Temp.{Temp, file_at, held, risen};
 ghost use Rattle.agg_rules.specs.declared.Row.{Row};
 ghost use Rattle.agg_rules.specs.declared.TheConstants.{ROW_BYTES};
 ghost use Rattle.row_files.specs.RowBytes.{HasRows};
-ghost use Rattle.agg_pass.specs.Spilled.{Spilled};
+ghost use Rattle.agg_pass.specs.Spilled.{Spilled, SparesOthers};
 
 use agg_rules::{NodeError, Row};
 use chunk_header::CtxError;
@@ -38,6 +38,7 @@ fn of_store(refused: TempError) -> NodeError
 fn file_of(file: &mut Option<u32>, temp: &mut TempStore) -> Result<u32, NodeError>
     ensures some { IfOk result (λ number. file.new ≡ Some number) }
     ensures rows { IfOk result (λ number. (rows : List Row) → Spilled temp.old file.old rows → HasRows temp.new number rows) }
+    ensures others { SparesOthers temp.old file.old temp.new file.new }
     ensures held { held temp.new ≡ held temp.old }
     ensures limit { temp.new.limit ≡ temp.old.limit }
     ensures refused_file { OnErr result (file.new ≡ file.old) }
@@ -62,6 +63,7 @@ pub fn spill_row(file: &mut Option<u32>, temp: &mut TempStore, row: Row) -> Resu
     requires { (rows : List Row) × Spilled temp.old file.old rows }
     ensures rows { OnOk result ((rows : List Row) → Spilled temp.old file.old rows → Spilled temp.new file.new (rows ++ row ∷ [])) }
     ensures same { OnErr result ((rows : List Row) → Spilled temp.old file.old rows → Spilled temp.new file.new rows) }
+    ensures others { SparesOthers temp.old file.old temp.new file.new }
     ensures room { OnOk result (held temp.old + ROW_BYTES ≤ temp.old.limit) }
     ensures full { (result ≡ Err NodeError.Full) → temp.old.limit < held temp.old + ROW_BYTES }
     ensures no_other { IfErr result (λ e. (e ≡ NodeError.Full) ⊎ (e ≡ NodeError.Memory)) }
