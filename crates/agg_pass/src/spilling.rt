@@ -1,7 +1,7 @@
 //! Rows that go to the file of a pass.
-ghost use Rattle.std.specs.Prelude.{◌≡◌, ◌≢◌, ℕ, ◌+◌, ◌<◌, ◌≤◌, ◌⊎◌, ◌↔◌, List, [], ◌∷◌, ◌++◌, Some, None, Err, IfOk, IfErr, OnOk, OnErr};
+ghost use Rattle.std.specs.Prelude.{◌≡◌, ◌+◌, ◌<◌, ◌≤◌, ◌⊎◌, ◌↔◌, List, [], ◌∷◌, ◌++◌, Some, Err, IfOk, IfErr, OnOk, OnErr};
 ghost use Rattle.chunk_header.specs.declared.CtxError.{CtxError};
-ghost use Rattle.temp_store.specs.Temp.{Temp, file_at, held, risen};
+ghost use Rattle.temp_store.specs.Temp.{held};
 ghost use Rattle.agg_rules.specs.declared.Row.{Row};
 ghost use Rattle.agg_rules.specs.declared.TheConstants.{ROW_BYTES};
 ghost use Rattle.row_files.specs.RowBytes.{HasRows};

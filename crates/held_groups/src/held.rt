@@ -1,5 +1,5 @@
 //! The groups that a pass holds.
-ghost use Rattle.std.specs.Prelude.{◌≡◌, ◌+◌, ◌-◌, ◌<◌, ◌≤◌, ◌↔◌, ◌⊎◌, [], ◌∷◌, ◌++◌, length, true, false, nat_eq, IfOk, IfErr, OnOk, OnErr, Err, Some, None, slice_get};
+ghost use Rattle.std.specs.Prelude.{◌≡◌, ◌+◌, ◌-◌, ◌<◌, ◌↔◌, ◌⊎◌, [], ◌∷◌, ◌++◌, length, true, false, nat_eq, IfOk, IfErr, OnOk, OnErr, Err, Some, slice_get};
 ghost use Rattle.std.specs.List.{list_any};
 ghost use Rattle.addr_space.specs.Space.{Space, accounts, held, Asks};
 ghost use Rattle.addr_space.specs.Footprint.{nothing, Agrees, Moves, Keeps};

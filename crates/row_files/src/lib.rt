@@ -1,7 +1,7 @@
 //! Rows that lie in a temporary file, eight bytes each, as PostgreSQL's nodeAgg.c writes the tuples that it spills.
 #![tactic(auto)]
 
-ghost use Rattle.std.specs.Prelude.{◌≡◌, ℕ, ◌+◌, ◌*◌, ◌<◌, ◌↔◌, List, [], ◌∷◌, ◌++◌, length, Err, Some, None, IfOk, OnOk, OnErr, slice_get};
+ghost use Rattle.std.specs.Prelude.{◌≡◌, ◌+◌, ◌*◌, ◌<◌, ◌↔◌, List, [], ◌∷◌, ◌++◌, length, Err, Some, None, IfOk, OnOk, OnErr, slice_get};
 ghost use Rattle.temp_store.specs.Temp.{Changes, file_at, bytes_of, held, risen};
 ghost use Rattle.agg_rules.specs.declared.Row.{Row};
 ghost use Rattle.agg_rules.specs.declared.TheConstants.{ROW_BYTES};
