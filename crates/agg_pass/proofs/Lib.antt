@@ -1,0 +1,3 @@
+-- Lemmas for this crate.
+pub mod HeldRows
+pub mod Going

@@ -1,0 +1,3 @@
+-- What contracts cite of a pass of an aggregate.
+pub mod PassState
+pub mod Spilled

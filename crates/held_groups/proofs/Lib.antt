@@ -1,0 +1,5 @@
+-- Lemmas for this crate.
+pub mod TotalLemmas
+pub mod Sums
+pub mod Chunks
+pub mod Joining

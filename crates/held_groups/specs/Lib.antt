@@ -1,0 +1,3 @@
+-- What contracts cite of the groups that a pass holds.
+pub mod Totals
+pub mod Held

@@ -1,0 +1,2 @@
+-- Lemmas for this crate.
+pub mod RowLemmas

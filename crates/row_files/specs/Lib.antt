@@ -1,0 +1,2 @@
+-- What contracts cite of rows in a temporary file.
+pub mod RowBytes

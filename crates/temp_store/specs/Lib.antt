@@ -1,0 +1,2 @@
+-- What contracts cite of a store of temporary files.
+pub mod Temp
