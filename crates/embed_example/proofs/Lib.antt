@@ -1,3 +1,2 @@
 mod Echo
-mod Below
 mod Level

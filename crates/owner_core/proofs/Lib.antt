@@ -9,3 +9,4 @@ pub mod Swept
 pub mod Tables
 pub mod Rows
 pub mod Phases
+pub mod Below
