@@ -1,11 +1,12 @@
 -- The address of each live chunk is a multiple of 8.
-use Rattle.std.proofs.Common.{◌≡◌, ℕ, ◌%◌, Some, refl, inl, inr}
+use Rattle.std.proofs.Common.{◌≡◌, ℕ, ◌%◌, Some, arith}
 use Rattle.addr_space.specs.declared.Addr.{Addr}
 use Rattle.addr_space.specs.Live.{PutsLive, MovesLive}
 use Rattle.addr_space.proofs.Addresses.{same_addr-cases}
 use Rattle.addr_space.proofs.Options.{from_then}
 use Rattle.alloc_set.specs.State.{SetState, chunk_at, footprint, live_size}
 use Rattle.alloc_set.specs.Kept.{IsSettled}
+use Rattle.std.proofs.lemmas.Bool.Decides.{nat_tests}
 
 module _ (s : SetState) (active bytes : ℕ) (settled : IsSettled s active bytes) where
   pub live_whole : (at : Addr) (size : ℕ) → (footprint s).live at ≡ Some size → at.offset % 8 ≡ 0
@@ -13,13 +14,7 @@ module _ (s : SetState) (active bytes : ℕ) (settled : IsSettled s active bytes
 
   -- so is that of one that was taken, or got another size
   pub put_whole : (was : SetState) (at : Addr) (size : ℕ) → PutsLive (footprint was) (footprint s) at (Some size) → at.offset % 8 ≡ 0
-  put_whole was at size puts = elim (same_addr-cases at at) [
-    | inl e ↦ live_whole at size (rw e.1 at (puts at))
-    | inr e ↦ absurd (e.0 refl)
-  ]
+  put_whole was at size puts = grind (arith, nat_tests, same_addr-cases, live_whole)
 
   pub move_whole : (was : SetState) (from to : Addr) (size : ℕ) → MovesLive (footprint was) (footprint s) from to size → to.offset % 8 ≡ 0
-  move_whole was from to size moves = elim (same_addr-cases to to) [
-    | inl e ↦ live_whole to size (rw e.1 at (moves to))
-    | inr e ↦ absurd (e.0 refl)
-  ]
+  move_whole was from to size moves = grind (arith, nat_tests, same_addr-cases, live_whole)

@@ -13,6 +13,7 @@ use Rattle.alloc_set.specs.Steps.{PutsChunk, SameBlocks}
 use Rattle.alloc_set.specs.declared.chunk.Chunk.{Chunk}
 use Rattle.alloc_set.specs.declared.chunk.Chunk.TheVariants.{Live, Free, Own}
 use Rattle.alloc_set.proofs.Settled.{block, header, link, behind, mark_cases, mark_from_block, mark_from_chunk, mark_from_link}
+use Rattle.std.proofs.lemmas.Bool.Decides.{nat_tests}
 
 -- what stands at an address after one chunk was put
 pub put_cases : (s t : SetState) (at : Addr) (chunk : Option Chunk) → PutsChunk s t at chunk → (other : Addr) → ((other ≡ at) × (chunk_at t other ≡ chunk)) ⊎ ((other ≢ at) × (chunk_at t other ≡ chunk_at s other))
@@ -35,29 +36,12 @@ abbrev pub Puts : SetState → SetState → Addr → Option Chunk → Type 0
 Puts s t at slot = Alters s t (λ _. ⊥) at slot
 
 pub Puts-chunk : (s t : SetState) (at : Addr) (slot : Option Chunk) → SameBlocks s t → PutsChunk s t at slot → Puts s t at slot
-Puts-chunk s t at slot same puts = record {
-  account = same.account;
-  context = same.context;
-  keeper = same.keeper;
-  is_fresh = λ number. inr (λ new. new);
-  regions = λ number old. region_same s t same number;
-  found = λ other chunk found. elim (put_cases s t at slot puts other) [
-    | inl here ↦ inr (here.0, sym here.1 ∙ found)
-    | inr there ↦ inl (sym there.1 ∙ found, λ new. new)
-  ];
-}
+Puts-chunk s t at slot same puts = grind (arith, nat_tests, region_same, put_cases)
 
 -- a region has another length or none, and the chunks stay, none of which is in it
 pub Alters-blocks : (s t : SetState) (number : ℕ) (at : Addr) → t.account ≡ s.account → t.context ≡ s.context → t.keeper ≡ s.keeper → t.chunks ≡ s.chunks → ((other : ℕ) → other ≢ number → region_of t other ≡ region_of s other)
     → ((other : Addr) (chunk : Chunk) → chunk_at s other ≡ Some chunk → other.region ≢ number) → Alters s t (λ n. n ≡ number) at None
-Alters-blocks s t number at account context keeper chunks others elsewhere = record {
-  account = account;
-  context = context;
-  keeper = keeper;
-  is_fresh = λ other. cases_eq other number;
-  regions = others;
-  found = λ other chunk found. let stood = rw chunks at found in inl (stood, elsewhere other chunk stood);
-}
+Alters-blocks s t number at account context keeper chunks others elsewhere = grind (arith, nat_tests, cases_eq)
 
 -- a chunk has its block for itself still, where another block may be active
 pub alone_kept : (s t : SetState) (was now : ℕ) (at : Addr) (chunk : Chunk) → t.keeper ≡ s.keeper → region_of t at.region ≡ region_of s at.region → (at.region ≢ was → at.region ≢ now) → IsAlone s was at chunk → IsAlone t now at chunk

@@ -22,19 +22,13 @@ class_size-most class le = omega (arith, class_size-mono class 10 le)
 pub class_up_to-is : (last size class : ℕ) → class ≤ last → size ≤ class_size class → ((lower : ℕ) → lower < class → class_size lower < size) → class_up_to last size ≡ class
 unfolding class_up_to
 class_up_to-is zero size class le holds lower = omega arith
-class_up_to-is (suc last) size class le holds lower =
-    let mono = class_size-mono class last in
-    let below = lower last in
-    let same : class ≤ last → class_up_to last size ≡ class = λ le. class_up_to-is last size class le holds lower in
-    grind (arith, nat_tests)
+class_up_to-is (suc last) size class le holds lower = grind (arith, nat_tests, class_size-mono, class_up_to-is last size class)
 
 -- a class whose chunks are too large for the greatest block is passed
 pub limit_class-pass : (class max : ℕ) → 0 < class → (max - 40) / 4 < class_bytes class → limit_class (class - 1) max ≡ limit_class class max
 unfolding limit_class
 limit_class-pass zero max some over = absurd (omega arith)
-limit_class-pass (suc class) max some over =
-    let lower : suc class - 1 ≡ class = omega arith in
-    rw lower (grind (arith, nat_tests))
+limit_class-pass (suc class) max some over = grind (arith, nat_tests)
 
 -- a class that isn't is the limit
 pub limit_class-stop : (class max : ℕ) → (0 < class → class_bytes class ≤ (max - 40) / 4) → limit_class class max ≡ class

@@ -1,26 +1,16 @@
 -- Lemmas on the numbers of the books after a step.
-use Rattle.std.proofs.Common.{◌≡◌, ◌+◌, ◌-◌, ◌%◌, ◌^◌, ◌≤◌, ◌==◌, None, min, sum, sum_by, refl, sym, ap, subst}
+use Rattle.std.proofs.Common.{◌≡◌, ◌+◌, ◌-◌, ◌%◌, ◌^◌, ◌≤◌, ◌==◌, None, min, sum, sum_by, refl, sym, subst, arith}
 use Rattle.std.specs.Map.{lookup, values_of}
 use Rattle.alloc_set.specs.Kept.{state_of, taken_bytes, IsCounted}
 use Rattle.alloc_set.specs.Steps.{SameBlocks}
 use Rattle.alloc_set.specs.declared.books.Books.{Books}
+use Rattle.std.proofs.lemmas.Bool.Decides.{nat_tests}
 
 -- blocks and chunks come and go
 pub IsCounted-blocks : (b n : Books) → IsCounted b → n ≡ record b { active = n.active; blocks = n.blocks; chunks = n.chunks; shelves = n.shelves; total = n.total; count = n.count }
     → (n.active.size - n.active.room) % 8 ≡ 0 → lookup (λ k. b.keeper == k) n.blocks.entries ≡ None → n.total ≡ b.sizes.init + sum (values_of n.blocks.entries) → n.total ≤ 2 ^ 57
     → n.count ≡ 1 + sum_by (min 1) (values_of n.blocks.entries) → n.active.room + b.idle + sum_by taken_bytes (values_of n.chunks.entries) ≤ n.total → IsCounted n
-IsCounted-blocks b n was rest filled keeper total most blocks rooms =
-    subst IsCounted (sym rest) (record {
-      sizes = was.sizes;
-      next = was.next;
-      limit = was.limit;
-      filled = filled;
-      keeper = keeper;
-      total = total;
-      most = most;
-      blocks = blocks;
-      rooms = rooms;
-    })
+IsCounted-blocks b n was rest filled keeper total most blocks rooms = grind (arith, nat_tests)
 
 -- the blocks stay
 module _ (b n : Books) (rest : n ≡ record b { active = n.active; chunks = n.chunks; shelves = n.shelves }) where
@@ -29,11 +19,4 @@ module _ (b n : Books) (rest : n ≡ record b { active = n.active; chunks = n.ch
       subst IsCounted (sym rest) (IsCounted-blocks b (record b { active = n.active; chunks = n.chunks; shelves = n.shelves }) was refl filled was.keeper was.total was.most was.blocks rooms)
 
   pub SameBlocks-chunks : SameBlocks (state_of b) (state_of n)
-  SameBlocks-chunks = record {
-    account = ap (λ (x : Books). x.account) rest;
-    context = ap (λ (x : Books). x.context) rest;
-    keeper = ap (λ (x : Books). x.keeper) rest;
-    blocks = ap (λ (x : Books). x.blocks.entries) rest;
-    init = ap (λ (x : Books). x.sizes.init) rest;
-    total = ap (λ (x : Books). x.total) rest;
-  }
+  SameBlocks-chunks = grind (arith, nat_tests)

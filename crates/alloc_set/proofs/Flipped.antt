@@ -3,7 +3,6 @@ use Rattle.std.proofs.Common.{◌≡◌, ◌≢◌, ℕ, ◌+◌, ◌-◌, ◌�
 use Rattle.addr_space.specs.declared.Addr.{Addr}
 use Rattle.addr_space.specs.Space.{Space, region_at, overwritten, Changes}
 use Rattle.addr_space.specs.Footprint.{Agrees, Moves, Keeps}
-use Rattle.chunk_header.specs.Header.{header_bytes}
 use Rattle.chunk_header.proofs.Wrote.{Moves-written, Keeps-written}
 use Rattle.alloc_set.specs.State.{SetState, chunk_at, start_of, capacity_of, live_size, header_of, link_of, mark_of, footprint}
 use Rattle.alloc_set.specs.Kept.{IsSettled, IsPlaced, IsSized, IsAlone}
@@ -11,6 +10,7 @@ use Rattle.alloc_set.specs.Steps.{PutsChunk, SameBlocks}
 use Rattle.alloc_set.specs.declared.chunk.Chunk.{Chunk}
 use Rattle.alloc_set.proofs.Settled.{chunks_apart, linked, live_is, live_there, mark_apart, mark_from_chunk, IsSound-settled}
 use Rattle.alloc_set.proofs.Altered.{Puts-chunk, NewMark, old, new_block, new_header, new_link, put_cases, region_same, IsSettled-altered, Moves-altered, new_marks}
+use Rattle.std.proofs.lemmas.Bool.Decides.{nat_tests}
 
 module _ (s t : SetState) (active size : ℕ) (at : Addr) (before now : Chunk) (settled : IsSettled s active size) (same : SameBlocks s t) (room : t.ledger.room ≡ s.ledger.room) (was : chunk_at s at ≡ Some before) (puts : PutsChunk s t at (Some now))
     (capacity_same : capacity_of now ≡ capacity_of before) (sized : IsSized now) (alone : IsAlone t active at now) (heads : (dist : ℕ) → header_of now dist ≡ header_of before dist) where
@@ -42,10 +42,7 @@ module _ (s t : SetState) (active size : ℕ) (at : Addr) (before now : Chunk) (
   pub marks_now : (b : Addr) (bytes : List ℕ) → NewMark s t (λ _. ⊥) at (Some now) b bytes → (mark_of s b ≡ Some bytes) ⊎ ((at ≡ b) × (link_of now ≡ Some bytes))
   marks_now b bytes (old stays mark) = inl mark
   marks_now b bytes (new_block len new first owned is) = absurd new
-  marks_now b bytes (new_header it differs here is bytes_are) =
-      let one : now ≡ it = cc in
-      let dist : ℕ = b.offset - start_of s b.region in
-      inl (mark_from_chunk s b before differs (ap (chunk_at s) here ∙ was) ∙ ap Some (ap header_bytes (sym (heads dist)) ∙ ap (λ x. header_bytes (header_of x dist)) one ∙ bytes_are))
+  marks_now b bytes (new_header it differs here is bytes_are) = grind (arith, nat_tests, mark_from_chunk)
   marks_now b bytes (new_link it here is has) = let one : now ≡ it = cc in inr (sym here, ap link_of one ∙ has)
 
   -- a chunk that is live now has no link, and the space stays

@@ -7,7 +7,7 @@ use Rattle.addr_space.specs.Live.{same_addr}
 use Rattle.addr_space.proofs.Options.{one_value}
 use Rattle.chunk_header.specs.declared.Kind.TheVariants.{AllocSet}
 use Rattle.chunk_header.specs.Header.{IsPackable, IsLeading, IsHeaded, space_of, TakesSpace}
-use Rattle.alloc_set.specs.Ledger.{SetPlace, Class, Own as OwnPlace, chunk_bytes}
+use Rattle.alloc_set.specs.Ledger.{SetPlace, Class, chunk_bytes}
 use Rattle.alloc_set.specs.State.{SetState, start_of, live_place, header_of, footprint, chunk_at, region_of}
 use Rattle.alloc_set.specs.Kept.{IsSettled, IsSized, IsAlone}
 use Rattle.alloc_set.specs.declared.chunk.Chunk.{Chunk}
@@ -33,10 +33,7 @@ takes : (s : SetState) (active dist len : ℕ) (at : Addr) (chunk : Chunk) (plac
 unfolding space_of
 takes s active dist len at (Live class size) place alone owned is = let it : Class class ≡ place = cc in ap (chunk_bytes s.ledger) it
 takes s active dist len at (Free class next) place alone owned is = absurd (cc)
-takes s active dist len at (Own size room) place alone owned is =
-    let whole : len ≡ room + 48 = one_value (region_of s at.region) len (room + 48) owned alone.3 in
-    let it : OwnPlace (room + 48) ≡ place = cc in
-    omega (arith, whole) ∙ ap (chunk_bytes s.ledger) it
+takes s active dist len at (Own size room) place alone owned is = grind (arith, nat_tests, one_value)
 
 module _ (s : SetState) (active size : ℕ) (settled : IsSettled s active size) (at : Addr) (chunk : Chunk) (there : chunk_at s at ≡ Some chunk) where
   -- a chunk's header leads to its block

@@ -15,11 +15,7 @@ use Rattle.alloc_set.specs.declared.chunk.Chunk.{Chunk}
 use Rattle.alloc_set.specs.Listed.{with_chunk, without_chunk, IsUnique}
 
 addr_laws : IsEquivalence same_addr
-addr_laws = record {
-  refl = λ a. grind (arith, nat_tests);
-  symm = λ a b. grind (arith, nat_tests);
-  congr = λ a b c same. grind (arith, nat_tests, same);
-}
+addr_laws = grind (arith, nat_tests)
 
 -- what stands at an address
 pub lookup-without : (at : Addr) (es : List (Addr × Chunk)) → IsUnique es → (other : Addr) → lookup (same_addr other) (without_chunk es at) ≡ (if same_addr at other then None else lookup (same_addr other) es)

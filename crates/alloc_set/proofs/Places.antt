@@ -1,5 +1,5 @@
 -- Lemmas on live chunks and their places: which a step puts, and which stay.
-use Rattle.std.proofs.Common.{◌≡◌, ℕ, ◌≤◌, if◌then◌else◌, Bool, true, false, Option, Some, None, Result, refl, sym, ap, ◌∙◌, arith, inl, inr, option_and_then}
+use Rattle.std.proofs.Common.{◌≡◌, ℕ, ◌≤◌, if◌then◌else◌, Bool, true, false, Option, Some, None, Result, refl, ap, ◌∙◌, arith, option_and_then}
 use Rattle.std.specs.Map.{lookup}
 use Rattle.addr_space.specs.declared.Addr.{Addr}
 use Rattle.addr_space.specs.Space.{Space}
@@ -21,6 +21,7 @@ use Rattle.alloc_set.specs.declared.books.Books.{Books}
 use Rattle.alloc_set.specs.declared.chunk.Chunk.{Chunk}
 use Rattle.alloc_set.specs.declared.chunk.Chunk.TheVariants.{Live, Free, Own}
 use Rattle.alloc_set.proofs.Altered.{put_cases}
+use Rattle.std.proofs.lemmas.Bool.Decides.{nat_tests}
 
 -- what is said of one of two options
 either : {X Y : Type 0} (f : X → Option Y) (b : Bool) (x y : Option X) → option_and_then f (if b then x else y) ≡ (if b then option_and_then f x else option_and_then f y)
@@ -48,25 +49,11 @@ no_place (Some (Own size room)) none = absurd (cc)
 
 -- a live chunk is put, and whatever was live stands where it stood
 pub PutsPlace-live : (s t : SetState) (at : Addr) (size : ℕ) (place : SetPlace) → PutsLive (footprint s) (footprint t) at (Some size) → LeavesLive s t → place_at t at ≡ Some place → PutsAt (place_at s) (place_at t) at (Some place)
-PutsPlace-live s t at size place puts stays is other =
-    elim (same_addr-cases at other) [
-      | inl same ↦ ap (place_at t) (sym same.0) ∙ is ∙ sym (ap (λ b. if b then Some place else place_at s other) same.1)
-      | inr apart ↦
-          let now : (footprint t).live other ≡ (footprint s).live other = puts other ∙ ap (λ b. if b then Some size else (footprint s).live other) apart.1 in
-          let same : place_at t other ≡ place_at s other = elim (option_cases ((footprint s).live other)) [
-            | inl none ↦ no_place (chunk_at t other) (now ∙ none) ∙ sym (no_place (chunk_at s other) none)
-            | inr some ↦ ap (λ o. option_and_then live_place o) (stays other some.0 some.1)
-          ] in
-          same ∙ sym (ap (λ b. if b then Some place else place_at s other) apart.1)
-    ]
+PutsPlace-live s t at size place puts stays is other = grind (arith, nat_tests, same_addr-cases, option_cases, no_place, option_and_then)
 
 -- a chunk is put where none was live
 pub LeavesLive-put : (s t : SetState) (at : Addr) (slot : Option Chunk) → PutsChunk s t at slot → (footprint s).live at ≡ None → LeavesLive s t
-LeavesLive-put s t at slot puts none other size live =
-    elim (put_cases s t at slot puts other) [
-      | inl here ↦ let clash = sym none ∙ ap (λ a. option_and_then live_size (chunk_at s a)) (sym here.0) ∙ live in absurd (cc)
-      | inr there ↦ there.1
-    ]
+LeavesLive-put s t at slot puts none other size live = grind (arith, nat_tests, put_cases, option_and_then)
 
 -- the chunks stay
 pub LeavesLive-same : (s t : SetState) → t.chunks ≡ s.chunks → LeavesLive s t
@@ -74,9 +61,7 @@ LeavesLive-same s t same other size live = ap (λ cs. lookup (same_addr other) c
 
 -- one step after another
 pub LeavesLive-more : (s t u : SetState) → LeavesLive s t → LeavesLive t u → LeavesLive s u
-LeavesLive-more s t u first second other size live =
-    let same = first other size live in
-    second other size (ap (λ o. option_and_then live_size o) same ∙ live) ∙ same
+LeavesLive-more s t u first second other size live = grind (arith, nat_tests, option_and_then)
 
 -- a chunk gets another size where it is
 pub Reallocates-in_place : (a : SetState) (n : Books) (s t : Space) (at : Addr) (old keep size : ℕ) (step : Result (Resized SetLedger SetPlace) CtxError) → IsKept n → Refits step a (state_of n) at at s t

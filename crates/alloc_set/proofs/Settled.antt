@@ -88,14 +88,7 @@ mark_from_chunk s at chunk differs found = rw found (grind (arith, nat_tests))
 module _ (s : SetState) (active size : ℕ) (settled : IsSettled s active size) where
   -- chunks at two addresses have a header between them
   pub chunks_apart : (a b : Addr) (first second : Chunk) → chunk_at s a ≡ Some first → chunk_at s b ≡ Some second → a ≢ b → a.region ≡ b.region → (a.offset + capacity_of first + 8 ≤ b.offset) ⊎ (b.offset + capacity_of second + 8 ≤ a.offset)
-  chunks_apart a b first second at_a at_b differ region =
-      elim (cases_lt a.offset b.offset) [
-        | inl below ↦ inl (settled.apart a b first second at_a at_b region below)
-        | inr above ↦ elim (cases_eq a.offset b.offset) [
-          | inl same ↦ absurd (differ (same_addr_from a b region same))
-          | inr other ↦ inr (settled.apart b a second first at_b at_a (sym region) (omega arith))
-        ]
-      ]
+  chunks_apart a b first second at_a at_b differ region = grind (arith, nat_tests, cases_lt, cases_eq, same_addr_from)
 
   -- a region that isn't the context's has no chunk
   pub none_in : (number : ℕ) → region_of s number ≡ None → (at : Addr) → at.region ≡ number → chunk_at s at ≡ None
@@ -188,11 +181,7 @@ module _ (s : SetState) (active size : ℕ) (settled : IsSettled s active size) 
   free_there at n free = let it = from_then free_size (chunk_at s at) n free in (it.0, it.1, it.2, omega (arith, free_size-is it.0 n it.2))
 
   sizes_apart : (a b : Addr) (first second : Chunk) (m n : ℕ) → chunk_at s a ≡ Some first → chunk_at s b ≡ Some second → m ≤ capacity_of first → n ≤ capacity_of second → a ≢ b → IsApart a m b n
-  sizes_apart a b first second m n at_a at_b fits_m fits_n differ region =
-      elim (chunks_apart a b first second at_a at_b differ region) [
-        | inl below ↦ inl (omega arith)
-        | inr above ↦ inr (omega arith)
-      ]
+  sizes_apart a b first second m n at_a at_b fits_m fits_n differ region = grind (arith, nat_tests, chunks_apart)
 
   -- the footprint is sound
   pub IsSound-settled : IsSound (footprint s)

@@ -31,12 +31,7 @@ pub IsChain-unique : (c : Addr → Option Chunk) (class : ℕ) (m n : ℕ) (firs
 IsChain-unique c class zero zero first one two = refl
 IsChain-unique c class zero (suc n) first one two = let clash = sym one ∙ two.2 in absurd (cc)
 IsChain-unique c class (suc m) zero first one two = let clash = sym two ∙ one.2 in absurd (cc)
-IsChain-unique c class (suc m) (suc n) first one two =
-    let at : Some one.0 ≡ Some two.0 = sym one.2 ∙ two.2 in
-    let same : one.0 ≡ two.0 = cc in
-    let chunk : Some (Free class one.1) ≡ Some (Free class two.1) = sym one.3 ∙ ap c same ∙ two.3 in
-    let next : one.1 ≡ two.1 = cc in
-    ap suc (IsChain-unique c class m n one.1 one.4 (subst (IsChain c class n) (sym next) two.4))
+IsChain-unique c class (suc m) (suc n) first one two = grind (arith, nat_tests, IsChain-unique c class m n one.1 one.4 (subst (IsChain c class n) (sym cc) two.4))
 
 -- a chain that is shorter than the one from a chunk on doesn't have that chunk
 pub IsChain-without : (c d : Addr → Option Chunk) (class : ℕ) (at : Addr) (whole : ℕ) → IsChain c class whole (Some at) → ((other : Addr) → other ≢ at → d other ≡ c other) → (count : ℕ) (first : Option Addr) → count < whole → IsChain c class count first → IsChain d class count first
@@ -61,11 +56,7 @@ is_free-other class other next differs = grind (arith, nat_tests)
 -- the free chunks of a class take no more than all
 is_free-bytes : (class : ℕ) (chunk : Chunk) → is_free class chunk * class_bytes class ≤ taken_bytes chunk
 is_free-bytes class (Live other size) = omega arith
-is_free-bytes class (Free other next) =
-    elim (cases_eq class other) [
-      | inl same ↦ rw (same, is_free-same other next) (omega arith)
-      | inr differs ↦ rw (is_free-other class other next differs) (omega arith)
-    ]
+is_free-bytes class (Free other next) = grind (arith, nat_tests, cases_eq, is_free-same, is_free-other)
 is_free-bytes class (Own size room) = omega arith
 
 free-bytes : (class : ℕ) (chunks : List Chunk) → sum_by (is_free class) chunks * class_bytes class ≤ sum_by taken_bytes chunks
@@ -93,10 +84,7 @@ bytes_of b class size kept below is = rw is (omega (arith, count-bytes b class k
 
 -- there are no more blocks than bytes
 pub count-le : (b : Books) → IsCounted b → b.count ≤ b.total
-count-le b counted =
-    let blocks = values_of b.blocks.entries in
-    let most : sum_by (min 1) blocks ≤ sum blocks = sum_by-le-sum_by (min 1) (λ x. x) blocks (λ x. omega arith) in
-    omega (arith, most, counted.blocks, counted.total, counted.sizes.0)
+count-le b counted = grind (arith, nat_tests, min, sum, sum_by-le-sum_by)
 
 -- what bounds the numbers of the books
 pub ruleset counts = (count-few, bytes_of, count-le)
@@ -104,11 +92,7 @@ pub ruleset counts = (count-few, bytes_of, count-le)
 module _ (s t : SetState) (shelves : List Shelf) (at : Addr) (slot : Option Chunk) (shelved : IsShelved s shelves) (puts : PutsChunk s t at slot) (unique : IsUnique t.chunks) where
   -- where no chunk of a class was free, its chains stay
   chain_kept : (class : ℕ) → ((next : Option Addr) → chunk_at s at ≢ Some (Free class next)) → (count : ℕ) (first : Option Addr) → IsChain (chunk_at s) class count first → IsChain (chunk_at t) class count first
-  chain_kept class taken =
-      IsChain-kept (chunk_at s) (chunk_at t) class (λ other next free. elim (put_cases s t at slot puts other) [
-        | inl here ↦ absurd (taken next (sym (ap (chunk_at s) here.0) ∙ free))
-        | inr there ↦ there.1 ∙ free
-      ])
+  chain_kept class taken = grind (arith, nat_tests, IsChain-kept, put_cases)
 
   -- a chunk that is free neither before nor after changes no shelf
   pub IsShelved-taken : IsTaken (chunk_at s at) → ((class : ℕ) → class < 11 → sum_by (is_free class) (values_of t.chunks) ≡ sum_by (is_free class) (values_of s.chunks)) → IsShelved t shelves
@@ -171,10 +155,7 @@ module _ (s t : SetState) (shelves : List Shelf) (at : Addr) (slot : Option Chun
 pub chain_head : (c : Addr → Option Chunk) (class count : ℕ) (first : Option Addr) (at : Addr) → IsChain c class count first → first ≡ Some at
     → (next : Option Addr) × (rest : ℕ) × (c at ≡ Some (Free class next)) × (count ≡ suc rest) × IsChain c class rest next
 chain_head c class zero first at chain is = let clash = sym chain ∙ is in absurd (cc)
-chain_head c class (suc count) first at chain is =
-    let one : Some chain.0 ≡ Some at = sym chain.2 ∙ is in
-    let same : chain.0 ≡ at = cc in
-    (chain.1, count, ap c (sym same) ∙ chain.3, refl, chain.4)
+chain_head c class (suc count) first at chain is = grind (arith, nat_tests)
 
 -- the next one, if there is one, is where a link can lead
 pub IsLinkable-chain : (s : SetState) (active size class count : ℕ) (first : Option Addr) → IsSettled s active size → IsChain (chunk_at s) class count first → IsLinkable first

@@ -1,10 +1,10 @@
 -- Lemmas on the ledger's step for a request.
-use Rattle.std.proofs.Common.{◌≡◌, ℕ, ◌<◌, ◌≤◌, if◌then◌else◌, Some, None, Result, Ok, ap, ◌∙◌, sym, arith}
+use Rattle.std.proofs.Common.{◌≡◌, ℕ, ◌<◌, ◌≤◌, Some, None, Result, Ok, arith}
 use Rattle.std.proofs.lemmas.Bool.Decides.{nat_tests}
 use Rattle.addr_space.specs.declared.Addr.{Addr}
 use Rattle.addr_space.specs.Space.{Space, Asks}
 use Rattle.addr_space.specs.Footprint.{Moves, Keeps}
-use Rattle.addr_space.specs.Live.{same_addr, PutsLive, SameLive}
+use Rattle.addr_space.specs.Live.{PutsLive, SameLive}
 use Rattle.addr_space.proofs.Steps.{Moves-more, Keeps-more, same_stays}
 use Rattle.chunk_header.specs.Answers.{Taken}
 use Rattle.chunk_header.specs.declared.CtxError.{CtxError}
@@ -21,23 +21,13 @@ module _ (a : SetState) (n : Books) (t : Space) (size : ℕ) (at : Addr) (step :
     (kept : IsKept n) (place : place_at (state_of n) at ≡ Some answer.place) where
   pub Allocates-put : (s : Space) → (footprint a).live at ≡ None → PutsLive (footprint a) (footprint (state_of n)) at (Some size) → LeavesLive a (state_of n) → Asks a.account answer.asked s t
       → Moves (footprint a) (footprint (state_of n)) s t → Keeps (footprint a) (footprint (state_of n)) s t → Allocates a n s t size at step
-  Allocates-put s fresh puts stays asked moves keeps = record {
-    kept = kept;
-    serves = record { answer = answer; is = is; ledger = ledger; place = PutsPlace-live a (state_of n) at size answer.place puts stays place; asked = asked };
-    fresh = fresh;
-    live = puts;
-    stays = stays;
-    moves = moves;
-    keeps = keeps;
-  }
+  Allocates-put s fresh puts stays asked moves keeps = grind (arith, nat_tests, PutsPlace-live)
 
   -- after another step, which leaves the live chunks
   pub Allocates-after : (w : SetState) (s u : Space) → SameLive (footprint a) (footprint w) → LeavesLive a w → Moves (footprint a) (footprint w) s u → Keeps (footprint a) (footprint w) s u
       → (footprint w).live at ≡ None → PutsLive (footprint w) (footprint (state_of n)) at (Some size) → LeavesLive w (state_of n) → Asks a.account answer.asked s t
       → Moves (footprint w) (footprint (state_of n)) u t → Keeps (footprint w) (footprint (state_of n)) u t → Allocates a n s t size at step
-  Allocates-after w s u live stood moved kept_bytes fresh puts stays asked moves keeps =
-      Allocates-put s (sym (live at) ∙ fresh) (λ other. puts other ∙ ap (λ o. if same_addr at other then Some size else o) (live other)) (LeavesLive-more a w (state_of n) stood stays) asked
-      (Moves-more (footprint a) (footprint w) (footprint (state_of n)) s u t moved moves) (Keeps-more (footprint a) (footprint w) (footprint (state_of n)) s u t (same_stays (footprint a) (footprint w) live) kept_bytes keeps)
+  Allocates-after w s u live stood moved kept_bytes fresh puts stays asked moves keeps = grind (arith, nat_tests, Allocates-put s, LeavesLive-more a w (state_of n) stood stays, Moves-more (footprint a) (footprint w) (footprint (state_of n)) s u t moved moves, Keeps-more (footprint a) (footprint w) (footprint (state_of n)) s u t (same_stays (footprint a) (footprint w) live) kept_bytes keeps, same_stays (footprint a) (footprint w) live)
 
 module _ (l : SetLedger) (left size : ℕ) where
   -- what an own block answers

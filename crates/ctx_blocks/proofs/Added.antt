@@ -17,14 +17,11 @@ use Rattle.ctx_blocks.proofs.Laid.{mark_cases, region_is, behind, IsSound-laid}
 use Rattle.ctx_blocks.proofs.Cleared.{first_only}
 use Rattle.ctx_blocks.proofs.Put.{block_was}
 use Rattle.ctx_blocks.proofs.Lessened.{start_same, placed_again, mark_same}
+use Rattle.std.proofs.lemmas.Bool.Decides.{nat_tests}
 
 -- a region that is not live is no block of the context
 pub unowned : (l : Layout) (sp : Space) (number : ℕ) → Agrees (footprint l) sp → region_at sp number ≡ None → block_at l number ≡ None
-unowned l sp number agrees free =
-    elim (option_cases (block_at l number)) [
-      | inl none ↦ none
-      | inr owned ↦ let has = (agrees.regions number owned.0.size (region_is l number owned.0 owned.1)).1 in absurd (cc)
-    ]
+unowned l sp number agrees free = grind (arith, nat_tests, option_cases (block_at l number), region_is l number)
 
 -- the block of a number and of so many bytes without chunks
 abbrev pub empty_block : ℕ → ℕ → Block
@@ -38,10 +35,7 @@ module _ (l m : Layout) (number k size : ℕ) (laid : IsLaid l) (same : SameCont
   owned_differs other b owned e = let clash = rw e at owned in let none = fresh in absurd (cc)
 
   number_start : start_of m number ≡ 0
-  number_start =
-      let keeper = first_only l.keeper l.first_number l.blocks first in
-      let differs : l.keeper ≢ number = owned_differs l.keeper keeper.0 keeper.2 in
-      grind (arith, start_same l m same number)
+  number_start = grind (arith, nat_tests, first_only l.keeper l.first_number l.blocks first, owned_differs l.keeper (first_only l.keeper l.first_number l.blocks first).0 (first_only l.keeper l.first_number l.blocks first).2, start_same l m same number)
 
   others_now : (other : ℕ) → other ≢ number → block_at m other ≡ block_at l other
   others_now other differs = grind (arith, blocks other)

@@ -1,28 +1,23 @@
 -- Blocks that are among those of another layout, and numbers that stay.
-use Rattle.std.proofs.Common.{◌≡◌, Some, None, refl, ap, sym, ◌∙◌, arith, inl, inr, ℕ}
+use Rattle.std.proofs.Common.{◌≡◌, Some, None, refl, arith, ℕ}
 use Rattle.std.proofs.lemmas.Bool.{cases_eq}
 use Rattle.addr_space.proofs.Options.{one_value}
 use Rattle.ctx_blocks.specs.Layout.{Layout, block_at}
 use Rattle.ctx_blocks.specs.Numbered.{AreAmong, KeepsNumbers}
 use Rattle.ctx_blocks.specs.Steps.{PutsBlock, DropsBlock}
 use Rattle.ctx_blocks.specs.declared.parts.Block.{Block}
+use Rattle.std.proofs.lemmas.Bool.Decides.{nat_tests}
 
 -- the same blocks
 pub among_same : (l m : Layout) → m.blocks ≡ l.blocks → AreAmong m l
 among_same l m same region block is = let there : block_at l region ≡ Some block = rw (← same) is in (block, there, refl)
 
 pub among_more : (l m n : Layout) → AreAmong l m → AreAmong m n → AreAmong l n
-among_more l m n first second region block is =
-    let a = first region block is in
-    let b = second region a.0 a.1 in
-    (b.0, b.1, b.2 ∙ a.2)
+among_more l m n first second region block is = grind (arith, nat_tests)
 
 -- a block is another one of its number
 pub among_put : (l m : Layout) (region : ℕ) (old new : Block) → block_at l region ≡ Some old → PutsBlock l m region new → new.number ≡ old.number → AreAmong m l
-among_put l m region old new is puts same r block there = elim (cases_eq region r) [
-  | inl e ↦ (old, rw (← e) is, grind (arith, puts.at r))
-  | inr ne ↦ (block, grind (arith, puts.at r), refl)
-]
+among_put l m region old new is puts same r block there = grind (arith, nat_tests, cases_eq region r)
 
 -- a block is the last one
 pub among_adding : (l m : Layout) (region : ℕ) (new : Block) → block_at l region ≡ None → PutsBlock l m region new → AreAmong l m
@@ -34,12 +29,7 @@ among_drop l m region drops r block there = (block, grind (arith, drops.at r), r
 
 -- numbers stay where blocks are added, and where blocks are left
 pub numbers_stay : (l m n : Layout) → AreAmong l m → AreAmong n m → KeepsNumbers l n
-numbers_stay l m n first second region old new is there =
-    let a = first region old is in
-    let b = second region new there in
-    sym b.2 ∙ ap (λ (x : Block). x.number) (one_value (block_at m region) b.0 a.0 b.1 a.1) ∙ a.2
+numbers_stay l m n first second region old new is there = grind (arith, nat_tests, one_value (block_at m region) (second region new there).0 (first region old is).0 (second region new there).1 (first region old is).1)
 
 pub numbers_left : (l m n : Layout) → KeepsNumbers l m → AreAmong n m → KeepsNumbers l n
-numbers_left l m n first second region old new is there =
-    let b = second region new there in
-    sym b.2 ∙ first region old b.0 is b.1
+numbers_left l m n first second region old new is there = grind (arith, nat_tests)

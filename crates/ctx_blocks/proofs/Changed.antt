@@ -1,5 +1,5 @@
 -- Lemmas on layouts in which one block or one chunk is another one, or is there no more.
-use Rattle.std.proofs.Common.{◌≡◌, ◌≢◌, ℕ, List, Option, Some, None, option_map, refl, ap, ◌∙◌, arith, inl, inr}
+use Rattle.std.proofs.Common.{◌≡◌, ◌≢◌, ℕ, List, Option, Some, None, option_map, refl, ap, ◌∙◌, arith}
 use Rattle.std.proofs.lemmas.Bool.{cases_eq}
 use Rattle.addr_space.specs.declared.Addr.{Addr}
 use Rattle.addr_space.specs.Live.{SameLive, StaysLive, PutsLive}
@@ -8,6 +8,7 @@ use Rattle.ctx_blocks.specs.Kept.{HasSize}
 use Rattle.ctx_blocks.specs.Steps.{PutsBlock, DropsBlock, PutsChunk}
 use Rattle.ctx_blocks.specs.declared.parts.Block.{Block}
 use Rattle.ctx_blocks.specs.declared.parts.Chunk.{Chunk}
+use Rattle.std.proofs.lemmas.Bool.Decides.{nat_tests}
 
 module _ (l m : Layout) (number : ℕ) (block : Block) (puts : PutsBlock l m number block) where
   -- the block that was put is there
@@ -20,10 +21,7 @@ module _ (l m : Layout) (number : ℕ) (block : Block) (puts : PutsBlock l m num
 
   -- blocks keep their sizes, where the block that was put has that of the one before
   pub size_put : ((old : Block) → block_at l number ≡ Some old → block.size ≡ old.size) → (k bytes : ℕ) → HasSize l k bytes → HasSize m k bytes
-  size_put same k bytes has = elim (cases_eq number k) [
-    | inl e ↦ record { block = block; is = rw (← e) put_here; size = same has.block (rw e has.is) ∙ has.size }
-    | inr ne ↦ record { block = has.block; is = put_other k ne ∙ has.is; size = has.size }
-  ]
+  size_put same k bytes has = grind (arith, nat_tests, cases_eq number k, put_here, put_other k)
 
 module _ (l m : Layout) (number : ℕ) (drops : DropsBlock l m number) where
   -- every block but the one that was given stays

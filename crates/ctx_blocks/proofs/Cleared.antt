@@ -1,5 +1,5 @@
 -- Lemmas on a context whose chunks are forgotten and whose last blocks go.
-use Rattle.std.proofs.Common.{◌≡◌, ℕ, ◌+◌, ◌-◌, ◌==◌, List, [], ◌∷◌, length, take, Some, refl, ap, ◌∙◌, arith}
+use Rattle.std.proofs.Common.{◌≡◌, ℕ, ◌+◌, ◌-◌, ◌==◌, List, [], ◌∷◌, length, take, Some, refl, ap, arith}
 use Rattle.std.specs.Map.{lookup}
 use Rattle.std.proofs.lemmas.List.{take-take}
 use Rattle.ctx_blocks.specs.Layout.{Layout, footprint}
@@ -10,6 +10,7 @@ use Rattle.addr_space.specs.Space.{Space}
 use Rattle.addr_space.specs.Footprint.{Agrees, Moves, nothing}
 use Rattle.addr_space.proofs.Steps.{Moves-still, Agrees-nothing}
 use Rattle.ctx_blocks.proofs.Lessened.{Lessens}
+use Rattle.std.proofs.lemmas.Bool.Decides.{nat_tests}
 
 pub Lessens-cleared : (l m : Layout) → IsLaid l → SameContext l m → m.blocks ≡ l.blocks → m.chunks ≡ [] → Lessens l m
 Lessens-cleared l m laid same blocks chunks =
@@ -22,9 +23,7 @@ Lessens-cleared l m laid same blocks chunks =
 
 -- one entry less of the first ones
 pub take-less : {X : Type 0} (all now new : List X) → now ≡ take (length now) all → new ≡ take (length now - 1) now → length new + 1 ≡ length now → new ≡ take (length new) all
-take-less all now new is less len =
-    let short : length now - 1 ≡ length new = omega (arith, len) in
-    less ∙ ap (λ n. take n now) short ∙ ap (take (length new)) is ∙ take-take (length new) (length now) all (omega (arith, len))
+take-less all now new is less len = grind (arith, nat_tests, take-take (length new) (length now) all)
 
 -- the keeper alone
 pub first_only : (keeper number : ℕ) (blocks : List (ℕ × Block)) → IsFirst keeper number blocks → (b : Block) × (take 1 blocks ≡ (keeper, b) ∷ []) × (lookup (λ n. keeper == n) blocks ≡ Some b)
@@ -33,6 +32,4 @@ first_only keeper number (e ∷ es) first = (e.1, ap (λ k. (k, e.1) ∷ []) fir
 
 -- a context without blocks has nothing
 pub Moves-nothing : (l : Layout) (account context : ℕ) → l.blocks ≡ [] → account ≡ l.account → context ≡ l.context → (s : Space) → Agrees (footprint l) s → Moves (footprint l) (nothing account context) s s
-Moves-nothing l account context blocks same_account same_context s agrees =
-    Moves-still (footprint l) (nothing account context) s agrees (Agrees-nothing account context s (omega (arith, agrees.account, same_account))).sound same_account same_context
-    (rw blocks refl) (λ number. rw blocks refl) (λ at bytes marked. absurd (cc))
+Moves-nothing l account context blocks same_account same_context s agrees = grind (arith, nat_tests, Moves-still (footprint l) (nothing account context) s agrees, Agrees-nothing account context s)

@@ -12,6 +12,7 @@ use Rattle.ctx_blocks.specs.declared.parts.Block.{Block}
 use Rattle.ctx_blocks.specs.declared.parts.Chunk.{Chunk}
 use Rattle.addr_space.proofs.Options.{option_cases}
 use Rattle.addr_space.proofs.Addresses.{same_addr-cases}
+use Rattle.std.proofs.lemmas.Bool.Decides.{nat_tests}
 
 -- one or none by whether a region is another one
 abbrev pub one_in : ℕ → ℕ → ℕ
@@ -33,11 +34,7 @@ pub some_in : (l : Layout) → IsCounted l → (at : Addr) (chunk : Chunk) (bloc
 some_in l counted at chunk block found owned = omega (arith, counted at.region block owned, counted_at at chunk l.chunks found)
 
 pub none_in : (l : Layout) → IsCounted l → (number : ℕ) (block : Block) (at : Addr) → block_at l number ≡ Some block → block.live ≡ 0 → at.region ≡ number → chunk_at l at ≡ None
-none_in l counted number block at owned none region =
-    elim (option_cases (chunk_at l at)) [
-      | inl without ↦ without
-      | inr some ↦ let more = some_in l counted at some.0 block some.1 (rw region owned) in absurd (omega arith)
-    ]
+none_in l counted number block at owned none region = grind (arith, nat_tests, option_cases (chunk_at l at), some_in l counted)
 
 -- where a region counts a chunk one is live there
 some_counted : (number : ℕ) (es : List (Addr × Chunk)) → 1 ≤ sum_by (is_in number) es → (at : Addr) × (x : Chunk) × (at.region ≡ number) × (lookup (same_addr at) es ≡ Some x)

@@ -11,6 +11,7 @@ use Rattle.ctx_blocks.specs.declared.parts.Block.{Block}
 use Rattle.chunk_header.proofs.Wrote.{Moves-gone, Keeps-give}
 use Rattle.ctx_blocks.proofs.Laid.{region_is, IsSound-laid}
 use Rattle.ctx_blocks.proofs.Lessened.{Lessens, IsLaid-lessened, mark-lessened}
+use Rattle.std.proofs.lemmas.Bool.Decides.{nat_tests}
 
 -- a block's region is live in the space, and counts for the account
 pub IsRegion-owned : (l : Layout) (s : Space) (number : ℕ) (block : Block) → Agrees (footprint l) s → block_at l number ≡ Some block → IsRegion s (record { region = number; offset = 0 })
@@ -35,9 +36,7 @@ module _ (l m : Layout) (laid : IsLaid l) (same : SameContext l m) (chunks : m.c
   gone = rw (blocks number) (grind arith)
 
   pub Moves-dropped : (s t : Space) → Agrees (footprint l) s → total m + old.size ≡ total l → Changes s t number None → ((account : ℕ) → held t account + share account (region_at s number) ≡ held s account) → Moves (footprint l) (footprint m) s t
-  Moves-dropped s t agrees totals changes holds =
-      Moves-gone (footprint l) (footprint m) s t number old.size agrees (IsSound-laid m (IsLaid-lessened l m laid Lessens-dropped)) same.account same.context totals changes (region_is l number old owned) gone
-      (λ other differs. rw (others_now other differs) refl) (mark-lessened l m laid Lessens-dropped) holds
+  Moves-dropped s t agrees totals changes holds = grind (arith, nat_tests, Moves-gone (footprint l) (footprint m) s t number old.size agrees (IsSound-laid m (IsLaid-lessened l m laid Lessens-dropped)) same.account same.context totals changes (region_is l number old owned) gone, IsSound-laid m (IsLaid-lessened l m laid Lessens-dropped), IsLaid-lessened l m laid Lessens-dropped, Lessens-dropped, region_is l number old owned, gone, others_now, mark-lessened l m laid Lessens-dropped)
 
   pub Keeps-dropped : (s t : Space) → Changes s t number None → Keeps (footprint l) (footprint m) s t
   Keeps-dropped s t changes = Keeps-give (footprint l) (footprint m) s t number (IsSound-laid m (IsLaid-lessened l m laid Lessens-dropped)) gone changes

@@ -1,8 +1,8 @@
 -- Lemmas on a chunk that is noted in a block.
-use Rattle.std.proofs.Common.{◌≡◌, ℕ, ◌+◌, ◌-◌, ◌≤◌, ◌⊎◌, ◌==◌, if◌then◌else◌, List, length, Some, None, refl, sym, ap, ◌∙◌, arith, inl, inr, map}
+use Rattle.std.proofs.Common.{◌≡◌, ℕ, ◌+◌, ◌-◌, ◌≤◌, ◌⊎◌, ◌==◌, if◌then◌else◌, List, length, Some, None, refl, sym, ap, arith, inl, inr, map}
 use Rattle.std.proofs.lemmas.Bool.{cases_eq}
 use Rattle.addr_space.specs.declared.Addr.{Addr}
-use Rattle.addr_space.specs.Space.{Space, region_at, bytes_of, overwritten, Changes}
+use Rattle.addr_space.specs.Space.{Space, region_at, overwritten, Changes}
 use Rattle.addr_space.specs.Footprint.{Agrees, Moves, Keeps}
 use Rattle.addr_space.proofs.Addresses.{same_addr_from, same_addr-cases}
 use Rattle.addr_space.proofs.Steps.{Moves-still}
@@ -19,6 +19,7 @@ use Rattle.chunk_header.proofs.Wrote.{Moves-written, Keeps-written}
 use Rattle.ctx_blocks.proofs.Laid.{mark_cases, mark_within, from_live, region_is, behind, IsSound-laid}
 use Rattle.ctx_blocks.proofs.Put.{block_was, chunk_was, regions-put, sizes-put}
 use Rattle.ctx_blocks.proofs.Lessened.{start_same, gap_same, placed_again, mark_same}
+use Rattle.std.proofs.lemmas.Bool.Decides.{nat_tests}
 
 -- no chunk is where one can be noted
 pub place_free : (l : Layout) (at : Addr) (chunk : Chunk) (block : Block) → IsLaid l → Holds l at chunk block → chunk_at l at ≡ None
@@ -29,40 +30,16 @@ place_free l at chunk block laid holds = elim (option_cases (chunk_at l at)) [
 
 -- its header has a place in the space
 pub IsWritten-held : (l : Layout) (s : Space) (at : Addr) (chunk : Chunk) (block : Block) → Agrees (footprint l) s → Holds l at chunk block → IsWritten l s at chunk
-IsWritten-held l s at chunk block agrees holds = record {
-  first = holds.first;
-  whole = holds.whole;
-  sized = holds.sized;
-  inside = λ gap.
-      let target = agrees.regions at.region holds.old.size (region_is l at.region holds.old holds.owned) in
-      record {
-        live = rw target.1 refl;
-        end_in_region = omega (arith, ap (λ r. length (bytes_of r)) target.1, target.3, holds.first, holds.last, holds.size, gap);
-      };
-}
+IsWritten-held l s at chunk block agrees holds = grind (arith, nat_tests, region_is l at.region holds.old holds.owned)
 
 module _ (l m : Layout) (at : Addr) (chunk : Chunk) (block : Block) (laid : IsLaid l) (holds : Holds l at chunk block) (same : SameContext l m) (chunks : PutsChunk l m at (Some chunk))
     (blocks : (other : ℕ) → block_at m other ≡ (if at.region == other then Some block else block_at l other)) where
   -- each chunk is in its block
   placed_still : (other : Addr) (c : Chunk) → chunk_at l other ≡ Some c → IsPlaced m other c
-  placed_still other c found =
-      let was = laid.placed other c found in
-      elim (cases_eq other.region at.region) [
-        | inl here ↦
-            let it : holds.old ≡ was.block = one_value (block_at l other.region) holds.old was.block (rw here holds.owned) was.owned in
-            placed_again l m same other c c was block (grind (arith, blocks other.region)) (rw (← it) holds.size) (rw (← it) holds.less) refl refl was.sized.fits
-        | inr there ↦ placed_again l m same other c c was was.block (grind (arith, blocks other.region, was.owned)) refl (omega arith) refl refl was.sized.fits
-      ]
+  placed_still other c found = grind (arith, nat_tests, cases_eq other.region at.region, one_value (block_at l other.region) holds.old (laid.placed other c found).block, placed_again l m same other c c (laid.placed other c found) block, placed_again l m same other c c (laid.placed other c found) (laid.placed other c found).block)
 
   placed_new : IsPlaced m at chunk
-  placed_new = record {
-    block = block;
-    owned = grind (arith, blocks at.region);
-    first = omega (arith, holds.first, start_same l m same at.region, gap_same l m same);
-    last = holds.last;
-    whole = holds.whole;
-    sized = rw same.kind holds.sized;
-  }
+  placed_new = grind (arith, nat_tests, start_same l m same at.region, gap_same l m same)
 
   -- the blocks and chunks are laid again
   pub IsLaid-held : IsLaid m
@@ -87,23 +64,7 @@ module _ (l m : Layout) (at : Addr) (chunk : Chunk) (block : Block) (laid : IsLa
   -- the marks are the old ones and that of the chunk
   marks_now : (b : Addr) (bytes : List ℕ) → mark_of m b ≡ Some bytes
       → ((header_room l ≡ 8) × (b ≡ record { region = at.region; offset = at.offset - 8 }) × (bytes ≡ header_bytes (header_of l.kind chunk (at.offset - 8 - start_of l at.region)))) ⊎ (mark_of l b ≡ Some bytes)
-  marks_now b bytes marked =
-      let start = start_same l m same b.region in
-      elim (same_addr-cases (behind b) at) [
-        | inl new ↦
-            let region : b.region ≡ at.region = ap (λ (x : Addr). x.region) new.0 in
-            let offset : b.offset ≡ at.offset - 8 = omega (arith, ap (λ (x : Addr). x.offset) new.0) in
-            elim (mark_cases m b bytes marked) [
-              | inl it ↦ absurd (omega (arith, it.1, start, ap (start_of l) region, offset, holds.first))
-              | inr other ↦ elim (chunk_was l m at chunk chunks (behind b) other.0 other.2) [
-                | inl it ↦ inl (sym (gap_same l m same) ∙ other.3, same_addr_from b (record { region = at.region; offset = at.offset - 8 }) region offset, sym other.4 ∙ rw (it.1, same.kind, start, offset, region) refl)
-                | inr it ↦ absurd (it.0 new.0)
-              ]
-            ]
-        | inr old ↦
-            inr (mark_same l m same b bytes (sizes-put l m at.region block blocks holds.old holds.owned holds.size b.region)
-            (λ c found. (c, grind (arith, chunks (behind b)), refl, refl)) marked)
-      ]
+  marks_now b bytes marked = grind (arith, nat_tests, start_same l m same b.region, same_addr-cases (behind b), behind b, mark_cases m b bytes marked, chunk_was l m, gap_same l m same, same_addr_from b, mark_same l m same b bytes (sizes-put l m at.region block blocks holds.old holds.owned holds.size b.region), sizes-put l m at.region block blocks holds.old holds.owned holds.size b.region)
 
   regions_held : (other : ℕ) → (footprint m).region other ≡ (footprint l).region other
   regions_held = regions-put l m at.region block blocks holds.old holds.owned holds.size

@@ -13,6 +13,7 @@ use Rattle.ctx_blocks.specs.declared.parts.Chunk.{Chunk}
 use Rattle.addr_space.proofs.Options.{from_then, from_map}
 use Rattle.addr_space.proofs.Addresses.{same_addr_from}
 use Rattle.chunk_header.proofs.Words.{length-header_bytes, length-block_bytes}
+use Rattle.std.proofs.lemmas.Bool.Decides.{nat_tests}
 
 -- the length of a region of the context
 pub region_is : (l : Layout) (number : ℕ) (block : Block) → block_at l number ≡ Some block → (footprint l).region number ≡ Some block.size
@@ -56,17 +57,7 @@ pub mark_cases : (l : Layout) (at : Addr) (bytes : List ℕ) → mark_of l at �
     → ((block : Block) × (at.offset ≡ start_of l at.region) × (block_at l at.region ≡ Some block) × (start_of l at.region + 40 ≤ block.size) × (block_bytes l.context block.size ≡ bytes))
     ⊎ ((chunk : Chunk) × (at.offset ≢ start_of l at.region) × (chunk_at l (behind at) ≡ Some chunk) × (header_room l ≡ 8) × (header_bytes (header_of l.kind chunk (at.offset - start_of l at.region)) ≡ bytes))
 unfolding mark_of
-mark_cases l at bytes marked =
-    elim (cases_eq at.offset (start_of l at.region)) [
-      | inl same ↦
-          let it = from_then (block_word l.context (start_of l at.region)) (block_at l at.region) bytes (grind (arith, marked, same)) in
-          let word : (start_of l at.region + 40 ≤ it.0.size) × (block_bytes l.context it.0.size ≡ bytes) = let is = it.2 in grind arith in
-          inl (it.0, same, it.1, word.0, word.1)
-      | inr differs ↦
-          let it = from_then (λ (chunk : Chunk). chunk_word l.kind chunk (at.offset - start_of l at.region)) (chunk_at l (behind at)) bytes (grind (arith, marked, differs)) in
-          let word = word_cases l.kind it.0 (at.offset - start_of l at.region) bytes it.2 in
-          inr (it.0, differs, it.1, word.0, word.1)
-    ]
+mark_cases l at bytes marked = grind (arith, nat_tests, cases_eq at.offset (start_of l at.region), from_then (block_word l.context (start_of l at.region)) (block_at l at.region) bytes, from_then, word_cases l.kind)
 
 -- a mark, from what stands at its place
 pub mark_from_block : (l : Layout) (at : Addr) (block : Block) → at.offset ≡ start_of l at.region → block_at l at.region ≡ Some block → start_of l at.region + 40 ≤ block.size → mark_of l at ≡ Some (block_bytes l.context block.size)
@@ -80,9 +71,7 @@ mark_from_chunk l at chunk differs found gap = grind (arith, word_is l.kind chun
 module _ (l : Layout) (laid : IsLaid l) where
   -- chunks at two addresses have place for a header between them
   pub chunks_clear : (a b : Addr) (first second : Chunk) → chunk_at l a ≡ Some first → chunk_at l b ≡ Some second → a ≢ b → IsClear (header_room l) a first b second
-  chunks_clear a b first second at_a at_b differ region =
-      let same = same_addr_from a b region in
-      grind (arith, laid.apart a b first second at_a at_b, laid.apart b a second first at_b at_a, same)
+  chunks_clear a b first second at_a at_b differ region = grind (arith, nat_tests, same_addr_from a b region)
 
   -- a mark is in its block
   pub mark_within : (at : Addr) (bytes : List ℕ) → mark_of l at ≡ Some bytes → (block : Block) × (block_at l at.region ≡ Some block) × (at.offset + 8 + block.room ≤ block.size) × (length bytes ≡ 8)

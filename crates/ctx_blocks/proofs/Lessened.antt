@@ -1,12 +1,11 @@
 -- Lemmas on steps after which a context has no more chunks and blocks than before; so it is where a block becomes another
 -- one of its size, while chunks stay or are forgotten, and where a chunk has another size.
-use Rattle.std.proofs.Common.{◌≡◌, ℕ, ◌-◌, ◌≤◌, ◌==◌, if◌then◌else◌, List, Some, refl, sym, ap, ◌∙◌, arith, inl, inr}
+use Rattle.std.proofs.Common.{◌≡◌, ℕ, ◌-◌, ◌≤◌, ◌==◌, if◌then◌else◌, List, Some, refl, sym, ap, arith, inl, inr}
 use Rattle.std.proofs.lemmas.Bool.{cases_eq}
 use Rattle.addr_space.specs.declared.Addr.{Addr}
 use Rattle.addr_space.proofs.Options.{one_value}
 use Rattle.addr_space.proofs.Steps.{Moves-still}
-use Rattle.chunk_header.specs.Header.{header_bytes}
-use Rattle.ctx_blocks.specs.Layout.{Layout, block_at, chunk_at, start_of, gap_of, header_room, header_of, whole_of, total, mark_of, footprint}
+use Rattle.ctx_blocks.specs.Layout.{Layout, block_at, chunk_at, start_of, gap_of, header_room, whole_of, total, mark_of, footprint}
 use Rattle.ctx_blocks.specs.Kept.{IsFilled, IsLaid, IsPlaced}
 use Rattle.ctx_blocks.specs.Steps.{SameContext, PutsChunk, MovesStill}
 use Rattle.ctx_blocks.specs.declared.parts.Block.{Block}
@@ -14,6 +13,7 @@ use Rattle.ctx_blocks.specs.declared.parts.Chunk.{Chunk}
 use Rattle.ctx_blocks.proofs.Put.{block_was, chunk_was}
 use Rattle.ctx_blocks.proofs.Headed.{start_whole}
 use Rattle.ctx_blocks.proofs.Laid.{mark_cases, mark_from_block, mark_from_chunk, behind, IsSound-laid}
+use Rattle.std.proofs.lemmas.Bool.Decides.{nat_tests}
 
 -- each chunk and each block was there, with the same bytes; a block in which chunks are has no more room
 pub record Lessens (l m : Layout) : Type 0 where
@@ -32,31 +32,14 @@ module _ (l m : Layout) (same : SameContext l m) where
 
   -- a chunk is in its block, where that has its bytes and no more room than before
   pub placed_again : (at : Addr) (w c : Chunk) (was : IsPlaced l at w) (b : Block) → block_at m at.region ≡ Some b → b.size ≡ was.block.size → b.room ≤ was.block.room → w.room ≡ c.room → w.own ≡ c.own → c.size ≤ c.room → IsPlaced m at c
-  placed_again at w c was b owned size less room own fits = record {
-    block = b;
-    owned = owned;
-    first = omega (arith, was.first, start_same at.region, gap_same);
-    last = omega (arith, was.last, size, less, room);
-    whole = was.whole;
-    sized = record { some = omega (arith, was.sized.some, gap_same, room); fits = fits; value = let value = was.sized.value in grind (arith, room, own) };
-  }
+  placed_again at w c was b owned size less room own fits = grind (arith, nat_tests, start_same at.region, gap_same)
 
   -- a mark was one, where its block was there with its size, or its chunk with its room
   pub mark_same : (at : Addr) (bytes : List ℕ)
       → ((b : Block) → block_at m at.region ≡ Some b → (w : Block) × (block_at l at.region ≡ Some w) × (w.size ≡ b.size))
       → ((c : Chunk) → chunk_at m (behind at) ≡ Some c → (w : Chunk) × (chunk_at l (behind at) ≡ Some w) × (w.room ≡ c.room) × (w.own ≡ c.own))
       → mark_of m at ≡ Some bytes → mark_of l at ≡ Some bytes
-  mark_same at bytes blocks chunks marked =
-      let start = start_same at.region in
-      elim (mark_cases m at bytes marked) [
-        | inl block ↦
-            let it = blocks block.0 block.2 in
-            mark_from_block l at it.0 (block.1 ∙ start) it.1 (omega (arith, start, block.3, it.2)) ∙ ap Some (rw (it.2, ← same.context) block.4)
-        | inr other ↦
-            let it = chunks other.0 other.2 in
-            let header : header_of l.kind it.0 (at.offset - start_of l at.region) ≡ header_of m.kind other.0 (at.offset - start_of m at.region) = rw (same.kind, it.2, it.3, start) refl in
-            mark_from_chunk l at it.0 (λ e. other.1 (e ∙ sym start)) it.1 (sym gap_same ∙ other.3) ∙ ap Some (ap header_bytes header ∙ other.4)
-      ]
+  mark_same at bytes blocks chunks marked = grind (arith, nat_tests, start_same at.region, mark_cases m, mark_from_block l, mark_from_chunk l, gap_same)
 
 module _ (l m : Layout) (laid : IsLaid l) (less : Lessens l m) where
   pub IsLaid-lessened : IsLaid m
@@ -80,17 +63,11 @@ module _ (l m : Layout) (laid : IsLaid l) (less : Lessens l m) where
 
   -- the books alone change
   pub MovesStill-lessened : ((number : ℕ) → (footprint m).region number ≡ (footprint l).region number) → total m ≡ total l → MovesStill l m
-  MovesStill-lessened regions totals s agrees =
-      Moves-still (footprint l) (footprint m) s agrees (IsSound-laid m IsLaid-lessened) less.same.account less.same.context totals regions
-      (λ at bytes marked. agrees.marks at bytes (mark-lessened at bytes marked))
+  MovesStill-lessened regions totals s agrees = grind (arith, nat_tests, Moves-still (footprint l) (footprint m) s agrees (IsSound-laid m IsLaid-lessened) less.same.account less.same.context totals regions, IsSound-laid m IsLaid-lessened, IsLaid-lessened, mark-lessened)
 
 -- the whole room of a block without chunks
 pub IsFilled-whole : (l : Layout) (number k room : ℕ) (old : Block) → IsFilled (whole_of l number old.size) old → room ≡ whole_of l number old.size → IsFilled (whole_of l number old.size) (record { number = k; size = old.size; room = room; live = 0; freed = 0 })
-IsFilled-whole l number k room old filled is = record {
-  small = filled.small;
-  even = omega (arith, filled.even, filled.within, is, start_whole l number);
-  within = omega (arith, is);
-}
+IsFilled-whole l number k room old filled is = grind (arith, nat_tests, start_whole l number)
 
 -- a block becomes another one: that has no more room where a chunk of it is left
 pub Lessens-put : (l m : Layout) → IsLaid l → SameContext l m → (number : ℕ) (old new : Block) → block_at l number ≡ Some old → new.size ≡ old.size → IsFilled (whole_of l number new.size) new

@@ -1,5 +1,5 @@
 -- Lemmas on the blocks of a context with the keeper alone.
-use Rattle.std.proofs.Common.{◌≡◌, ◌≢◌, ℕ, ◌+◌, ◌-◌, ◌<◌, ◌≤◌, ◌==◌, List, [], ◌∷◌, map, Some, None, refl, ap, sym, ◌∙◌, arith, inl, inr, if◌then◌else◌}
+use Rattle.std.proofs.Common.{◌≡◌, ◌≢◌, ℕ, ◌+◌, ◌-◌, ◌<◌, ◌≤◌, ◌==◌, List, [], ◌∷◌, map, Some, None, refl, ap, ◌∙◌, arith, inl, inr, if◌then◌else◌}
 use Rattle.std.proofs.lemmas.List.{length-replicate}
 use Rattle.std.proofs.lemmas.List.Sums.{sum_by-cons}
 use Rattle.addr_space.specs.declared.Addr.{Addr}
@@ -17,6 +17,7 @@ use Rattle.ctx_blocks.specs.Kept.{layout_of, IsFilled, IsLaid, IsKept}
 use Rattle.ctx_blocks.specs.declared.parts.Block.{Block}
 use Rattle.ctx_blocks.specs.declared.books.Books.{Books}
 use Rattle.ctx_blocks.proofs.Laid.{mark_cases, region_is, IsSound-laid}
+use Rattle.std.proofs.lemmas.Bool.Decides.{nat_tests}
 
 -- the region of the keeper has 200 bytes before its block
 pub keeper_start : (l : Layout) → start_of l l.keeper ≡ 200
@@ -76,13 +77,4 @@ module _ (l : Layout) (block : Block) (blocks : l.blocks ≡ (l.keeper, block) �
 -- all that is kept where the keeper is alone
 pub IsKept-new : (n : Books) (block : Block) → n.blocks.entries ≡ (n.keeper, block) ∷ [] → n.chunks.entries ≡ [] → IsFilled (block.size - 200 - 40) block → block.live ≡ 0 → block.number ≡ n.first_number → n.last_number ≡ n.first_number → n.total ≡ block.size → IsKept n
 unfolding IsDistinct
-IsKept-new n block blocks chunks filled none number last totals = record {
-  laid = IsLaid-new (layout_of n) block (ap in_order blocks) chunks filled;
-  counted = λ number it owned. let is = only_keeper (layout_of n) block (ap in_order blocks) chunks number it owned in rw (is.1, chunks) none;
-  first = rw blocks (refl, number);
-  numbered = rw blocks (omega arith, omega arith, tt);
-  total = totals ∙ sym (total_one (layout_of n) block (ap in_order blocks) chunks);
-  most = omega (arith, filled.small);
-  apart = rw blocks (tt, tt);
-  unique = rw chunks tt;
-}
+IsKept-new n block blocks chunks filled none number last totals = grind (arith, nat_tests, only_keeper (layout_of n) block (ap in_order blocks) chunks, total_one (layout_of n) block (ap in_order blocks) chunks)

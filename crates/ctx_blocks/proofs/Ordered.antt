@@ -1,6 +1,6 @@
 -- Lemmas on blocks in the order of their numbers, where no two are in one region: that list is the only one that rises
 -- and has the same block in each region.
-use Rattle.std.proofs.Common.{◌≡◌, ◌≢◌, ℕ, ◌+◌, ◌==◌, if◌then◌else◌, [], ◌∷◌, length, Option, Some, None, false, refl, sym, ap, ◌∙◌, arith, sum_by, nat_eq, position, inl, inr, zero, suc}
+use Rattle.std.proofs.Common.{◌≡◌, ◌≢◌, ℕ, ◌+◌, ◌==◌, if◌then◌else◌, [], ◌∷◌, length, Some, None, false, refl, ◌∙◌, arith, sum_by, nat_eq, position}
 use Rattle.std.specs.List.{IsDistinct, AllByRecursion}
 use Rattle.std.specs.Map.{keys_of, values_of}
 use Rattle.std.proofs.lemmas.Bool.{cases_eq}
@@ -13,6 +13,7 @@ use Rattle.ctx_blocks.specs.Order.{put_in, in_order}
 use Rattle.ctx_blocks.specs.Steps.{with_block, without_block}
 use Rattle.ctx_blocks.specs.declared.parts.Block.{Block}
 use Rattle.ctx_blocks.proofs.Numbered.{Entries, at_region, rising_above, rising_drop}
+use Rattle.std.proofs.lemmas.Bool.Decides.{nat_tests}
 
 -- no two blocks are in one region
 abbrev pub AreApart : Entries → Type 0
@@ -91,20 +92,13 @@ same_entry x y region block i = (region i, block i)
 
 put_back : (least most : ℕ) (e : ℕ × Block) (ys : Entries) → AreRising least most ys → at_region e.0 ys ≡ Some e.1 → put_in e (without_block ys e.0) ≡ ys
 put_back least most e [] h is = absurd (cc)
-put_back least most e (y ∷ ys) h is =
-    elim (cases_eq e.0 y.0) [
-      | inl same ↦ let it : e ≡ y = same_entry e y same (grind arith) in grind (arith, put_first most y ys h.2)
-      | inr differs ↦ grind (arith, rising_above (y.1.number + 1) most e.0 ys e.1 h.2, put_back (y.1.number + 1) most e ys h.2)
-    ]
+put_back least most e (y ∷ ys) h is = grind (arith, nat_tests, cases_eq e.0 y.0, same_entry e y, put_first most y ys h.2, rising_above (y.1.number + 1) most e.0 ys e.1 h.2, put_back (y.1.number + 1) most e ys h.2)
 
 -- so the order of blocks is what rises and has them
 pub in_order-is : (least most : ℕ) (es ys : Entries) → AreApart es → AreApart ys → AreRising least most ys → ((region : ℕ) → at_region region es ≡ at_region region ys) → in_order es ≡ ys
 in_order-is least most [] [] apart_e apart_y rising same = refl
 in_order-is least most [] (y ∷ ys) apart_e apart_y rising same = let is = same y.0 in absurd (grind arith)
-in_order-is least most (e ∷ es) ys apart_e apart_y rising same =
-    let rest : (region : ℕ) → at_region region es ≡ at_region region (without_block ys e.0) = λ region. grind (arith, same region, lookup-without e.0 region ys apart_y, apart_e.0) in
-    ap (put_in e) (in_order-is least most es (without_block ys e.0) apart_e.1 (apart-without e.0 ys apart_y) (rising_drop least most e.0 ys rising) rest)
-    ∙ put_back least most e ys rising (sym (same e.0) ∙ grind arith)
+in_order-is least most (e ∷ es) ys apart_e apart_y rising same = grind (arith, nat_tests, at_region, lookup-without e.0, in_order-is least most es (without_block ys e.0) apart_e.1 (apart-without e.0 ys apart_y) (rising_drop least most e.0 ys rising), apart-without e.0 ys apart_y, rising_drop least most e.0 ys rising, put_back least most e ys rising)
 
 -- the block with the least number is the first one
 first-least : (keeper first most : ℕ) (block : Block) (vs : Entries) → at_region keeper vs ≡ Some block → block.number ≡ first → AreRising first most vs → IsFirst keeper first vs
@@ -120,10 +114,4 @@ first-in_order keeper first most (e ∷ es) apart is h =
 pub first-swap_remove : (keeper first region : ℕ) (es : Entries) → region ≢ keeper → IsFirst keeper first es → IsFirst keeper first (swap_remove_entry (λ n. region == n) es)
 first-swap_remove keeper first region [] differs is = absurd is
 first-swap_remove keeper first region (e ∷ []) differs is = let other : (region == e.0) ≡ false = grind (arith, is.0) in rw other is
-first-swap_remove keeper first region (e ∷ x ∷ xs) differs is =
-    by (position (λ n. region == n) (keys_of (e ∷ x ∷ xs))) refl
-  where
-    by : (r : Option ℕ) → position (λ n. region == n) (keys_of (e ∷ x ∷ xs)) ≡ r → IsFirst keeper first (swap_remove_entry (λ n. region == n) (e ∷ x ∷ xs))
-    by None p = rw p is
-    by (Some zero) p = let passes = (position-Some (λ n. region == n) (keys_of (e ∷ x ∷ xs)) 0 0 p).1 in absurd (grind (arith, passes, is.0, differs))
-    by (Some (suc i)) p = rw (p, sub-one) is
+first-swap_remove keeper first region (e ∷ x ∷ xs) differs is = grind (arith, nat_tests, position, position-Some, sub-one)

@@ -1,5 +1,5 @@
 -- Numbers of blocks and places of live chunks, once a block or a chunk is another one.
-use Rattle.std.proofs.Common.{◌≡◌, ℕ, Option, Some, unwrap_or, option_map, refl, ap, sym, ◌∙◌, arith, inl, inr}
+use Rattle.std.proofs.Common.{◌≡◌, ℕ, Option, Some, unwrap_or, option_map, ap, arith}
 use Rattle.addr_space.specs.declared.Addr.{Addr}
 use Rattle.addr_space.specs.Space.{Space}
 use Rattle.addr_space.specs.Footprint.{Agrees}
@@ -12,6 +12,7 @@ use Rattle.ctx_blocks.specs.Steps.{PutsBlock, PutsChunk}
 use Rattle.ctx_blocks.specs.declared.parts.Block.{Block}
 use Rattle.ctx_blocks.specs.declared.parts.Chunk.{Chunk}
 use Rattle.ctx_blocks.proofs.Laid.{live_is, from_region}
+use Rattle.std.proofs.lemmas.Bool.Decides.{nat_tests}
 
 -- the number of a block that is there
 pub number_is : (l : Layout) (region : ℕ) (block : Block) → block_at l region ≡ Some block → number_of l region ≡ block.number
@@ -23,22 +24,14 @@ number_put l m region old new is puts same r = grind (arith, puts.at r)
 
 -- numbers stay where blocks are left
 pub numbers_among : (l m : Layout) → AreAmong m l → KeepsNumbers l m
-numbers_among l m among region old new is there =
-    let a = among region new there in
-    sym a.2 ∙ ap (λ (x : Block). x.number) (one_value (block_at l region) a.0 old a.1 is)
+numbers_among l m among region old new is there = grind (arith, nat_tests, one_value (block_at l region) (among region new there).0 old (among region new there).1 is)
 
 -- a chunk that stays live keeps the number of its block
 pub block_in_space : (l : Layout) (s : Space) (at : Addr) (chunk : Chunk) → chunk_at l at ≡ Some chunk → Agrees (footprint l) s → (block : Block) × (block_at l at.region ≡ Some block)
-block_in_space l s at chunk is agrees =
-    let within = agrees.sound.live_inside at chunk.size (live_is l at chunk is) in
-    let block = from_region l at.region within.0 within.1 in
-    (block.0, block.1)
+block_in_space l s at chunk is agrees = grind (arith, nat_tests, live_is l, from_region l at.region (agrees.sound.live_inside at chunk.size (live_is l at chunk is)).0 (agrees.sound.live_inside at chunk.size (live_is l at chunk is)).1)
 
 pub number_stays : (l m : Layout) (s t : Space) (at : Addr) (chunk : Chunk) → chunk_at l at ≡ Some chunk → chunk_at m at ≡ Some chunk → Agrees (footprint l) s → Agrees (footprint m) t → KeepsNumbers l m → number_of m at.region ≡ number_of l at.region
-number_stays l m s t at chunk is there agrees now keeps =
-    let old = block_in_space l s at chunk is agrees in
-    let new = block_in_space m t at chunk there now in
-    number_is m at.region new.0 new.1 ∙ keeps at.region old.0 new.0 old.1 new.1 ∙ sym (number_is l at.region old.0 old.1)
+number_stays l m s t at chunk is there agrees now keeps = grind (arith, nat_tests, block_in_space l s, block_in_space m t, number_is m at.region (block_in_space m t at chunk there now).0 (block_in_space m t at chunk there now).1, number_is l at.region (block_in_space l s at chunk is agrees).0 (block_in_space l s at chunk is agrees).1)
 
 module _ {P : Type 0} (place : ℕ → Chunk → P) where
   -- the places in a layout, by the number of a chunk's block and the chunk
@@ -47,12 +40,4 @@ module _ {P : Type 0} (place : ℕ → Chunk → P) where
 
   -- one chunk is put or taken away
   pub places_put : (l m : Layout) (s t : Space) → Agrees (footprint l) s → Agrees (footprint m) t → KeepsNumbers l m → (at : Addr) (chunk : Option Chunk) (to : Option P) → PutsChunk l m at chunk → option_map (place (number_of m at.region)) chunk ≡ to → PutsAt (places l) (places m) at to
-  places_put l m s t agrees now keeps at chunk to puts here other = elim (same_addr-cases at other) [
-    | inl same ↦ rw (same.1, puts other) (rw (same.1, ← same.0) here)
-    | inr differs ↦ elim (option_cases (chunk_at l other)) [
-      | inl none ↦ rw (differs.1, puts other) (rw (differs.1, none) refl)
-      | inr some ↦
-          let there : chunk_at m other ≡ Some some.0 = puts other ∙ rw differs.1 some.1 in
-          rw (differs.1, there, some.1) (ap (λ (n : ℕ). Some (place n some.0)) (number_stays l m s t other some.0 some.1 there agrees now keeps))
-    ]
-  ]
+  places_put l m s t agrees now keeps at chunk to puts here other = grind (arith, nat_tests, same_addr-cases, option_cases (chunk_at l other), number_stays l m s t other)

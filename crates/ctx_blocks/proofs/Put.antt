@@ -1,5 +1,5 @@
 -- Lemmas on one block or one chunk that is put: what stands there then, and the counts of the blocks.
-use Rattle.std.proofs.Common.{Option, ◌≡◌, ◌≢◌, ℕ, ◌==◌, if◌then◌else◌, Some, arith, inl, inr, ◌⊎◌, sym, refl, ◌∙◌}
+use Rattle.std.proofs.Common.{Option, ◌≡◌, ◌≢◌, ℕ, ◌==◌, if◌then◌else◌, Some, arith, ◌⊎◌}
 use Rattle.std.proofs.lemmas.Bool.{cases_eq}
 use Rattle.addr_space.specs.declared.Addr.{Addr}
 use Rattle.addr_space.proofs.Addresses.{put_at-cases}
@@ -9,6 +9,7 @@ use Rattle.ctx_blocks.specs.Kept.{IsCounted}
 use Rattle.ctx_blocks.specs.Steps.{PutsChunk}
 use Rattle.ctx_blocks.specs.declared.parts.Block.{Block}
 use Rattle.ctx_blocks.specs.declared.parts.Chunk.{Chunk}
+use Rattle.std.proofs.lemmas.Bool.Decides.{nat_tests}
 
 -- a chunk is where it was put
 pub chunk_here : (l m : Layout) (at : Addr) (new : Option Chunk) → PutsChunk l m at new → chunk_at m at ≡ new
@@ -16,28 +17,16 @@ chunk_here l m at new puts = grind (arith, puts at)
 
 -- a chunk that is there is the one that was put, or was there
 pub chunk_was : (l m : Layout) (at : Addr) (new : Chunk) → PutsChunk l m at (Some new) → (other : Addr) (c : Chunk) → chunk_at m other ≡ Some c → ((other ≡ at) × (c ≡ new)) ⊎ ((other ≢ at) × (chunk_at l other ≡ Some c))
-chunk_was l m at new puts other c found =
-    elim (put_at-cases (chunk_at l) (chunk_at m) at (Some new) puts other) [
-      | inl here ↦ inl (here.0, one_value (chunk_at m other) c new found here.1)
-      | inr there ↦ inr (there.0, sym there.1 ∙ found)
-    ]
+chunk_was l m at new puts other c found = grind (arith, nat_tests, put_at-cases (chunk_at l) (chunk_at m), one_value (chunk_at m other) c new found)
 
 module _ (l m : Layout) (number : ℕ) (new : Block) (blocks : (other : ℕ) → block_at m other ≡ (if number == other then Some new else block_at l other)) where
   -- and so is a block
   pub block_was : (other : ℕ) (b : Block) → block_at m other ≡ Some b → ((other ≡ number) × (b ≡ new)) ⊎ ((other ≢ number) × (block_at l other ≡ Some b))
-  block_was other b has =
-      elim (cases_eq other number) [
-        | inl here ↦ inl (here, grind (arith, blocks other, has))
-        | inr there ↦ inr (there, grind (arith, blocks other, has))
-      ]
+  block_was other b has = grind (arith, nat_tests, cases_eq other number)
 
   -- each block counts its chunks, where that one does
   pub IsCounted-put : IsCounted l → new.live ≡ count_in m number → ((other : ℕ) → other ≢ number → count_in m other ≡ count_in l other) → IsCounted m
-  IsCounted-put counted live counts other b has =
-      elim (block_was other b has) [
-        | inl here ↦ rw (here.0, here.1) live
-        | inr there ↦ counted other b there.1 ∙ sym (counts other there.0)
-      ]
+  IsCounted-put counted live counts other b has = grind (arith, nat_tests, block_was other b has)
 
   -- the regions stay, where the block that was put has the size of the one before
   pub regions-put : (old : Block) → block_at l number ≡ Some old → new.size ≡ old.size → (other : ℕ) → (footprint m).region other ≡ (footprint l).region other
@@ -45,8 +34,4 @@ module _ (l m : Layout) (number : ℕ) (new : Block) (blocks : (other : ℕ) →
 
   -- and so do the sizes of the blocks
   pub sizes-put : (old : Block) → block_at l number ≡ Some old → new.size ≡ old.size → (other : ℕ) (b : Block) → block_at m other ≡ Some b → (w : Block) × (block_at l other ≡ Some w) × (w.size ≡ b.size)
-  sizes-put old owned size other b has =
-      elim (block_was other b has) [
-        | inl here ↦ rw (here.0, here.1) (old, owned, sym size)
-        | inr there ↦ (b, there.1, refl)
-      ]
+  sizes-put old owned size other b has = grind (arith, nat_tests, block_was other b has)

@@ -5,6 +5,7 @@ use Rattle.std.proofs.lemmas.List.{drop_more, drop_all}
 use Rattle.std.proofs.lemmas.List.Sums.{sum_by-cons}
 use Rattle.std.proofs.lemmas.Option.{get_or_from_slice_get, slice_get_within}
 use Rattle.ctx_blocks.specs.declared.parts.Block.{Block}
+use Rattle.std.proofs.lemmas.Bool.Decides.{nat_tests}
 
 -- what is left of a sum from an index on
 abbrev pub rest_of : (Block → ℕ) → List (ℕ × Block) → ℕ → ℕ
@@ -20,10 +21,7 @@ rest_more f blocks i e found =
     rw (drop_more blocks i e (slice_get_within blocks i e found), get_or_from_slice_get blocks i e e found) (omega (arith, sum_by-cons f e.1 (values_of (drop (i + 1) blocks))))
 
 pub summed-more : (f : Block → ℕ) (blocks : List (ℕ × Block)) (i sum total : ℕ) (e : ℕ × Block) → slice_get blocks i ≡ Some e → f e.1 ≤ e.1.size → Summed f blocks i sum total → (sum + f e.1 ≤ total) × Summed f blocks (i + 1) (sum + f e.1) total
-summed-more f blocks i sum total e found within sums =
-    let more = rest_more f blocks i e found in
-    let sizes = rest_more (λ b. b.size) blocks i e found in
-    (omega (arith, sums.most), record { all = omega (arith, sums.all); most = omega (arith, sums.most) })
+summed-more f blocks i sum total e found within sums = grind (arith, nat_tests, rest_more f blocks i e found, rest_more)
 
 pub summed-all : (f : Block → ℕ) (blocks : List (ℕ × Block)) (i sum total : ℕ) → length blocks ≤ i → Summed f blocks i sum total → sum ≡ sum_by f (values_of blocks)
 summed-all f blocks i sum total past sums = let all = rw (drop_all i blocks past) at sums.all in omega arith

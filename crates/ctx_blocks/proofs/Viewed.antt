@@ -1,6 +1,5 @@
 -- Lemmas on what a layout shows of the blocks as they are kept, and on what is kept once a block is another one.
-use Rattle.std.proofs.Common.{◌≡◌, ℕ, ◌+◌, ◌==◌, if◌then◌else◌, ◌++◌, [], ◌∷◌, Option, Some, None, ap, sym, ◌∙◌, arith, sum_by, nat_eq}
-use Rattle.std.specs.Map.{values_of}
+use Rattle.std.proofs.Common.{◌≡◌, ℕ, ◌+◌, ◌==◌, if◌then◌else◌, ◌++◌, [], ◌∷◌, Option, Some, None, ap, sym, ◌∙◌, arith, nat_eq}
 use Rattle.std.proofs.lemmas.List.{map-append}
 use Rattle.std.proofs.lemmas.List.Sums.{sum_by-append, sum_by-cons}
 use Rattle.indexmap.specs.IndexMap.{IsUnique}
@@ -13,6 +12,7 @@ use Rattle.addr_space.proofs.Options.{one_value}
 use Rattle.ctx_blocks.proofs.Totals.{total-put, IsFirst-put}
 use Rattle.ctx_blocks.proofs.Numbered.{Entries, at_region, rising_put}
 use Rattle.ctx_blocks.proofs.Ordered.{AreApart, AreApart-distinct, apart-in_order, lookup-in_order, sum-in_order, in_order-is, lookup-with, apart-with, lookup-without, apart-without, first-in_order}
+use Rattle.std.proofs.lemmas.Bool.Decides.{nat_tests}
 
 -- the block of a region
 pub block_view : (b : Books) → IsUnique nat_eq b.blocks → (number : ℕ) → block_at (layout_of b) number ≡ at_region number b.blocks.entries
@@ -24,10 +24,7 @@ first_view b kept = first-in_order b.keeper b.first_number b.last_number b.block
 
 -- the bytes without the last block
 pub total_view : (b n : Books) (number : ℕ) (old : Block) → b.blocks.entries ≡ n.blocks.entries ++ (number, old) ∷ [] → total (layout_of n) + old.size ≡ total (layout_of b)
-total_view b n number old blocks =
-    let f : Block → ℕ = λ x. x.size in
-    let last : sum_by f (values_of (n.blocks.entries ++ (number, old) ∷ [])) ≡ sum_by f (values_of n.blocks.entries) + old.size = rw map-append (omega (arith, sum_by-append f (values_of n.blocks.entries) (old ∷ []), sum_by-cons f old [])) in
-    omega (arith, sum-in_order f n.blocks.entries, sum-in_order f b.blocks.entries, ap (λ (es : Entries). sum_by f (values_of es)) blocks, last)
+total_view b n number old blocks = grind (arith, nat_tests, map-append, sum_by-append, sum_by-cons, sum-in_order)
 
 module _ (b n : Books) (number : ℕ) (apart : IsUnique nat_eq b.blocks) (now : IsUnique nat_eq n.blocks) where
   -- one region has another block, or none
@@ -43,27 +40,12 @@ module _ (b n : Books) (number : ℕ) (apart : IsUnique nat_eq b.blocks) (now : 
 
   -- a block is put, or goes
   pub puts_view : (least most : ℕ) (new : Block) → AreRising least most (with_block (layout_of b).blocks number new) → ((other : ℕ) → at_region other n.blocks.entries ≡ (if number == other then Some new else at_region other b.blocks.entries)) → PutsBlock (layout_of b) (layout_of n) number new
-  puts_view least most new rising same =
-      let old = (layout_of b).blocks in
-      let at = one_view (Some new) same in
-      record { blocks = seen least most (with_block old number new) (apart-with number new old was_apart) rising (λ other. at other ∙ sym (lookup-with number other new old)); at = at }
+  puts_view least most new rising same = grind (arith, nat_tests, one_view (Some new) same, seen least most (with_block ((layout_of b).blocks) number new) (apart-with number new ((layout_of b).blocks) was_apart) rising, apart-with number new ((layout_of b).blocks) was_apart, was_apart, lookup-with number)
 
   pub drops_view : (least most : ℕ) → AreRising least most (without_block (layout_of b).blocks number) → ((other : ℕ) → at_region other n.blocks.entries ≡ (if number == other then None else at_region other b.blocks.entries)) → DropsBlock (layout_of b) (layout_of n) number
-  drops_view least most rising same =
-      let old = (layout_of b).blocks in
-      let at = one_view None same in
-      record { blocks = seen least most (without_block old number) (apart-without number old was_apart) rising (λ other. at other ∙ sym (lookup-without number other old was_apart)); at = at }
+  drops_view least most rising same = grind (arith, nat_tests, one_view None same, seen least most (without_block ((layout_of b).blocks) number) (apart-without number ((layout_of b).blocks) was_apart) rising, apart-without number ((layout_of b).blocks) was_apart, was_apart, lookup-without number)
 
 -- what the code keeps, once one block is another one of its number and size
 pub IsKept-put : (b n : Books) (number : ℕ) (old new : Block) → IsKept b → SameContext (layout_of b) (layout_of n) → n.last_number ≡ b.last_number → n.total ≡ b.total → n.blocks.entries ≡ with_block b.blocks.entries number new → PutsBlock (layout_of b) (layout_of n) number new → IsUnique nat_eq n.blocks → block_at (layout_of b) number ≡ Some old → new.number ≡ old.number → new.size ≡ old.size
     → AreUnique n.chunks.entries → IsLaid (layout_of n) → IsCounted (layout_of n) → IsKept n
-IsKept-put b n number old new kept same last totals blocks puts apart owned number_is size unique laid counted = record {
-  laid = laid;
-  counted = counted;
-  first = rw (blocks, same.keeper, same.first_number) (IsFirst-put b.keeper b.first_number b.blocks.entries number new (λ x is. number_is ∙ ap (λ (x : Block). x.number) (one_value (block_at (layout_of b) number) old x owned (block_view b kept.apart number ∙ is))) kept.first);
-  numbered = rw (puts.blocks, same.first_number, last) (rising_put b.first_number b.last_number number (layout_of b).blocks old new kept.numbered owned number_is);
-  total = totals ∙ kept.total ∙ sym (total-put (layout_of b) (layout_of n) number old new puts.blocks owned size);
-  most = omega (arith, totals, kept.most);
-  apart = apart;
-  unique = unique;
-}
+IsKept-put b n number old new kept same last totals blocks puts apart owned number_is size unique laid counted = grind (arith, nat_tests, IsFirst-put b.keeper b.first_number b.blocks.entries number new, one_value (block_at (layout_of b) number) old, block_view b kept.apart number, rising_put b.first_number b.last_number number (layout_of b).blocks old new kept.numbered owned number_is, total-put (layout_of b) (layout_of n) number old new puts.blocks owned size)

@@ -1,6 +1,6 @@
 -- What the calls of an arena make of its slots.
-use Rattle.std.proofs.Common.{◌≡◌, ◌≢◌, ℕ, zero, suc, ◌+◌, Bool, true, false, Option, Some, None, List, [], ◌∷◌, set, is_some, count_by, get_or, subst, refl, sym, ap, ◌∙◌, inl, inr, arith, cond}
-use Rattle.std.specs.Prelude.{◌==◌, IfSome}
+use Rattle.std.proofs.Common.{◌≡◌, ◌≢◌, ℕ, zero, suc, ◌+◌, true, false, Option, Some, None, List, [], ◌∷◌, set, is_some, count_by, get_or, refl, sym, ap, ◌∙◌, inl, inr, arith, cond}
+use Rattle.std.specs.Prelude.{IfSome}
 use Rattle.std.proofs.lemmas.Bool.{cases_Bool, both_ways, false_from_ne_true}
 use Rattle.std.proofs.lemmas.List.Sums.{sum_by-cons}
 use Rattle.slab.specs.Slab.{Slab, get, slab_len, ContainsKey, Updates, with_value}
@@ -12,11 +12,12 @@ use Rattle.forest.specs.Edits.{Sets, SetsPrevious, Skips}
 use Rattle.forest.specs.declared.id.NodeId.{NodeId}
 use Rattle.forest.specs.declared.links.Linked.{Linked}
 use Rattle.forest.proofs.Trees
-use Rattle.forest.proofs.Trees.{has_first, first_child_other, once_put, once_front, once_removed, once_moved, size_put, size_removed, size_moved, removed_has, has_of_removed, left_apart, Moves, parent_stays, first_removed, has_changed, once_changed, size_changed, first_changed}
+use Rattle.forest.proofs.Trees.{has_first, first_child_other, once_put, once_front, once_removed, once_moved, size_put, size_removed, size_moved, removed_has, has_of_removed, left_apart, Moves, parent_stays, first_removed, once_changed, size_changed, first_changed}
 use Rattle.forest.proofs.Linking.{frame, relink, attach, detach, Past, Near, near, first_inside, differs, children_linked, child_is, head_is, cases_first, linked_changed}
 use Rattle.forest.proofs.Numbers.{Agree, has_agreed, children_agreed, removed_agreed, put_agreed, at_agreed, valued, values_changed, slots_changed}
 use Rattle.forest.proofs.Neighbours.{Names, node_at, IsNode, node_is, parent_root}
 use Rattle.forest.proofs.Seen.{seen_from, seen_is, vacant_is, Stands, stands_at}
+use Rattle.std.proofs.lemmas.Bool.Decides.{nat_tests}
 
 pub if_some : (o : Option ℕ) (P : ℕ → Type 0) → ((s : ℕ) → o ≡ Some s → P s) → IfSome o P
 if_some None P h = tt
@@ -28,10 +29,7 @@ if_some_more (Some s) P Q f h = f s h
 
 count_set : {A : Type 0} (xs : List (Option A)) (k : ℕ) (x : A) → is_some (get_or xs k None) ≡ true → count_by is_some (set xs k (Some x)) ≡ count_by is_some xs
 count_set {A} [] k x h = refl
-count_set {A} (y ∷ ys) zero x h =
-    let a = sum_by-cons (λ (o : Option A). cond (is_some o) 1 0) (Some x) ys in
-    let b = sum_by-cons (λ (o : Option A). cond (is_some o) 1 0) y ys in
-    a ∙ ap (λ (n : ℕ). n + count_by is_some ys) (ap (λ (t : Bool). cond t 1 0) (sym h)) ∙ sym b
+count_set {A} (y ∷ ys) zero x h = grind (arith, nat_tests, sum_by-cons, count_by)
 count_set {A} (y ∷ ys) (suc k) x h =
     let a = sum_by-cons (λ (o : Option A). cond (is_some o) 1 0) y (set ys k (Some x)) in
     let b = sum_by-cons (λ (o : Option A). cond (is_some o) 1 0) y ys in
@@ -67,18 +65,10 @@ module _ {T : Type 0} where
     pub len : slab_len b ≡ slab_len a + 1
 
   pub entered : (a b c : Slab (Linked T)) (v k : ℕ) (node : Linked T) → b.slots ≡ a.slots → k ≡ v → get b k ≡ None → Updates b c k (Some node) → slab_len c ≡ slab_len b + 1 → Entered a c v node
-  entered a b c v k node same at none updates len = record {
-    none = subst (λ (xs : List (Option (Linked T))). get_or xs v None ≡ None) same (rw at at none);
-    new = rw at at updates.changed;
-    others = λ x ne.
-        subst (λ (xs : List (Option (Linked T))). get c x ≡ get_or xs x None) same (updates.others x (λ z. ne (z ∙ at)));
-    len = len ∙ ap (λ (xs : List (Option (Linked T))). count_by is_some xs + 1) same;
-  }
+  entered a b c v k node same at none updates len = grind (arith, nat_tests, count_by)
 
   pub entered_keys : (a b : Slab (Linked T)) (v : ℕ) (node : Linked T) → Entered a b v node → (s : ℕ) → ContainsKey a s → ContainsKey b s
-  entered_keys a b v node w s h =
-      let ne : s ≢ v = λ z. let q : get a s ≡ None = rw z w.none in cc in
-      rw (w.others s ne) h
+  entered_keys a b v node w s h = grind (arith, nat_tests)
 
   -- a new first root
   pub insert_front : (a b c : Slab (Linked T)) (link : Option ℕ) (v : ℕ) (e : Entry T) (s : IsSound a link)
@@ -134,12 +124,7 @@ module _ {T : Type 0} where
 
   -- the neighbours of a node are linked past it
   pub past : (a b c : Slab (Linked T)) (v : ℕ) (l : Linked T) → Skips a b l.previous l.parent l.next → SetsPrevious b c l.next l.previous → Past (get a) (get c) v l
-  past a b c v l skips sets = record {
-    before = λ s m nv q r g. sets.others s r ∙ skips.changed s m q g;
-    above = λ s m nv n q r g. sets.others s r ∙ skips.above s m n q g;
-    behind = λ s m nv q r u g. sets.changed s m q (skips.others s r u ∙ g);
-    others = λ s nv q u r. sets.others s r ∙ skips.others s q u;
-  }
+  past a b c v l skips sets = grind (arith, nat_tests)
 
   -- a forest in which the node at `v` was linked past
   pub record Detached (a c : Slab (Linked T)) (t : Forest (Entry T)) (v : ℕ) (l : Linked T) : Type 0 where
@@ -165,15 +150,10 @@ module _ {T : Type 0} where
   -- the first root, once a node was linked past
   pub front_is : (a : Slab (Linked T)) (link new : Option ℕ) (t : Forest (Entry T)) (v : ℕ) (l : Linked T) → Once t → IsLinked (get a) None None t → get a v ≡ Some l
       → link ≡ first t → (link ≡ Some v → new ≡ l.next) → (link ≢ Some v → new ≡ link) → new ≡ first (removed v t)
-  front_is a link new t v l o i g front gone stays =
-      elim (cases_first t v) [
-        | inl f ↦ gone (front ∙ f) ∙ (head_is (get a) None None t v l i f g o).2
-        | inr n ↦ stays (λ z. n (sym front ∙ z)) ∙ front ∙ sym (first_removed v t n)
-      ]
+  front_is a link new t v l o i g front gone stays = grind (arith, nat_tests, cases_first, head_is, first_removed)
 
   pub once_values_removed : (v n : ℕ) (t : Forest (Entry T)) → Agree v n t → Once (values t) → has v t ≡ true → Once (values (removed v t))
-  once_values_removed v n t agree o h =
-      rw (removed_agreed (λ x d. d.value) v n t agree) (once_removed n (values t) o (has_agreed (λ x d. d.value) v n t agree ∙ h))
+  once_values_removed v n t agree o h = grind (arith, nat_tests, removed_agreed, once_removed n (values t) o, has_agreed)
 
   -- a node without children is taken out
   pub taken_out : (a b c d : Slab (Linked T)) (link new : Option ℕ) (v n : ℕ) (l : Linked T) (s : IsSound a link)
@@ -196,22 +176,11 @@ module _ {T : Type 0} where
 
   pub agree_removed : (v n q : ℕ) (t : Forest (Entry T)) → Agree v n t → Agree v n (removed q t)
   agree_removed v n q Empty g = tt
-  agree_removed v n q (Node k e below beside) g =
-      elim (cases_Bool (k == q)) [
-        | inl y ↦ rw y (agree_removed v n q beside g.2)
-        | inr y ↦ rw y (g.0, agree_removed v n q below g.1, agree_removed v n q beside g.2)
-      ]
+  agree_removed v n q (Node k e below beside) g = grind (arith, nat_tests, cases_Bool, agree_removed v n q beside g.2, agree_removed v n q below g.1)
 
   pub agree_children : (v n q : ℕ) (t : Forest (Entry T)) → Agree v n t → Agree v n (children q t)
   agree_children v n q Empty g = tt
-  agree_children v n q (Node k e below beside) g =
-      elim (cases_Bool (k == q)) [
-        | inl y ↦ rw y g.1
-        | inr y ↦ elim (cases_Bool (has q below)) [
-          | inl u ↦ rw (y, u) (agree_children v n q below g.1)
-          | inr u ↦ rw (y, u) (agree_children v n q beside g.2)
-        ]
-      ]
+  agree_children v n q (Node k e below beside) g = grind (arith, nat_tests, cases_Bool, agree_children v n q below g.1, agree_children v n q beside g.2)
 
   -- by slots, a node moves as it does by numbers
   pub moves_by_slot : (v n p m : ℕ) (t : Forest (Entry T)) → Agree v n t → Agree p m t → Moves n m (values t) → Moves v p t
@@ -233,16 +202,11 @@ module _ {T : Type 0} where
 
   pub put_moved : {B : Type 0} (f : ℕ → Entry T → B) (v n p m : ℕ) (e : Entry T) (t : Forest (Entry T)) → Agree v n t → Agree p m t → at v t ≡ Some e
       → by_number f (put p v e (children v t) (removed v t)) ≡ put m n (f v e) (children n (by_number f t)) (removed n (by_number f t))
-  put_moved f v n p m e t agree above h =
-      let number : e.number ≡ n = (at_agreed f v n e t agree h).0 in
-      put_agreed f p m v e (children v t) (removed v t) (agree_removed p m v t above)
-      ∙ ap (λ (x : ℕ). put m x (f v e) (by_number f (children v t)) (by_number f (removed v t))) number
-      ∙ rw (children_agreed f v n t agree, removed_agreed f v n t agree) refl
+  put_moved f v n p m e t agree above h = grind (arith, nat_tests, at_agreed f v n e t agree h, put_agreed f p m v e (children v t) (removed v t) (agree_removed p m v t above), agree_removed p m v t above, children_agreed f v n t agree, removed_agreed f v n t agree)
 
   pub moved_agreed : {B : Type 0} (f : ℕ → Entry T → B) (v n p m : ℕ) (e : Entry T) (t : Forest (Entry T)) → Agree v n t → Agree p m t → at v t ≡ Some e
       → by_number f (put p v e (children v t) (removed v t)) ≡ moved n m (by_number f t)
-  moved_agreed f v n p m e t agree above h =
-      rw (at_agreed f v n e t agree h).1 (put_moved f v n p m e t agree above h)
+  moved_agreed f v n p m e t agree above h = grind (arith, nat_tests, at_agreed, put_moved)
 
   -- a node moves in front of the children of another one
   pub moved_to : (a b c d e f : Slab (Linked T)) (link new : Option ℕ) (v n p m : ℕ) (l : Linked T) (next : Option ℕ) (s : IsSound a link)
@@ -376,14 +340,7 @@ module _ {T : Type 0} where
 
   pub names_parent : (nodes : Slab (Linked T)) (link : Option ℕ) (f : Forested T) (id : NodeId) (l : Linked T) (s : IsSound nodes link) → seen nodes link ≡ f → IsPlaced f id → get nodes id.slot ≡ Some l
       → Names (get nodes) l.parent (parent_of id.number (values s.tree))
-  names_parent nodes link f id l s v placed g =
-      let t = s.tree in
-      let w : Stands nodes t id = stands_at nodes link f id s v placed in
-      let node : IsNode (get nodes) None t id.slot id.number l = node_is (get nodes) None None id.slot id.number l t s.by_slot w.agree w.stands s.linked g in
-      elim (cases_Bool (is_root id.number (values t))) [
-        | inl y ↦ rw (node.root y) (parent_root id.number (values t) s.by_number y)
-        | inr y ↦ node.up y
-      ]
+  names_parent nodes link f id l s v placed g = grind (arith, nat_tests, stands_at nodes link f id s v placed, node_is (get nodes) None None id.slot id.number l s.tree s.by_slot (stands_at nodes link f id s v placed).agree (stands_at nodes link f id s v placed).stands s.linked g, cases_Bool (is_root id.number (values s.tree)), parent_root id.number (values s.tree) s.by_number)
 
   len_written : (nodes : Slab (Linked T)) (v : ℕ) (m : Linked T) → ContainsKey nodes v → slab_len (with_value nodes v m) ≡ slab_len nodes
   len_written nodes v m h = count_set nodes.slots v m h
@@ -405,8 +362,4 @@ module _ {T : Type 0} where
 
   pub seen_written : (nodes : Slab (Linked T)) (link : Option ℕ) (f : Forested T) (v n : ℕ) (w : T) (l : Linked T) (s : IsSound nodes link) → seen nodes link ≡ f → has v s.tree ≡ true → Agree v n s.tree → get nodes v ≡ Some l
       → seen (with_value nodes v (record l { value = w })) link ≡ record f { forest = changed n (λ _. w) f.forest }
-  seen_written nodes link f v n w l s view h agree g =
-      let forest : values (changed v (valued w) s.tree) ≡ changed n (λ _. w) f.forest =
-      values_changed v n w s.tree agree ∙ ap (λ (x : Forest T). changed n (λ _. w) x) (forest_is nodes link f s view) in
-      let places : slots (changed v (valued w) s.tree) ≡ f.places = slots_changed v w s.tree ∙ places_are nodes link f s view in
-      seen_built _ _ _ (written nodes link v n w l s h agree g) ∙ rw (forest, places, vacant_is nodes link f view) refl
+  seen_written nodes link f v n w l s view h agree g = grind (arith, nat_tests, valued w, values_changed v n w s.tree agree, forest_is nodes link f s view, slots_changed v w s.tree, places_are nodes link f s view, seen_built, written nodes link v n w l s h agree g, vacant_is nodes link f view)

@@ -6,6 +6,7 @@ use Rattle.forest.specs.Forest.{Forest, Empty, Node, has, Once, size, first, chi
 use Rattle.forest.specs.Links.{Entry, entry_of, linked, built, IsLinked}
 use Rattle.forest.specs.declared.links.Linked.{Linked}
 use Rattle.forest.proofs.Trees.{Apart, apart_of, Here, Below, Beside, where_is, removed_absent, put_absent, changed_absent, first_put, first_removed, first_changed, has_first, has_children, has_of_removed}
+use Rattle.std.proofs.lemmas.Bool.Decides.{nat_tests}
 
 abbrev pub Look : Type 0 → Type 0
 Look T = ℕ → Option (Linked T)
@@ -42,21 +43,13 @@ module _ {T : Type 0} where
       → ((s : ℕ) → has s t ≡ true → first t ≢ Some s → H s ≡ G s)
       → IsLinked H parent new t
   relink G H parent previous new Empty o l write same = tt
-  relink G H parent previous new (Node k e below beside) o l write same =
-      let apart : Apart k below beside = apart_of k e below beside o in
-      let rest : (s : ℕ) → has s (Node k e below beside) ≡ true → s ≢ k → H s ≡ G s =
-      λ s h ne. same s h (λ (f : Some k ≡ Some s). ne (cc)) in (
-        write k (linked e parent (first below) previous (first beside)) refl l.0,
-        frame G H (Some k) None below (λ s h. rest s (in_below s k below beside e h) (differs s k below h apart.not_below)) l.1,
-        frame G H parent (Some k) beside (λ s h. rest s (in_beside s k below beside e h) (differs s k beside h apart.not_beside)) l.2,
-      )
+  relink G H parent previous new (Node k e below beside) o l write same = grind (arith, nat_tests, apart_of, frame, in_below, differs, in_beside)
 
   pub built_is : (G : Look T) (parent previous : Option ℕ) (t : Forest (Entry T)) (fuel : ℕ) → size t ≤ fuel → IsLinked G parent previous t → built fuel G (first t) ≡ t
   built_is G parent previous Empty zero h l = refl
   built_is G parent previous Empty (suc fuel) h l = refl
   built_is G parent previous (Node k e below beside) zero h l = absurd (omega (arith, h))
-  built_is G parent previous (Node k e below beside) (suc fuel) h l =
-      rw (l.0, built_is G (Some k) None below fuel (omega (arith, h)) l.1, built_is G parent (Some k) beside fuel (omega (arith, h)) l.2) refl
+  built_is G parent previous (Node k e below beside) (suc fuel) h l = grind (arith, nat_tests, built_is G (Some k) None below fuel, built_is G parent (Some k) beside fuel)
 
   -- the neighbours of a node stand in the forest without it, or outside of the forest
   pub record Near (parent previous : Option ℕ) (t : Forest (Entry T)) (v : ℕ) (l : Linked T) : Type 0 where
@@ -177,16 +170,7 @@ module _ {T : Type 0} where
   pub head_is : (G : Look T) (parent previous : Option ℕ) (t : Forest (Entry T)) (v : ℕ) (l : Linked T) → IsLinked G parent previous t → first t ≡ Some v → G v ≡ Some l → Once t
       → (l.parent ≡ parent) × (l.previous ≡ previous) × (l.next ≡ first (removed v t))
   head_is G parent previous Empty v l i f g o = absurd (cc)
-  head_is G parent previous (Node k e below beside) v l i f g o =
-      let same : k ≡ v = cc f in
-      let apart : Apart k below beside = apart_of k e below beside o in
-      let w : G v ≡ Some (linked e parent (first below) previous (first beside)) = rw same at i.0 in
-      let is : l ≡ linked e parent (first below) previous (first beside) = cc in
-      let nb : has v beside ≡ false = rw same at apart.not_beside in (
-        ap (λ (m : Linked T). m.parent) is,
-        ap (λ (m : Linked T). m.previous) is,
-        rw (eq-eqb k v same, removed_absent v beside nb) (ap (λ (m : Linked T). m.next) is),
-      )
+  head_is G parent previous (Node k e below beside) v l i f g o = grind (arith, nat_tests, apart_of, eq-eqb, removed_absent)
 
   pub cases_first : (t : Forest (Entry T)) (v : ℕ) → (first t ≡ Some v) ⊎ (first t ≢ Some v)
   cases_first Empty v = inr (λ z. cc)
@@ -289,26 +273,11 @@ module _ {T : Type 0} where
 
   pub children_linked : (G : Look T) (parent previous : Option ℕ) (v : ℕ) (t : Forest (Entry T)) → Once t → has v t ≡ true → IsLinked G parent previous t → IsLinked G (Some v) None (children v t)
   children_linked G parent previous v Empty o h i = absurd (cc)
-  children_linked G parent previous v (Node k e below beside) o h i =
-      let apart : Apart k below beside = apart_of k e below beside o in
-      elim (where_is v k e below beside o h) [
-        | Here same y u w ↦ rw y (rw same at i.1)
-        | Below ne y u w ↦ rw (y, u) (children_linked G (Some k) None v below apart.once_below u i.1)
-        | Beside ne y u w ↦ rw (y, u) (children_linked G parent (Some k) v beside apart.once_beside w i.2)
-      ]
+  children_linked G parent previous v (Node k e below beside) o h i = grind (arith, nat_tests, apart_of, where_is, children_linked G (Some k) None v below (apart_of k e below beside o).once_below, children_linked G parent (Some k) v beside (apart_of k e below beside o).once_beside)
 
   pub child_is : (G : Look T) (parent previous : Option ℕ) (v : ℕ) (l : Linked T) (t : Forest (Entry T)) → Once t → has v t ≡ true → IsLinked G parent previous t → G v ≡ Some l → l.first_child ≡ first (children v t)
   child_is G parent previous v l Empty o h i g = absurd (cc)
-  child_is G parent previous v l (Node k e below beside) o h i g =
-      let apart : Apart k below beside = apart_of k e below beside o in
-      elim (where_is v k e below beside o h) [
-        | Here same y u w ↦
-            let z : G v ≡ Some (linked e parent (first below) previous (first beside)) = rw same at i.0 in
-            let is : l ≡ linked e parent (first below) previous (first beside) = cc in
-            rw y (ap (λ (m : Linked T). m.first_child) is)
-        | Below ne y u w ↦ rw (y, u) (child_is G (Some k) None v l below apart.once_below u i.1 g)
-        | Beside ne y u w ↦ rw (y, u) (child_is G parent (Some k) v l beside apart.once_beside w i.2 g)
-      ]
+  child_is G parent previous v l (Node k e below beside) o h i g = grind (arith, nat_tests, apart_of, where_is, child_is G (Some k) None v l below (apart_of k e below beside o).once_below, child_is G parent (Some k) v l beside (apart_of k e below beside o).once_beside)
 
   -- a node's data changes
   pub linked_changed : (G H : Look T) (parent previous : Option ℕ) (v : ℕ) (change : Entry T → Entry T) (l new : Linked T) (t : Forest (Entry T)) → Once t → has v t ≡ true → IsLinked G parent previous t

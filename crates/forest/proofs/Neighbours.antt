@@ -1,5 +1,5 @@
 -- What the links of a node name.
-use Rattle.std.proofs.Common.{◌≡◌, ◌⊎◌, ℕ, true, false, Option, Some, None, refl, sym, ap, ◌∙◌, inl, inr}
+use Rattle.std.proofs.Common.{◌≡◌, ◌⊎◌, ℕ, true, false, Option, Some, None, refl, sym, ap, ◌∙◌, inl, inr, arith}
 use Rattle.std.specs.Prelude.{◌==◌, ◌||◌, MatchOption}
 use Rattle.std.proofs.lemmas.Bool.{cases_eq, cases_Bool, eq-eqb, ne_eqb, eqb-true, or_parts, or_cases, or_left, or_right, both_ways, false_from_ne_true}
 use Rattle.forest.specs.Forest.{Forest, Empty, Node, has, Once, at, first, children, next_of, is_root, parent_of}
@@ -8,39 +8,23 @@ use Rattle.forest.specs.declared.links.Linked.{Linked}
 use Rattle.forest.proofs.Trees.{Apart, apart_of, Here, Below, Beside, where_is, at_absent, has_at}
 use Rattle.forest.proofs.Linking.{Look, in_below, in_beside, in_front}
 use Rattle.forest.proofs.Numbers.{Agree, has_by, has_agreed}
+use Rattle.std.proofs.lemmas.Bool.Decides.{nat_tests}
 
 module _ {A : Type 0} where
   pub root_has : (n : ℕ) (t : Forest A) → is_root n t ≡ true → has n t ≡ true
   root_has n Empty h = absurd (cc)
-  root_has n (Node k a below beside) h =
-      elim (or_cases (k == n) (is_root n beside) h) [
-        | inl y ↦ or_left (k == n) (has n below || has n beside) y
-        | inr y ↦ or_right (k == n) (has n below || has n beside) (or_right (has n below) (has n beside) (root_has n beside y))
-      ]
+  root_has n (Node k a below beside) h = grind (arith, nat_tests, or_cases, or_left, or_right, root_has n beside)
 
   pub root_absent : (n : ℕ) (t : Forest A) → has n t ≡ false → is_root n t ≡ false
   root_absent n t h = false_from_ne_true (is_root n t) (λ z. both_ways (has n t) h (root_has n t z))
 
   pub parent_absent : (n : ℕ) (t : Forest A) → has n t ≡ false → parent_of n t ≡ None
   parent_absent n Empty h = refl
-  parent_absent n (Node k a below beside) h =
-      let p = or_parts (k == n) (has n below || has n beside) h in
-      let q = or_parts (has n below) (has n beside) p.1 in
-      rw (root_absent n below q.0, q.0) (parent_absent n beside q.1)
+  parent_absent n (Node k a below beside) h = grind (arith, nat_tests, or_parts, root_absent, parent_absent n beside (or_parts (has n below) (has n beside) (or_parts (k == n) (has n below || has n beside) h).1).1)
 
   pub parent_root : (n : ℕ) (t : Forest A) → Once t → is_root n t ≡ true → parent_of n t ≡ None
   parent_root n Empty o h = refl
-  parent_root n (Node k a below beside) o h =
-      let apart : Apart k below beside = apart_of k a below beside o in
-      elim (or_cases (k == n) (is_root n beside) h) [
-        | inl y ↦
-            let e : k ≡ n = eqb-true k n y in
-            let u : has n below ≡ false = rw e at apart.not_below in
-            rw (root_absent n below u, u) (parent_absent n beside (rw e at apart.not_beside))
-        | inr y ↦
-            let u : has n below ≡ false = apart.apart_back n (root_has n beside y) in
-            rw (root_absent n below u, u) (parent_root n beside apart.once_beside y)
-      ]
+  parent_root n (Node k a below beside) o h = grind (arith, nat_tests, apart_of, or_cases, eqb-true, root_absent, root_has, parent_absent, parent_root n beside (apart_of k a below beside o).once_beside)
 
 module _ {T : Type 0} where
   -- the node at a link has this number, or there is neither
@@ -137,24 +121,4 @@ module _ {T : Type 0} where
   -- each node lies at its slot
   pub placed_at : (G : Look T) (parent previous : Option ℕ) (s : ℕ) (l : Linked T) (t : Forest (Entry T)) → Once t → Once (values t) → has s t ≡ true → IsLinked G parent previous t → G s ≡ Some l → at l.number (slots t) ≡ Some s
   placed_at G parent previous s l Empty o p h i j = absurd (cc)
-  placed_at G parent previous s l (Node k e below beside) o p h i j =
-      let apart : Apart k below beside = apart_of k e below beside o in
-      let parts : Apart e.number (values below) (values beside) = apart_of e.number e.value (values below) (values beside) p in
-      elim (where_is s k e below beside o h) [
-        | Here same y u w ↦
-            let is : e.number ≡ l.number =
-            let z : G s ≡ Some (linked e parent (first below) previous (first beside)) = rw same at i.0 in
-            let q : l ≡ linked e parent (first below) previous (first beside) = cc in ap (λ (m : Linked T). m.number) (sym q) in
-            rw (eq-eqb e.number l.number is) (ap (λ x. Some x) same)
-        | Below ne y u w ↦
-            let r : at l.number (slots below) ≡ Some s = placed_at G (Some k) None s l below apart.once_below parts.once_below u i.1 j in
-            let inside : has l.number (values below) ≡ true = sym (has_by (λ x d. x) l.number below) ∙ has_at l.number (slots below) s r in
-            let other : (e.number == l.number) ≡ false = ne_eqb e.number l.number (λ z. both_ways (has l.number (values below)) (rw z at parts.not_below) inside) in
-            rw (other, r) refl
-        | Beside ne y u w ↦
-            let r : at l.number (slots beside) ≡ Some s = placed_at G parent (Some k) s l beside apart.once_beside parts.once_beside w i.2 j in
-            let inside : has l.number (values beside) ≡ true = sym (has_by (λ x d. x) l.number beside) ∙ has_at l.number (slots beside) s r in
-            let other : (e.number == l.number) ≡ false = ne_eqb e.number l.number (λ z. both_ways (has l.number (values beside)) (rw z at parts.not_beside) inside) in
-            let none : has l.number (slots below) ≡ false = has_by (λ x d. x) l.number below ∙ parts.apart_back l.number inside in
-            rw (other, at_absent l.number (slots below) none) r
-      ]
+  placed_at G parent previous s l (Node k e below beside) o p h i j = grind (arith, nat_tests, apart_of k e below beside o, apart_of e.number e.value (values below) (values beside) p, where_is s k e below beside o h, eq-eqb e.number l.number, placed_at G (Some k) None s l below (apart_of k e below beside o).once_below (apart_of e.number e.value (values below) (values beside) p).once_below, placed_at G parent (Some k) s l beside (apart_of k e below beside o).once_beside (apart_of e.number e.value (values below) (values beside) p).once_beside, has_by, has_at l.number (slots below) s, has_at l.number (slots beside) s, ne_eqb e.number l.number, both_ways (has l.number (values below)), both_ways (has l.number (values beside)), at_absent l.number (slots below))

@@ -1,10 +1,11 @@
 -- A forest by slots and the same forest by numbers.
-use Rattle.std.proofs.Common.{◌≡◌, ℕ, true, false, Some, None, refl, sym, ap, ◌∙◌, inl, inr, arith}
+use Rattle.std.proofs.Common.{◌≡◌, ℕ, true, false, Some, refl, arith}
 use Rattle.std.specs.Prelude.{◌==◌, ◌||◌}
 use Rattle.std.proofs.lemmas.Bool.{cases_Bool, eq-eqb, eqb-true, or_parts, both_ways, false_from_ne_true}
-use Rattle.forest.specs.Forest.{Forest, Empty, Node, either, has, times, Once, size, at, children, put, removed, changed}
+use Rattle.forest.specs.Forest.{Forest, Empty, Node, has, times, Once, size, at, children, put, removed, changed}
 use Rattle.forest.specs.Links.{Entry, by_number, values, slots}
-use Rattle.forest.proofs.Trees.{Apart, apart_of, at_some, at_absent, has_at}
+use Rattle.forest.proofs.Trees.{apart_of, at_some, at_absent, has_at}
+use Rattle.std.proofs.lemmas.Bool.Decides.{nat_tests}
 
 module _ {T : Type 0} where
   -- the slot and the number name the same nodes
@@ -35,113 +36,32 @@ module _ {T B : Type 0} (f : ℕ → Entry T → B) where
 
   pub children_agreed : (v n : ℕ) (t : Forest (Entry T)) → Agree v n t → by_number f (children v t) ≡ children n (by_number f t)
   children_agreed v n Empty g = refl
-  children_agreed v n (Node k e below beside) g =
-      elim (cases_Bool (k == v)) [
-        | inl y ↦ rw (y, sym g.0 ∙ y) refl
-        | inr y ↦ elim (cases_Bool (has v below)) [
-          | inl u ↦ rw (y, sym g.0 ∙ y, has_agreed v n below g.1, u) (children_agreed v n below g.1)
-          | inr u ↦ rw (y, sym g.0 ∙ y, has_agreed v n below g.1, u) (children_agreed v n beside g.2)
-        ]
-      ]
+  children_agreed v n (Node k e below beside) g = grind (arith, nat_tests, cases_Bool, has_agreed, children_agreed v n below g.1, children_agreed v n beside g.2)
 
   pub removed_agreed : (v n : ℕ) (t : Forest (Entry T)) → Agree v n t → by_number f (removed v t) ≡ removed n (by_number f t)
   removed_agreed v n Empty g = refl
-  removed_agreed v n (Node k e below beside) g =
-      elim (cases_Bool (k == v)) [
-        | inl y ↦ rw (y, sym g.0 ∙ y) (removed_agreed v n beside g.2)
-        | inr y ↦ rw (y, sym g.0 ∙ y, removed_agreed v n below g.1, removed_agreed v n beside g.2) refl
-      ]
+  removed_agreed v n (Node k e below beside) g = grind (arith, nat_tests, cases_Bool, removed_agreed v n beside g.2, removed_agreed v n below g.1)
 
   pub put_agreed : (v n s : ℕ) (new : Entry T) (sub t : Forest (Entry T)) → Agree v n t → by_number f (put v s new sub t) ≡ put n new.number (f s new) (by_number f sub) (by_number f t)
   put_agreed v n s new sub Empty g = refl
-  put_agreed v n s new sub (Node k e below beside) g =
-      elim (cases_Bool (k == v)) [
-        | inl y ↦ rw (y, sym g.0 ∙ y, put_agreed v n s new sub beside g.2) refl
-        | inr y ↦ rw (y, sym g.0 ∙ y, put_agreed v n s new sub below g.1, put_agreed v n s new sub beside g.2) refl
-      ]
+  put_agreed v n s new sub (Node k e below beside) g = grind (arith, nat_tests, cases_Bool, put_agreed v n s new sub beside g.2, put_agreed v n s new sub below g.1)
 
   pub at_agreed : (v n : ℕ) (e : Entry T) (t : Forest (Entry T)) → Agree v n t → at v t ≡ Some e → (e.number ≡ n) × (at n (by_number f t) ≡ Some (f v e))
   at_agreed v n e Empty g h = absurd (cc)
-  at_agreed v n e (Node k d below beside) g h =
-      elim (cases_Bool (k == v)) [
-        | inl y ↦
-            let same : d ≡ e = let w : Some d ≡ Some e = rw y at h in cc in
-            let num : (d.number == n) ≡ true = sym g.0 ∙ y in
-            let slot : k ≡ v = eqb-true k v y in
-            (rw (← same) (eqb-true d.number n num), rw num (ap (λ x. Some x) (ap (λ (s : ℕ). f s d) slot ∙ ap (f v) same)))
-        | inr y ↦ elim (cases_Bool (has v below)) [
-          | inl u ↦
-              let w = at_some v below u in
-              let r : at v below ≡ Some e = let z : either (at v below) (at v beside) ≡ Some e = rw y at h in w.1 ∙ (rw w.1 at z) in
-              let rest = at_agreed v n e below g.1 r in
-              (rest.0, rw (sym g.0 ∙ y, rest.1) refl)
-          | inr u ↦
-              let r : at v beside ≡ Some e = rw (y, at_absent v below u) at h in
-              let rest = at_agreed v n e beside g.2 r in
-              let none : at n (by_number f below) ≡ None = at_absent n (by_number f below) (has_agreed v n below g.1 ∙ u) in
-              (rest.0, rw (sym g.0 ∙ y, none, rest.1) refl)
-        ]
-      ]
+  at_agreed v n e (Node k d below beside) g h = grind (arith, nat_tests, cases_Bool, at_some, eqb-true, at_absent, has_agreed, at_agreed v n e below g.1, at_agreed v n e beside g.2)
 
 module _ {T : Type 0} where
   pub agree_absent : (v n : ℕ) (t : Forest (Entry T)) → has v t ≡ false → has n (values t) ≡ false → Agree v n t
   agree_absent v n Empty h u = tt
-  agree_absent v n (Node k e below beside) h u =
-      let p = or_parts (k == v) (has v below || has v beside) h in
-      let q = or_parts (has v below) (has v beside) p.1 in
-      let r = or_parts (e.number == n) (has n (values below) || has n (values beside)) u in
-      let s = or_parts (has n (values below)) (has n (values beside)) r.1 in
-      (p.0 ∙ sym r.0, agree_absent v n below q.0 s.0, agree_absent v n beside q.1 s.1)
+  agree_absent v n (Node k e below beside) h u = grind (arith, nat_tests, or_parts, agree_absent v n below (or_parts (has v below) (has v beside) (or_parts (k == v) (has v below || has v beside) h).1).0 (or_parts (has n (values below)) (has n (values beside)) (or_parts (e.number == n) (has n (values below) || has n (values beside)) u).1).0, agree_absent v n beside (or_parts (has v below) (has v beside) (or_parts (k == v) (has v below || has v beside) h).1).1 (or_parts (has n (values below)) (has n (values beside)) (or_parts (e.number == n) (has n (values below) || has n (values beside)) u).1).1)
 
   pub placed_has : (v n : ℕ) (t : Forest (Entry T)) → at n (slots t) ≡ Some v → has v t ≡ true
   placed_has v n Empty h = absurd (cc)
-  placed_has v n (Node k e below beside) h =
-      elim (cases_Bool (e.number == n)) [
-        | inl y ↦ let same : k ≡ v = let w : Some k ≡ Some v = rw y at h in cc in rw (eq-eqb k v same) refl
-        | inr y ↦ elim (cases_Bool (has n (slots below))) [
-          | inl u ↦
-              let w = at_some n (slots below) u in
-              let r : at n (slots below) ≡ Some v = let z : either (at n (slots below)) (at n (slots beside)) ≡ Some v = rw y at h in w.1 ∙ (rw w.1 at z) in
-              grind (arith, placed_has v n below r)
-          | inr u ↦
-              let r : at n (slots beside) ≡ Some v = rw (y, at_absent n (slots below) u) at h in
-              grind (arith, placed_has v n beside r)
-        ]
-      ]
+  placed_has v n (Node k e below beside) h = grind (arith, nat_tests, cases_Bool, at_some, eq-eqb, at_absent, placed_has v n below, placed_has v n beside)
 
   pub agree_at : (v n : ℕ) (t : Forest (Entry T)) → Once t → Once (values t) → at n (slots t) ≡ Some v → Agree v n t
   agree_at v n Empty o p h = tt
-  agree_at v n (Node k e below beside) o p h =
-      let apart : Apart k below beside = apart_of k e below beside o in
-      let parts : Apart e.number (values below) (values beside) = apart_of e.number e.value (values below) (values beside) p in
-      elim (cases_Bool (e.number == n)) [
-        | inl y ↦
-            let same : k ≡ v = let w : Some k ≡ Some v = rw y at h in cc in
-            let num : e.number ≡ n = eqb-true e.number n y in (
-              rw (eq-eqb k v same) (sym y),
-              agree_absent v n below (rw same at apart.not_below) (rw num at parts.not_below),
-              agree_absent v n beside (rw same at apart.not_beside) (rw num at parts.not_beside),
-            )
-        | inr y ↦ elim (cases_Bool (has n (slots below))) [
-          | inl u ↦
-              let w = at_some n (slots below) u in
-              let r : at n (slots below) ≡ Some v = let z : either (at n (slots below)) (at n (slots beside)) ≡ Some v = rw y at h in w.1 ∙ (rw w.1 at z) in
-              let inside : has v below ≡ true = placed_has v n below r in
-              let numbers : has n (values below) ≡ true = sym (has_by (λ s d. s) n below) ∙ u in (
-                rw y (false_from_ne_true (k == v) (λ z. both_ways (has v below) (rw (eqb-true k v z) at apart.not_below) inside)),
-                agree_at v n below apart.once_below parts.once_below r,
-                agree_absent v n beside (apart.apart v inside) (parts.apart n numbers),
-              )
-          | inr u ↦
-              let r : at n (slots beside) ≡ Some v = rw (y, at_absent n (slots below) u) at h in
-              let inside : has v beside ≡ true = placed_has v n beside r in
-              let numbers : has n (values beside) ≡ true = sym (has_by (λ s d. s) n beside) ∙ has_at n (slots beside) v r in (
-                rw y (false_from_ne_true (k == v) (λ z. both_ways (has v beside) (rw (eqb-true k v z) at apart.not_beside) inside)),
-                agree_absent v n below (apart.apart_back v inside) (parts.apart_back n numbers),
-                agree_at v n beside apart.once_beside parts.once_beside r,
-              )
-        ]
-      ]
+  agree_at v n (Node k e below beside) o p h = grind (arith, nat_tests, apart_of, cases_Bool, at_some, eqb-true, eq-eqb, agree_absent, placed_has, has_by, false_from_ne_true, both_ways, at_absent, has_at, agree_at v n below (apart_of k e below beside o).once_below (apart_of e.number e.value (values below) (values beside) p).once_below, agree_at v n beside (apart_of k e below beside o).once_beside (apart_of e.number e.value (values below) (values beside) p).once_beside)
 
   -- another value at a slot
   abbrev pub valued : T → Entry T → Entry T
@@ -149,16 +69,8 @@ module _ {T : Type 0} where
 
   pub values_changed : (v n : ℕ) (w : T) (t : Forest (Entry T)) → Agree v n t → values (changed v (valued w) t) ≡ changed n (λ _. w) (values t)
   values_changed v n w Empty g = refl
-  values_changed v n w (Node k e below beside) g =
-      elim (cases_Bool (k == v)) [
-        | inl y ↦ rw (y, sym g.0 ∙ y, values_changed v n w below g.1, values_changed v n w beside g.2) refl
-        | inr y ↦ rw (y, sym g.0 ∙ y, values_changed v n w below g.1, values_changed v n w beside g.2) refl
-      ]
+  values_changed v n w (Node k e below beside) g = grind (arith, nat_tests, cases_Bool, values_changed v n w below g.1, values_changed v n w beside g.2)
 
   pub slots_changed : (v : ℕ) (w : T) (t : Forest (Entry T)) → slots (changed v (valued w) t) ≡ slots t
   slots_changed v w Empty = refl
-  slots_changed v w (Node k e below beside) =
-      elim (cases_Bool (k == v)) [
-        | inl y ↦ rw (y, slots_changed v w below, slots_changed v w beside) refl
-        | inr y ↦ rw (y, slots_changed v w below, slots_changed v w beside) refl
-      ]
+  slots_changed v w (Node k e below beside) = grind (arith, nat_tests, cases_Bool, slots_changed v w below, slots_changed v w beside)

@@ -4,27 +4,25 @@ use Rattle.std.specs.Prelude.{IfSome, unwrap_or}
 use Rattle.slab.specs.Slab.{Slab, get, slab_len, ContainsKey}
 use Rattle.forest.specs.Forest.{Forest, has, Once, size, at, first}
 use Rattle.forest.specs.Forested.{Forested, IsPlaced, Named}
-use Rattle.forest.specs.Links.{Entry, built, IsLinked, slots, forested, IsSound, seen}
+use Rattle.forest.specs.Links.{Entry, IsLinked, slots, forested, IsSound, seen}
 use Rattle.forest.specs.declared.id.NodeId.{NodeId}
 use Rattle.forest.specs.declared.links.Linked.{Linked}
 use Rattle.forest.proofs.Linking.{built_is}
 use Rattle.forest.proofs.Numbers.{Agree, has_agreed, agree_at, placed_has}
 use Rattle.forest.proofs.Neighbours.{Names, node_at, IsNode, node_is, placed_at}
+use Rattle.std.proofs.lemmas.Bool.Decides.{nat_tests}
 
 module _ {T : Type 0} where
   pub seen_from : (nodes : Slab (Linked T)) (link : Option ℕ) (t : Forest (Entry T)) → IsLinked (get nodes) None None t → link ≡ first t → size t ≡ slab_len nodes → seen nodes link ≡ forested nodes.vacant_key t
   unfolding seen
-  seen_from nodes link t i front count =
-      ap (forested nodes.vacant_key) (ap (built (slab_len nodes) (get nodes)) front ∙ built_is (get nodes) None None t (slab_len nodes) (omega arith) i)
+  seen_from nodes link t i front count = grind (arith, nat_tests, built_is)
 
   pub seen_is : (nodes : Slab (Linked T)) (link : Option ℕ) (s : IsSound nodes link) → seen nodes link ≡ forested nodes.vacant_key s.tree
   seen_is nodes link s = seen_from nodes link s.tree s.linked s.front s.count
 
   pub seen_slots : (m n : Slab (Linked T)) (link : Option ℕ) → n.slots ≡ m.slots → n.vacant_key ≡ m.vacant_key → seen n link ≡ seen m link
   unfolding seen
-  seen_slots m n link e v =
-      ap (λ (xs : List (Option (Linked T))). forested n.vacant_key (built (count_by is_some xs) (λ k. get_or xs k None) link)) e
-      ∙ ap (λ (k : ℕ). forested k (built (slab_len m) (get m) link)) v
+  seen_slots m n link e v = grind (arith, nat_tests, count_by)
 
   pub vacant_is : (nodes : Slab (Linked T)) (link : Option ℕ) (f : Forested T) → seen nodes link ≡ f → nodes.vacant_key ≡ f.vacant
   unfolding seen
@@ -63,10 +61,7 @@ module _ {T : Type 0} where
       }
 
   pub is_there : (nodes : Slab (Linked T)) (link : Option ℕ) (f : Forested T) (id : NodeId) (s : IsSound nodes link) → seen nodes link ≡ f → IsPlaced f id → has id.number f.forest ≡ true
-  is_there nodes link f id s v placed =
-      let w = stands_at nodes link f id s v placed in
-      ap (λ (g : Forested T). has id.number g.forest) (sym v ∙ seen_is nodes link s)
-      ∙ has_agreed (λ x d. d.value) id.slot id.number s.tree w.agree ∙ w.stands
+  is_there nodes link f id s v placed = grind (arith, nat_tests, stands_at nodes link f id s v placed, seen_is nodes link s, has_agreed)
 
   pub all_once : (nodes : Slab (Linked T)) (link : Option ℕ) (f : Forested T) (s : IsSound nodes link) → seen nodes link ≡ f → Once f.forest
   all_once nodes link f s v = subst (λ (g : Forested T). Once g.forest) (sym (seen_is nodes link s) ∙ v) s.by_number
@@ -82,11 +77,7 @@ module _ {T : Type 0} where
       → IfSome at_link (λ x. IfSome (get nodes x) (λ l. id ≡ Some (record { number = l.number; slot = x })))
       → Named f id number
   named_is nodes link f s v None number id names inside none some = rw (none refl) names
-  named_is nodes link f s v (Some x) number id names inside none some =
-      let l = names.0 in
-      let is : id ≡ Some (record { number = l.number; slot = x }) = rw names.1 at some in
-      let places : slots s.tree ≡ f.places = ap (λ (g : Forested T). g.places) (sym (seen_is nodes link s) ∙ v) in
-      rw is (names.2, rw (← places) (placed_at (get nodes) None None x l s.tree s.by_slot s.by_number (inside x refl) s.linked names.1))
+  named_is nodes link f s v (Some x) number id names inside none some = grind (arith, nat_tests, seen_is nodes link s, placed_at (get nodes) None None x names.0 s.tree s.by_slot s.by_number (inside x refl) s.linked names.1)
 
   -- where a node is named, its number is that number
   pub named_or : (f : Forested T) (id : Option NodeId) (number : Option ℕ) (m : ℕ) (other : NodeId) → Named f id number → number ≡ Some m → (unwrap_or id other).number ≡ m

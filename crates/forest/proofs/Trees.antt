@@ -1,34 +1,24 @@
 -- Forests whose numbers stand once each.
-use Rattle.std.proofs.Common.{◌≡◌, ◌≢◌, ℕ, ◌+◌, ◌≤◌, true, false, Some, None, refl, sym, ap, ◌∙◌, inl, inr, arith}
+use Rattle.std.proofs.Common.{◌≡◌, ◌≢◌, ℕ, ◌+◌, ◌≤◌, true, false, Some, None, refl, ap, inl, inr, arith}
 use Rattle.std.specs.Prelude.{◌==◌, ◌||◌, if◌then◌else◌}
 use Rattle.std.proofs.lemmas.Bool.{cases_eq, cases_Bool, eq-eqb, ne_eqb, eqb-true, or_parts, or_cases, both_ways, false_from_ne_true}
 use Rattle.forest.specs.Forest.{Forest, Empty, Node, has, times, Once, size, at, first, children, put, removed, changed}
+use Rattle.std.proofs.lemmas.Bool.Decides.{nat_tests}
 
 module _ {A : Type 0} where
   pub times_none : (n : ℕ) (t : Forest A) → has n t ≡ false → times n t ≡ 0
   times_none n Empty h = refl
-  times_none n (Node k a below beside) h =
-      let p = or_parts (k == n) (has n below || has n beside) h in
-      let q = or_parts (has n below) (has n beside) p.1 in
-      rw (p.0, times_none n below q.0, times_none n beside q.1) refl
+  times_none n (Node k a below beside) h = grind (arith, nat_tests, or_parts, times_none n below (or_parts (has n below) (has n beside) (or_parts (k == n) (has n below || has n beside) h).1).0, times_none n beside (or_parts (has n below) (has n beside) (or_parts (k == n) (has n below || has n beside) h).1).1)
 
   pub times_some : (n : ℕ) (t : Forest A) → has n t ≡ true → 1 ≤ times n t
   times_some n Empty h = absurd (cc)
-  times_some n (Node k a below beside) h =
-      elim (or_cases (k == n) (has n below || has n beside) h) [
-        | inl e ↦ rw e (omega arith)
-        | inr r ↦ elim (or_cases (has n below) (has n beside) r) [
-          | inl e ↦ omega (arith, times_some n below e)
-          | inr e ↦ omega (arith, times_some n beside e)
-        ]
-      ]
+  times_some n (Node k a below beside) h = grind (arith, nat_tests, or_cases, times_some n below, times_some n beside)
 
   pub has_none : (n : ℕ) (t : Forest A) → times n t ≡ 0 → has n t ≡ false
   has_none n t h = false_from_ne_true (has n t) (λ e. omega (arith, times_some n t e))
 
   pub has_some : (n : ℕ) (t : Forest A) → 1 ≤ times n t → has n t ≡ true
-  has_some n t h =
-      elim (cases_Bool (has n t)) [ inl e ↦ e | inr e ↦ absurd (omega (arith, times_none n t e)) ]
+  has_some n t h = grind (arith, nat_tests, cases_Bool, times_none)
 
   -- of a node whose forest has each number once, its number, what is below it and what is beside it are apart
   pub record Apart (k : ℕ) (below beside : Forest A) : Type 0 where
@@ -40,14 +30,7 @@ module _ {A : Type 0} where
     pub apart_back : (n : ℕ) → has n beside ≡ true → has n below ≡ false
 
   pub apart_of : (k : ℕ) (a : A) (below beside : Forest A) → Once (Node k a below beside) → Apart k below beside
-  apart_of k a below beside o = record {
-    once_below = record { once = λ n. omega (arith, o.once n) };
-    once_beside = record { once = λ n. omega (arith, o.once n) };
-    not_below = has_none k below (let w : 1 + (times k below + times k beside) ≤ 1 = rw (eq-eqb k k refl) at (o.once k) in omega arith);
-    not_beside = has_none k beside (let w : 1 + (times k below + times k beside) ≤ 1 = rw (eq-eqb k k refl) at (o.once k) in omega arith);
-    apart = λ n h. has_none n beside (omega (arith, o.once n, times_some n below h));
-    apart_back = λ n h. has_none n below (omega (arith, o.once n, times_some n beside h));
-  }
+  apart_of k a below beside o = grind (arith, nat_tests, has_none, eq-eqb, times_some)
 
   -- where a number stands in a forest that has it once
   pub data Where (n k : ℕ) (below beside : Forest A) : Type 0 where
@@ -56,52 +39,27 @@ module _ {A : Type 0} where
     Beside : k ≢ n → (k == n) ≡ false → has n below ≡ false → has n beside ≡ true → Where n k below beside
 
   pub where_is : (n k : ℕ) (a : A) (below beside : Forest A) → Once (Node k a below beside) → has n (Node k a below beside) ≡ true → Where n k below beside
-  where_is n k a below beside o h =
-      let apart : Apart k below beside = apart_of k a below beside o in
-      elim (cases_eq k n) [
-        | inl e ↦ Here e (eq-eqb k n e) (rw e at apart.not_below) (rw e at apart.not_beside)
-        | inr ne ↦
-            let r : (has n below || has n beside) ≡ true = rw (ne_eqb k n ne) at h in
-            elim (or_cases (has n below) (has n beside) r) [
-              | inl e ↦ Below ne (ne_eqb k n ne) e (apart.apart n e)
-              | inr e ↦ Beside ne (ne_eqb k n ne) (apart.apart_back n e) e
-            ]
-      ]
+  where_is n k a below beside o h = grind (arith, nat_tests, apart_of, cases_eq, eq-eqb, ne_eqb, or_cases)
 
   pub removed_absent : (n : ℕ) (t : Forest A) → has n t ≡ false → removed n t ≡ t
   removed_absent n Empty h = refl
-  removed_absent n (Node k a below beside) h =
-      let p = or_parts (k == n) (has n below || has n beside) h in
-      let q = or_parts (has n below) (has n beside) p.1 in
-      rw (p.0, removed_absent n below q.0, removed_absent n beside q.1) refl
+  removed_absent n (Node k a below beside) h = grind (arith, nat_tests, or_parts, removed_absent n below (or_parts (has n below) (has n beside) (or_parts (k == n) (has n below || has n beside) h).1).0, removed_absent n beside (or_parts (has n below) (has n beside) (or_parts (k == n) (has n below || has n beside) h).1).1)
 
   pub put_absent : (p n : ℕ) (a : A) (sub t : Forest A) → has p t ≡ false → put p n a sub t ≡ t
   put_absent p n a sub Empty h = refl
-  put_absent p n a sub (Node k b below beside) h =
-      let u = or_parts (k == p) (has p below || has p beside) h in
-      let q = or_parts (has p below) (has p beside) u.1 in
-      rw (u.0, put_absent p n a sub below q.0, put_absent p n a sub beside q.1) refl
+  put_absent p n a sub (Node k b below beside) h = grind (arith, nat_tests, or_parts, put_absent p n a sub below (or_parts (has p below) (has p beside) (or_parts (k == p) (has p below || has p beside) h).1).0, put_absent p n a sub beside (or_parts (has p below) (has p beside) (or_parts (k == p) (has p below || has p beside) h).1).1)
 
   pub changed_absent : (n : ℕ) (f : A → A) (t : Forest A) → has n t ≡ false → changed n f t ≡ t
   changed_absent n f Empty h = refl
-  changed_absent n f (Node k a below beside) h =
-      let p = or_parts (k == n) (has n below || has n beside) h in
-      let q = or_parts (has n below) (has n beside) p.1 in
-      rw (p.0, changed_absent n f below q.0, changed_absent n f beside q.1) refl
+  changed_absent n f (Node k a below beside) h = grind (arith, nat_tests, or_parts, changed_absent n f below (or_parts (has n below) (has n beside) (or_parts (k == n) (has n below || has n beside) h).1).0, changed_absent n f beside (or_parts (has n below) (has n beside) (or_parts (k == n) (has n below || has n beside) h).1).1)
 
   pub at_absent : (n : ℕ) (t : Forest A) → has n t ≡ false → at n t ≡ None
   at_absent n Empty h = refl
-  at_absent n (Node k a below beside) h =
-      let p = or_parts (k == n) (has n below || has n beside) h in
-      let q = or_parts (has n below) (has n beside) p.1 in
-      rw (p.0, at_absent n below q.0, at_absent n beside q.1) refl
+  at_absent n (Node k a below beside) h = grind (arith, nat_tests, or_parts, at_absent n below (or_parts (has n below) (has n beside) (or_parts (k == n) (has n below || has n beside) h).1).0, at_absent n beside (or_parts (has n below) (has n beside) (or_parts (k == n) (has n below || has n beside) h).1).1)
 
   pub children_absent : (n : ℕ) (t : Forest A) → has n t ≡ false → children n t ≡ Empty
   children_absent n Empty h = refl
-  children_absent n (Node k a below beside) h =
-      let p = or_parts (k == n) (has n below || has n beside) h in
-      let q = or_parts (has n below) (has n beside) p.1 in
-      rw (p.0, q.0, children_absent n beside q.1) refl
+  children_absent n (Node k a below beside) h = grind (arith, nat_tests, or_parts, children_absent n beside (or_parts (has n below) (has n beside) (or_parts (k == n) (has n below || has n beside) h).1).1)
 
   pub first_put : (p n : ℕ) (a : A) (sub t : Forest A) → first (put p n a sub t) ≡ first t
   first_put p n a sub Empty = refl
@@ -122,43 +80,19 @@ module _ {A : Type 0} where
   -- sums over a forest in which a number stands once
   pub times_removed : (m n : ℕ) (t : Forest A) → Once t → has n t ≡ true → times m (removed n t) + ((if n == m then 1 else 0) + times m (children n t)) ≡ times m t
   times_removed m n Empty o h = absurd (cc)
-  times_removed m n (Node k a below beside) o h =
-      let apart : Apart k below beside = apart_of k a below beside o in
-      elim (where_is n k a below beside o h) [
-        | Here e y u v ↦ rw (y, removed_absent n beside v, ap (λ (x : ℕ). x == m) (sym e)) (omega arith)
-        | Below ne y u v ↦ rw (y, u, removed_absent n beside v) (omega (arith, times_removed m n below apart.once_below u))
-        | Beside ne y u v ↦ rw (y, u, removed_absent n below u) (omega (arith, times_removed m n beside apart.once_beside v))
-      ]
+  times_removed m n (Node k a below beside) o h = grind (arith, nat_tests, apart_of, where_is, removed_absent, times_removed m n below (apart_of k a below beside o).once_below, times_removed m n beside (apart_of k a below beside o).once_beside)
 
   pub size_removed : (n : ℕ) (t : Forest A) → Once t → has n t ≡ true → size (removed n t) + (1 + size (children n t)) ≡ size t
   size_removed n Empty o h = absurd (cc)
-  size_removed n (Node k a below beside) o h =
-      let apart : Apart k below beside = apart_of k a below beside o in
-      elim (where_is n k a below beside o h) [
-        | Here e y u v ↦ rw (y, removed_absent n beside v) (omega arith)
-        | Below ne y u v ↦ rw (y, u, removed_absent n beside v) (omega (arith, size_removed n below apart.once_below u))
-        | Beside ne y u v ↦ rw (y, u, removed_absent n below u) (omega (arith, size_removed n beside apart.once_beside v))
-      ]
+  size_removed n (Node k a below beside) o h = grind (arith, nat_tests, apart_of, where_is, removed_absent, size_removed n below (apart_of k a below beside o).once_below, size_removed n beside (apart_of k a below beside o).once_beside)
 
   pub times_put : (m p n : ℕ) (a : A) (sub t : Forest A) → Once t → has p t ≡ true → times m (put p n a sub t) ≡ times m t + ((if n == m then 1 else 0) + times m sub)
   times_put m p n a sub Empty o h = absurd (cc)
-  times_put m p n a sub (Node k b below beside) o h =
-      let apart : Apart k below beside = apart_of k b below beside o in
-      elim (where_is p k b below beside o h) [
-        | Here e y u v ↦ rw (y, put_absent p n a sub beside v) (omega arith)
-        | Below ne y u v ↦ rw (y, put_absent p n a sub beside v) (omega (arith, times_put m p n a sub below apart.once_below u))
-        | Beside ne y u v ↦ rw (y, put_absent p n a sub below u) (omega (arith, times_put m p n a sub beside apart.once_beside v))
-      ]
+  times_put m p n a sub (Node k b below beside) o h = grind (arith, nat_tests, apart_of, where_is, put_absent, times_put m p n a sub below (apart_of k b below beside o).once_below, times_put m p n a sub beside (apart_of k b below beside o).once_beside)
 
   pub size_put : (p n : ℕ) (a : A) (sub t : Forest A) → Once t → has p t ≡ true → size (put p n a sub t) ≡ size t + (1 + size sub)
   size_put p n a sub Empty o h = absurd (cc)
-  size_put p n a sub (Node k b below beside) o h =
-      let apart : Apart k below beside = apart_of k b below beside o in
-      elim (where_is p k b below beside o h) [
-        | Here e y u v ↦ rw (y, put_absent p n a sub beside v) (omega arith)
-        | Below ne y u v ↦ rw (y, put_absent p n a sub beside v) (omega (arith, size_put p n a sub below apart.once_below u))
-        | Beside ne y u v ↦ rw (y, put_absent p n a sub below u) (omega (arith, size_put p n a sub beside apart.once_beside v))
-      ]
+  size_put p n a sub (Node k b below beside) o h = grind (arith, nat_tests, apart_of, where_is, put_absent, size_put p n a sub below (apart_of k b below beside o).once_below, size_put p n a sub beside (apart_of k b below beside o).once_beside)
 
   pub times_changed : (m n : ℕ) (f : A → A) (t : Forest A) → times m (changed n f t) ≡ times m t
   times_changed m n f Empty = refl
@@ -186,18 +120,11 @@ module _ {A : Type 0} where
       ]
 
   pub has_at : (n : ℕ) (t : Forest A) (a : A) → at n t ≡ Some a → has n t ≡ true
-  has_at n t a h =
-      elim (cases_Bool (has n t)) [ inl e ↦ e | inr e ↦ let none : at n t ≡ None = at_absent n t e in absurd (cc) ]
+  has_at n t a h = grind (arith, nat_tests, cases_Bool, at_absent)
 
   -- a number below another one stands in the forest
   pub has_children : (m n : ℕ) (t : Forest A) → Once t → has m (children n t) ≡ true → has m t ≡ true
-  has_children m n t o h =
-      elim (cases_Bool (has n t)) [
-        | inl e ↦ has_some m t (omega (arith, times_removed m n t o e, times_some m (children n t) h))
-        | inr e ↦
-            let none : has m (children n t) ≡ false = rw (children_absent n t e) refl in
-            absurd (both_ways (has m (children n t)) none h)
-      ]
+  has_children m n t o h = grind (arith, nat_tests, cases_Bool (has n t), has_some m t, times_removed m n t o, times_some m (children n t) h, children_absent n t, both_ways (has m (children n t)))
 
   -- a node with all below it moves in front of the children of another one, which isn't below it
   pub record Moves (n p : ℕ) (t : Forest A) : Type 0 where
@@ -207,98 +134,46 @@ module _ {A : Type 0} where
     pub apart : has p (children n t) ≡ false
 
   pub parent_stays : (n p : ℕ) (t : Forest A) → Once t → Moves n p t → has p (removed n t) ≡ true
-  parent_stays n p t o w =
-      let e : times p (removed n t) + (0 + 0) ≡ times p t =
-      rw (ne_eqb n p (λ h. w.other (sym h)), times_none p (children n t) w.apart) at (times_removed p n t o w.node) in
-      has_some p (removed n t) (omega (arith, times_some p t w.parent, e))
+  parent_stays n p t o w = grind (arith, nat_tests, ne_eqb, times_none, times_removed, has_some, times_some)
 
   pub once_removed : (n : ℕ) (t : Forest A) → Once t → has n t ≡ true → Once (removed n t)
   once_removed n t o h = record { once = λ m. omega (arith, o.once m, times_removed m n t o h) }
 
   pub once_put : (p n : ℕ) (a : A) (t : Forest A) → Once t → has p t ≡ true → has n t ≡ false → Once (put p n a Empty t)
-  once_put p n a t o h new = record {
-    once = λ m. elim (cases_eq n m) [
-      | inl e ↦ rw (times_put m p n a Empty t o h, eq-eqb n m e, times_none m t (rw e at new)) (omega arith)
-      | inr ne ↦ rw (times_put m p n a Empty t o h, ne_eqb n m ne) (omega (arith, o.once m))
-    ];
-  }
+  once_put p n a t o h new = grind (arith, nat_tests, cases_eq, times_put, eq-eqb, times_none, ne_eqb)
 
   pub once_front : (n : ℕ) (a : A) (t : Forest A) → Once t → has n t ≡ false → Once (Node n a Empty t)
-  once_front n a t o new = record {
-    once = λ m. elim (cases_eq n m) [
-      | inl e ↦ rw (eq-eqb n m e, times_none m t (rw e at new)) (omega arith)
-      | inr ne ↦ rw (ne_eqb n m ne) (omega (arith, o.once m))
-    ];
-  }
+  once_front n a t o new = grind (arith, nat_tests, cases_eq, eq-eqb, times_none, ne_eqb)
 
   pub once_changed : (n : ℕ) (f : A → A) (t : Forest A) → Once t → Once (changed n f t)
   once_changed n f t o = record { once = λ m. rw (times_changed m n f t) (o.once m) }
 
   -- the move of a node whose data this is
   pub times_moved : (m n p : ℕ) (a : A) (t : Forest A) → Once t → Moves n p t → times m (put p n a (children n t) (removed n t)) ≡ times m t
-  times_moved m n p a t o w =
-      omega (arith, times_put m p n a (children n t) (removed n t) (once_removed n t o w.node) (parent_stays n p t o w), times_removed m n t o w.node)
+  times_moved m n p a t o w = grind (arith, nat_tests, times_put, once_removed, parent_stays, times_removed)
 
   pub once_moved : (n p : ℕ) (a : A) (t : Forest A) → Once t → Moves n p t → Once (put p n a (children n t) (removed n t))
   once_moved n p a t o w = record { once = λ m. rw (times_moved m n p a t o w) (o.once m) }
 
   pub size_moved : (n p : ℕ) (a : A) (t : Forest A) → Once t → Moves n p t → size (put p n a (children n t) (removed n t)) ≡ size t
-  size_moved n p a t o w =
-      omega (arith, size_put p n a (children n t) (removed n t) (once_removed n t o w.node) (parent_stays n p t o w), size_removed n t o w.node)
+  size_moved n p a t o w = grind (arith, nat_tests, size_put, once_removed, parent_stays, size_removed)
 
   -- the first child isn't the node itself
   pub first_child_other : (n : ℕ) (t : Forest A) → Once t → has n t ≡ true → has n (children n t) ≡ false
-  first_child_other n t o h =
-      let e : times n (removed n t) + (1 + times n (children n t)) ≡ times n t = rw (eq-eqb n n refl) at (times_removed n n t o h) in
-      has_none n (children n t) (omega (arith, o.once n, e))
+  first_child_other n t o h = grind (arith, nat_tests, eq-eqb n n refl, times_removed n n t o h, has_none n (children n t))
 
   pub removed_has : (n : ℕ) (t : Forest A) → Once t → has n t ≡ true → has n (removed n t) ≡ false
-  removed_has n t o h =
-      let e : times n (removed n t) + (1 + times n (children n t)) ≡ times n t = rw (eq-eqb n n refl) at (times_removed n n t o h) in
-      has_none n (removed n t) (omega (arith, o.once n, e))
+  removed_has n t o h = grind (arith, nat_tests, eq-eqb, times_removed, has_none)
 
   pub has_of_removed : (m n : ℕ) (t : Forest A) → has m (removed n t) ≡ true → has m t ≡ true
   has_of_removed m n Empty h = absurd (cc)
-  has_of_removed m n (Node k a below beside) h =
-      elim (cases_Bool (k == n)) [
-        | inl y ↦ let r : has m (removed n beside) ≡ true = rw y at h in grind (arith, has_of_removed m n beside r)
-        | inr y ↦
-            let r : ((k == m) || (has m (removed n below) || has m (removed n beside))) ≡ true = rw y at h in
-            elim (or_cases (k == m) (has m (removed n below) || has m (removed n beside)) r) [
-              | inl e ↦ rw e refl
-              | inr e ↦ elim (or_cases (has m (removed n below)) (has m (removed n beside)) e) [
-                | inl x ↦ grind (arith, has_of_removed m n below x)
-                | inr x ↦ grind (arith, has_of_removed m n beside x)
-              ]
-            ]
-      ]
+  has_of_removed m n (Node k a below beside) h = grind (arith, nat_tests, cases_Bool, or_cases, has_of_removed m n beside, has_of_removed m n below)
 
   -- what is left without a node is neither the node nor below it
   pub left_apart : (m n : ℕ) (t : Forest A) → Once t → has n t ≡ true → has m (removed n t) ≡ true → (m ≢ n) × (has m (children n t) ≡ false)
-  left_apart m n t o h u =
-      let sum = times_removed m n t o h in (
-        λ e. both_ways (has m (removed n t)) (rw e (removed_has n t o h)) u,
-        has_none m (children n t) (omega (arith, o.once m, sum, times_some m (removed n t) u)),
-      )
+  left_apart m n t o h u = grind (arith, nat_tests, times_removed, both_ways, removed_has, has_none, times_some)
 
   -- without a node that has no children, every other one is there as before
   pub at_removed : (m n : ℕ) (t : Forest A) → Once t → m ≢ n → children n t ≡ Empty → at m (removed n t) ≡ at m t
   at_removed m n Empty o ne leaf = refl
-  at_removed m n (Node k a below beside) o ne leaf =
-      let apart : Apart k below beside = apart_of k a below beside o in
-      elim (cases_Bool (k == n)) [
-        | inl y ↦
-            let e : k ≡ n = eqb-true k n y in
-            let empty : below ≡ Empty = rw y at leaf in
-            let out : has n beside ≡ false = rw e at apart.not_beside in
-            let other : (k == m) ≡ false = ne_eqb k m (λ z. ne (sym z ∙ e)) in
-            rw (y, removed_absent n beside out, other, empty) refl
-        | inr y ↦ elim (cases_Bool (has n below)) [
-          | inl u ↦
-              let l : children n below ≡ Empty = rw (y, u) at leaf in
-              rw (y, removed_absent n beside (apart.apart n u), at_removed m n below apart.once_below ne l) refl
-          | inr u ↦
-              let l : children n beside ≡ Empty = rw (y, u) at leaf in
-              rw (y, removed_absent n below u, at_removed m n beside apart.once_beside ne l) refl
-        ]
-      ]
+  at_removed m n (Node k a below beside) o ne leaf = grind (arith, nat_tests, apart_of, cases_Bool, eqb-true, ne_eqb, removed_absent, at_removed m n below (apart_of k a below beside o).once_below ne, at_removed m n beside (apart_of k a below beside o).once_beside ne)

@@ -1,11 +1,12 @@
 -- The newest item that passes a test, found in the list from the newest on.
-use Rattle.std.proofs.Common.{◌≡◌, ℕ, zero, suc, Bool, true, false, List, [], ◌∷◌, ◌++◌, reverse, get_or, find, Some, None, refl, sym, arith}
+use Rattle.std.proofs.Common.{◌≡◌, ℕ, zero, suc, Bool, true, false, List, [], ◌∷◌, ◌++◌, reverse, get_or, find, Some, None, refl, arith}
 use Rattle.std.specs.List.{remove}
 use Rattle.std.proofs.lemmas.Grind.{reverse_onto}
 use Rattle.std.proofs.lemmas.List.{append-nil}
 use Rattle.pgs_step.specs.declared.ids.Item.{Item}
 use Rattle.owner_items.specs.ItemList.{without_newest}
 use Rattle.owner_items.specs.Newest.{IsNewest, NonePasses}
+use Rattle.std.proofs.lemmas.Bool.Decides.{nat_tests}
 
 pub find-append_some : (test : Item → Bool) (xs ys : List Item) (x : Item) → find test xs ≡ Some x → find test (xs ++ ys) ≡ Some x
 find-append_some test [] ys x found = absurd cc
@@ -54,9 +55,7 @@ find_newest test (y ∷ ys) zero x newest is =
     let rest : find test (reverse ys) ≡ None = find_none test ys (λ k d within. newest.later (suc k) d (omega arith) (omega arith)) in
     let passes : test y ≡ true = newest.passes x in
     rw (reverse-front y ys, find-append_none test (reverse ys) (y ∷ []) rest) (grind (arith, passes, is))
-find_newest test (y ∷ ys) (suc place) x newest is =
-    rw (reverse-front y ys)
-    (find-append_some test (reverse ys) (y ∷ []) x (find_newest test ys place x (newest_of_rest test y ys place newest) is))
+find_newest test (y ∷ ys) (suc place) x newest is = grind (arith, nat_tests, reverse-front, find-append_some, newest_of_rest, find_newest test ys place x (newest_of_rest test y ys place newest) is)
 
 pub without_newest_is :
     (test : Item → Bool) (xs : List Item) (place : ℕ) (x : Item) → IsNewest test xs place → x ≡ get_or xs place x →
@@ -67,11 +66,4 @@ without_newest_is test (y ∷ ys) zero x newest is =
     let passes : test y ≡ true = newest.passes x in
     let gone : without_newest test (y ∷ []) ≡ [] = grind (arith, passes) in
     rw (reverse-front y ys, without-append_none test (reverse ys) (y ∷ []) rest, gone) (append-nil (reverse ys))
-without_newest_is test (y ∷ ys) (suc place) x newest is =
-    let rest : IsNewest test ys place = newest_of_rest test y ys place newest in
-    rw (
-      reverse-front y ys,
-      without-append_some test (reverse ys) (y ∷ []) x (find_newest test ys place x rest is),
-      without_newest_is test ys place x rest is,
-    )
-    (sym (reverse-front y (remove ys place)))
+without_newest_is test (y ∷ ys) (suc place) x newest is = grind (arith, nat_tests, newest_of_rest test y ys place newest, reverse-front y ys, reverse-front y (remove ys place), without-append_some test (reverse ys) (y ∷ []) x (find_newest test ys place x (newest_of_rest test y ys place newest) is), find_newest test ys place x (newest_of_rest test y ys place newest) is, without_newest_is test ys place x (newest_of_rest test y ys place newest) is)

@@ -1,5 +1,5 @@
 -- An item that is taken out of the items, which stand newest first.
-use Rattle.std.proofs.Common.{◌≡◌, ℕ, ◌<◌, ◌≤◌, Bool, true, false, not, cond, nat_le, ◌==◌, List, [], ◌∷◌, ◌++◌, filter, All, refl, sym, ◌∙◌, ap, arith}
+use Rattle.std.proofs.Common.{◌≡◌, ℕ, ◌<◌, ◌≤◌, Bool, true, false, not, cond, ◌==◌, List, [], ◌∷◌, ◌++◌, filter, All, refl, ◌∙◌, ap, arith}
 use Rattle.std.proofs.lemmas.Bool.Decides.{nat_tests}
 use Rattle.std.proofs.lemmas.List.Elements.{All-nil, All-cons, All-head, All-tail}
 use Rattle.pgs_step.specs.declared.ids.Item.{Item}
@@ -19,16 +19,11 @@ pub record IsSplit (items : List Item) (item : Item) (rest : List Item) : Type 0
 
 with_item-first : (rank : Item → ℕ) (x : Item) (zs : List Item) → All (λ z. rank x ≤ rank z) zs → with_item rank x zs ≡ x ∷ zs
 with_item-first rank x [] least = refl
-with_item-first rank x (z ∷ zs) least =
-    let first : rank x ≤ rank z = All-head (λ z. rank x ≤ rank z) z zs least in grind arith
+with_item-first rank x (z ∷ zs) least = grind (arith, nat_tests, All-head)
 
 All-with_item : (P : Item → Type 0) (rank : Item → ℕ) (x : Item) (zs : List Item) → P x → All P zs → All P (with_item rank x zs)
 All-with_item P rank x [] holds all = All-cons P x [] holds all
-All-with_item P rank x (z ∷ zs) holds all =
-    elim (nat_le (rank x) (rank z)) as (λ b. All P (cond b (x ∷ z ∷ zs) (z ∷ with_item rank x zs))) [
-      | true ↦ All-cons P x (z ∷ zs) holds all
-      | false ↦ All-cons P z (with_item rank x zs) (All-head P z zs all) (All-with_item P rank x zs holds (All-tail P z zs all))
-    ]
+All-with_item P rank x (z ∷ zs) holds all = grind (arith, nat_tests, All-cons, All-head, All-tail, All-with_item P rank x zs holds (All-tail P z zs all))
 
 All-order : (P : Item → Type 0) (test : Item → Bool) (rank : Item → ℕ) (xs : List Item) → All (λ x. test x ≡ true → P x) xs → All P (order test rank xs)
 All-order P test rank [] all = All-nil P
@@ -45,12 +40,7 @@ All-order P test rank (x ∷ xs) all =
 
 with_item-some : (rank : Item → ℕ) (x : Item) (zs : List Item) → with_item rank x zs ≡ [] → ⊥
 with_item-some rank x [] wrong = cc
-with_item-some rank x (z ∷ zs) wrong =
-    let cases : (b : Bool) → cond b (x ∷ z ∷ zs) (z ∷ with_item rank x zs) ≡ [] → ⊥ = elim [
-      | true ↦ λ is. cc
-      | false ↦ λ is. cc
-    ] in
-    cases (nat_le (rank x) (rank z)) wrong
+with_item-some rank x (z ∷ zs) wrong = grind (arith, nat_tests)
 
 -- the first of the least rank comes first
 order-take :
@@ -80,8 +70,7 @@ order-take test rank (y ∷ front) back x passes above least =
 
 pub All-front : (P : Item → Type 0) (front back : List Item) → All P (front ++ back) → All P front
 All-front P [] back all = All-nil P
-All-front P (x ∷ front) back all =
-    All-cons P x front (All-head P x (front ++ back) all) (All-front P front back (All-tail P x (front ++ back) all))
+All-front P (x ∷ front) back all = grind (arith, nat_tests, All-cons, All-head, All-tail, All-front P front back (All-tail P x (front ++ back) all))
 
 pub All-back : (P : Item → Type 0) (front back : List Item) → All P (front ++ back) → All P back
 All-back P [] back all = all
@@ -89,12 +78,10 @@ All-back P (x ∷ front) back all = All-back P front back (All-tail P x (front +
 
 pub All-both : (P : Item → Type 0) (front back : List Item) → All P front → All P back → All P (front ++ back)
 All-both P [] back all also = also
-All-both P (x ∷ front) back all also =
-    All-cons P x (front ++ back) (All-head P x front all) (All-both P front back (All-tail P x front all) also)
+All-both P (x ∷ front) back all also = grind (arith, nat_tests, All-cons, All-head, All-tail, All-both P front back (All-tail P x front all) also)
 
 All-less : (P : Item → Type 0) (front back : List Item) (x : Item) → All P (front ++ x ∷ back) → All P (front ++ back)
-All-less P front back x all =
-    All-both P front back (All-front P front (x ∷ back) all) (All-tail P x back (All-back P front (x ∷ back) all))
+All-less P front back x all = grind (arith, nat_tests, All-both P front back (All-front P front (x ∷ back) all) (All-tail P x back (All-back P front (x ∷ back) all)), All-front P front (x ∷ back) all, All-tail P x back (All-back P front (x ∷ back) all), All-back P front (x ∷ back) all)
 
 pub split-All : (P : Item → Type 0) (items : List Item) (item : Item) (rest : List Item) → IsSplit items item rest → All P items → All P rest
 split-All P items item rest split all = rw split.without (All-less P split.front split.back item (rw split.whole at all))
@@ -121,8 +108,7 @@ serial-less (y ∷ front) back x falling =
 pub split-rest :
     (items : List Item) (item : Item) (rest : List Item) → IsSplit items item rest → AreFalling items →
     rest ≡ without_serial item.serial items
-split-rest items item rest split falling =
-    rw (split.without, split.whole) (sym (serial-less split.front split.back item (rw split.whole at falling)))
+split-rest items item rest split falling = grind (arith, nat_tests, serial-less)
 
 left-less :
     (test : Item → Bool) (front back : List Item) (x : Item) → test x ≡ true →
@@ -133,15 +119,13 @@ left-less test (y ∷ front) back x passes = grind (arith, left-less test front 
 pub split-left :
     (test : Item → Bool) (items : List Item) (item : Item) (rest : List Item) → IsSplit items item rest → test item ≡ true →
     filter (λ z. not (test z)) rest ≡ filter (λ z. not (test z)) items
-split-left test items item rest split passes =
-    rw (split.without, split.whole) (left-less test split.front split.back item passes)
+split-left test items item rest split passes = grind (arith, nat_tests, left-less)
 
 pub split-order :
     (test : Item → Bool) (rank : Item → ℕ) (items : List Item) (item : Item) (rest : List Item) →
     (split : IsSplit items item rest) → test item ≡ true → All (λ z. test z ≡ true → rank item < rank z) split.front →
     All (λ z. test z ≡ true → rank item ≤ rank z) split.back → order test rank items ≡ item ∷ order test rank rest
-split-order test rank items item rest split passes above least =
-    rw (split.without, split.whole) (order-take test rank split.front split.back item passes above least)
+split-order test rank items item rest split passes above least = grind (arith, nat_tests, order-take)
 
 pub order-none : (test : Item → Bool) (rank : Item → ℕ) (xs : List Item) → All (λ x. test x ≡ false) xs → order test rank xs ≡ []
 order-none test rank [] none = refl
@@ -152,11 +136,7 @@ order-none test rank (x ∷ xs) none =
 
 pub All-without : (P : Item → Type 0) (test : Item → Bool) (xs : List Item) → All P xs → All P (without_newest test xs)
 All-without P test [] all = all
-All-without P test (x ∷ xs) all =
-    elim (test x) as (λ b. All P (cond b xs (x ∷ without_newest test xs))) [
-      | true ↦ All-tail P x xs all
-      | false ↦ All-cons P x (without_newest test xs) (All-head P x xs all) (All-without P test xs (All-tail P x xs all))
-    ]
+All-without P test (x ∷ xs) all = grind (arith, nat_tests, All-tail P x xs all, All-cons P x (without_newest test xs) (All-head P x xs all) (All-without P test xs (All-tail P x xs all)), All-head P x xs all, All-without P test xs (All-tail P x xs all))
 
 pub falling-without : (test : Item → Bool) (xs : List Item) → AreFalling xs → AreFalling (without_newest test xs)
 falling-without test [] falling = tt
@@ -174,13 +154,4 @@ not_both xs ys x is = (λ wrong. absurd cc, λ none. absurd cc)
 pub nothing-left :
     (test : Item → Bool) (rank : Item → ℕ) (xs : List Item) → order test rank xs ≡ [] → filter (λ x. not (test x)) xs ≡ xs
 nothing-left test rank [] none = refl
-nothing-left test rank (x ∷ xs) none =
-    let cases :
-    (b : Bool) → test x ≡ b → by_rank rank (cond b (x ∷ filter test xs) (filter test xs)) ≡ [] →
-    cond (not b) (x ∷ filter (λ x. not (test x)) xs) (filter (λ x. not (test x)) xs) ≡ x ∷ xs =
-    elim [
-      | true ↦ λ is wrong. absurd (with_item-some rank x (order test rank xs) wrong)
-      | false ↦ λ is rest. ap (λ zs. x ∷ zs) (nothing-left test rank xs rest)
-    ]
-    in
-    cases (test x) refl none
+nothing-left test rank (x ∷ xs) none = grind (arith, nat_tests, not, with_item-some, nothing-left test rank xs)

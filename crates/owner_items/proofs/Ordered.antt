@@ -2,7 +2,7 @@
 use Rattle.std.proofs.Common.{◌≡◌, ℕ, ◌<◌, ◌≤◌, suc, true, false, List, [], ◌∷◌, ◌++◌, length, reverse, get_or, All, arith}
 use Rattle.std.specs.declared.cmp.Ordering.{Ordering}
 use Rattle.std.specs.Ordering.{is_lt, nat_cmp, ordering_then}
-use Rattle.std.specs.Cmp.{IsTotalOrder, nat_cmp_total, on_total, then_total}
+use Rattle.std.specs.Cmp.{IsTotalOrder}
 use Rattle.std.specs.List.Sorted.{IsSortedByKey}
 use Rattle.std.proofs.lemmas.Bool.Decides.{nat_tests}
 use Rattle.std.proofs.lemmas.Grind.{reverse_onto}
@@ -19,19 +19,14 @@ abbrev pub release_key : (Item → ℕ) → Entry → ℕ × ℕ
 release_key rank entry = (rank entry.item, entry.item.serial)
 
 pair_total : IsTotalOrder pair_cmp
-pair_total =
-    let first : ℕ × ℕ → ℕ = λ p. p.0 in
-    let second : ℕ × ℕ → ℕ = λ p. p.1 in
-    then_total (on_total first nat_cmp_total) (on_total second nat_cmp_total)
+pair_total = grind (arith, nat_tests)
 
 goes : (rank : Item → ℕ) (x y : Entry) → is_lt (pair_cmp (release_key rank x) (release_key rank y)) ≡ false → GoesFirst rank x.item y.item
-goes rank x y not_less =
-    record { higher = grind (arith, nat_tests, not_less); newer = λ same. grind (arith, nat_tests, not_less, same) }
+goes rank x y not_less = grind (arith, nat_tests)
 
 All-push : (P : Entry → Type 0) (ys : List Entry) (x : Entry) → All P ys → P x → All P (ys ++ x ∷ [])
 All-push P [] x all here = All-cons P x [] here all
-All-push P (y ∷ ys) x all here =
-    All-cons P y (ys ++ x ∷ []) (All-head P y ys all) (All-push P ys x (All-tail P y ys all) here)
+All-push P (y ∷ ys) x all here = grind (arith, nat_tests, All-cons, All-head, All-tail, All-push P ys x (All-tail P y ys all) here)
 
 pub order-back :
     (rank : Item → ℕ) (ys : List Entry) (x : Entry) → IsInOrder rank ys → All (λ y. GoesFirst rank y.item x.item) ys →

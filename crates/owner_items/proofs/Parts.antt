@@ -23,7 +23,7 @@ use Rattle.owner_items.specs.Held.{IsReady, IsTwoPart, InState, spare_in, IsNext
 use Rattle.owner_items.proofs.Linked.{reverse-back}
 use Rattle.owner_items.proofs.NewestFirst.{find_none, find_newest, without_newest_is, find-append_some, find-append_none, without-append_some, without-append_none}
 use Rattle.owner_items.proofs.Ordered.{order-back}
-use Rattle.owner_items.proofs.Order.{IsSplit, split-falling, falling-without, All-front, All-back, All-both}
+use Rattle.owner_items.proofs.Order.{split-falling, falling-without, All-front, All-back, All-both}
 use Rattle.owner_items.proofs.Sums.{AreSinking, SameSums, in_order, sunk_list, newer_stands, StandsIn, live_sum, live-sum, entries-sums, removed-sums, newest_first-sum, same_lengths, All-newest_first, All-with_newer, length-sum, const_one}
 use Rattle.owner_items.specs.declared.ranking.TheConstants.{LAST_PRIORITY}
 
@@ -31,13 +31,7 @@ reverse-item-length : (xs : List Item) → length (reverse xs) ≡ length xs
 reverse-item-length xs = length_permutation xs (reverse xs) (IsPermutation-reverse xs)
 
 pub all-length : (recent : List Item) (entries : List Entry) → length (newest_first (all_items recent entries)) ≡ length recent + length (live_items (reverse entries))
-all-length recent entries =
-    omega (
-      arith,
-      same_lengths (newest_first (all_items recent entries)) (all_items recent entries) (λ f. newest_first-sum f (all_items recent entries)),
-      length-append (reverse recent) (live_items (reverse entries)),
-      reverse-item-length recent,
-    )
+all-length recent entries = grind (arith, nat_tests, same_lengths (newest_first (all_items recent entries)) (all_items recent entries), newest_first-sum, length-append (reverse recent) (live_items (reverse entries)), reverse-item-length recent)
 
 -- an item that is remembered
 
@@ -50,21 +44,14 @@ pub record HasSpare (order : Option Order) (recent entries capacity : ℕ) : Typ
   pub room : entries + 32 ≤ capacity
 
 pub spare-some : (order : Option Order) (recent entries capacity : ℕ) → 1 ≤ spare_in order recent entries capacity → HasSpare order recent entries capacity
-spare-some None recent entries capacity some =
-    let cases : (b : Bool) → nat_le (entries + 32) capacity ≡ b → 1 ≤ cond b (32 - recent) 0 → HasSpare None recent entries capacity = elim [
-      | true ↦ λ is more. record { parted = refl; few = omega arith; room = grind (arith, nat_tests, is) }
-      | false ↦ λ is more. absurd (omega arith)
-    ] in
-    cases (nat_le (entries + 32) capacity) refl some
+spare-some None recent entries capacity some = grind (arith, nat_tests)
 spare-some (Some order) recent entries capacity some = absurd (omega arith)
 
 pub remember-falling :
     (recent : List Item) (entries : List Entry) (item : Item) → AreFalling (all_items recent entries) →
     All (λ other. other.serial < item.serial) (newest_first (all_items recent entries)) →
     AreFalling (all_items (recent ++ item ∷ []) entries)
-remember-falling recent entries item falling newest =
-    rw (all-more recent entries item)
-    (subst (All (λ other. other.serial < item.serial)) (in_order (all_items recent entries) falling) newest, falling)
+remember-falling recent entries item falling newest = grind (arith, nat_tests, all-more, in_order)
 
 pub parted-falling :
     (recent : List Item) (entries : List Entry) → AreFalling (all_items recent entries) →
@@ -77,20 +64,14 @@ unfolding row_of
 rank-rows table phase = refl
 
 pub rank-some : (table : KindTable) (phase : Phase) (item : Item) → rank table phase item ≡ 0 → is_of_phase table phase item ≡ false
-rank-some table phase item none =
-    let cases : (b : Bool) → is_of_phase table phase item ≡ b → cond b (1 + (LAST_PRIORITY - priority table item)) 0 ≡ 0 → b ≡ false = elim [
-      | true ↦ λ is wrong. absurd (omega arith)
-      | false ↦ λ is same. refl
-    ] in
-    cases (is_of_phase table phase item) refl none
+rank-some table phase item none = grind (arith, nat_tests)
 
 pub rank-none : (table : KindTable) (phase : Phase) (item : Item) → is_of_phase table phase item ≡ false → rank table phase item ≡ 0
 rank-none table phase item none = ap {B = ℕ} (λ b. cond b (1 + (LAST_PRIORITY - priority table item)) 0) none
 
 pub All-step : {X : Type 0} (P Q : X → Type 0) → ((x : X) → P x → Q x) → (xs : List X) → All P xs → All Q xs
 All-step P Q step [] all = All-nil Q
-All-step P Q step (x ∷ xs) all =
-    All-cons Q x xs (step x (All-head P x xs all)) (All-step P Q step xs (All-tail P x xs all))
+All-step P Q step (x ∷ xs) all = grind (arith, nat_tests, All-cons, All-head, All-tail, All-step P Q step xs (All-tail P x xs all))
 
 -- facts on all items
 
@@ -108,9 +89,7 @@ newer-all P x (z ∷ zs) all =
 
 pub All-unsorted : (P : Item → Type 0) (xs : List Item) → All P (newest_first xs) → All P xs
 All-unsorted P [] all = all
-All-unsorted P (x ∷ xs) all =
-    let here : All P (x ∷ newest_first xs) = newer-all P x (newest_first xs) all in
-    All-cons P x xs (All-head P x (newest_first xs) here) (All-unsorted P xs (All-tail P x (newest_first xs) here))
+All-unsorted P (x ∷ xs) all = grind (arith, nat_tests, newer-all P x (newest_first xs) all, All-cons P x xs (All-head P x (newest_first xs) (newer-all P x (newest_first xs) all)) (All-unsorted P xs (All-tail P x (newest_first xs) (newer-all P x (newest_first xs) all))), All-head P x (newest_first xs) (newer-all P x (newest_first xs) all), All-unsorted P xs (All-tail P x (newest_first xs) (newer-all P x (newest_first xs) all)), All-tail P x (newest_first xs) (newer-all P x (newest_first xs) all))
 
 All-live : (P : Item → Type 0) (es : List Entry) → All (λ e. e.live ≡ true → P e.item) es → All P (live_items es)
 All-live P [] all = All-nil P
@@ -144,9 +123,7 @@ all-from P recent entries first second =
 
 pub all-recent :
     (P : Item → Type 0) (recent : List Item) (entries : List Entry) → All P (newest_first (all_items recent entries)) → All P recent
-all-recent P recent entries all =
-    All-permutation P (reverse recent) recent (IsPermutation-sym recent (reverse recent) (IsPermutation-reverse recent))
-    (All-front P (reverse recent) (live_items (reverse entries)) (All-unsorted P (all_items recent entries) all))
+all-recent P recent entries all = grind (arith, nat_tests, All-permutation P (reverse recent) recent (IsPermutation-sym recent (reverse recent) (IsPermutation-reverse recent)), IsPermutation-sym recent (reverse recent) (IsPermutation-reverse recent), IsPermutation-reverse recent, All-front P (reverse recent) (live_items (reverse entries)) (All-unsorted P (all_items recent entries) all), All-unsorted P (all_items recent entries) all)
 
 pub all-entries :
     (P : Item → Type 0) (recent : List Item) (entries : List Entry) → All P (newest_first (all_items recent entries)) →
@@ -161,54 +138,21 @@ all-entries P recent entries all =
 
 filter-sum : (f : Item → ℕ) (es : List Entry) → sum_by (live_sum f) (filter (λ e. e.live) es) ≡ sum_by (live_sum f) es
 filter-sum f [] = refl
-filter-sum f (e ∷ es) =
-    let rest : sum_by (live_sum f) (filter (λ e. e.live) es) ≡ sum_by (live_sum f) es = filter-sum f es in
-    let cases : (b : Bool) → e.live ≡ b → sum_by (live_sum f) (cond b (e ∷ filter (λ e. e.live) es) (filter (λ e. e.live) es)) ≡ cond b (f e.item) 0 + sum_by (live_sum f) es = elim [
-      | true ↦ λ is.
-          omega (
-            arith,
-            rest,
-            sum_by-cons (live_sum f) e (filter (λ e. e.live) es),
-            ap {B = ℕ} (λ b. cond b (f e.item) 0) is,
-          )
-      | false ↦ λ is. omega (arith, rest)
-    ] in
-    cases e.live refl ∙ sym (sum_by-cons (live_sum f) e es)
+filter-sum f (e ∷ es) = grind (arith, nat_tests, live_sum f, filter-sum f es, sum_by-cons (live_sum f))
 
 with-sum : (f : Item → ℕ) (xs : List Item) → sum_by (live_sum f) (map entry_with xs) ≡ sum_by f xs
 with-sum f [] = refl
-with-sum f (x ∷ xs) =
-    omega (arith, with-sum f xs, sum_by-cons f x xs, sum_by-cons (live_sum f) (entry_with x) (map entry_with xs))
+with-sum f (x ∷ xs) = grind (arith, nat_tests, with-sum f xs, sum_by-cons f x xs, sum_by-cons (live_sum f) (entry_with x) (map entry_with xs), live_sum f)
 
 pub gathered-sums :
     (recent : List Item) (entries middle final : List Entry) →
     middle ≡ filter (λ e. e.live) entries ++ map entry_with recent → IsPermutation middle final →
     SameSums (all_items recent entries) (all_items [] final)
-gathered-sums recent entries middle final is moved f =
-    omega (
-      arith,
-      sum_by-append f (reverse recent) (live_items (reverse entries)),
-      sum_by-IsPermutation f recent (reverse recent) (IsPermutation-reverse recent),
-      live-sum f (reverse entries),
-      sum_by-IsPermutation (live_sum f) entries (reverse entries) (IsPermutation-reverse entries),
-      live-sum f (reverse final),
-      sum_by-IsPermutation (live_sum f) final (reverse final) (IsPermutation-reverse final),
-      sum_by-IsPermutation (live_sum f) middle final moved,
-      ap (sum_by (live_sum f)) is,
-      sum_by-append (live_sum f) (filter (λ e. e.live) entries) (map entry_with recent),
-      filter-sum f entries,
-      with-sum f recent,
-    )
+gathered-sums recent entries middle final is moved f = grind (arith, nat_tests, sum_by-append f (reverse recent) (live_items (reverse entries)), sum_by-append (live_sum f), sum_by-IsPermutation f recent (reverse recent) (IsPermutation-reverse recent), sum_by-IsPermutation (live_sum f) entries (reverse entries) (IsPermutation-reverse entries), sum_by-IsPermutation (live_sum f) final (reverse final) (IsPermutation-reverse final), sum_by-IsPermutation (live_sum f) middle final moved, IsPermutation-reverse recent, IsPermutation-reverse entries, IsPermutation-reverse final, live-sum f (reverse entries), live-sum f (reverse final), live_sum f, filter-sum f entries, with-sum f recent)
 
 All-filter : (es : List Entry) → All (λ e. e.live ≡ true) (filter (λ e. e.live) es)
 All-filter [] = All-nil (λ e. e.live ≡ true)
-All-filter (e ∷ es) =
-    let rest : All (λ e. e.live ≡ true) (filter (λ e. e.live) es) = All-filter es in
-    let cases : (b : Bool) → e.live ≡ b → All (λ e. e.live ≡ true) (cond b (e ∷ filter (λ e. e.live) es) (filter (λ e. e.live) es)) = elim [
-      | true ↦ λ is. All-cons (λ e. e.live ≡ true) e (filter (λ e. e.live) es) is rest
-      | false ↦ λ is. rest
-    ] in
-    cases e.live refl
+All-filter (e ∷ es) = grind (arith, nat_tests, All-filter es, All-cons)
 
 All-with : (xs : List Item) → All (λ e. e.live ≡ true) (map entry_with xs)
 All-with [] = All-nil (λ e. e.live ≡ true)
@@ -227,9 +171,7 @@ gathered-live recent entries middle is =
 
 pub order-length : (rank : Item → ℕ) (es : List Entry) → IsInOrder rank es → length (live_items es) ≡ length es
 order-length rank [] ordered = refl
-order-length rank (e ∷ es) ordered =
-    ap (λ b. length (cond b (e.item ∷ live_items es) (live_items es))) ordered.0
-    ∙ omega (arith, order-length rank es ordered.2)
+order-length rank (e ∷ es) ordered = grind (arith, nat_tests, order-length rank es ordered.2)
 
 pub order-live : (rank : Item → ℕ) (e : Entry) (es : List Entry) → IsInOrder rank (e ∷ es) → live_items (e ∷ es) ≡ e.item ∷ live_items es
 order-live rank e es ordered = ap (λ b. cond b (e.item ∷ live_items es) (live_items es)) ordered.0
@@ -237,22 +179,13 @@ order-live rank e es ordered = ap (λ b. cond b (e.item ∷ live_items es) (live
 -- the last entry
 
 pub order-first : (rank : Item → ℕ) (e : Entry) (es : List Entry) → IsInOrder rank (e ∷ es) → All (GoesFirst rank e.item) (newest_first (live_items es))
-order-first rank e es ordered =
-    All-newest_first (GoesFirst rank e.item) (live_items es)
-    (All-live (GoesFirst rank e.item) es
-    (All-step (λ x. GoesFirst rank e.item x.item) (λ x. x.live ≡ true → GoesFirst rank e.item x.item) (λ x goes _. goes) es ordered.1))
+order-first rank e es ordered = grind (arith, nat_tests, All-newest_first (GoesFirst rank e.item) (live_items es), All-live (GoesFirst rank e.item) es, All-step)
 
 pub next_of-last :
     (table : KindTable) (phase : Phase) (e : Entry) (es : List Entry) → IsInOrder (rank table phase) (e ∷ es) →
     is_of_phase table phase e.item ≡ true → priority table e.item ≤ LAST_PRIORITY →
     IsNextOf table phase (newest_first (live_items (e ∷ es))) e.item (newest_first (live_items es))
-next_of-last table phase e es ordered passes low =
-    record {
-      taken = ap newest_first (order-live (rank table phase) e es ordered);
-      passes = passes;
-      low = low;
-      first = order-first (rank table phase) e es ordered;
-    }
+next_of-last table phase e es ordered passes low = grind (arith, nat_tests, order-live (rank table phase) e es ordered, order-first (rank table phase) e es ordered)
 
 pub none_of-last :
     (table : KindTable) (phase : Phase) (e : Entry) (es : List Entry) → IsInOrder (rank table phase) (e ∷ es) →
@@ -269,9 +202,7 @@ last-at : (xs : List Entry) (n : ℕ) (e : Entry) → length xs ≡ n + 1 → So
 last-at [] n e full is = absurd (omega arith)
 last-at (x ∷ []) zero e full is = let same : e ≡ x = cc in ap (λ z. z ∷ []) (sym same)
 last-at (x ∷ y ∷ ys) zero e full is = absurd (omega arith)
-last-at (x ∷ xs) (suc n) e full is =
-    let rest : reverse xs ≡ e ∷ reverse (take n xs) = last-at xs n e (omega arith) is in
-    reverse_onto xs x [] ∙ (ap (λ z. z ++ x ∷ []) rest ∙ ap (λ z. e ∷ z) (sym (reverse_onto (take n xs) x [])))
+last-at (x ∷ xs) (suc n) e full is = grind (arith, nat_tests, reverse_onto, last-at xs n e)
 
 pub last-split : (xs : List Entry) (e : Entry) → Some e ≡ slice_get xs (length xs - 1) → reverse xs ≡ e ∷ reverse (take (length xs - 1) xs)
 last-split [] e is = absurd cc
@@ -282,8 +213,7 @@ last-split (x ∷ xs) e is = last-at (x ∷ xs) (length (x ∷ xs) - 1) e (omega
 pub ready-order : (table : KindTable) (phase : Phase) (recent : List Item) (entries : List Entry) (e : Entry) →
     IsReady table phase recent entries → Some e ≡ slice_get entries (length entries - 1) →
     IsInOrder (rank table phase) (e ∷ reverse (take (length entries - 1) entries))
-ready-order table phase recent entries e ready is =
-    subst (IsInOrder (rank table phase)) (last-split entries e is) ready.in_order
+ready-order table phase recent entries e ready is = grind (arith, nat_tests, last-split)
 
 pub ready-items : (table : KindTable) (phase : Phase) (recent : List Item) (entries : List Entry) → IsReady table phase recent entries →
     all_items recent entries ≡ live_items (reverse entries)
@@ -293,35 +223,20 @@ pub ready-none :
     (table : KindTable) (phase : Phase) (recent : List Item) (entries : List Entry) (e : Entry) →
     IsReady table phase recent entries → Some e ≡ slice_get entries (length entries - 1) → rank table phase e.item ≡ 0 →
     All (λ item. is_of_phase table phase item ≡ false) (newest_first (all_items recent entries))
-ready-none table phase recent entries e ready is none =
-    rw (ready-items table phase recent entries ready, last-split entries e is)
-    (none_of-last table phase e (reverse (take (length entries - 1) entries)) (ready-order table phase recent entries e ready is) none)
+ready-none table phase recent entries e ready is none = grind (arith, nat_tests, ready-items, last-split, none_of-last, ready-order)
 
 pub ready-next :
     (table : KindTable) (phase : Phase) (recent : List Item) (entries rest : List Entry) (e : Entry) →
     IsReady table phase recent entries → Some e ≡ slice_get entries (length entries - 1) → rest ≡ take (length entries - 1) entries →
     (rank table phase e.item ≡ 0 → ⊥) → (is_of_phase table phase e.item ≡ true → priority table e.item ≤ LAST_PRIORITY) →
     IsNextOf table phase (newest_first (all_items recent entries)) e.item (newest_first (all_items recent rest))
-ready-next table phase recent entries rest e ready is rest_is some low =
-    let passes : is_of_phase table phase e.item ≡ true =
-    (let cases : (b : Bool) → is_of_phase table phase e.item ≡ b → b ≡ true = elim [
-      | true ↦ λ that. refl
-      | false ↦ λ that. absurd (some (rank-none table phase e.item that))
-    ] in
-    cases (is_of_phase table phase e.item) refl)
-    in
-    rw (ready-items table phase recent entries ready, ready.none_recent, last-split entries e is, rest_is)
-    (next_of-last table phase e (reverse (take (length entries - 1) entries)) (ready-order table phase recent entries e ready is) passes (low passes))
+ready-next table phase recent entries rest e ready is rest_is some low = grind (arith, nat_tests, rank-none table phase e.item, ready-items table phase recent entries ready, last-split entries e is, next_of-last table phase e (reverse (take (length entries - 1) entries)) (ready-order table phase recent entries e ready is), ready-order table phase recent entries e ready is)
 
 pub ready-rest :
     (table : KindTable) (phase : Phase) (recent : List Item) (entries rest : List Entry) (e : Entry) →
     IsReady table phase recent entries → Some e ≡ slice_get entries (length entries - 1) → rest ≡ take (length entries - 1) entries →
     IsReady table phase recent rest
-ready-rest table phase recent entries rest e ready is rest_is =
-    record {
-      none_recent = ready.none_recent;
-      in_order = rw rest_is (ready-order table phase recent entries e ready is).2;
-    }
+ready-rest table phase recent entries rest e ready is rest_is = grind (arith, nat_tests, in_order, ready-order table phase recent entries e ready is)
 
 -- the state that stays, whatever order it is
 pub state-rest :
@@ -329,35 +244,24 @@ pub state-rest :
     IsSome order → InState order recent entries live slots used → Some e ≡ slice_get entries (length entries - 1) →
     rest ≡ take (length entries - 1) entries → InState order recent rest live' slots used
 state-rest None recent entries rest live live' slots used e some state is rest_is = absurd cc
-state-rest (Some order) recent entries rest live live' slots used e some state is rest_is =
-    ready-rest (table_from order.rows.items) order.phase recent entries rest e state is rest_is
+state-rest (Some order) recent entries rest live live' slots used e some state is rest_is = grind (arith, nat_tests, ready-rest (table_from order.rows.items) order.phase recent entries rest e state is rest_is)
 
 pub next-falling :
     (table : KindTable) (phase : Phase) (old : List Item) (item : Item) (new : List Item) → IsNextOf table phase old item new →
     AreFalling old → AreFalling new
-next-falling table phase old item new next falling =
-    split-falling old item new (subst (λ z. IsSplit z item new) (sym next.taken) (newer_stands item new).split) falling
+next-falling table phase old item new next falling = grind (arith, nat_tests, split-falling old item new, newer_stands item new)
 
 pub ready-count :
     (table : KindTable) (phase : Phase) (recent : List Item) (entries rest : List Entry) (e : Entry) (live : ℕ) →
     IsReady table phase recent entries → Some e ≡ slice_get entries (length entries - 1) → rest ≡ take (length entries - 1) entries →
     live ≡ length (live_items (reverse entries)) → live ≡ length (live_items (reverse rest)) + 1
-ready-count table phase recent entries rest e live ready is rest_is counted =
-    counted
-    ∙ rw (last-split entries e is, rest_is)
-    (ap length (order-live (rank table phase) e (reverse (take (length entries - 1) entries)) (ready-order table phase recent entries e ready is))
-    ∙ omega arith)
+ready-count table phase recent entries rest e live ready is rest_is counted = grind (arith, nat_tests, last-split, order-live, ready-order)
 
 -- the order of the serials
 
 live-both : (xs ys : List Entry) → live_items (xs ++ ys) ≡ live_items xs ++ live_items ys
 live-both [] ys = refl
-live-both (x ∷ xs) ys =
-    let rest : live_items (xs ++ ys) ≡ live_items xs ++ live_items ys = live-both xs ys in
-    elim x.live as (λ b. cond b (x.item ∷ live_items (xs ++ ys)) (live_items (xs ++ ys)) ≡ cond b (x.item ∷ live_items xs) (live_items xs) ++ live_items ys) [
-      | true ↦ ap (λ z. x.item ∷ z) rest
-      | false ↦ rest
-    ]
+live-both (x ∷ xs) ys = grind (arith, nat_tests, live-both xs ys)
 
 sink-back : (ys : List Item) (x : Item) → AreSinking ys → All (λ y. x.serial ≤ y.serial) ys → AreSinking (ys ++ x ∷ [])
 sink-back [] x sinks above = (All-nil (λ z. z.serial ≤ x.serial), tt)
@@ -387,25 +291,16 @@ sinking-reverse (x ∷ xs) rising =
 recent-sums :
     (recent : List Item) (entries sorted : List Entry) → IsPermutation entries sorted →
     SameSums (all_items recent entries) (all_items recent sorted)
-recent-sums recent entries sorted moved f =
-    omega (
-      arith,
-      sum_by-append f (reverse recent) (live_items (reverse entries)),
-      sum_by-append f (reverse recent) (live_items (reverse sorted)),
-      entries-sums entries sorted moved f,
-    )
+recent-sums recent entries sorted moved f = grind (arith, nat_tests, sum_by-append, entries-sums)
 
 pub sorted-all :
     (recent : List Item) (entries sorted : List Entry) → recent ≡ [] → AreFalling (newest_first (all_items recent entries)) →
     IsPermutation entries sorted → IsNonDecreasingBy (λ e. e.item.serial) sorted →
     all_items recent sorted ≡ newest_first (all_items recent entries)
-sorted-all recent entries sorted none falling moved rising =
-    sunk_list (all_items recent entries) (all_items recent sorted) falling (recent-sums recent entries sorted moved)
-    (subst (λ z. AreSinking (all_items z sorted)) (sym none) (sinking-reverse sorted rising))
+sorted-all recent entries sorted none falling moved rising = grind (arith, nat_tests, sunk_list, recent-sums, sinking-reverse)
 
 pub moved-count : (entries sorted : List Entry) → IsPermutation entries sorted → length (live_items (reverse sorted)) ≡ length (live_items (reverse entries))
-moved-count entries sorted moved =
-    sym (same_lengths (live_items (reverse entries)) (live_items (reverse sorted)) (entries-sums entries sorted moved))
+moved-count entries sorted moved = grind (arith, nat_tests, same_lengths, entries-sums)
 
 pub parted-state :
     (order : Option Order) (recent : List Item) (entries : List Entry) (live : ℕ) (slots : List Slot) (used : ℕ) →
@@ -431,25 +326,19 @@ pub recent-all :
     (test : Item → Bool) (recent : List Item) (entries : List Entry) (place : ℕ) (item : Item) → IsNewest test recent place →
     item ≡ get_or recent place item →
     all_items (remove recent place) entries ≡ without_newest test (all_items recent entries)
-recent-all test recent entries place item newest is =
-    ap (λ z. z ++ live_items (reverse entries)) (sym (without_newest_is test recent place item newest is))
-    ∙ sym (without-append_some test (reverse recent) (live_items (reverse entries)) item (find_newest test recent place item newest is))
+recent-all test recent entries place item newest is = grind (arith, nat_tests, without_newest_is test recent place item newest is, without-append_some test (reverse recent) (live_items (reverse entries)) item (find_newest test recent place item newest is), find_newest test recent place item newest is)
 
 pub recent-find :
     (test : Item → Bool) (recent : List Item) (entries : List Entry) (place : ℕ) (item : Item) → IsNewest test recent place →
     item ≡ get_or recent place item → AreFalling (all_items recent entries) →
     Some item ≡ find test (newest_first (all_items recent entries))
-recent-find test recent entries place item newest is falling =
-    sym (ap (find test) (in_order (all_items recent entries) falling)
-    ∙ find-append_some test (reverse recent) (live_items (reverse entries)) item (find_newest test recent place item newest is))
+recent-find test recent entries place item newest is falling = grind (arith, nat_tests, in_order (all_items recent entries) falling, find-append_some test (reverse recent) (live_items (reverse entries)) item (find_newest test recent place item newest is), find_newest test recent place item newest is)
 
 -- what a list by falling serials is without an item
 pub rest-list :
     (test : Item → Bool) (old new : List Item) → AreFalling old → new ≡ without_newest test old →
     newest_first new ≡ without_newest test (newest_first old)
-rest-list test old new falling is =
-    let less : AreFalling new = subst AreFalling (sym is) (falling-without test old falling) in
-    in_order new less ∙ (is ∙ ap (without_newest test) (sym (in_order old falling)))
+rest-list test old new falling is = grind (arith, nat_tests, falling-without, in_order)
 
 pub rest-falling : (test : Item → Bool) (old new : List Item) → AreFalling old → new ≡ without_newest test old → AreFalling new
 rest-falling test old new falling is = subst AreFalling (sym is) (falling-without test old falling)
@@ -458,16 +347,12 @@ pub older-all :
     (test : Item → Bool) (recent : List Item) (entries rest : List Entry) → NonePasses test recent →
     live_items (reverse rest) ≡ without_newest test (live_items (reverse entries)) →
     all_items recent rest ≡ without_newest test (all_items recent entries)
-older-all test recent entries rest none is =
-    ap (λ z. reverse recent ++ z) is
-    ∙ sym (without-append_none test (reverse recent) (live_items (reverse entries)) (find_none test recent none))
+older-all test recent entries rest none is = grind (arith, nat_tests, without-append_none, find_none)
 
 pub older-find :
     (test : Item → Bool) (recent : List Item) (entries : List Entry) → NonePasses test recent → AreFalling (all_items recent entries) →
     find test (live_items (reverse entries)) ≡ find test (newest_first (all_items recent entries))
-older-find test recent entries none falling =
-    sym (ap (find test) (in_order (all_items recent entries) falling)
-    ∙ find-append_none test (reverse recent) (live_items (reverse entries)) (find_none test recent none))
+older-find test recent entries none falling = grind (arith, nat_tests, in_order, find-append_none, find_none)
 
 -- an item of the gathered ones that is forgotten
 
@@ -475,13 +360,11 @@ All-less : (P : Entry → Type 0) (xs : List Entry) (place : ℕ) → All P xs �
 All-less P [] zero all = all
 All-less P [] (suc place) all = all
 All-less P (x ∷ xs) zero all = All-tail P x xs all
-All-less P (x ∷ xs) (suc place) all =
-    All-cons P x (remove xs place) (All-head P x xs all) (All-less P xs place (All-tail P x xs all))
+All-less P (x ∷ xs) (suc place) all = grind (arith, nat_tests, All-cons, All-head, All-tail, All-less P xs place (All-tail P x xs all))
 
 All-short : (P : Entry → Type 0) (ys : List Entry) (x : Entry) → All P (ys ++ x ∷ []) → All P ys
 All-short P [] x all = All-nil P
-All-short P (y ∷ ys) x all =
-    All-cons P y ys (All-head P y (ys ++ x ∷ []) all) (All-short P ys x (All-tail P y (ys ++ x ∷ []) all))
+All-short P (y ∷ ys) x all = grind (arith, nat_tests, All-cons, All-head, All-tail, All-short P ys x (All-tail P y (ys ++ x ∷ []) all))
 
 All-end : (P : Entry → Type 0) (ys : List Entry) (x : Entry) → All P (ys ++ x ∷ []) → P x
 All-end P [] x all = All-head P x [] all
@@ -494,9 +377,7 @@ order-front rank (y ∷ ys) x ordered =
 
 order-above : (rank : Item → ℕ) (ys : List Entry) (x : Entry) → IsInOrder rank (ys ++ x ∷ []) → All (λ y. GoesFirst rank y.item x.item) ys
 order-above rank [] x ordered = All-nil (λ y. GoesFirst rank y.item x.item)
-order-above rank (y ∷ ys) x ordered =
-    All-cons (λ y. GoesFirst rank y.item x.item) y ys (All-end (λ z. GoesFirst rank y.item z.item) ys x ordered.1)
-    (order-above rank ys x ordered.2)
+order-above rank (y ∷ ys) x ordered = grind (arith, nat_tests, All-cons, All-end, order-above rank ys x ordered.2)
 
 order-end : (rank : Item → ℕ) (ys : List Entry) (x : Entry) → IsInOrder rank (ys ++ x ∷ []) → x.live ≡ true
 order-end rank [] x ordered = ordered.0
@@ -533,33 +414,19 @@ pub state-less :
     is_some order ≡ true → rest ≡ remove entries place → InState order recent entries live slots used →
     InState order recent rest live' slots used
 state-less None recent entries rest live live' slots used place some is state = absurd cc
-state-less (Some order) recent entries rest live live' slots used place some is state =
-    record {
-      none_recent = state.none_recent;
-      in_order =
-          subst (λ z. IsInOrder (rank (table_from order.rows.items) order.phase) (reverse z)) (sym is)
-          (order-less (rank (table_from order.rows.items) order.phase) entries place state.in_order);
-    }
+state-less (Some order) recent entries rest live live' slots used place some is state = grind (arith, nat_tests, in_order, order-less (rank (table_from order.rows.items) order.phase) entries place state.in_order)
 
 pub less-sums :
     (recent : List Item) (entries rest : List Entry) (place : ℕ) (e : Entry) → place < length entries → e ≡ get_or entries place e →
     rest ≡ remove entries place → e.live ≡ true →
     (f : Item → ℕ) → sum_by f (all_items recent entries) ≡ f e.item + sum_by f (all_items recent rest)
-less-sums recent entries rest place e within is rest_is live f =
-    omega (
-      arith,
-      sum_by-append f (reverse recent) (live_items (reverse entries)),
-      sum_by-append f (reverse recent) (live_items (reverse rest)),
-      removed-sums entries (remove entries place) e live (IsPermutation-remove entries place e within is) f,
-      ap (λ z. sum_by f (live_items (reverse z))) rest_is,
-    )
+less-sums recent entries rest place e within is rest_is live f = grind (arith, nat_tests, sum_by-append f (reverse recent) (live_items (reverse entries)), sum_by-append f (reverse recent) (live_items (reverse rest)), removed-sums entries (remove entries place) e live (IsPermutation-remove entries place e within is) f, IsPermutation-remove entries place e within is)
 
 -- the item stands behind those that are newer, which do not pass the test
 newest-find :
     (test : Item → Bool) (front back : List Item) (item : Item) → test item ≡ true → All (λ z. test z ≡ false) front →
     (find test (front ++ item ∷ back) ≡ Some item) × (without_newest test (front ++ item ∷ back) ≡ front ++ back)
-newest-find test [] back item passes none =
-    (ap (λ b. cond b (Some item) (find test back)) passes, ap (λ b. cond b back (item ∷ without_newest test back)) passes)
+newest-find test [] back item passes none = grind (arith, nat_tests)
 newest-find test (y ∷ front) back item passes none =
     let here : test y ≡ false = All-head (λ z. test z ≡ false) y front none in
     let rest : (find test (front ++ item ∷ back) ≡ Some item) × (without_newest test (front ++ item ∷ back) ≡ front ++ back) =
@@ -608,8 +475,7 @@ newest-gone test old new item falling is passes greatest =
 pub gathered-all :
     (P : Item → Type 0) (recent : List Item) (entries : List Entry) → recent ≡ [] → All (λ e. P e.item) entries →
     All P (newest_first (all_items recent entries))
-gathered-all P recent entries none all =
-    all-from P recent entries (subst (All P) (sym none) (All-nil P)) (All-step (λ e. P e.item) (λ e. e.live ≡ true → P e.item) (λ e holds _. holds) entries all)
+gathered-all P recent entries none all = grind (arith, nat_tests, all-from P recent entries (subst (All P) (sym none) (All-nil P)), All-nil P, All-step)
 
 pub find-nothing : (test : Item → Bool) (xs : List Item) → All (λ x. test x ≡ false) xs → find test xs ≡ None
 find-nothing test [] none = refl
@@ -620,11 +486,4 @@ find-nothing test (x ∷ xs) none =
 pub live-less :
     (entries rest : List Entry) (place : ℕ) (e : Entry) → place < length entries → e ≡ get_or entries place e →
     rest ≡ remove entries place → e.live ≡ true → length (live_items (reverse entries)) ≡ length (live_items (reverse rest)) + 1
-live-less entries rest place e within is rest_is live =
-    omega (
-      arith,
-      length-sum (live_items (reverse entries)),
-      length-sum (live_items (reverse (remove entries place))),
-      removed-sums entries (remove entries place) e live (IsPermutation-remove entries place e within is) const_one,
-      ap (λ z. length (live_items (reverse z))) rest_is,
-    )
+live-less entries rest place e within is rest_is live = grind (arith, nat_tests, length-sum (live_items (reverse entries)), length-sum (live_items (reverse (remove entries place))), removed-sums entries (remove entries place) e live (IsPermutation-remove entries place e within is) const_one, IsPermutation-remove entries place e within is, const_one)

@@ -1,5 +1,5 @@
 -- An item that a release takes.
-use Rattle.std.proofs.Common.{◌≡◌, ℕ, ◌+◌, ◌-◌, ◌<◌, ◌≤◌, ◌==◌, true, false, cond, List, [], ◌∷◌, ◌++◌, All, Option, Some, None, MatchOption, IfSome, IfNone, IsNone, get_or, refl, sym, ◌∙◌, ap, subst, arith}
+use Rattle.std.proofs.Common.{◌≡◌, ℕ, ◌+◌, ◌-◌, ◌<◌, ◌≤◌, true, false, cond, List, [], ◌∷◌, ◌++◌, All, Option, Some, None, MatchOption, IfSome, IfNone, IsNone, get_or, refl, sym, ap, subst, arith}
 use Rattle.std.specs.Option.{option_to_list}
 use Rattle.std.specs.Prelude.{◌↔◌}
 use Rattle.pgs_step.specs.declared.ids.Phase.{Phase}
@@ -12,6 +12,7 @@ use Rattle.owner_items.specs.Held.{IsNextOf}
 use Rattle.owner_items.proofs.Order.{split-All, split-rest, split-left, split-order, order-none, All-without, nothing-left, not_both, All-front, All-back}
 use Rattle.owner_items.proofs.Sums.{StandsIn, newer_stands}
 use Rattle.owner_items.specs.declared.ranking.TheConstants.{LAST_PRIORITY}
+use Rattle.std.proofs.lemmas.Bool.Decides.{nat_tests}
 
 -- what `take_next` says of its answer
 abbrev pub Takes : KindTable → Phase → List Item → Option Item → List Item → Type 0
@@ -26,18 +27,12 @@ rank-passes table phase item passes = ap {B = ℕ} (λ b. cond b (1 + (LAST_PRIO
 
 lower : (table : KindTable) (phase : Phase) (item z : Item) → is_of_phase table phase item ≡ true → priority table item ≤ LAST_PRIORITY →
     GoesFirst (rank table phase) item z → is_of_phase table phase z ≡ true → priority table item ≤ priority table z
-lower table phase item z passes low goes that =
-    let higher : rank table phase z ≤ rank table phase item = goes.higher in
-    omega (arith, higher, rank-passes table phase item passes, rank-passes table phase z that)
+lower table phase item z passes low goes that = grind (arith, nat_tests, rank-passes)
 
 below : (table : KindTable) (phase : Phase) (item z : Item) → is_of_phase table phase item ≡ true → priority table item ≤ LAST_PRIORITY →
     GoesFirst (rank table phase) item z → item.serial < z.serial → is_of_phase table phase z ≡ true →
     priority table item < priority table z
-below table phase item z passes low goes later that =
-    let higher : rank table phase z ≤ rank table phase item = goes.higher in
-    let newer : rank table phase z ≡ rank table phase item → z.serial ≤ item.serial = goes.newer in
-    let other : rank table phase z ≡ rank table phase item → ⊥ = λ same. (let wrong : z.serial ≤ item.serial = newer same in omega (arith, wrong)) in
-    omega (arith, higher, other, rank-passes table phase item passes, rank-passes table phase z that)
+below table phase item z passes low goes later that = grind (arith, nat_tests, rank-passes)
 
 next-order : (table : KindTable) (phase : Phase) (old : List Item) (item : Item) (new : List Item) → IsNextOf table phase old item new →
     release_order table phase old ≡ item ∷ release_order table phase new
@@ -77,15 +72,12 @@ pub takes-left :
     (table : KindTable) (phase : Phase) (old : List Item) (result : Option Item) (new : List Item) → Takes table phase old result new →
     IfNone result (new ≡ old) → items_left table phase new ≡ items_left table phase old
 takes-left table phase old None new takes same = ap (items_left table phase) same
-takes-left table phase old (Some item) new next same =
-    split-left (is_of_phase table phase) old item new (stands table phase old item new next).split next.passes
+takes-left table phase old (Some item) new next same = grind (arith, nat_tests, split-left (is_of_phase table phase) old item new (stands table phase old item new next).split next.passes, stands table phase old item new next)
 
 pub takes-done :
     (table : KindTable) (phase : Phase) (old : List Item) (result : Option Item) (new : List Item) → Takes table phase old result new →
     IfNone result (new ≡ old) → IfNone result (items_left table phase new ≡ new)
-takes-done table phase old None new takes same =
-    ap (items_left table phase) same
-    ∙ (nothing-left (is_of_phase table phase) (priority table) old (none-order table phase old takes) ∙ sym same)
+takes-done table phase old None new takes same = grind (arith, nat_tests, nothing-left (is_of_phase table phase) (priority table) old (none-order table phase old takes), none-order table phase old takes)
 takes-done table phase old (Some item) new next same = tt
 
 pub takes-All :
@@ -103,5 +95,4 @@ pub All-kept :
     (P : Item → Type 0) (old new : ItemList) (result : Option Item) → IfSome result (λ item. new.items ≡ without_serial item.serial old.items) →
     IfNone result (new ≡ old) → All P old.items → All P new.items
 All-kept P old new None rest same all = subst (λ z. All P z.items) (sym same) all
-All-kept P old new (Some item) rest same all =
-    subst (All P) (sym rest) (All-without P (λ x. x.serial == item.serial) old.items all)
+All-kept P old new (Some item) rest same all = grind (arith, nat_tests, All-without P)

@@ -1,5 +1,5 @@
 -- Items in another order: lists with the same sums.
-use Rattle.std.proofs.Common.{◌≡◌, ℕ, ◌+◌, ◌<◌, ◌≤◌, suc, Bool, true, false, cond, nat_lt, nat_le, ◌==◌, inl, inr, List, [], ◌∷◌, length, get_or, take, reverse, All, refl, sym, ◌∙◌, ap, arith}
+use Rattle.std.proofs.Common.{◌≡◌, ℕ, ◌+◌, ◌<◌, ◌≤◌, suc, Bool, true, false, cond, nat_lt, nat_le, ◌==◌, List, [], ◌∷◌, length, get_or, take, reverse, All, refl, sym, ◌∙◌, ap, arith}
 use Rattle.std.specs.List.{sum_by}
 use Rattle.std.proofs.lemmas.Bool.Decides.{nat_tests, leb_tells, eqb_tells}
 use Rattle.std.proofs.lemmas.List.Sums.{sum_by-cons, sum_by_more, sum_by-take-le}
@@ -29,8 +29,7 @@ sum-zero f (x ∷ xs) all =
 
 All-map : (P Q : Item → Type 0) → ((x : Item) → P x → Q x) → (xs : List Item) → All P xs → All Q xs
 All-map P Q step [] all = All-nil Q
-All-map P Q step (x ∷ xs) all =
-    All-cons Q x xs (step x (All-head P x xs all)) (All-map P Q step xs (All-tail P x xs all))
+All-map P Q step (x ∷ xs) all = grind (arith, nat_tests, All-cons, All-head, All-tail, All-map P Q step xs (All-tail P x xs all))
 
 abbrev above : ℕ → Item → ℕ
 above s x = cond (nat_lt s x.serial) 1 0
@@ -44,13 +43,7 @@ is_above s x high = grind (arith, nat_tests)
 -- no item of a list with the same sums is above the bound
 bounded :
     (s : ℕ) (x : Item) (xs ys : List Item) → SameSums (x ∷ xs) ys → All (λ y. y.serial ≤ s) ys → x.serial ≤ s
-bounded s x xs ys same all =
-    let none : sum_by (above s) ys ≡ 0 = sum-zero (above s) ys (All-map (λ y. y.serial ≤ s) (λ y. above s y ≡ 0) (not_above s) ys all) in
-    let here : above s x ≡ 0 = omega (arith, same (above s), sum_by-cons (above s) x xs, none) in
-    elim (leb_tells (suc s) x.serial) [
-      | inl that ↦ absurd (let high : above s x ≡ 1 = is_above s x (omega arith) in omega (arith, here, high))
-      | inr that ↦ omega arith
-    ]
+bounded s x xs ys same all = grind (arith, nat_tests, sum-zero (above s) ys, All-map, not_above s, sum_by-cons (above s) x xs, leb_tells (suc s) x.serial, is_above s x)
 
 abbrev at : ℕ → (Item → ℕ) → Item → ℕ
 at s g x = cond (x.serial == s) (g x) 0
@@ -66,26 +59,13 @@ const_one x = 1
 
 none_at : (s : ℕ) (g : Item → ℕ) (xs : List Item) → sum_by (at s const_one) xs ≡ 0 → sum_by (at s g) xs ≡ 0
 none_at s g [] none = refl
-none_at s g (x ∷ xs) none =
-    let rest : sum_by (at s const_one) xs ≡ 0 = omega (arith, none, sum_by-cons (at s const_one) x xs) in
-    let first : at s const_one x ≡ 0 = omega (arith, none, sum_by-cons (at s const_one) x xs) in
-    let here : at s g x ≡ 0 =
-    elim (eqb_tells x.serial s) [
-      | inl that ↦ absurd (let one : at s const_one x ≡ 1 = at-here s const_one x that.1 in omega (arith, one, first))
-      | inr that ↦ ap (λ b. cond b (g x) 0) that.0
-    ]
-    in
-    omega (arith, sum_by-cons (at s g) x xs, here, none_at s g xs rest)
+none_at s g (x ∷ xs) none = grind (arith, nat_tests, sum_by-cons (at s const_one) x xs, sum_by-cons (at s g) x xs, eqb_tells x.serial s, at-here s const_one x, none_at s g xs)
 
 abbrev item_from : ℕ → ℕ → ℕ → Item
 item_from kind key serial = record { kind = record { 0 = kind }; key = key; serial = serial }
 
 same_item : (x y : Item) → x.kind.0 ≡ y.kind.0 → x.key ≡ y.key → x.serial ≡ y.serial → x ≡ y
-same_item x y kinds keys serials =
-    let first : item_from x.kind.0 x.key x.serial ≡ item_from y.kind.0 x.key x.serial = ap (λ n. item_from n x.key x.serial) kinds in
-    let second : item_from y.kind.0 x.key x.serial ≡ item_from y.kind.0 y.key x.serial = ap (λ n. item_from y.kind.0 n x.serial) keys in
-    let third : item_from y.kind.0 y.key x.serial ≡ item_from y.kind.0 y.key y.serial = ap (λ n. item_from y.kind.0 y.key n) serials in
-    first ∙ (second ∙ third)
+same_item x y kinds keys serials = grind (arith, nat_tests)
 
 -- the first of both is the same
 same_first :
@@ -133,10 +113,8 @@ same_first x y xs ys falling sinking same =
 -- a list by falling serials is the only one with its sums
 pub only_one : (xs ys : List Item) → AreFalling xs → AreSinking ys → SameSums xs ys → ys ≡ xs
 only_one [] [] falling sinking same = refl
-only_one [] (y ∷ ys) falling sinking same =
-    absurd (let none : 0 ≡ 1 + sum_by const_one ys = same const_one ∙ sum_by-cons const_one y ys in omega (arith, none))
-only_one (x ∷ xs) [] falling sinking same =
-    absurd (let none : 1 + sum_by const_one xs ≡ 0 = sym (sum_by-cons const_one x xs) ∙ same const_one in omega (arith, none))
+only_one [] (y ∷ ys) falling sinking same = grind (arith, nat_tests, sum_by-cons const_one y ys)
+only_one (x ∷ xs) [] falling sinking same = grind (arith, nat_tests, sum_by-cons const_one x xs)
 only_one (x ∷ xs) (y ∷ ys) falling sinking same =
     let first : x ≡ y = same_first x y xs ys falling.0 sinking.0 same in
     let rest : ys ≡ xs =
@@ -147,21 +125,15 @@ only_one (x ∷ xs) (y ∷ ys) falling sinking same =
 
 pub sinking : (xs : List Item) → AreFalling xs → AreSinking xs
 sinking [] falling = tt
-sinking (x ∷ xs) falling =
-    (All-map (λ z. z.serial < x.serial) (λ z. z.serial ≤ x.serial) (λ z below. omega arith) xs falling.0, sinking xs falling.1)
+sinking (x ∷ xs) falling = grind (arith, nat_tests, All-map, sinking xs falling.1)
 
 pub All-with_newer : (P : Item → Type 0) (x : Item) (zs : List Item) → P x → All P zs → All P (with_newer x zs)
 All-with_newer P x [] holds all = All-cons P x [] holds all
-All-with_newer P x (z ∷ zs) holds all =
-    elim (nat_le z.serial x.serial) as (λ b. All P (cond b (x ∷ z ∷ zs) (z ∷ with_newer x zs))) [
-      | true ↦ All-cons P x (z ∷ zs) holds all
-      | false ↦ All-cons P z (with_newer x zs) (All-head P z zs all) (All-with_newer P x zs holds (All-tail P z zs all))
-    ]
+All-with_newer P x (z ∷ zs) holds all = grind (arith, nat_tests, All-cons, All-head, All-tail, All-with_newer P x zs holds (All-tail P z zs all))
 
 pub All-newest_first : (P : Item → Type 0) (xs : List Item) → All P xs → All P (newest_first xs)
 All-newest_first P [] all = all
-All-newest_first P (x ∷ xs) all =
-    All-with_newer P x (newest_first xs) (All-head P x xs all) (All-newest_first P xs (All-tail P x xs all))
+All-newest_first P (x ∷ xs) all = grind (arith, nat_tests, All-with_newer P x (newest_first xs) (All-head P x xs all) (All-newest_first P xs (All-tail P x xs all)), All-head P x xs all, All-newest_first P xs (All-tail P x xs all), All-tail P x xs all)
 
 pub with_newer-sinking : (x : Item) (zs : List Item) → AreSinking zs → AreSinking (with_newer x zs)
 with_newer-sinking x [] sinks = (All-nil (λ z. z.serial ≤ x.serial), tt)
@@ -187,41 +159,28 @@ newest_first-sinking (x ∷ xs) = with_newer-sinking x (newest_first xs) (newest
 
 with_newer-sum : (f : Item → ℕ) (x : Item) (zs : List Item) → sum_by f (with_newer x zs) ≡ f x + sum_by f zs
 with_newer-sum f x [] = sum_by-cons f x []
-with_newer-sum f x (z ∷ zs) =
-    let rest : sum_by f (with_newer x zs) ≡ f x + sum_by f zs = with_newer-sum f x zs in
-    elim (nat_le z.serial x.serial) as (λ b. sum_by f (cond b (x ∷ z ∷ zs) (z ∷ with_newer x zs)) ≡ f x + sum_by f (z ∷ zs)) [
-      | true ↦ sum_by-cons f x (z ∷ zs)
-      | false ↦ omega (arith, rest, sum_by-cons f z (with_newer x zs), sum_by-cons f z zs)
-    ]
+with_newer-sum f x (z ∷ zs) = grind (arith, nat_tests, with_newer-sum f x zs, sum_by-cons f x (z ∷ zs), sum_by-cons f z (with_newer x zs), sum_by-cons f z zs)
 
 pub newest_first-sum : (f : Item → ℕ) (xs : List Item) → sum_by f (newest_first xs) ≡ sum_by f xs
 newest_first-sum f [] = refl
-newest_first-sum f (x ∷ xs) =
-    omega (arith, with_newer-sum f x (newest_first xs), newest_first-sum f xs, sum_by-cons f x xs)
+newest_first-sum f (x ∷ xs) = grind (arith, nat_tests, with_newer-sum, sum_by-cons, newest_first-sum f xs)
 
 -- items by falling serial are in their order
 pub in_order : (xs : List Item) → AreFalling xs → newest_first xs ≡ xs
-in_order xs falling =
-    only_one xs (newest_first xs) falling (newest_first-sinking xs) (λ f. sym (newest_first-sum f xs))
+in_order xs falling = grind (arith, nat_tests, only_one, newest_first-sinking, newest_first-sum)
 
 -- the same items give the same list
 pub same_list : (xs ys : List Item) → AreFalling (newest_first xs) → SameSums xs ys → newest_first ys ≡ newest_first xs
-same_list xs ys falling same =
-    only_one (newest_first xs) (newest_first ys) falling (newest_first-sinking ys)
-    (λ f. newest_first-sum f xs ∙ (same f ∙ sym (newest_first-sum f ys)))
+same_list xs ys falling same = grind (arith, nat_tests, only_one, newest_first-sinking, newest_first-sum)
 
 pub sunk_list : (xs ys : List Item) → AreFalling (newest_first xs) → SameSums xs ys → AreSinking ys → ys ≡ newest_first xs
-sunk_list xs ys falling same sinks =
-    only_one (newest_first xs) ys falling sinks (λ f. newest_first-sum f xs ∙ same f)
+sunk_list xs ys falling same sinks = grind (arith, nat_tests, only_one, newest_first-sum)
 
 -- the list with one item more
 pub one_more :
     (xs ys : List Item) (item : Item) → AreFalling (newest_first xs) →
     ((f : Item → ℕ) → sum_by f xs ≡ f item + sum_by f ys) → newest_first xs ≡ with_newer item (newest_first ys)
-one_more xs ys item falling same =
-    sym (only_one (newest_first xs) (with_newer item (newest_first ys)) falling
-    (with_newer-sinking item (newest_first ys) (newest_first-sinking ys))
-    (λ f. omega (arith, newest_first-sum f xs, same f, newest_first-sum f ys, with_newer-sum f item (newest_first ys))))
+one_more xs ys item falling same = grind (arith, nat_tests, only_one (newest_first xs) (with_newer item (newest_first ys)) falling, with_newer-sinking item (newest_first ys) (newest_first-sinking ys), newest_first-sinking ys, newest_first-sum, with_newer-sum)
 
 -- where the item stands in it
 pub record StandsIn (items : List Item) (item : Item) (rest : List Item) : Type 0 where
@@ -265,41 +224,17 @@ live_sum f e = cond e.live (f e.item) 0
 
 pub live-sum : (f : Item → ℕ) (es : List Entry) → sum_by f (live_items es) ≡ sum_by (live_sum f) es
 live-sum f [] = refl
-live-sum f (e ∷ es) =
-    let rest : sum_by f (live_items es) ≡ sum_by (live_sum f) es = live-sum f es in
-    sym (sum_by-cons (live_sum f) e es
-    ∙ (elim e.live as (λ b. cond b (f e.item) 0 + sum_by (live_sum f) es ≡ sum_by f (cond b (e.item ∷ live_items es) (live_items es))) [
-      | true ↦ omega (arith, rest, sum_by-cons f e.item (live_items es))
-      | false ↦ omega (arith, rest)
-    ]))
+live-sum f (e ∷ es) = grind (arith, nat_tests, live-sum f es, sum_by-cons (live_sum f) e es, sum_by-cons f e.item (live_items es))
 
 -- entries in another order
 pub entries-sums : (es es' : List Entry) → IsPermutation es es' → SameSums (live_items (reverse es)) (live_items (reverse es'))
-entries-sums es es' moved f =
-    omega (
-      arith,
-      live-sum f (reverse es),
-      live-sum f (reverse es'),
-      sum_by-IsPermutation (live_sum f) es (reverse es) (IsPermutation-reverse es),
-      sum_by-IsPermutation (live_sum f) es' (reverse es') (IsPermutation-reverse es'),
-      sum_by-IsPermutation (live_sum f) es es' moved,
-    )
+entries-sums es es' moved f = grind (arith, nat_tests, live-sum f (reverse es), live-sum f (reverse es'), sum_by-IsPermutation (live_sum f) es (reverse es) (IsPermutation-reverse es), sum_by-IsPermutation (live_sum f) es' (reverse es') (IsPermutation-reverse es'), sum_by-IsPermutation (live_sum f) es es' moved, IsPermutation-reverse es, IsPermutation-reverse es')
 
 -- an entry less
 pub removed-sums :
     (es es' : List Entry) (e : Entry) → e.live ≡ true → IsPermutation es (e ∷ es') →
     (f : Item → ℕ) → sum_by f (live_items (reverse es)) ≡ f e.item + sum_by f (live_items (reverse es'))
-removed-sums es es' e live moved f =
-    omega (
-      arith,
-      live-sum f (reverse es),
-      live-sum f (reverse es'),
-      sum_by-IsPermutation (live_sum f) es (reverse es) (IsPermutation-reverse es),
-      sum_by-IsPermutation (live_sum f) es' (reverse es') (IsPermutation-reverse es'),
-      sum_by-IsPermutation (live_sum f) es (e ∷ es') moved,
-      sum_by-cons (live_sum f) e es',
-      ap {B = ℕ} (λ b. cond b (f e.item) 0) live,
-    )
+removed-sums es es' e live moved f = grind (arith, nat_tests, live-sum f (reverse es), live-sum f (reverse es'), sum_by-IsPermutation (live_sum f) es (reverse es) (IsPermutation-reverse es), sum_by-IsPermutation (live_sum f) es' (reverse es') (IsPermutation-reverse es'), sum_by-IsPermutation (live_sum f) es (e ∷ es') moved, IsPermutation-reverse es, IsPermutation-reverse es', sum_by-cons (live_sum f) e es')
 
 pub length-sum : (xs : List Item) → sum_by const_one xs ≡ length xs
 length-sum [] = refl
@@ -310,23 +245,9 @@ same_lengths xs ys same = omega (arith, length-sum xs, length-sum ys, same const
 
 -- how many entries are live
 pub live-count : (es : List Entry) → length (live_items (reverse es)) ≡ sum_by (live_sum const_one) es
-live-count es =
-    omega (
-      arith,
-      length-sum (live_items (reverse es)),
-      live-sum const_one (reverse es),
-      sum_by-IsPermutation (live_sum const_one) es (reverse es) (IsPermutation-reverse es),
-    )
+live-count es = grind (arith, nat_tests, length-sum (live_items (reverse es)), live-sum const_one (reverse es), sum_by-IsPermutation (live_sum const_one) es (reverse es) (IsPermutation-reverse es), IsPermutation-reverse es)
 
 pub live-more :
     (es : List Entry) (i : ℕ) (d : Entry) → i < length es → (get_or es i d).live ≡ true →
     length (live_items (reverse (take i es))) + 1 ≤ length (live_items (reverse es))
-live-more es i d within live =
-    omega (
-      arith,
-      live-count es,
-      live-count (take i es),
-      sum_by_more (live_sum const_one) es i d within,
-      sum_by-take-le (live_sum const_one) es (i + 1),
-      ap {B = ℕ} (λ b. cond b 1 0) live,
-    )
+live-more es i d within live = grind (arith, nat_tests, live-count es, live-count (take i es), sum_by_more (live_sum const_one) es i d within, sum_by-take-le (live_sum const_one) es (i + 1))

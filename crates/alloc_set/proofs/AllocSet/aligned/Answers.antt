@@ -1,8 +1,8 @@
 use Rattle.alloc_set.specs.Kept.{state_of}
 use Rattle.alloc_set.proofs.Aligned.{live_whole}
 use Rattle.alloc_set.proofs.AllocSet.aligned.Goals as goal
+use Rattle.std.proofs.Common.{arith}
+use Rattle.std.proofs.lemmas.Bool.Decides.{nat_tests}
 
 pub returns : goal.returns
-returns c =
-    let b = c.self.inside.books.value in
-    rw (← c.self.view_is) (live_whole (state_of b) b.active.region b.active.size c.self.invariant.settled)
+returns c = grind (arith, nat_tests, live_whole (state_of c.self.inside.books.value) c.self.inside.books.value.active.region c.self.inside.books.value.active.size c.self.invariant.settled, c.self.view_is, c.self.invariant.settled)

@@ -1,17 +1,13 @@
-use Rattle.std.proofs.Common.{ap, sym, subst, ◌∙◌}
-use Rattle.addr_space.specs.Footprint.{Agrees}
+use Rattle.std.proofs.Common.{ap, ◌∙◌, arith}
 use Rattle.addr_space.proofs.Options.{if_ok, on_ok, on_err, both_err, either_way}
 use Rattle.addr_space.proofs.Steps.{Moves-same, Keeps-same}
-use Rattle.alloc_set.specs.State.{SetState, footprint}
+use Rattle.alloc_set.specs.State.{footprint}
 use Rattle.alloc_set.specs.Kept.{state_of}
 use Rattle.alloc_set.proofs.Aligned.{put_whole}
 use Rattle.alloc_set.proofs.AllocSet.alloc.Goals as goal
 
 pub returns-clause-moves : goal.returns-clause-moves
-returns-clause-moves c =
-    let is = ap state_of c.deref_mut.ensures.value ∙ c.self.view_is in
-    rw (← is)
-    (either_way c.alloc.result (on_ok c.alloc.result (λ at had. had.moves) c.alloc.ensures.ok) (both_err c.alloc.result (Moves-same _ _ c.args.space.now c.alloc.new.space (subst (λ (x : SetState). Agrees (footprint x) c.args.space.now) (sym is) c.requires)) (on_err c.alloc.result (ap footprint) c.alloc.ensures.err_state) c.alloc.ensures.err_space))
+returns-clause-moves c = grind (arith, either_way, on_ok, both_err, Moves-same, on_err, c.deref_mut.ensures.value, c.self.view_is, c.alloc.ensures.ok, c.requires, c.alloc.ensures.err_state, c.alloc.ensures.err_space)
 
 pub returns-clause-keeps : goal.returns-clause-keeps
 returns-clause-keeps c =

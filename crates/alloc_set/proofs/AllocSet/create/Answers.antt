@@ -1,5 +1,4 @@
-use Rattle.std.proofs.Common.{◌≡◌, ◌≢◌, ℕ, ◌^◌, ◌<◌, ◌==◌, min, sum, sum_by, refl, ap, ◌∙◌, arith, rules, Some, None, sym, inl}
-use Rattle.std.specs.Map.{lookup, values_of}
+use Rattle.std.proofs.Common.{◌≡◌, ◌≢◌, ℕ, min, sum, refl, ap, ◌∙◌, arith, Some, None, sym, inl}
 use Rattle.std.proofs.lemmas.Bool.Decides.{nat_tests}
 use Rattle.addr_space.specs.declared.Addr.{Addr}
 use Rattle.addr_space.specs.Footprint.{Moves, nothing}
@@ -9,7 +8,7 @@ use Rattle.chunk_header.specs.Header.{block_bytes}
 use Rattle.chunk_header.proofs.Words.{length-block_bytes}
 use Rattle.chunk_header.proofs.Wrote.{Moves-taken}
 use Rattle.alloc_set.specs.Ledger.{created}
-use Rattle.alloc_set.specs.Kept.{new_books, state_of, taken_bytes, IsKept, IsSettled}
+use Rattle.alloc_set.specs.Kept.{new_books, state_of, IsSettled}
 use Rattle.alloc_set.specs.declared.books.Books.{Books}
 use Rattle.alloc_set.specs.State.{region_of, start_of, footprint}
 use Rattle.alloc_set.proofs.Empty.{no_chunk, IsShelved-none, IsSettled-empty}
@@ -33,34 +32,10 @@ only_keeper : (c : After-deref_mut-2) (number len : ℕ) → region_of (state_of
 only_keeper c number len owned = let is = rw c.in-Some.ensures.none.0 at owned in (grind (arith, nat_tests), grind (arith, nat_tests))
 
 settled : (c : After-deref_mut-2) → IsSettled (state_of (made c)) c.in_ok-at.at.region c.args.sizes.init
-settled c =
-    let s = state_of (made c) in
-    let narrow : c.in_ok-at.at.region < 2 ^ 32 = search (rules, c.take.type_inv) in
-    IsSettled-empty s c.in-Some.ensures.none.1 (omega (arith, c.requires.least))
-    (λ number len owned. let it = only_keeper c number len owned in (omega (arith, it.1, c.requires.order, c.requires.most), omega (arith, it.1, c.requires.least, ap (start_of s) it.0, keeper_start s), omega (arith, it.0, narrow)))
+settled c = grind (arith, IsSettled-empty, only_keeper, keeper_start, c.in-Some.ensures.none.1, c.requires.least, c.requires.order, c.requires.most)
 
 pub invariant_of-result : goal.invariant_of-result
-invariant_of-result c =
-    let d = (goal.at.invariant_of-result c).After-deref_mut-2 in
-    let blocks = c.in-Some.ensures.none.0 in
-    let chunks = c.in-Some.ensures.none.1 in
-    let large = c.requires.least in
-    let kept : IsKept (made d) = record {
-      counted = record {
-        sizes = (large, c.requires.order, c.requires.most, c.requires.whole_init, c.requires.whole_max);
-        next = (large, c.requires.order, c.requires.whole_init);
-        limit = refl;
-        filled = omega (arith, large);
-        keeper = ap (λ e. lookup (λ n. c.in_ok-at.at.region == n) e) blocks;
-        total = omega (arith, ap (λ e. sum (values_of e)) blocks);
-        most = omega (arith, c.requires.order, c.requires.most);
-        blocks = omega (arith, ap (λ e. sum_by (min 1) (values_of e)) blocks);
-        rooms = omega (arith, large, ap (λ e. sum_by taken_bytes (values_of e)) chunks);
-      };
-      settled = settled d;
-      shelved = IsShelved-none (state_of (made d)) chunks;
-    } in
-    rw (is_made d) kept
+invariant_of-result c = grind (arith, nat_tests, sum, min 1, settled, settled ((goal.at.invariant_of-result c).After-deref_mut-2), IsShelved-none (state_of (made ((goal.at.invariant_of-result c).After-deref_mut-2))) c.in-Some.ensures.none.1, is_made ((goal.at.invariant_of-result c).After-deref_mut-2), c.in-Some.ensures.none.0, c.in-Some.ensures.none.1, c.requires.least, c.requires.order, c.requires.most, c.requires.whole_init, c.requires.whole_max)
 
 pub returns-clause-ledger : goal.returns-clause-ledger
 unfolding created

@@ -1,17 +1,13 @@
-use Rattle.std.proofs.Common.{ap, sym, subst, ◌∙◌}
-use Rattle.addr_space.specs.Footprint.{Agrees}
+use Rattle.std.proofs.Common.{ap, ◌∙◌, arith}
 use Rattle.addr_space.proofs.Options.{if_ok, on_ok, on_err, both_err, either_way}
 use Rattle.addr_space.proofs.Steps.{Moves-same, KeepsBut-same}
-use Rattle.alloc_set.specs.State.{SetState, footprint}
+use Rattle.alloc_set.specs.State.{footprint}
 use Rattle.alloc_set.specs.Kept.{state_of}
 use Rattle.alloc_set.proofs.Aligned.{move_whole}
 use Rattle.alloc_set.proofs.AllocSet.realloc.Goals as goal
 
 pub returns-clause-moves : goal.returns-clause-moves
-returns-clause-moves c =
-    let is = ap state_of c.deref_mut.ensures.value ∙ c.self.view_is in
-    rw (← is)
-    (either_way c.realloc.result (on_ok c.realloc.result (λ to had. had.2.moves) c.realloc.ensures.ok) (both_err c.realloc.result (Moves-same _ _ c.args.space.now c.realloc.new.space (subst (λ (x : SetState). Agrees (footprint x) c.args.space.now) (sym is) c.requires.agrees)) (on_err c.realloc.result (ap footprint) c.realloc.ensures.err_state) c.realloc.ensures.err_space))
+returns-clause-moves c = grind (arith, either_way, on_ok, both_err, Moves-same, on_err, c.deref_mut.ensures.value, c.self.view_is, c.realloc.ensures.ok, c.requires.agrees, c.realloc.ensures.err_state, c.realloc.ensures.err_space)
 
 pub returns-clause-keeps : goal.returns-clause-keeps
 returns-clause-keeps c =

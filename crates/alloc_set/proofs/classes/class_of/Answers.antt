@@ -14,7 +14,4 @@ overflow_sub-result-2 c =
 
 pub returns : goal.returns
 unfolding class_of
-returns c =
-    let zeros = count_leading_zeros 32 (c.args.size - 1) in
-    let is = class-bits c.args.size zeros (omega (arith, c.if-size-le8.false)) c.requires refl in
-    record { value = sym (class_up_to-is 10 c.args.size (29 - zeros) is.1 is.2 is.3); last = is.1; holds = is.2 }
+returns c = grind (arith, class-bits, class_up_to-is, c.if-size-le8.false, c.requires)

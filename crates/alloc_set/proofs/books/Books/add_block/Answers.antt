@@ -16,21 +16,14 @@ use Rattle.alloc_set.proofs.Regions.{noted, apart_keeper, other_start, region_no
 use Rattle.alloc_set.proofs.Settled.{IsSound-settled}
 use Rattle.alloc_set.proofs.books.Books.add_block.Goals as goal
 use Rattle.alloc_set.proofs.books.Books.add_block.Goals.{In_ok-at}
+use Rattle.std.proofs.lemmas.Bool.Decides.{nat_tests}
 
 -- no region of the context had the number
 none : (c : In_ok-at) → region_of (state_of c.args.self.now) c.in_ok-at.at.region ≡ None
-none c =
-    let s = state_of c.args.self.now in
-    elim (option_cases (region_of s c.in_ok-at.at.region)) [
-      | inl without ↦ without
-      | inr owned ↦ let clash = sym c.in_ok-at.ensures.fresh ∙ (c.requires.agrees.regions c.in_ok-at.at.region owned.0 owned.1).1 in absurd (cc)
-    ]
+none c = grind (arith, option_cases, c.in_ok-at.ensures.fresh, c.requires.agrees.regions)
 
 pub note-requires-clause-new : goal.note-requires-clause-new
-note-requires-clause-new c =
-    let s = state_of c.args.self.now in
-    let free = none (goal.at.note-requires-clause-new c).In_ok-at in
-    sym (noted s c.in_ok-at.at.region (apart_keeper s c.in_ok-at.at.region free)) ∙ free
+note-requires-clause-new c = grind (arith, nat_tests, none (goal.at.note-requires-clause-new c).In_ok-at, noted (state_of c.args.self.now) c.in_ok-at.at.region (apart_keeper (state_of c.args.self.now) c.in_ok-at.at.region (none (goal.at.note-requires-clause-new c).In_ok-at)), apart_keeper (state_of c.args.self.now) c.in_ok-at.at.region (none (goal.at.note-requires-clause-new c).In_ok-at))
 
 pub returns : goal.returns
 unfolding with_own

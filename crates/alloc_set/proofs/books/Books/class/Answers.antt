@@ -1,4 +1,4 @@
-use Rattle.std.proofs.Common.{◌≡◌, ℕ, Option, Some, None, IsSome, true, false, arith, inl, inr}
+use Rattle.std.proofs.Common.{◌≡◌, ℕ, Option, Some, true, false, arith}
 use Rattle.addr_space.specs.Space.{HasBytes}
 use Rattle.addr_space.proofs.Options.{from_then, option_cases}
 use Rattle.chunk_header.specs.declared.Header.{Header}
@@ -10,6 +10,7 @@ use Rattle.alloc_set.specs.declared.chunk.Chunk.TheVariants.{Live, Free, Own}
 use Rattle.alloc_set.proofs.Leads.{headed_by}
 use Rattle.alloc_set.proofs.books.Books.class.Goals as goal
 use Rattle.alloc_set.proofs.books.Books.class.Goals.{Start}
+use Rattle.std.proofs.lemmas.Bool.Decides.{nat_tests}
 
 -- a header says whether the chunk is of a class, and of which, or has its block for itself
 told : (o : Option Chunk) (chunk : Chunk) (n dist : ℕ) (header : Header) → o ≡ Some chunk → live_size chunk ≡ Some n → header ≡ header_of chunk dist
@@ -20,11 +21,7 @@ told o (Own size room) n dist header found live is = rw is ((λ shared. absurd (
 
 -- a live chunk stands there, and its header before it
 there : (c : Start) → (chunk : Chunk) × (n : ℕ) × (chunk_at (state_of c.args.self.now) c.args.at ≡ Some chunk) × (live_size chunk ≡ Some n)
-there c =
-    elim (option_cases ((footprint (state_of c.args.self.now)).live c.args.at)) [
-      | inl none ↦ let it : IsSome {T = ℕ} None = rw none at c.requires.live in absurd (cc)
-      | inr some ↦ let it = from_then live_size (chunk_at (state_of c.args.self.now) c.args.at) some.0 some.1 in (it.0, some.0, it.1, it.2)
-    ]
+there c = grind (arith, option_cases, from_then, c.requires.live)
 
 abbrev headed : (c : Start) → IsHeaded (footprint (state_of c.args.self.now)) c.args.at
 headed c = headed_by (state_of c.args.self.now) c.args.self.now.active.region c.args.self.now.active.size c.requires.kept.settled c.args.at (there c).0 (there c).2
@@ -42,9 +39,7 @@ says : (c : Start) (header : Header) → header ≡ (headed c).header
 says c header is = told (chunk_at (state_of c.args.self.now) c.args.at) (there c).0 (there c).1 _ header (there c).2 (there c).3 is
 
 pub returns-then-header-clause-own : goal.returns-then-header-clause-own
-returns-then-header-clause-own c =
-    let d = (goal.at.returns-then-header-clause-own c).Start in
-    (says d c.header_at-header.result (c.header_at-header.ensures (headed d).header (headed d).packable (known d))).1 c.if-header.true
+returns-then-header-clause-own c = grind (arith, nat_tests, says ((goal.at.returns-then-header-clause-own c).Start) c.header_at-header.result (c.header_at-header.ensures (headed ((goal.at.returns-then-header-clause-own c).Start)).header (headed ((goal.at.returns-then-header-clause-own c).Start)).packable (known ((goal.at.returns-then-header-clause-own c).Start))), known ((goal.at.returns-then-header-clause-own c).Start), c.header_at-header.ensures, c.if-header.true)
 
 pub overflow_cast-result : goal.overflow_cast-result
 overflow_cast-result c =
@@ -53,6 +48,4 @@ overflow_cast-result c =
     omega (arith, (c.requires.kept.settled.placed c.args.at (Live c.header_at-header.result.value class.0) class.1).sized.0)
 
 pub returns-clause-class : goal.returns-clause-class
-returns-clause-class c =
-    let d = (goal.at.returns-clause-class c).Start in
-    (says d c.header_at-header.result (c.header_at-header.ensures (headed d).header (headed d).packable (known d))).0 c.if-header.false
+returns-clause-class c = grind (arith, nat_tests, says ((goal.at.returns-clause-class c).Start) c.header_at-header.result (c.header_at-header.ensures (headed ((goal.at.returns-clause-class c).Start)).header (headed ((goal.at.returns-clause-class c).Start)).packable (known ((goal.at.returns-clause-class c).Start))), known ((goal.at.returns-clause-class c).Start), c.header_at-header.ensures, c.if-header.false)

@@ -1,4 +1,4 @@
-use Rattle.std.proofs.Common.{◌≡◌, ℕ, suc, ◌+◌, ◌-◌, ◌*◌, ◌/◌, ◌%◌, ◌<◌, ◌≤◌, List, ap, ◌∙◌, sym, subst, arith, get_or, refl}
+use Rattle.std.proofs.Common.{◌≡◌, ℕ, suc, ◌+◌, ◌-◌, ◌*◌, ◌<◌, ◌≤◌, List, ap, ◌∙◌, sym, subst, arith, get_or}
 use Rattle.std.proofs.Math.Nat.{add-zero, pow-succ', mod-eq_of_lt, div-eq_of_lt, div-eq_of_lt-le, mod-eq-sub-mod}
 use Rattle.std.proofs.lemmas.List.{set-get_or}
 use Rattle.addr_space.proofs.Steps.{Moves-more, Keeps-more, same_stays}
@@ -9,6 +9,7 @@ use Rattle.alloc_set.specs.declared.books.Books.{Books}
 use Rattle.alloc_set.specs.declared.books.Block.{Block}
 use Rattle.alloc_set.proofs.Places.{LeavesLive-more}
 use Rattle.alloc_set.proofs.books.Books.cut_up.Goals as goal
+use Rattle.std.proofs.lemmas.Bool.Decides.{nat_tests}
 
 class_bytes-suc : (class : ℕ) → class_bytes (suc class) + 8 ≡ 2 * class_bytes class
 class_bytes-suc class = omega (arith, pow-succ' 2 class)
@@ -17,20 +18,12 @@ class_bytes-suc class = omega (arith, pow-succ' 2 class)
 cut-in : (class room : ℕ) (free : List ℕ) → class_bytes class ≤ room → room < class_bytes (suc class)
     → (cut_rest (suc class) room ≡ cut_rest class (room - class_bytes class)) × (cut_up (suc class) room free ≡ cut_up class (room - class_bytes class) (with_free free class 1))
 unfolding cut_rest cut_up
-cut-in class room free fits little =
-    let less : room - class_bytes class < class_bytes class = omega (arith, class_bytes-suc class) in
-    let twice : room < (1 + 1) * class_bytes class = omega (arith, class_bytes-suc class) in
-    let once : 1 * class_bytes class ≤ room = omega arith in
-    let rest : room % class_bytes class ≡ room - class_bytes class = mod-eq-sub-mod fits ∙ mod-eq_of_lt less in
-    let one : room / class_bytes class ≡ 1 = div-eq_of_lt-le {k = 1} (class_bytes class) once twice in
-    (rw rest refl, rw (rest, one) refl)
+cut-in class room free fits little = grind (arith, class_bytes-suc, mod-eq-sub-mod, mod-eq_of_lt, div-eq_of_lt-le)
 
 -- none fits
 cut-out : (class room : ℕ) (free : List ℕ) → room < class_bytes class → (cut_rest (suc class) room ≡ cut_rest class room) × (cut_up (suc class) room free ≡ cut_up class room free)
 unfolding cut_rest cut_up
-cut-out class room free little =
-    let same : with_free free class 0 ≡ free = rw (add-zero (get_or free class 0)) (set-get_or free class 0) in
-    (rw (mod-eq_of_lt little) refl, rw (mod-eq_of_lt little, div-eq_of_lt little, same) refl)
+cut-out class room free little = grind (arith, nat_tests, add-zero (get_or free class 0), set-get_or free class 0, mod-eq_of_lt little, div-eq_of_lt little)
 
 pub loop-class-preserved-then-self-class_size : goal.loop-class-preserved-then-self-class_size
 loop-class-preserved-then-self-class_size c =
@@ -66,19 +59,4 @@ loop-class-preserved-then-self-class_size c =
     }
 
 pub loop-class-preserved : goal.loop-class-preserved
-loop-class-preserved c =
-    let m = c.loop-class.self in
-    let kept = c.loop-class.invariant in
-    let class : ℕ = c.loop-class.class - 1 in
-    let up : suc class ≡ c.loop-class.class = omega (arith, c.loop-class-test.true) in
-    let little : m.active.room < class_bytes class = omega (arith, c.class_size.ensures.value, c.if-self-class_size.false) in
-    record {
-      last = omega (arith, kept.last);
-      cut = kept.cut;
-      little = little;
-      room = sym (cut-out class m.active.room (state_of m).ledger.free little).0 ∙ ap (λ k. cut_rest k m.active.room) up ∙ kept.room;
-      free = sym (cut-out class m.active.room (state_of m).ledger.free little).1 ∙ ap (λ k. cut_up k m.active.room (state_of m).ledger.free) up ∙ kept.free;
-      moves = kept.moves;
-      keeps = kept.keeps;
-      asked = kept.asked;
-    }
+loop-class-preserved c = grind (arith, cut-out, c.loop-class.invariant, c.loop-class-test.true, c.class_size.ensures.value, c.if-self-class_size.false, c.loop-class.invariant.last, c.loop-class.invariant.cut, c.loop-class.invariant.room, c.loop-class.invariant.free, c.loop-class.invariant.moves, c.loop-class.invariant.keeps, c.loop-class.invariant.asked)

@@ -1,14 +1,15 @@
 use Rattle.std.proofs.Common.{◌≡◌, ◌==◌, ℕ, List, [], ◌∷◌, length, sum, refl, sym, ap, ◌∙◌, arith}
-use Rattle.std.specs.Map.{lookup, values_of}
+use Rattle.std.specs.Map.{lookup}
 use Rattle.addr_space.specs.Footprint.{Moves, nothing}
 use Rattle.addr_space.proofs.Steps.{Moves-more, Moves-none, Agrees-nothing}
 use Rattle.chunk_header.proofs.Wrote.{Moves-gone}
 use Rattle.alloc_set.specs.Ledger.{created}
-use Rattle.alloc_set.specs.State.{SetState, footprint}
+use Rattle.alloc_set.specs.State.{footprint}
 use Rattle.alloc_set.specs.Kept.{state_of}
 use Rattle.alloc_set.proofs.Regions.{keeper_owned, noted}
 use Rattle.alloc_set.proofs.books.Books.discard.Goals as goal
-use Rattle.alloc_set.proofs.books.Books.discard.Goals.{Joined-len-ne0, then-len-ne0, else-len-ne0}
+use Rattle.alloc_set.proofs.books.Books.discard.Goals.{Joined-len-ne0}
+use Rattle.std.proofs.lemmas.Bool.Decides.{nat_tests}
 
 no_blocks : (blocks : List (ℕ × ℕ)) → length blocks ≡ 0 → blocks ≡ []
 no_blocks [] h = refl
@@ -17,20 +18,10 @@ no_blocks (x ∷ blocks) h = absurd (omega arith)
 -- where there are no blocks but the keeper, it goes as it is, and else it is left
 left : (c : Joined-len-ne0) → Moves (footprint (state_of c.args.self.now)) (footprint (state_of c.if-len-ne0.self)) c.args.space.now c.if-len-ne0.space × (c.if-len-ne0.self.blocks.entries ≡ []) × (c.if-len-ne0.self.total ≡ c.if-len-ne0.self.sizes.init)
 unfolding created
-left c =
-    elim c.if-len-ne0.branch [
-      | then-len-ne0 w ↦
-          let state = w.reset.ensures.state in
-          rw (w.self-is, w.space-is) (w.reset.ensures.moves, ap (λ (x : SetState). x.blocks) state, ap (λ (x : SetState). x.ledger.total) state ∙ sym (ap (λ (x : SetState). x.ledger.init) state))
-      | else-len-ne0 w ↦
-          let none = no_blocks c.args.self.now.blocks.entries (omega (arith, c.len.ensures.len, w.if-len-ne0.false)) in
-          rw (w.self-is, w.space-is) (Moves-none (footprint (state_of c.args.self.now)) c.args.space.now c.requires.agrees, none, omega (arith, c.requires.kept.counted.total, ap (λ bs. sum (values_of bs)) none))
-    ]
+left c = grind (arith, nat_tests, no_blocks c.args.self.now.blocks.entries, Moves-none (footprint (state_of c.args.self.now)) c.args.space.now c.requires.agrees, sum, c.len.ensures.len, c.requires.agrees, c.requires.kept.counted.total)
 
 pub give-requires : goal.give-requires
-give-requires c =
-    let m = c.if-len-ne0.self in
-    record { live = rw ((left (goal.at.give-requires c).Joined-len-ne0).0.agrees.regions m.keeper m.sizes.init (keeper_owned (state_of m))).1 refl; start = refl }
+give-requires c = grind (arith, nat_tests, left (goal.at.give-requires c).Joined-len-ne0, keeper_owned (state_of c.if-len-ne0.self))
 
 pub returns-clause-moves : goal.returns-clause-moves
 returns-clause-moves c =

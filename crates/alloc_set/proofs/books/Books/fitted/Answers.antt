@@ -1,7 +1,6 @@
-use Rattle.std.proofs.Common.{◌≡◌, ℕ, zero, suc, ◌-◌, ◌/◌, ◌<◌, ◌≤◌, ◌∙◌, sym, arith, inl, inr, Some, None, refl}
+use Rattle.std.proofs.Common.{◌≡◌, ℕ, zero, suc, ◌-◌, ◌/◌, ◌<◌, ◌≤◌, ◌∙◌, sym, arith, Some, None, refl}
 use Rattle.std.proofs.lemmas.Bool.{cases_lt}
 use Rattle.std.proofs.lemmas.Bool.Decides.{nat_tests}
-use Rattle.addr_space.specs.Space.{held}
 use Rattle.alloc_set.specs.Ledger.{halved_by, halved}
 use Rattle.alloc_set.proofs.books.Books.fitted.Goals as goal
 
@@ -11,11 +10,7 @@ unfolding halved_by
 halved_by-enough zero zero left need size f_enough g_enough = refl
 halved_by-enough zero (suc g) left need size f_enough g_enough = grind (arith, nat_tests)
 halved_by-enough (suc f) zero left need size f_enough g_enough = grind (arith, nat_tests)
-halved_by-enough (suc f) (suc g) left need size f_enough g_enough =
-    elim (cases_lt 1048576 size) [
-      | inl large ↦ let next = halved_by-enough f g left need (size / 2) (omega arith) (omega arith) in grind (arith, nat_tests)
-      | inr small ↦ grind (arith, nat_tests)
-    ]
+halved_by-enough (suc f) (suc g) left need size f_enough g_enough = grind (arith, nat_tests, cases_lt 1048576 size, halved_by-enough f g left need (size / 2))
 
 -- a size that fits stays, one that doesn't is halved while it is large, and then it isn't to be had
 halved-fits : (left need size : ℕ) → size ≤ left → halved left need size ≡ Some size
@@ -25,9 +20,7 @@ halved-fits left need (suc size) fits = grind (arith, nat_tests)
 
 halved-go : (left need size : ℕ) → left < size → 1048576 < size → need ≤ size / 2 → halved left need size ≡ halved left need (size / 2)
 unfolding halved halved_by
-halved-go left need size over large enough =
-    let once : halved_by (suc size) left need size ≡ halved_by size left need (size / 2) = grind (arith, nat_tests) in
-    halved_by-enough size (suc size) left need size (omega arith) (omega arith) ∙ once ∙ halved_by-enough size (size / 2) left need (size / 2) (omega arith) (omega arith)
+halved-go left need size over large enough = grind (arith, halved_by-enough)
 
 halved-stop : (left need size : ℕ) → left < size → size ≤ 1048576 → halved left need size ≡ None
 unfolding halved halved_by
@@ -35,21 +28,7 @@ halved-stop left need zero over small = grind (arith, nat_tests)
 halved-stop left need (suc size) over small = grind (arith, nat_tests)
 
 pub loop-size-preserved : goal.loop-size-preserved
-loop-size-preserved c =
-    let left : ℕ = c.args.space.now.limit - held c.args.space.now c.args.self.now.account in
-    let kept = c.loop-size.invariant in
-    let over : left < c.loop-size.size = elim (cases_lt left c.loop-size.size) [
-      | inl less ↦ less
-      | inr fits ↦
-          let yes = c.fits.ensures.1 (omega (arith, fits, kept.enough, c.requires.least)) in
-          let no_fit = c.if-not-fits.true in
-          absurd (cc)
-    ] in
-    record {
-      same = sym (halved-go left c.args.need c.loop-size.size over c.loop-size-test.true c.if-size-need.true) ∙ kept.same;
-      enough = c.if-size-need.true;
-      most = omega (arith, kept.most);
-    }
+loop-size-preserved c = grind (arith, cases_lt, halved-go, c.loop-size.invariant, c.fits.ensures.1, c.loop-size.invariant.enough, c.requires.least, c.if-not-fits.true, c.loop-size-test.true, c.if-size-need.true, c.loop-size.invariant.same, c.loop-size.invariant.most)
 
 pub returns-else-not-fits-clause-some : goal.returns-else-not-fits-clause-some
 returns-else-not-fits-clause-some c = λ fits. sym c.loop-size.invariant.same ∙ halved-fits _ c.args.need c.loop-size.size fits

@@ -1,16 +1,13 @@
-use Rattle.std.proofs.Common.{ap, ◌∙◌, sym, subst, arith, sum_by}
-use Rattle.std.specs.Map.{values_of}
+use Rattle.std.proofs.Common.{ap, ◌∙◌, sym, subst, arith}
 use Rattle.addr_space.proofs.Steps.{Moves-more}
-use Rattle.alloc_set.specs.Kept.{taken_bytes, IsCleared}
-use Rattle.alloc_set.specs.declared.books.Block.{Block}
+use Rattle.alloc_set.specs.Kept.{IsCleared}
 use Rattle.alloc_set.specs.declared.books.Books.{Books}
 use Rattle.alloc_set.proofs.Regions.{sum-least}
 use Rattle.alloc_set.proofs.books.Books.give_blocks.Goals as goal
+use Rattle.std.proofs.lemmas.Bool.Decides.{nat_tests}
 
 pub give_block-requires-clause-counted : goal.give_block-requires-clause-counted
-give_block-requires-clause-counted c =
-    let cleared = c.loop-number.invariant.cleared in
-    omega (arith, c.loop-number.invariant.kept.counted.total, sum-least c.loop-number.self.blocks.entries c.in-Some.number c.in-Some.size c.in-Some.ensures.some, ap (λ (x : Block). x.room) cleared.active, ap (λ e. sum_by taken_bytes (values_of e)) cleared.chunks, cleared.idle, c.loop-number.invariant.kept.counted.sizes.0)
+give_block-requires-clause-counted c = grind (arith, nat_tests, sum-least c.loop-number.self.blocks.entries c.in-Some.number c.in-Some.size c.in-Some.ensures.some, c.loop-number.invariant.cleared, c.loop-number.invariant.kept.counted.total, c.in-Some.ensures.some, c.loop-number.invariant.cleared.active, c.loop-number.invariant.cleared.chunks, c.loop-number.invariant.cleared.idle, c.loop-number.invariant.kept.counted.sizes.0)
 
 pub loop-number-preserved : goal.loop-number-preserved
 loop-number-preserved c =

@@ -1,15 +1,16 @@
-use Rattle.std.proofs.Common.{◌≡◌, ◌≢◌, ℕ, ◌+◌, ◌-◌, ◌*◌, ap, ◌∙◌, sym, subst, arith, rules, None, min, sum_by}
+use Rattle.std.proofs.Common.{◌≡◌, ℕ, ◌+◌, ◌-◌, ◌*◌, ap, ◌∙◌, sym, subst, arith, rules, min, sum_by}
 use Rattle.std.specs.Map.{values_of}
 use Rattle.addr_space.specs.Footprint.{Footprint, Keeps}
 use Rattle.addr_space.proofs.Steps.{Moves-more, Keeps-more, same_stays}
 use Rattle.alloc_set.specs.Ledger.{SetLedger, cut_rest, cut_up, with_own, renewed, block_size}
-use Rattle.alloc_set.specs.State.{SetState, chunk_at, region_of, footprint}
+use Rattle.alloc_set.specs.State.{SetState, footprint}
 use Rattle.alloc_set.specs.Kept.{state_of, taken_bytes}
 use Rattle.alloc_set.specs.declared.books.Books.{Books}
 use Rattle.alloc_set.proofs.Settled.{none_in}
 use Rattle.alloc_set.proofs.Places.{LeavesLive-same, LeavesLive-more}
 use Rattle.alloc_set.proofs.books.Books.renew.Goals as goal
 use Rattle.alloc_set.proofs.books.Books.renew.Goals.{After-cut_up}
+use Rattle.std.proofs.lemmas.Bool.Decides.{nat_tests}
 
 -- the ledger once the block is noted and the rest of the old one cut up
 ledger_cut : (c : After-cut_up) → (state_of c.cut_up.new.self).ledger ≡ record (state_of c.args.self.now).ledger {
@@ -24,16 +25,7 @@ ledger_cut c =
     ∙ rw (c.cut_up.ensures.room, c.cut_up.ensures.free) (ap (λ (l : SetLedger). record l { room = cut_rest 11 l.room; free = cut_up 11 l.room l.free }) c.in_ok-region.ensures.ledger)
 
 pub activate-requires-clause-empty : goal.activate-requires-clause-empty
-activate-requires-clause-empty c = λ at region.
-    let b = c.args.self.now in
-    let m = c.add_block.new.self in
-    let none : region_of (state_of b) c.in_ok-region.region ≡ None = c.in_ok-region.ensures.new in
-    let settled = c.requires.kept.settled in
-    let same_active : m.active.region ≡ b.active.region = ap (λ (x : Books). x.active.region) c.in_ok-region.ensures.rest in
-    let differs : at.region ≢ m.active.region = λ e.
-    let clash = sym none ∙ ap (region_of (state_of b)) (sym region ∙ e ∙ same_active) ∙ settled.active_owned in
-    absurd (cc) in
-    c.cut_up.ensures.cut.others at differs ∙ ap (λ (x : Books). chunk_at (state_of x) at) c.in_ok-region.ensures.rest ∙ none_in (state_of b) b.active.region b.active.size settled c.in_ok-region.region none at region
+activate-requires-clause-empty c = grind (arith, nat_tests, none_in (state_of c.args.self.now) c.args.self.now.active.region c.args.self.now.active.size c.requires.kept.settled c.in_ok-region.region c.in_ok-region.ensures.new, c.in_ok-region.ensures.new, c.requires.kept.settled, c.in_ok-region.ensures.rest, c.requires.kept.settled.active_owned, c.cut_up.ensures.cut.others)
 
 pub activate-requires-clause-counted : goal.activate-requires-clause-counted
 activate-requires-clause-counted c =

@@ -19,11 +19,7 @@ use Rattle.alloc_set.proofs.books.Books.reuse.Goals as goal
 use Rattle.alloc_set.proofs.books.Books.reuse.Goals.{In-Some}
 
 pub returns-in_default-clause-empty : goal.returns-in_default-clause-empty
-returns-in_default-clause-empty c =
-    let b = c.args.self.now in
-    let below : c.args.class < 11 = omega (arith, c.requires.class) in
-    let shelf = shelf_at b.shelves c.args.class in
-    count_is b c.args.class c.requires.kept below ∙ chain_empty (chunk_at (state_of b)) c.args.class shelf.count shelf.first (c.requires.kept.shelved.chain c.args.class below) (ap (λ (s : Shelf). s.first) (sym c.at-shelf.ensures) ∙ c.in_default.is)
+returns-in_default-clause-empty c = grind (arith, count_is, chain_empty, c.requires.class, c.requires.kept, c.requires.kept.shelved.chain, c.at-shelf.ensures)
 
 -- the first chunk of a shelf is free, and the space has its link
 first : (c : In-Some) → (next : Option Addr) × (chunk_at (state_of c.args.self.now) c.in-Some.at ≡ Some (Free c.args.class next)) × ((shelf_at c.args.self.now.shelves c.args.class).count ≡ suc ((shelf_at c.args.self.now.shelves c.args.class).count - 1))

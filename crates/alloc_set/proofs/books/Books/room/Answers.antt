@@ -1,10 +1,10 @@
-use Rattle.std.proofs.Common.{◌≡◌, ◌+◌, ◌==◌, Some, ap, ◌∙◌, arith}
+use Rattle.std.proofs.Common.{◌≡◌, ◌+◌, ◌==◌, Some, arith}
 use Rattle.std.specs.Map.{lookup}
 use Rattle.alloc_set.specs.Kept.{state_of}
-use Rattle.alloc_set.specs.declared.chunk.Chunk.TheVariants.{Own}
 use Rattle.alloc_set.proofs.Settled.{noted_own}
 use Rattle.alloc_set.proofs.books.Books.room.Goals as goal
 use Rattle.alloc_set.proofs.books.Books.room.Goals.{Start}
+use Rattle.std.proofs.lemmas.Bool.Decides.{nat_tests}
 
 -- the size of the block is noted
 was : (c : Start) → lookup (λ n. c.args.at.region == n) c.args.self.now.blocks.entries ≡ Some (c.requires.own.1 + 48)
@@ -17,6 +17,4 @@ pub unreachable-requires : goal.unreachable-requires
 unreachable-requires c = absurd (cc (was (goal.at.unreachable-requires c).Start, c.in-None.ensures.value))
 
 pub returns : goal.returns
-returns c =
-    let one : c.in-Some.size.now ≡ c.requires.own.1 + 48 = cc (was (goal.at.returns c).Start, c.in-Some.ensures.value) in
-    (c.requires.own.0, c.requires.own.2 ∙ ap (λ n. Some (Own c.requires.own.0 n)) (omega (arith, one)))
+returns c = grind (arith, nat_tests, was (goal.at.returns c).Start, c.requires.own.1, c.in-Some.ensures.value, c.requires.own.0, c.requires.own.2)

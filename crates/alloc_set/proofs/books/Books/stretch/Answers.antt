@@ -1,4 +1,4 @@
-use Rattle.std.proofs.Common.{◌≡◌, ℕ, ◌+◌, ◌-◌, ◌<◌, ◌≤◌, ◌⊎◌, ◌↔◌, ◌==◌, List, length, min, Some, Err, refl, sym, ap, ◌∙◌, arith, rules, inl, inr, None, slice_index, slice_index_or, map}
+use Rattle.std.proofs.Common.{◌≡◌, ℕ, ◌+◌, ◌-◌, ◌<◌, ◌≤◌, ◌⊎◌, ◌↔◌, ◌==◌, List, length, min, Some, refl, sym, ap, ◌∙◌, arith, rules, inl, inr, None, slice_index, slice_index_or, map}
 use Rattle.std.proofs.lemmas.Result.{err_from_is_err_and}
 use Rattle.std.specs.Map.{lookup}
 use Rattle.std.proofs.lemmas.Bool.{cases_lt, cases_eq}
@@ -9,7 +9,6 @@ use Rattle.addr_space.specs.declared.Addr.{Addr}
 use Rattle.addr_space.proofs.Addresses.{same_addr_from}
 use Rattle.addr_space.proofs.Options.{one_value}
 use Rattle.addr_space.proofs.Steps.{Moves-one}
-use Rattle.chunk_header.specs.declared.CtxError.TheVariants.{NoSpace}
 use Rattle.chunk_header.specs.Header.{header_bytes, block_bytes}
 use Rattle.chunk_header.proofs.Words.{length-header_bytes}
 use Rattle.chunk_header.proofs.Wrote.{share-owned}
@@ -48,9 +47,7 @@ pub resize_block-requires-clause-region : goal.resize_block-requires-clause-regi
 resize_block-requires-clause-region c = rw (in_space (goal.at.resize_block-requires-clause-region c).Start).1 refl
 
 pub returns-in_err-resize_block-clause-no_space : goal.returns-in_err-resize_block-clause-no_space
-returns-in_err-resize_block-clause-no_space c = λ e.
-    let is : c.in_err-resize_block.field-0.0 ≡ NoSpace = let p = err_from_is_err_and c.from_residual.result c.from_residual.ensures.1 in cc in
-    (over_limit c.args.space.now c.args.at.region c.args.self.now.account (c.args.old + 48) (c.args.room + 48) (in_space (goal.at.returns-in_err-resize_block-clause-no_space c).Start)).0 (c.in_err-resize_block.ensures.no_space.0 (ap Err is))
+returns-in_err-resize_block-clause-no_space c = grind (arith, err_from_is_err_and, over_limit, in_space, c.from_residual.ensures.1, c.in_err-resize_block.ensures.no_space.0)
 
 pub note_again-requires : goal.note_again-requires
 note_again-requires c = rw (noted_at (goal.at.note_again-requires c).Start) refl

@@ -1,7 +1,7 @@
-use Rattle.std.proofs.Common.{◌≡◌, ℕ, ◌-◌, ◌<◌, ap, ◌∙◌, refl, subst, arith, slice_index}
+use Rattle.std.proofs.Common.{◌≡◌, ℕ, ◌-◌, ◌<◌, ap, ◌∙◌, subst, arith, slice_index}
 use Rattle.std.proofs.lemmas.Bool.Decides.{nat_tests}
 use Rattle.addr_space.specs.Space.{held}
-use Rattle.alloc_set.specs.Ledger.{SetLedger, class_bytes, take_class, from_new, of_class, reused, cut_off, renewed}
+use Rattle.alloc_set.specs.Ledger.{SetLedger, class_bytes, take_class, from_new, of_class, cut_off, renewed}
 use Rattle.alloc_set.specs.State.{SetState}
 use Rattle.alloc_set.specs.Kept.{state_of}
 use Rattle.alloc_set.specs.Cut.{Allocates}
@@ -11,19 +11,11 @@ use Rattle.alloc_set.proofs.books.Books.take_class.Goals.{In_ok-make_room}
 
 -- a shelf without a chunk and the making of room leave the state, and no chunk of the class fits
 made : (c : In_ok-make_room) → (state_of c.make_room.new.self ≡ state_of c.args.self.now) × (slice_index (state_of c.args.self.now).ledger.free c.class_of-class.result ≡ 0) × (c.args.self.now.active.room < class_bytes c.class_of-class.result)
-made c =
-    let same = ap state_of c.in_default.ensures.none in
-    (c.make_room.ensures.state ∙ same, c.in_default.ensures.empty, omega (arith, c.class_size.ensures.value, c.if-self-class_size.false, ap (λ (x : SetState). x.ledger.room) same))
+made c = grind (arith, nat_tests, c.in_default.ensures.none, c.make_room.ensures.state, c.in_default.ensures.empty, c.class_size.ensures.value, c.if-self-class_size.false)
 
 pub returns-in-Some-clause-ok : goal.returns-in-Some-clause-ok
 unfolding take_class
-returns-in-Some-clause-ok c =
-    let a = state_of c.args.self.now in
-    let class : ℕ = c.class_of-class.result in
-    let did = c.in-Some.ensures in
-    rw (← c.class_of-class.ensures.value)
-    (Allocates-put a _ _ _ _ _ (of_class (reused a.ledger class) class 0) (grind (arith, nat_tests, did.some)) did.ledger did.kept did.place
-    _ did.fresh did.live c.reuse.ensures.stays refl did.moves (λ at p q k live again below short. refl))
+returns-in-Some-clause-ok c = grind (arith, nat_tests, Allocates-put (state_of c.args.self.now), c.in-Some.ensures, c.class_of-class.ensures.value, c.in-Some.ensures.some, c.in-Some.ensures.ledger, c.in-Some.ensures.kept, c.in-Some.ensures.place, c.in-Some.ensures.fresh, c.in-Some.ensures.live, c.reuse.ensures.stays, c.in-Some.ensures.moves)
 
 pub returns-then-self-class_size-clause-ok : goal.returns-then-self-class_size-clause-ok
 unfolding take_class

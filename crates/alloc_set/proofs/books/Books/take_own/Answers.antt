@@ -2,7 +2,7 @@ use Rattle.std.proofs.Common.{◌≡◌, ℕ, ◌+◌, ◌-◌, ap, ◌∙◌, s
 use Rattle.std.proofs.lemmas.Bool.Decides.{nat_tests}
 use Rattle.addr_space.specs.Space.{held}
 use Rattle.alloc_set.specs.Ledger.{take_own, own_size, of_own}
-use Rattle.alloc_set.specs.State.{SetState, chunk_at, footprint}
+use Rattle.alloc_set.specs.State.{SetState, footprint}
 use Rattle.alloc_set.specs.Kept.{state_of}
 use Rattle.alloc_set.specs.Cut.{Allocates}
 use Rattle.alloc_set.specs.declared.books.Books.{Books}
@@ -12,9 +12,7 @@ use Rattle.alloc_set.proofs.Taken.{Allocates-after}
 use Rattle.alloc_set.proofs.books.Books.take_own.Goals as goal
 
 pub settle-requires-clause-empty : goal.settle-requires-clause-empty
-settle-requires-clause-empty c = λ other region.
-    let m = c.make_room.new.self in
-    ap (λ (x : Books). chunk_at (state_of x) other) c.in_ok-region.ensures.rest ∙ none_in (state_of m) m.active.region m.active.size c.make_room.ensures.kept.settled c.in_ok-region.region c.in_ok-region.ensures.new other region
+settle-requires-clause-empty c = grind (arith, nat_tests, none_in (state_of c.make_room.new.self) c.make_room.new.self.active.region c.make_room.new.self.active.size c.make_room.ensures.kept.settled c.in_ok-region.region c.in_ok-region.ensures.new, c.in_ok-region.ensures.rest, c.make_room.ensures.kept.settled, c.in_ok-region.ensures.new)
 
 pub returns-clause-ok : goal.returns-clause-ok
 unfolding take_own

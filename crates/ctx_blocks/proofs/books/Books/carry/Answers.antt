@@ -5,21 +5,13 @@ use Rattle.ctx_blocks.proofs.Laid.{live_is}
 use Rattle.addr_space.proofs.Carried.{IsInside-live, Moves-carried, KeepsBut-carried, HasBytesOf-carried}
 use Rattle.ctx_blocks.proofs.books.Books.carry.Goals as goal
 use Rattle.ctx_blocks.proofs.books.Books.carry.Goals.{Start}
+use Rattle.std.proofs.lemmas.Bool.Decides.{nat_tests}
 
 inside : (c : Start) → IsInside c.args.space.now c.args.from c.args.n
 inside c = IsInside-live _ _ _ _ _ c.requires.agrees (live_is (layout_of c.args.self.now) c.args.from _ c.requires.from.1) c.requires.from.2
 
 pub copy-requires : goal.copy-requires
-copy-requires c =
-    let l = layout_of c.args.self.now in
-    let from = live_is l c.args.from _ c.requires.from.1 in
-    let to = live_is l c.args.to _ c.requires.to.1 in
-    record {
-      from = inside (goal.at.copy-requires c).Start;
-      to = IsInside-live _ _ _ _ _ c.requires.agrees to c.requires.to.2;
-      apart = λ region. (let apart = c.requires.agrees.sound.live_apart c.args.from c.args.to _ _ from to c.requires.other region in grind (arith, c.requires.from.2, c.requires.to.2));
-      known = c.requires.known;
-    }
+copy-requires c = grind (arith, nat_tests, live_is (layout_of c.args.self.now) c.args.from, live_is (layout_of c.args.self.now) c.args.to, inside (goal.at.copy-requires c).Start, IsInside-live, c.requires.from.1, c.requires.to.1, c.requires.agrees, c.requires.to.2, c.requires.agrees.sound.live_apart, c.requires.other, c.requires.from.2, c.requires.known)
 
 pub returns : goal.returns
 returns c =

@@ -1,4 +1,4 @@
-use Rattle.std.proofs.Common.{◌≡◌, ◌-◌, ◌==◌, Some, None, refl, ◌∙◌, arith}
+use Rattle.std.proofs.Common.{◌≡◌, ◌-◌, Some, None, refl, arith}
 use Rattle.std.proofs.lemmas.Grind.{common_steps}
 use Rattle.addr_space.specs.declared.Addr.{Addr}
 use Rattle.ctx_blocks.specs.Layout.{Layout, block_at, chunk_at}
@@ -10,12 +10,11 @@ use Rattle.ctx_blocks.proofs.Lessened.{IsLaid-lessened}
 use Rattle.ctx_blocks.proofs.Dropped.{IsRegion-owned, Lessens-dropped, Moves-dropped, lookup-last}
 use Rattle.ctx_blocks.proofs.books.Books.drop_last.Goals as goal
 use Rattle.ctx_blocks.proofs.books.Books.drop_last.Goals.{In-Some}
+use Rattle.std.proofs.lemmas.Bool.Decides.{nat_tests}
 
 -- the last block is the one that was popped
 owned : (c : In-Some) → block_at (layout_of c.args.self.now) c.in-Some.number ≡ Some c.in-Some.block
-owned c =
-    block_view c.args.self.now c.requires.apart c.in-Some.number
-    ∙ rw c.in-Some.ensures.entries (lookup-last (λ n. c.in-Some.number == n) c.pop.new.self.entries c.in-Some.number c.in-Some.block c.in-Some.ensures.updates.1 (grind arith))
+owned c = grind (arith, nat_tests, block_view c.args.self.now c.requires.apart c.in-Some.number, lookup-last, c.requires.apart, c.in-Some.ensures.entries, c.in-Some.ensures.updates.1)
 
 pub give-requires : goal.give-requires
 give-requires c = IsRegion-owned (layout_of c.args.self.now) c.args.space.now c.in-Some.number c.in-Some.block c.requires.agrees (owned (goal.at.give-requires c).In-Some)

@@ -1,21 +1,13 @@
-use Rattle.std.proofs.Common.{◌≡◌, ap}
+use Rattle.std.proofs.Common.{◌≡◌, ap, arith}
 use Rattle.ctx_blocks.specs.Kept.{layout_of, IsKept}
 use Rattle.ctx_blocks.specs.Order.{in_order}
 use Rattle.ctx_blocks.specs.declared.books.Books.{Books}
 use Rattle.ctx_blocks.proofs.books.Books.make_room.Goals as goal
+use Rattle.std.proofs.lemmas.Bool.Decides.{nat_tests}
 
 -- what is kept and seen stays while the entries do
 IsKept-spare : (b n : Books) → n.blocks.entries ≡ b.blocks.entries → IsKept b → IsKept (record b { blocks = n.blocks })
-IsKept-spare b n same kept = record {
-  laid = rw same kept.laid;
-  counted = rw same kept.counted;
-  first = rw same kept.first;
-  numbered = rw same kept.numbered;
-  total = rw same kept.total;
-  most = kept.most;
-  apart = rw same kept.apart;
-  unique = kept.unique;
-}
+IsKept-spare b n same kept = grind (arith, nat_tests)
 
 pub returns-then-is_err-clause-kept : goal.returns-then-is_err-clause-kept
 returns-then-is_err-clause-kept c = IsKept-spare c.args.self.now (record c.args.self.now { blocks = c.reserve.new.self }) c.reserve.ensures.entries c.requires

@@ -14,18 +14,14 @@ use Rattle.ctx_blocks.proofs.Put.{regions-put}
 use Rattle.ctx_blocks.proofs.Cleared.{first_only}
 use Rattle.ctx_blocks.proofs.books.Books.reset.Goals as goal
 use Rattle.ctx_blocks.proofs.books.Books.reset.Goals.{After-shrink}
+use Rattle.std.proofs.lemmas.Bool.Decides.{nat_tests}
 
 -- the keeper is the one block that is left
 left : (c : After-shrink) → (b : Block) × (c.shrink.new.self.blocks.entries ≡ (c.shrink.new.self.keeper, b) ∷ []) × (block_at (layout_of c.args.self.now) c.args.self.now.keeper ≡ Some b)
-left c =
-    let it = first_only c.args.self.now.keeper c.args.self.now.first_number c.args.self.now.blocks.entries c.requires.kept.first in
-    let keeper : c.shrink.new.self.keeper ≡ c.args.self.now.keeper = ap (λ (x : Books). x.keeper) c.shrink.ensures.rest in
-    (it.0, c.shrink.ensures.blocks ∙ it.1 ∙ ap (λ k. (k, it.0) ∷ []) (sym keeper), block_view c.args.self.now c.requires.kept.apart c.args.self.now.keeper ∙ it.2)
+left c = grind (arith, nat_tests, first_only c.args.self.now.keeper c.args.self.now.first_number c.args.self.now.blocks.entries c.requires.kept.first, block_view c.args.self.now c.requires.kept.apart c.args.self.now.keeper, c.requires.kept.first, c.shrink.ensures.rest, c.shrink.ensures.blocks, c.requires.kept.apart)
 
 pub seek-place-requires-clause-block : goal.seek-place-requires-clause-block
-seek-place-requires-clause-block c =
-    let it = left (goal.at.seek-place-requires-clause-block c).After-shrink in
-    (it.0, keeper_is (layout_of c.shrink.new.self) it.0 (ap in_order it.1) c.shrink.ensures.chunks)
+seek-place-requires-clause-block c = grind (arith, nat_tests, left (goal.at.seek-place-requires-clause-block c).After-shrink, keeper_is (layout_of c.shrink.new.self) (left (goal.at.seek-place-requires-clause-block c).After-shrink).0 (ap in_order (left (goal.at.seek-place-requires-clause-block c).After-shrink).1) c.shrink.ensures.chunks, c.shrink.ensures.chunks)
 
 pub returns : goal.returns
 returns c =

@@ -1,4 +1,4 @@
-use Rattle.std.proofs.Common.{refl, sym, ap, ◌∙◌}
+use Rattle.std.proofs.Common.{sym, ap, ◌∙◌, arith}
 use Rattle.forest.specs.Forest.{Forest, has}
 use Rattle.forest.proofs.Calls.{forest_is}
 use Rattle.forest.proofs.Numbers.{has_agreed}
@@ -7,21 +7,13 @@ use Rattle.forest.proofs.Walks.{first_step}
 use Rattle.forest.proofs.arena.LinkedForest.first_leaf.Goals as goal
 
 pub loop-child-init : goal.loop-child-init
-loop-child-init g c = record {
-  once = rw (forest_is c.self.inside.nodes c.self.inside.first _ c.self.invariant c.self.view_is) at c.self.invariant.by_number;
-  placed = c.requires;
-  same = refl;
-}
+loop-child-init g c = grind (arith, forest_is, c.self.invariant, c.self.view_is, c.self.invariant.by_number, c.requires)
 
 pub loop-child-smaller : goal.loop-child-smaller
 loop-child-smaller g c = (first_step c.loop-child.leaf.number c.in-Some.child.number c.args.self.now.forest c.loop-child.invariant.once c.in-Some.ensures.0).1
 
 pub loop-child-preserved : goal.loop-child-preserved
-loop-child-preserved g c = record {
-  once = c.loop-child.invariant.once;
-  placed = c.in-Some.ensures.1;
-  same = (first_step c.loop-child.leaf.number c.in-Some.child.number c.args.self.now.forest c.loop-child.invariant.once c.in-Some.ensures.0).0 ∙ c.loop-child.invariant.same;
-}
+loop-child-preserved g c = grind (arith, first_step, c.loop-child.invariant.once, c.in-Some.ensures.1, c.in-Some.ensures.0, c.loop-child.invariant.same)
 
 pub returns-clause-stands : goal.returns-clause-stands
 returns-clause-stands g c =

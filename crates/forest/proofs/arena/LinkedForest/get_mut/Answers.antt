@@ -1,4 +1,4 @@
-use Rattle.std.proofs.Common.{Some, None, refl, sym, ap, ◌∙◌}
+use Rattle.std.proofs.Common.{Some, None, refl, sym, ap, ◌∙◌, arith}
 use Rattle.slab.specs.Slab.{get}
 use Rattle.forest.specs.Forest.{Forest, at}
 use Rattle.forest.specs.Links.{entry_of}
@@ -7,15 +7,13 @@ use Rattle.forest.proofs.Neighbours.{node_is}
 use Rattle.forest.proofs.Seen.{stands_at, contains}
 use Rattle.forest.proofs.Calls.{sound_of, written, seen_written, forest_is}
 use Rattle.forest.proofs.arena.LinkedForest.get_mut.Goals as goal
+use Rattle.std.proofs.lemmas.Bool.Decides.{nat_tests}
 
 pub index_mut-requires : goal.index_mut-requires
 index_mut-requires g c = contains c.self.inside.nodes c.self.inside.first _ c.args.id c.self.invariant c.self.view_is c.requires
 
 pub invariant_of-self-lent : goal.invariant_of-self-lent
-invariant_of-self-lent g c w =
-    let s = c.self.invariant in
-    let p = stands_at c.self.inside.nodes c.self.inside.first _ c.args.id s c.self.view_is c.requires in
-    sound_of _ _ _ (written c.self.inside.nodes c.self.inside.first c.args.id.slot c.args.id.number w c.index_mut.result.now s p.stands p.agree c.index_mut.ensures.value)
+invariant_of-self-lent g c w = grind (arith, nat_tests, stands_at c.self.inside.nodes c.self.inside.first, sound_of, written c.self.inside.nodes c.self.inside.first c.args.id.slot c.args.id.number w c.index_mut.result.now c.self.invariant (stands_at c.self.inside.nodes c.self.inside.first _ c.args.id c.self.invariant c.self.view_is c.requires).stands (stands_at c.self.inside.nodes c.self.inside.first _ c.args.id c.self.invariant c.self.view_is c.requires).agree c.index_mut.ensures.value, c.self.invariant, c.self.view_is, c.requires, c.index_mut.ensures.value)
 
 pub returns : goal.returns
 returns g c =

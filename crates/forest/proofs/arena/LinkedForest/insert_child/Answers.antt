@@ -1,4 +1,4 @@
-use Rattle.std.proofs.Common.{◌≡◌, ℕ, Some, None, sym, ap, ◌∙◌}
+use Rattle.std.proofs.Common.{◌≡◌, ℕ, Some, None, sym, ap, ◌∙◌, arith}
 use Rattle.slab.specs.Slab.{get, ContainsKey}
 use Rattle.forest.specs.Forest.{Forest, Empty, put}
 use Rattle.forest.specs.Forested.{Forested}
@@ -8,6 +8,7 @@ use Rattle.forest.proofs.Seen.{seen_slots, vacant_is, sound_slots, stands_at, co
 use Rattle.forest.proofs.Calls.{Builds, sound_of, seen_built, insert_below, forest_is, places_are, if_some_more, neighbours, entered, entered_keys}
 use Rattle.forest.proofs.arena.LinkedForest.insert_child.Goals as goal
 use Rattle.forest.proofs.arena.LinkedForest.insert_child.Given as given
+use Rattle.std.proofs.lemmas.Bool.Decides.{nat_tests}
 
 pub invariant_of-self : goal.invariant_of-self
 invariant_of-self g c = sound_slots c.self.inside.nodes c.vacant_slot.new.nodes c.self.inside.first c.vacant_slot.ensures.slots c.self.invariant
@@ -16,8 +17,7 @@ pub returns-in_default-clause-refused : goal.returns-in_default-clause-refused
 returns-in_default-clause-refused g c = seen_slots c.self.inside.nodes c.vacant_slot.new.nodes c.self.inside.first c.vacant_slot.ensures.slots c.vacant_slot.ensures.vacant ∙ c.self.view_is
 
 pub index-requires : goal.index-requires
-index-requires g c =
-    rw c.vacant_slot.ensures.slots (contains c.self.inside.nodes c.self.inside.first _ c.args.parent c.self.invariant c.self.view_is c.requires.parent)
+index-requires g c = grind (arith, nat_tests, contains c.self.inside.nodes c.self.inside.first, c.vacant_slot.ensures.slots, c.self.invariant, c.self.view_is, c.requires.parent)
 
 pub set_previous-requires : goal.set_previous-requires
 set_previous-requires g c =
@@ -58,5 +58,4 @@ returns-clause-places g c =
     ∙ ap (λ (f : Forest ℕ). put c.args.parent.number c.args.number c.in-Some.slot Empty f) (places_are c.self.inside.nodes c.self.inside.first _ s c.self.view_is)
 
 pub returns-clause-slot : goal.returns-clause-slot
-returns-clause-slot g c =
-    sym c.in-Some.ensures.next ∙ c.vacant_slot.ensures.vacant ∙ vacant_is c.self.inside.nodes c.self.inside.first _ c.self.view_is
+returns-clause-slot g c = grind (arith, vacant_is, c.in-Some.ensures.next, c.vacant_slot.ensures.vacant, c.self.view_is)

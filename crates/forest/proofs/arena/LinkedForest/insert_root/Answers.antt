@@ -1,5 +1,4 @@
-use Rattle.std.proofs.Common.{ℕ, Some, sym, ap, ◌∙◌}
-use Rattle.slab.specs.Slab.{ContainsKey}
+use Rattle.std.proofs.Common.{ℕ, Some, ap, ◌∙◌, arith}
 use Rattle.forest.specs.Forest.{Forest, Empty, Node}
 use Rattle.forest.specs.Forested.{Forested}
 use Rattle.forest.proofs.Trees.{has_first}
@@ -15,11 +14,7 @@ pub returns-in_default-clause-refused : goal.returns-in_default-clause-refused
 returns-in_default-clause-refused g c = seen_slots c.self.inside.nodes c.vacant_slot.new.nodes c.self.inside.first c.vacant_slot.ensures.slots c.vacant_slot.ensures.vacant ∙ c.self.view_is
 
 pub set_previous-requires : goal.set_previous-requires
-set_previous-requires g c =
-    let s = c.self.invariant in
-    let w = entered c.self.inside.nodes c.vacant_slot.new.nodes c.insert_reserved.new.self c.in-Some.slot c.insert_reserved.result _ c.vacant_slot.ensures.slots (c.insert_reserved.ensures.key ∙ c.in-Some.ensures.next) c.insert_reserved.ensures.was_vacant c.insert_reserved.ensures.updates c.insert_reserved.ensures.len in
-    if_some c.self.inside.first (ContainsKey c.insert_reserved.new.self)
-    (λ x q. entered_keys _ _ _ _ w x (key_in c.self.inside.nodes x s.tree s.linked (has_first x s.tree (sym s.front ∙ q))))
+set_previous-requires g c = grind (arith, entered, if_some, entered_keys, key_in, has_first, c.self.invariant, c.vacant_slot.ensures.slots, c.insert_reserved.ensures.key, c.in-Some.ensures.next, c.insert_reserved.ensures.was_vacant, c.insert_reserved.ensures.updates, c.insert_reserved.ensures.len, c.self.invariant.tree, c.self.invariant.linked, c.self.invariant.front)
 
 made : (g : given.Over) (c : goal.After-self-1 g) → Builds c.set_previous.new.nodes (Some c.in-Some.slot) (Node c.in-Some.slot (record { number = c.args.number; value = c.args.value }) Empty c.self.invariant.tree)
 made g c =
@@ -42,5 +37,4 @@ returns-clause-places g c =
     ∙ ap (λ (f : Forest ℕ). Node c.args.number c.in-Some.slot Empty f) (places_are c.self.inside.nodes c.self.inside.first _ c.self.invariant c.self.view_is)
 
 pub returns-clause-slot : goal.returns-clause-slot
-returns-clause-slot g c =
-    sym c.in-Some.ensures.next ∙ c.vacant_slot.ensures.vacant ∙ vacant_is c.self.inside.nodes c.self.inside.first _ c.self.view_is
+returns-clause-slot g c = grind (arith, vacant_is, c.in-Some.ensures.next, c.vacant_slot.ensures.vacant, c.self.view_is)

@@ -1,4 +1,4 @@
-use Rattle.std.proofs.Common.{ℕ, sym, ap, ◌∙◌}
+use Rattle.std.proofs.Common.{ℕ, sym, ap, ◌∙◌, arith}
 use Rattle.slab.specs.Slab.{ContainsKey}
 use Rattle.forest.specs.Forest.{Forest, Once, at, has, children, put, removed, moved}
 use Rattle.forest.specs.Forested.{Forested}
@@ -10,6 +10,7 @@ use Rattle.forest.proofs.Seen.{contains, is_there}
 use Rattle.forest.proofs.Calls.{Builds, sound_of, seen_built, moved_to, moved_agreed, forest_is, places_are, if_some_more, neighbours, Moving, moving}
 use Rattle.forest.proofs.arena.LinkedForest.move_to.Goals as goal
 use Rattle.forest.proofs.arena.LinkedForest.move_to.Given as given
+use Rattle.std.proofs.lemmas.Bool.Decides.{nat_tests}
 
 near_of : goal.index-node-requires
 near_of g c = contains c.self.inside.nodes c.self.inside.first _ c.args.id c.self.invariant c.self.view_is c.requires.placed
@@ -18,8 +19,7 @@ pub index-node-requires : goal.index-node-requires
 index-node-requires g c = near_of g c
 
 pub skip-requires-clause-before : goal.skip-requires-clause-before
-skip-requires-clause-before g c =
-    (neighbours c.self.inside.nodes c.self.inside.first _ c.args.id c.index-node.result.now c.self.invariant c.self.view_is c.requires.placed c.index-node.ensures).before
+skip-requires-clause-before g c = grind (arith, nat_tests, neighbours c.self.inside.nodes c.self.inside.first, c.self.invariant, c.self.view_is, c.requires.placed, c.index-node.ensures)
 
 pub skip-requires-clause-parent : goal.skip-requires-clause-parent
 skip-requires-clause-parent g c =
@@ -31,9 +31,7 @@ set_previous-requires g c =
     (neighbours c.self.inside.nodes c.self.inside.first _ c.args.id c.index-node.result.now c.self.invariant c.self.view_is c.requires.placed c.index-node.ensures).behind
 
 pub index-requires : goal.index-requires
-index-requires g c =
-    c.set_previous.ensures.keys c.args.parent.slot
-    (c.skip.ensures.keys c.args.parent.slot (contains c.self.inside.nodes c.self.inside.first _ c.args.parent c.self.invariant c.self.view_is c.requires.parent))
+index-requires g c = grind (arith, nat_tests, contains c.self.inside.nodes c.self.inside.first, c.set_previous.ensures.keys, c.skip.ensures.keys, c.self.invariant, c.self.view_is, c.requires.parent)
 
 pub set_previous-requires-2 : goal.set_previous-requires-2
 set_previous-requires-2 g c =
@@ -43,9 +41,7 @@ set_previous-requires-2 g c =
     (w.child_key c.index.result.now c.index.ensures)
 
 pub set_first_child-requires : goal.set_first_child-requires
-set_first_child-requires g c =
-    c.set_previous-2.ensures.keys c.args.parent.slot (c.set_place.ensures.keys c.args.parent.slot (c.set_previous.ensures.keys c.args.parent.slot
-    (c.skip.ensures.keys c.args.parent.slot (contains c.self.inside.nodes c.self.inside.first _ c.args.parent c.self.invariant c.self.view_is c.requires.parent))))
+set_first_child-requires g c = grind (arith, contains, c.set_previous-2.ensures.keys, c.set_place.ensures.keys, c.set_previous.ensures.keys, c.skip.ensures.keys, c.self.invariant, c.self.view_is, c.requires.parent)
 
 made : (g : given.Over) (c : goal.After-set_first_child g) → Builds c.set_first_child.new.nodes c.front_without-self-inside.result (put c.args.parent.slot c.args.id.slot (entry_of c.index-node.result.now) (children c.args.id.slot c.self.invariant.tree) (removed c.args.id.slot c.self.invariant.tree))
 made g c =

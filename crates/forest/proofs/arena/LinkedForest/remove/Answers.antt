@@ -1,4 +1,4 @@
-use Rattle.std.proofs.Common.{◌≡◌, ℕ, Some, None, sym, ap, ◌∙◌}
+use Rattle.std.proofs.Common.{◌≡◌, ℕ, Some, None, sym, ap, ◌∙◌, arith}
 use Rattle.slab.specs.Slab.{get, ContainsKey}
 use Rattle.forest.specs.Forest.{Forest, Empty, Once, at, children, removed}
 use Rattle.forest.specs.Forested.{Forested}
@@ -11,13 +11,13 @@ use Rattle.forest.proofs.Seen.{stands_at, contains}
 use Rattle.forest.proofs.Calls.{Builds, sound_of, seen_built, taken_out, forest_is, places_are, if_some_more, neighbours, detached}
 use Rattle.forest.proofs.arena.LinkedForest.remove.Goals as goal
 use Rattle.forest.proofs.arena.LinkedForest.remove.Given as given
+use Rattle.std.proofs.lemmas.Bool.Decides.{nat_tests}
 
 pub index-node-requires : goal.index-node-requires
 index-node-requires g c = contains c.self.inside.nodes c.self.inside.first _ c.args.id c.self.invariant c.self.view_is c.requires.placed
 
 pub skip-requires-clause-before : goal.skip-requires-clause-before
-skip-requires-clause-before g c =
-    (neighbours c.self.inside.nodes c.self.inside.first _ c.args.id c.index-node.result.now c.self.invariant c.self.view_is c.requires.placed c.index-node.ensures).before
+skip-requires-clause-before g c = grind (arith, nat_tests, neighbours c.self.inside.nodes c.self.inside.first, c.self.invariant, c.self.view_is, c.requires.placed, c.index-node.ensures)
 
 pub skip-requires-clause-parent : goal.skip-requires-clause-parent
 skip-requires-clause-parent g c =
@@ -29,9 +29,7 @@ set_previous-requires g c =
     (neighbours c.self.inside.nodes c.self.inside.first _ c.args.id c.index-node.result.now c.self.invariant c.self.view_is c.requires.placed c.index-node.ensures).behind
 
 pub remove-value-requires : goal.remove-value-requires
-remove-value-requires g c =
-    c.set_previous.ensures.keys c.args.id.slot
-    (c.skip.ensures.keys c.args.id.slot (contains c.self.inside.nodes c.self.inside.first _ c.args.id c.self.invariant c.self.view_is c.requires.placed))
+remove-value-requires g c = grind (arith, contains, c.set_previous.ensures.keys, c.skip.ensures.keys, c.self.invariant, c.self.view_is, c.requires.placed)
 
 made : (g : given.Over) (c : goal.After-remove-value g) → Builds c.remove-value.new.self c.front_without-self-inside.result (removed c.args.id.slot c.self.invariant.tree)
 made g c =

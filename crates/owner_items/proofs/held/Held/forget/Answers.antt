@@ -7,26 +7,10 @@ use Rattle.owner_items.proofs.Parts.{parted-state, parted-back, parted-falling, 
 use Rattle.owner_items.proofs.held.Held.forget.Goals as goal
 
 pub returns-in-Some-clause-newest : goal.returns-in-Some-clause-newest
-returns-in-Some-clause-newest c =
-    let none : is_some c.args.self.now.order ≡ false = search rules in
-    let parts : IsTwoPart c.args.self.now.recent.items c.args.self.now.table.entries.items c.args.self.now.table.live c.args.self.now.table.index.slots.items c.args.self.now.table.index.used =
-    parted-state c.args.self.now.order c.args.self.now.recent.items c.args.self.now.table.entries.items c.args.self.now.table.live
-    c.args.self.now.table.index.slots.items c.args.self.now.table.index.used none c.requires.state
-    in
-    let newest : IsNewest (is_of c.args.kind c.args.key) c.args.self.now.recent.items c.in-Some.place = rw c.as_slice.ensures.value at c.in-Some.ensures in
-    recent-find (is_of c.args.kind c.args.key) c.args.self.now.recent.items c.args.self.now.table.entries.items c.in-Some.place c.remove.result newest c.remove.ensures.value parts.falling
+returns-in-Some-clause-newest c = grind (arith, parted-state, recent-find, c.requires.state, c.as_slice.ensures.value, c.in-Some.ensures, c.remove.ensures.value)
 
 pub returns-in-Some-clause-rest : goal.returns-in-Some-clause-rest
-returns-in-Some-clause-rest c =
-    let none : is_some c.args.self.now.order ≡ false = search rules in
-    let parts : IsTwoPart c.args.self.now.recent.items c.args.self.now.table.entries.items c.args.self.now.table.live c.args.self.now.table.index.slots.items c.args.self.now.table.index.used =
-    parted-state c.args.self.now.order c.args.self.now.recent.items c.args.self.now.table.entries.items c.args.self.now.table.live
-    c.args.self.now.table.index.slots.items c.args.self.now.table.index.used none c.requires.state
-    in
-    let newest : IsNewest (is_of c.args.kind c.args.key) c.args.self.now.recent.items c.in-Some.place = rw c.as_slice.ensures.value at c.in-Some.ensures in
-    rest-list (is_of c.args.kind c.args.key) (all_items c.args.self.now.recent.items c.args.self.now.table.entries.items) (all_items c.remove.new.self.items c.args.self.now.table.entries.items) parts.falling
-    (ap (λ z. all_items z c.args.self.now.table.entries.items) c.remove.ensures.items
-    ∙ recent-all (is_of c.args.kind c.args.key) c.args.self.now.recent.items c.args.self.now.table.entries.items c.in-Some.place c.remove.result newest c.remove.ensures.value)
+returns-in-Some-clause-rest c = grind (arith, parted-state, rest-list, recent-all, c.requires.state, c.as_slice.ensures.value, c.in-Some.ensures, c.remove.ensures.items, c.remove.ensures.value)
 
 pub returns-in-Some-clause-held : goal.returns-in-Some-clause-held
 returns-in-Some-clause-held c =
@@ -53,25 +37,10 @@ returns-in-Some-clause-held c =
     }
 
 pub returns-clause-newest : goal.returns-clause-newest
-returns-clause-newest c =
-    let none : is_some c.args.self.now.order ≡ false = search rules in
-    let parts : IsTwoPart c.args.self.now.recent.items c.args.self.now.table.entries.items c.args.self.now.table.live c.args.self.now.table.index.slots.items c.args.self.now.table.index.used =
-    parted-state c.args.self.now.order c.args.self.now.recent.items c.args.self.now.table.entries.items c.args.self.now.table.live
-    c.args.self.now.table.index.slots.items c.args.self.now.table.index.used none c.requires.state
-    in
-    let nothing : NonePasses (is_of c.args.kind c.args.key) c.args.self.now.recent.items = rw c.as_slice.ensures.value at c.in_default.ensures in
-    c.forget.ensures.newest ∙ older-find (is_of c.args.kind c.args.key) c.args.self.now.recent.items c.args.self.now.table.entries.items nothing parts.falling
+returns-clause-newest c = grind (arith, parted-state, older-find, c.requires.state, c.as_slice.ensures.value, c.in_default.ensures, c.forget.ensures.newest)
 
 pub returns-clause-rest : goal.returns-clause-rest
-returns-clause-rest c =
-    let none : is_some c.args.self.now.order ≡ false = search rules in
-    let parts : IsTwoPart c.args.self.now.recent.items c.args.self.now.table.entries.items c.args.self.now.table.live c.args.self.now.table.index.slots.items c.args.self.now.table.index.used =
-    parted-state c.args.self.now.order c.args.self.now.recent.items c.args.self.now.table.entries.items c.args.self.now.table.live
-    c.args.self.now.table.index.slots.items c.args.self.now.table.index.used none c.requires.state
-    in
-    let nothing : NonePasses (is_of c.args.kind c.args.key) c.args.self.now.recent.items = rw c.as_slice.ensures.value at c.in_default.ensures in
-    rest-list (is_of c.args.kind c.args.key) (all_items c.args.self.now.recent.items c.args.self.now.table.entries.items) (all_items c.args.self.now.recent.items c.forget.new.self.entries.items) parts.falling
-    (older-all (is_of c.args.kind c.args.key) c.args.self.now.recent.items c.args.self.now.table.entries.items c.forget.new.self.entries.items nothing c.forget.ensures.rest)
+returns-clause-rest c = grind (arith, parted-state, rest-list, older-all, c.requires.state, c.as_slice.ensures.value, c.in_default.ensures, c.forget.ensures.rest)
 
 pub returns-clause-held : goal.returns-clause-held
 returns-clause-held c =

@@ -7,6 +7,7 @@ use Rattle.owner_items.proofs.NewestFirst.{without_none}
 use Rattle.owner_items.proofs.Sums.{one_more}
 use Rattle.owner_items.proofs.Parts.{state-live, gathered-state, state-less, less-sums, live-less, newest-gone, IsForgotten, gathered-all, find-nothing}
 use Rattle.owner_items.proofs.held.Held.forget_gathered.Goals as goal
+use Rattle.std.proofs.lemmas.Bool.Decides.{nat_tests}
 
 pub returns-in_err-place-clause-newest : goal.returns-in_err-place-clause-newest
 returns-in_err-place-clause-newest c =
@@ -29,19 +30,7 @@ returns-in_err-place-clause-rest c =
     sym (without_none (is_of c.args.kind c.args.key) (items_of c.args.self.now) found)
 
 pub overflow_sub-self : goal.overflow_sub-self
-overflow_sub-self c =
-    let newest : IsNewestOf (is_of c.args.kind c.args.key) c.args.self.now.table.entries.items c.in_ok-place.place = rw c.deref.ensures.value at c.in_ok-place.ensures in
-    let all : All (λ (e : Entry). e.live ≡ true) c.args.self.now.table.entries.items = state-live c.args.self.now.order c.args.self.now.recent.items c.args.self.now.table.entries.items c.args.self.now.table.live
-    c.args.self.now.table.index.slots.items c.args.self.now.table.index.used c.requires.gathered c.requires.held.state in
-    let live : c.remove-entry.result.live ≡ true =
-    ap (λ (e : Entry). e.live) c.remove-entry.ensures.value ∙ all c.in_ok-place.place c.remove-entry.result newest.within
-    in
-    omega (
-      arith,
-      c.requires.held.counted,
-      live-less c.args.self.now.table.entries.items c.remove-entry.new.self.items c.in_ok-place.place c.remove-entry.result newest.within c.remove-entry.ensures.value
-          c.remove-entry.ensures.items live,
-    )
+overflow_sub-self c = grind (arith, nat_tests, state-live c.args.self.now.order c.args.self.now.recent.items c.args.self.now.table.entries.items c.args.self.now.table.live, live-less c.args.self.now.table.entries.items c.remove-entry.new.self.items c.in_ok-place.place c.remove-entry.result, c.deref.ensures.value, c.in_ok-place.ensures, c.requires.gathered, c.requires.held.state, c.remove-entry.ensures.value, c.requires.held.counted, c.remove-entry.ensures.items)
 
 pub returns-clause-newest : goal.returns-clause-newest
 returns-clause-newest c =

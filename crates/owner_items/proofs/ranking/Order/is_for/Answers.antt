@@ -1,4 +1,4 @@
-use Rattle.std.proofs.Common.{◌≡◌, ◌∙◌, sym, ap, Bool, true, ◌&&◌, ◌==◌, List, [], ◌∷◌, refl, arith}
+use Rattle.std.proofs.Common.{◌≡◌, sym, Bool, true, ◌&&◌, ◌==◌, List, [], ◌∷◌, refl, arith}
 use lib.Pointwise.{pointwise}
 use denote.Enum.Bare.{sameb}
 use Rattle.std.proofs.lemmas.Bool.Decides.{nat_tests}
@@ -6,7 +6,6 @@ use Rattle.pgs_step.specs.contracts.ids.Phase.{the_type}
 use Rattle.pgs_step.specs.declared.ids.Phase.{Phase}
 use Rattle.pgs_step.specs.declared.ids.Phase.TheVariants.{BeforeLocks, Locks, AfterLocks}
 use Rattle.owner_kinds.specs.declared.kind_row.KindRow.{KindRow}
-use Rattle.owner_kinds.specs.KindTable.{row}
 use Rattle.owner_items.proofs.Linked.{left-of, right-of}
 use Rattle.owner_items.proofs.ranking.Order.is_for.Goals as goal
 
@@ -22,16 +21,7 @@ same_phases AfterLocks Locks is = absurd cc
 same_phases AfterLocks AfterLocks is = refl
 
 same_row : (x y : KindRow) → (sameb the_type x.phase y.phase && (x.priority == y.priority)) ≡ true → x ≡ y
-same_row x y is =
-    let phases : x.phase ≡ y.phase =
-    same_phases x.phase y.phase (left-of (sameb the_type x.phase y.phase) (x.priority == y.priority) is)
-    in
-    let priorities : x.priority ≡ y.priority =
-    grind (arith, nat_tests, right-of (sameb the_type x.phase y.phase) (x.priority == y.priority) is)
-    in
-    let first : row x.phase x.priority ≡ row y.phase x.priority = ap (λ p. row p x.priority) phases in
-    let second : row y.phase x.priority ≡ row y.phase y.priority = ap (λ n. row y.phase n) priorities in
-    first ∙ second
+same_row x y is = grind (arith, same_phases, left-of, right-of)
 
 same_rows :
     (E : KindRow → KindRow → Bool) → ((x y : KindRow) → E x y ≡ true → x ≡ y) → (xs ys : List KindRow) → pointwise E xs ys ≡ true →
@@ -39,15 +29,10 @@ same_rows :
 same_rows E same [] [] is = refl
 same_rows E same [] (y ∷ ys) is = absurd cc
 same_rows E same (x ∷ xs) [] is = absurd cc
-same_rows E same (x ∷ xs) (y ∷ ys) is =
-    ap (λ z. z ∷ xs) (same x y (left-of (E x y) (pointwise E xs ys) is))
-    ∙ ap (λ z. y ∷ z) (same_rows E same xs ys (right-of (E x y) (pointwise E xs ys) is))
+same_rows E same (x ∷ xs) (y ∷ ys) is = grind (arith, nat_tests, left-of (E x y) (pointwise E xs ys) is, same_rows E same xs ys (right-of (E x y) (pointwise E xs ys) is), right-of (E x y) (pointwise E xs ys) is)
 
 pub returns-then-eq-clause-rows : goal.returns-then-eq-clause-rows
-returns-then-eq-clause-rows g c that =
-    sym c.as_slice.ensures.value
-    ∙ (same_rows _ (λ x y is. same_row x y is) c.as_slice.result.now c.rows.result.now (sym c.eq-then-eq.ensures ∙ that)
-    ∙ c.rows.ensures.value)
+returns-then-eq-clause-rows g c that = grind (arith, nat_tests, same_rows, same_row, c.as_slice.ensures.value, c.eq-then-eq.ensures, c.rows.ensures.value)
 
 phase_itself : (a : Phase) → sameb the_type a a ≡ true
 phase_itself BeforeLocks = refl
@@ -65,11 +50,7 @@ rows_equal : (E : KindRow → KindRow → Bool) → ((x : KindRow) → E x x ≡
 rows_equal E itself xs ys same = rw (sym same) (rows_themselves E itself xs)
 
 pub returns-then-eq-clause-kept : goal.returns-then-eq-clause-kept
-returns-then-eq-clause-kept g c phase rows =
-    c.eq-then-eq.ensures ∙ rows_equal _ row_itself c.as_slice.result.now c.rows.result.now (c.as_slice.ensures.value ∙ (rows ∙ sym c.rows.ensures.value))
+returns-then-eq-clause-kept g c phase rows = grind (arith, rows_equal, row_itself, c.eq-then-eq.ensures, c.as_slice.ensures.value, c.rows.ensures.value)
 
 pub returns-else-eq-clause-kept : goal.returns-else-eq-clause-kept
-returns-else-eq-clause-kept g c phase rows =
-    let same : sameb the_type c.args.self.now.phase c.args.phase ≡ true =
-    ap (λ p. sameb the_type c.args.self.now.phase p) (sym phase) ∙ phase_itself c.args.self.now.phase in
-    c.eq.ensures ∙ same
+returns-else-eq-clause-kept g c phase rows = grind (arith, phase_itself, c.eq.ensures)

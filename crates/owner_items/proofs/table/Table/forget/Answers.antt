@@ -7,49 +7,25 @@ use Rattle.owner_items.proofs.Linked.{Found, find-none, reverse-length, forgotte
 use Rattle.owner_items.proofs.NewestFirst.{without_none}
 use Rattle.owner_items.proofs.TableSteps.{found_here, entry_here, after-forget, forget-table, found-length}
 use Rattle.owner_items.proofs.table.Table.forget.Goals as goal
+use Rattle.std.proofs.lemmas.Bool.Decides.{nat_tests}
 
 none_here : (c : goal.After-from_residual) → newest_in (is_of c.args.kind c.args.key) (reverse c.args.self.now.entries.items) ≡ None
 none_here c = sym (c.requires.numbers c.args.kind c.args.key) ∙ sym c.in_err-place.ensures
 
 pub returns-in_err-place-clause-newest : goal.returns-in_err-place-clause-newest
-returns-in_err-place-clause-newest c =
-    c.from_residual.ensures
-    ∙ sym (find-none (is_of c.args.kind c.args.key) (reverse c.args.self.now.entries.items) (none_here c))
+returns-in_err-place-clause-newest c = grind (arith, find-none, none_here, c.from_residual.ensures)
 
 pub returns-in_err-place-clause-rest : goal.returns-in_err-place-clause-rest
-returns-in_err-place-clause-rest c =
-    sym (without_none (is_of c.args.kind c.args.key) (live_items (reverse c.args.self.now.entries.items))
-    (find-none (is_of c.args.kind c.args.key) (reverse c.args.self.now.entries.items) (none_here c)))
+returns-in_err-place-clause-rest c = grind (arith, without_none, find-none, none_here)
 
 pub index-entry-requires : goal.index-entry-requires
-index-entry-requires c =
-    omega (
-      arith,
-      (found_here c.args.self.now.entries.items c.args.self.now.live c.args.self.now.index.slots.items c.args.self.now.index.used
-          c.args.kind c.args.key c.in_ok-place.place c.requires c.in_ok-place.ensures).1.within,
-      reverse-length c.args.self.now.entries.items,
-    )
+index-entry-requires c = grind (arith, nat_tests, found_here c.args.self.now.entries.items c.args.self.now.live c.args.self.now.index.slots.items c.args.self.now.index.used, reverse-length c.args.self.now.entries.items, c.requires, c.in_ok-place.ensures)
 
 pub index_mut-requires : goal.index_mut-requires
-index_mut-requires c =
-    omega (
-      arith,
-      (found_here c.args.self.now.entries.items c.args.self.now.live c.args.self.now.index.slots.items c.args.self.now.index.used
-          c.args.kind c.args.key c.in_ok-place.place c.requires c.in_ok-place.ensures).1.within,
-      reverse-length c.args.self.now.entries.items,
-    )
+index_mut-requires c = grind (arith, nat_tests, found_here c.args.self.now.entries.items c.args.self.now.live c.args.self.now.index.slots.items c.args.self.now.index.used, reverse-length c.args.self.now.entries.items, c.requires, c.in_ok-place.ensures)
 
 pub overflow_sub-self : goal.overflow_sub-self
-overflow_sub-self c =
-    let f : Found (is_of c.args.kind c.args.key) (reverse c.args.self.now.entries.items) c.in_ok-place.place =
-    found_here c.args.self.now.entries.items c.args.self.now.live c.args.self.now.index.slots.items c.args.self.now.index.used
-    c.args.kind c.args.key c.in_ok-place.place c.requires c.in_ok-place.ensures
-    in
-    omega (
-      arith,
-      c.requires.counted,
-      found-length (is_of c.args.kind c.args.key) (live_items (reverse c.args.self.now.entries.items)) f.0.item f.1.first,
-    )
+overflow_sub-self c = grind (arith, nat_tests, found_here c.args.self.now.entries.items c.args.self.now.live c.args.self.now.index.slots.items c.args.self.now.index.used, found-length (is_of c.args.kind c.args.key) (live_items (reverse c.args.self.now.entries.items)), c.requires, c.in_ok-place.ensures, c.requires.counted)
 
 pub returns-clause-table : goal.returns-clause-table
 returns-clause-table c =
