@@ -1,27 +1,12 @@
-use Rattle.std.proofs.Common.{◌≡◌, ◌↔◌, ◌∙◌, Bool, List, [], None, Option, true, ap, refl, subst, sym, ℕ}
-use Rattle.pgs_step.specs.declared.events.What.{What}
-use Rattle.pgs_step.specs.declared.ids.Phase.{Phase}
-use Rattle.pgs_step.specs.declared.ids.Phase.TheVariants.{BeforeLocks, Locks, AfterLocks}
-use Rattle.forest.specs.Forest.{parent_of}
-use Rattle.owner_kinds.specs.KindShelf.{table_of}
-use Rattle.owner_kinds.specs.KindTable.{KindTable}
-use Rattle.owner_core.specs.Released.{own_released, released}
+use Rattle.session_owners.proofs.Base.{arith, ◌≡◌, ◌↔◌, Bool, List, [], None, true, refl, subst, ℕ}
+use Rattle.session_owners.proofs.Words.{What, Phase, BeforeLocks, Locks, parent_of, table_of, KindTable, own_released, released, Empty, children, items_of, once_of, OwnerTree, owners_of, hosting_of}
+use Rattle.session_owners.proofs.Lemmas.{acted_release, balances_more, IsBare, acted_bare, released_bare, nothing_left}
 use Rattle.owner_core.proofs.Swept.{parent_swept}
-use Rattle.forest.specs.Forest.{Once, Empty, children}
-use Rattle.owner_core.specs.Owners.{items_of}
-use Rattle.owner_core.proofs.Sounds.{once_of}
-use Rattle.session_owners.specs.ResourceState.{AllAt, HoldsNothing, OwnerTree, owners_of}
-use Rattle.session_owners.specs.Fitting.{hosting_of}
-use Rattle.session_owners.proofs.Acts.{acted_release}
-use Rattle.session_owners.proofs.Balances.{balances_more}
-use Rattle.session_owners.proofs.Bare.{IsBare, acted_bare, released_bare}
-use Rattle.session_owners.proofs.Left.{nothing_left}
 use Rattle.session_owners.proofs.resources.Resources.release.Goals as goal
 
 -- a phase leaves each owner its parent
 top_still : (kinds : KindTable) (phase : Phase) (n : ℕ) (top : Bool) (x y : OwnerTree) → y ≡ released kinds phase n x → (top ≡ true) ↔ (parent_of n x ≡ None) → (top ≡ true) ↔ (parent_of n y ≡ None)
-top_still kinds phase n top x y left h =
-    subst (λ (p : Option ℕ). (top ≡ true) ↔ (p ≡ None)) (sym (ap (parent_of n) left ∙ parent_swept n (own_released kinds phase) n x)) h
+top_still kinds phase n top x y left h = grind (arith, parent_swept n (own_released kinds phase) n x)
 
 pub release_phase-requires-3-clause-top : goal.release_phase-requires-3-clause-top
 release_phase-requires-3-clause-top g c =
@@ -33,22 +18,13 @@ release_phase-requires-4-clause-top g c =
     (top_still (table_of c.args.commons.now.kinds) BeforeLocks c.args.owner.number c.args.top (owners_of c.args.self.now) (owners_of c.release_phase-2.new.self) c.release_phase-2.ensures.owners c.requires.top)
 
 pub returns-clause-owners : goal.returns-clause-owners
-returns-clause-owners g c =
-    let n = c.args.owner.number in
-    let kinds : KindTable = table_of c.args.commons.now.kinds in
-    let second = c.release_phase-2.ensures.balances.table in
-    c.release_phase-4.ensures.owners
-    ∙ ap (λ (k : KindTable). released k AfterLocks n (owners_of c.release_phase-3.new.self)) (c.release_phase-3.ensures.balances.table ∙ second)
-    ∙ ap (released kinds AfterLocks n) (c.release_phase-3.ensures.owners ∙ ap (λ (k : KindTable). released k Locks n (owners_of c.release_phase-2.new.self)) second ∙ ap (released kinds Locks n) c.release_phase-2.ensures.owners)
+returns-clause-owners g c = grind (arith, c.release_phase-2.ensures.balances.table, c.release_phase-4.ensures.owners, c.release_phase-3.ensures.balances.table, c.release_phase-3.ensures.owners, c.release_phase-2.ensures.owners)
 
 pub returns-clause-nothing_left : goal.returns-clause-nothing_left
-returns-clause-nothing_left g c =
-    let n = c.args.owner.number in
-    subst (AllAt HoldsNothing n) (sym (returns-clause-owners g c)) (nothing_left (table_of c.args.commons.now.kinds) n (owners_of c.args.self.now) c.requires.serves.sound c.requires.serves.items)
+returns-clause-nothing_left g c = grind (arith, returns-clause-owners g c, nothing_left (table_of c.args.commons.now.kinds) c.args.owner.number (owners_of c.args.self.now) c.requires.serves.sound c.requires.serves.items, c.requires.serves.sound, c.requires.serves.items)
 
 pub returns-clause-balances : goal.returns-clause-balances
-returns-clause-balances g c =
-    balances_more _ _ _ _ _ _ (balances_more _ _ _ _ _ _ c.release_phase-2.ensures.balances c.release_phase-3.ensures.balances) c.release_phase-4.ensures.balances
+returns-clause-balances g c = grind (arith, balances_more, c.release_phase-2.ensures.balances, c.release_phase-3.ensures.balances, c.release_phase-4.ensures.balances)
 
 pub returns-clause-acted : goal.returns-clause-acted
 returns-clause-acted g c =
@@ -80,23 +56,10 @@ bare_in : (n : ℕ) (x y : OwnerTree) → x ≡ y → items_of n x ≡ [] → ch
 bare_in n x y same items below = subst (λ (t : OwnerTree). IsBare n t) same (record { items = items; below = below })
 
 pub returns-then-is_bare-clause-owners : goal.returns-then-is_bare-clause-owners
-returns-then-is_bare-clause-owners g c =
-    c.release_phase.ensures.owners
-    ∙ sym (released_bare (table_of c.args.commons.now.kinds) c.args.owner.number (owners_of c.args.self.now)
-    (subst (λ (t : OwnerTree). Once t) (ap owners_of c.self.view_is) (once_of _ _ _ c.self.invariant.sound))
-    (bare_in c.args.owner.number _ _ (ap owners_of c.self.view_is) (c.is_bare.ensures.items c.if-is_bare.true) (c.is_bare.ensures.below c.if-is_bare.true)))
+returns-then-is_bare-clause-owners g c = grind (arith, released_bare (table_of c.args.commons.now.kinds) c.args.owner.number (owners_of c.args.self.now), bare_in c.args.owner.number, once_of, c.release_phase.ensures.owners, c.self.view_is, c.self.invariant.sound, c.is_bare.ensures.items, c.if-is_bare.true, c.is_bare.ensures.below)
 
 pub returns-then-is_bare-clause-nothing_left : goal.returns-then-is_bare-clause-nothing_left
-returns-then-is_bare-clause-nothing_left g c =
-    let n = c.args.owner.number in
-    subst (AllAt HoldsNothing n) (sym (returns-then-is_bare-clause-owners g c)) (nothing_left (table_of c.args.commons.now.kinds) n (owners_of c.args.self.now) c.requires.serves.sound c.requires.serves.items)
+returns-then-is_bare-clause-nothing_left g c = grind (arith, returns-then-is_bare-clause-owners g c, nothing_left (table_of c.args.commons.now.kinds) c.args.owner.number (owners_of c.args.self.now) c.requires.serves.sound c.requires.serves.items, c.requires.serves.sound, c.requires.serves.items)
 
 pub returns-then-is_bare-clause-acted : goal.returns-then-is_bare-clause-acted
-returns-then-is_bare-clause-acted g c =
-    acted_bare c.args.commit c.args.top c.args.owner.number c.args.self.now c.release_phase.new.self
-    (hosting_of (g.P.PlanContexts.contexts c.args.place.now) (g.P.PlanContexts.shelf c.args.place.now)) (hosting_of (g.P.PlanContexts.contexts c.release_phase.new.place) (g.P.PlanContexts.shelf c.release_phase.new.place))
-    c.args.commons.now c.release_phase.new.commons
-    (λ (events : List What). g.E.Emit.emits c.args.out.now events c.release_phase.new.out)
-    (subst (λ (t : OwnerTree). Once t) (ap owners_of c.self.view_is) (once_of _ _ _ c.self.invariant.sound))
-    (bare_in c.args.owner.number _ _ (ap owners_of c.self.view_is) (c.is_bare.ensures.items c.if-is_bare.true) (c.is_bare.ensures.below c.if-is_bare.true))
-    c.release_phase.ensures.acted
+returns-then-is_bare-clause-acted g c = grind (arith, acted_bare c.args.commit c.args.top c.args.owner.number c.args.self.now c.release_phase.new.self, bare_in c.args.owner.number, once_of, c.self.view_is, c.self.invariant.sound, c.is_bare.ensures.items, c.if-is_bare.true, c.is_bare.ensures.below, c.release_phase.ensures.acted)
