@@ -10,11 +10,11 @@ pub use Rattle.file_table.specs.Files.{Files, IsDistinct, OpensOneMore, closed_f
 pub use Rattle.file_table.specs.declared.files.FileError.{FileError}
 pub use Rattle.file_table.specs.declared.files.FileError.TheVariants.{Memory, NoFile, Taken, TooMany}
 pub use Rattle.forest.proofs.Mapped.{mapped-at}
-pub use Rattle.forest.proofs.Trees.{Apart, Moves, apart_of, at_absent, at_some, removed_absent}
-pub use Rattle.forest.specs.Forest.{AllNodes, Empty, Node, Once, at, children, either, has, moved, parent_of, put, removed, size}
+pub use Rattle.forest.proofs.Trees.{Moves, apart_of, at_absent, at_some, removed_absent}
+pub use Rattle.forest.specs.Forest.{AllNodes, Empty, Node, Once, at, children, has, moved, parent_of, put, removed, size}
 pub use Rattle.forest.specs.Walk.{swept}
 pub use Rattle.lock_local.specs.Changes.{acquired, given_back}
-pub use Rattle.lock_local.specs.Locks.{Agrees, AreLocks, Lock, OthersStay, SessionLocks, has_owner, is_held}
+pub use Rattle.lock_local.specs.Locks.{Agrees, Lock, OthersStay, SessionLocks}
 pub use Rattle.lock_shared.proofs.BesideLemmas.{beside_stays, conflict_is, conflict_stands}
 pub use Rattle.lock_shared.specs.Holdings.{IsConflict, holds}
 pub use Rattle.lock_shared.specs.Ranked.{beside, least_conflict}
@@ -25,7 +25,7 @@ pub use Rattle.owner_core.proofs.Sounds.{once_of, sound_created, sound_forgotten
 pub use Rattle.owner_core.proofs.Swept.{all_below, all_swept}
 pub use Rattle.owner_core.specs.Owners.{AllAt, HoldsNothing, Owner, OwnerTable, OwnerTree, Roomy, created, forgotten, held, items_of, remembered, subtree_of}
 pub use Rattle.owner_core.specs.Released.{left_of, own_released, released}
-pub use Rattle.owner_core.specs.Steps.{GivesBack, Step, gone_events, made_event, own_steps, release_steps, top_locks}
+pub use Rattle.owner_core.specs.Steps.{GivesBack, Step, gone_events, made_event, release_steps, top_locks}
 pub use Rattle.owner_core.specs.declared.errors.OwnerError.{OwnerError}
 pub use Rattle.owner_core.specs.declared.errors.OwnerError.TheVariants.{NotOwned, Releasing}
 pub use Rattle.owner_items.proofs.Order.{All-without}
@@ -35,7 +35,7 @@ pub use Rattle.owner_items.specs.Next.{is_of_phase}
 pub use Rattle.owner_kinds.specs.Different.{AreDifferent}
 pub use Rattle.owner_kinds.specs.Kind.{Kind, changed_at, closed, opened}
 pub use Rattle.owner_kinds.specs.KindShelf.{one_at, table_of}
-pub use Rattle.owner_kinds.specs.KindTable.{IsExtension, IsKind, IsSound, KindTable}
+pub use Rattle.owner_kinds.specs.KindTable.{IsExtension, IsSound, KindTable}
 pub use Rattle.pgs_command.proofs.ValueLemmas.{is_text-means, is_text-same}
 pub use Rattle.pgs_command.specs.Words.{is_text}
 pub use Rattle.pgs_step.specs.declared.counters.SessionCounts.{SessionCounts}
@@ -55,7 +55,7 @@ pub use Rattle.reset_callbacks.specs.ShelfState.{ShelfState}
 pub use Rattle.session_owners.specs.Commons.{Balances, CommonState, LocksBalance, PinsServe, Serves, pinned_beside, pinned_once, seen_by}
 pub use Rattle.session_owners.specs.Counted.{HoldsCounted, IsCounted, IsHeld, all_released, files_held, holds_file}
 pub use Rattle.session_owners.specs.Fitting.{Acted, ActedOn, Hosting, HostsFit, OwnersFit, hosting_of, with_hosting, with_owners}
-pub use Rattle.session_owners.specs.LockLaws.{LocksBalance-more, LocksBalance-nothing}
+pub use Rattle.session_owners.specs.LockLaws.{LocksBalance-nothing}
 pub use Rattle.session_owners.specs.Placing.{AreLeft, PlansDo, PlansFit, contexts_of, plan_added, plan_dropped, with_plans}
 pub use Rattle.session_owners.specs.PlanStates.{plan_state}
 pub use Rattle.session_owners.specs.ResourceState.{ResourceState, files_of, locks_of, owners_of, plans_of, spare_of}
