@@ -6,3 +6,6 @@ pub mod Refilled
 pub mod Forgotten
 pub mod Places
 pub mod Rows
+pub mod Base
+pub mod Words
+pub mod Lemmas
