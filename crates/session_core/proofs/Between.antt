@@ -1,26 +1,6 @@
 -- Behind the end of a level the session stands.
-use Rattle.std.proofs.Common.{◌≡◌, ℕ, ◌<◌, true, false, List, [], ◌∷◌, length, IfSome, refl, sym, ◌∙◌, ap, subst, arith}
-use Rattle.std.specs.Prelude.{All}
-use Rattle.addr_space.specs.Space.{Space}
-use Rattle.pgs_step.specs.declared.errors.Error.{Error}
-use Rattle.pgs_step.specs.declared.events.What.{What}
-use Rattle.reset_callbacks.specs.ShelfState.{ShelfState}
-use Rattle.session_rules.specs.State.{LevelState, first_of, is_aborted}
-use Rattle.session_rules.specs.World.{Around, Scene}
-use Rattle.session_rules.specs.Acts.{Ended, in_order}
-use Rattle.session_rules.specs.Ends.{aborted, cleaned_up, committed, recovered, subcommitted}
-use Rattle.session_rules.specs.Standing.{IsAtRest, IsOpen, Stands, StandsBetweenLines}
-use Rattle.session_rules.proofs.EndsStand.{aborted_stands, away_stands, cleaned_up_stands, committed_stands, recovered_stands, settled, subcommitted_stands}
-use Rattle.session_rules.proofs.StepsStand.{settled_as}
-use Rattle.session_owners.specs.Commons.{CommonState}
-use Rattle.session_owners.proofs.Balances.{serves_still}
-use Rattle.session_store.specs.State.{StoreState, levels_of, portals_of, scene_of, session_of}
-use Rattle.session_store.specs.Calls.{Acted, Keeps, StandsIn}
-use Rattle.session_store.proofs.Depths.{levels_long}
-use Rattle.session_core.specs.Lines.{IsBetweenLines}
-use Rattle.session_core.specs.Ended.{Ends}
-use Rattle.session_commands.specs.Performed.{IsBetweenSteps, Now}
-use Rattle.session_commands.proofs.Standing.{empty_around}
+use Rattle.session_core.proofs.Base.{◌≡◌, ℕ, ◌<◌, true, false, List, [], ◌∷◌, length, IfSome, refl, sym, ◌∙◌, ap, subst, arith, All}
+use Rattle.session_core.proofs.Words.{Space, Error, What, ShelfState, LevelState, first_of, is_aborted, Around, Scene, Ended, in_order, aborted, cleaned_up, committed, recovered, subcommitted, IsAtRest, IsOpen, Stands, StandsBetweenLines, aborted_stands, away_stands, cleaned_up_stands, committed_stands, recovered_stands, settled, subcommitted_stands, settled_as, CommonState, serves_still, StoreState, levels_of, portals_of, scene_of, session_of, Acted, Keeps, StandsIn, levels_long, IsBetweenLines, Ends, IsBetweenSteps, Now, empty_around}
 
 -- the deepest level and those above it
 record HasDeepest (ls : List LevelState) : Type 0 where
@@ -84,8 +64,7 @@ module _ (a b : Now) (P : List What → Type 0) (between : IsBetweenSteps a) (ke
       ended_between cleaned_up (λ level levels s are h. let left = cleaned_up_stands level levels s (ap is_aborted (sym are) ∙ aborted) h in left.between.stands) some acted
 
   pub clean_rest : is_aborted (levels_of a.store.levels) ≡ true → 0 < length a.store.levels → Acted cleaned_up a.store b.store a.space b.space a.shelf b.shelf a.commons b.commons P → All IsAtRest (portals_of b.store.portals)
-  clean_rest aborted some acted =
-      ended_rest cleaned_up (λ level levels s are h. let left = cleaned_up_stands level levels s (ap is_aborted (sym are) ∙ aborted) h in left.between.at_rest) some acted
+  clean_rest aborted some acted = grind (arith, ended_rest cleaned_up, cleaned_up_stands)
 
   pub subcommit_between : 1 < length a.store.levels → Acted subcommitted a.store b.store a.space b.space a.shelf b.shelf a.commons b.commons P → IsBetweenSteps b
   subcommit_between more acted =

@@ -1,28 +1,6 @@
 -- A session between two lines.
-use Rattle.std.proofs.Common.{◌≡◌, ◌∙◌, ℕ, ◌<◌, ◌≤◌, true, false, List, [], ◌∷◌, length, Option, Some, None, Result, Ok, Err, OnOk, refl, sym, ap, subst, arith}
-use Rattle.std.specs.Prelude.{All}
-use Rattle.std.specs.Option.{option_map, option_map_or}
-use Rattle.pgs_command.specs.declared.commands.Command.{Command}
-use Rattle.pgs_step.specs.declared.errors.Error.{Error}
-use Rattle.pgs_step.specs.declared.events.What.{What}
-use Rattle.subxact_stack.specs.declared.levels.Level.{Level}
-use Rattle.session_rules.specs.State.{LevelState, SessionState, first_of, opening}
-use Rattle.addr_space.specs.Space.{Space}
-use Rattle.context_rules.specs.Contexts.{Contexts}
-use Rattle.owner_core.specs.Owners.{OwnerTree}
-use Rattle.session_rules.specs.World.{Moment}
-use Rattle.session_rules.specs.Standing.{AreOpen, AreOuter, FitLevels, IsAtRest, StandsBetweenLines}
-use Rattle.session_rules.specs.Commands.{elements_of}
-use Rattle.session_rules.specs.Does.{does_all}
-use Rattle.session_rules.specs.Transcript.{turn, turn_of}
-use Rattle.session_rules.proofs.TurnStands.{turn_stands}
-use Rattle.session_owners.proofs.Balances.{serves_still}
-use Rattle.session_store.specs.State.{StoreState, levels_of, level_state, portals_of, session_of}
-use Rattle.session_store.proofs.Depths.{levels_long}
-use Rattle.session_commands.specs.Answers.{at_calls, refusal_of}
-use Rattle.session_commands.proofs.Standing.{empty_around}
-use Rattle.session_core.specs.Lines.{IsAbortedBlock, IsBetweenLines, IsInBlock}
-use Rattle.session_commands.specs.Performed.{Now, IsBetweenSteps, Performed, most_steps, scene_in}
+use Rattle.session_core.proofs.Base.{◌≡◌, ◌∙◌, ℕ, ◌<◌, ◌≤◌, true, false, List, [], ◌∷◌, length, Option, Some, None, Result, Ok, Err, OnOk, refl, sym, ap, subst, arith, All, option_map}
+use Rattle.session_core.proofs.Words.{Command, Error, What, Level, LevelState, SessionState, first_of, opening, Space, Contexts, OwnerTree, Moment, AreOpen, AreOuter, FitLevels, IsAtRest, StandsBetweenLines, elements_of, does_all, turn, turn_of, turn_stands, serves_still, StoreState, levels_of, level_state, portals_of, session_of, levels_long, at_calls, refusal_of, empty_around, IsAbortedBlock, IsBetweenLines, IsInBlock, Now, IsBetweenSteps, Performed, most_steps, scene_in}
 
 pub steps_of_lines : (a : Now) → IsBetweenLines a → IsBetweenSteps a
 steps_of_lines a h = record { keeps = h.keeps; serves = h.serves; stands = λ around. let z : StandsBetweenLines (scene_in a around) = h.stands around in z.stands }
@@ -49,17 +27,10 @@ none_of (level ∷ levels) o none first = go (levels_of (level ∷ levels)) refl
 
 -- the levels of a block between two lines
 active_of : (levels : List LevelState) (l : LevelState) (contexts : Contexts) (owners : OwnerTree) (current : ℕ) → Some l ≡ first_of levels → l.aborted ≡ false → AreOpen levels → FitLevels levels contexts owners current → AreOuter levels
-active_of [] l contexts owners current e active open_levels fit = tt
-active_of (k ∷ levels) l contexts owners current e active open_levels fit =
-    let same : l ≡ k = cc e in (
-      record { made = fit.0.made open_levels.0.started; started = open_levels.0.started; unaborted = ap (λ (x : LevelState). x.aborted) (sym same) ∙ active },
-      open_levels.0,
-      fit.1,
-    )
+active_of x0 l contexts owners current e active open_levels fit = grind arith
 
 some_of : (levels : List LevelState) (l : LevelState) → Some l ≡ first_of levels → 0 < length levels
-some_of [] l e = absurd (cc e)
-some_of (k ∷ levels) l e = omega arith
+some_of x0 l e = grind arith
 
 pub block_of : (a : Now) (l : Level) → IsBetweenLines a → length a.store.levels ≤ 1000 → Some (level_state l) ≡ first_of (levels_of a.store.levels) → l.aborted ≡ false → IsInBlock a.store.levels
 unfolding session_of
@@ -72,10 +43,7 @@ block_of a l h most first unaborted =
     }
 
 pub aborted_block : (levels : List Level) (l : Level) → Some (level_state l) ≡ first_of (levels_of levels) → l.aborted ≡ true → IsAbortedBlock levels
-aborted_block levels l first aborted = record {
-  some = subst (λ (n : ℕ). 0 < n) (levels_long levels) (some_of (levels_of levels) (level_state l) first);
-  aborted = ap (λ (o : Option LevelState). option_map_or (λ level. level.aborted) o false) (sym first) ∙ aborted;
-}
+aborted_block levels l first aborted = grind (arith, levels_long levels, some_of (levels_of levels) (level_state l) first)
 
 -- a turn whose elements were all done
 turn_done : (c : Command) (m : Moment) → (does_all None (elements_of c m.scene.session) m).refusal ≡ None → (turn None (Some c) m).moment ≡ (does_all None (elements_of c m.scene.session) m).moment

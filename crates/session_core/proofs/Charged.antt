@@ -1,20 +1,6 @@
 -- What the account of a session took, with a line more of a script.
-use Rattle.std.proofs.Common.{◌≡◌, ◌≢◌, ℕ, ◌+◌, ◌-◌, ◌<◌, Bool, true, false, List, [], ◌∷◌, ◌++◌, Option, sym, ◌∙◌, ap, add-zero, arith}
-use Rattle.std.proofs.lemmas.Bool.Decides.{nat_tests}
-use Rattle.pgs_step.specs.declared.events.What.{What}
-use Rattle.pgs_command.specs.declared.commands.Command.{Command}
-use Rattle.addr_space.specs.Space.{Space, accounts, risen, taken}
-use Rattle.addr_space.proofs.Contexts.{taken-other, taken-own}
-use Rattle.owner_kinds.specs.Kind.{Kind}
-use Rattle.reset_callbacks.specs.ShelfState.{ShelfState}
-use Rattle.session_rules.specs.State.{SessionState}
-use Rattle.session_rules.specs.World.{Around, Moment, Options, moment}
-use Rattle.session_rules.specs.Transcript.{Course, Reading, course_by}
-use Rattle.session_rules.specs.Asked.{asked_by_line, asked_by_turn, asked_in_all}
-use Rattle.session_rules.proofs.Asking.{asked_in_all_more}
-use Rattle.session_commands.specs.Answers.{Fits}
-use Rattle.session_commands.specs.Performed.{Now, Takes}
-use Rattle.session_core.specs.Turns.{Turned, moment_in}
+use Rattle.session_core.proofs.Base.{◌≡◌, ◌≢◌, ℕ, ◌+◌, ◌<◌, Bool, true, false, List, [], ◌∷◌, ◌++◌, Option, sym, ◌∙◌, ap, arith, nat_tests}
+use Rattle.session_core.proofs.Words.{What, Command, Space, accounts, risen, taken, taken-other, taken-own, Kind, ShelfState, SessionState, Around, Moment, Options, moment, Course, Reading, course_by, asked_by_line, asked_by_turn, asked_in_all, asked_in_all_more, Fits, Now, Takes, Turned, moment_in}
 
 -- one rise of a count after another
 pub risen_more : (count m n : ℕ) → risen (risen count m) n ≡ risen count (m + n)
@@ -33,8 +19,7 @@ module _ (line : Option Command) (a b : Now) (P : List What → Type 0) where
 
   -- other accounts took nothing, whatever it met
   pub turn_others : (wanted : Bool) → Turned line a b P wanted → (around : Around) (w : Option ℕ) → Fits wanted b.calls.count w → (other : ℕ) → other ≢ a.store.tree.account → taken b.space other ≡ taken a.space other
-  turn_others wanted h around w f other differs =
-      other_stays wanted a.store.tree.account (asked_by_turn w line (moment_in a around)) other a.space b.space (h.taken around w f) differs
+  turn_others wanted h around w f other differs = grind (arith, nat_tests, other_stays wanted a.store.tree.account (asked_by_turn w line (moment_in a around)) other a.space b.space (h.taken around w f) differs)
 
 -- a script, and a line more that is performed
 module _ (reads : Reading) (w : Option ℕ) (options : Options) (kinds : List Kind) (shelf : ShelfState) (lines : List (List ℕ)) (line : List ℕ) (count n : ℕ) where
@@ -59,6 +44,4 @@ module _ (reads : Reading) (w : Option ℕ) (options : Options) (kinds : List Ki
   -- the line was another session's, or that of none: the count stays
   pub uncharged : (s t : Space) (account : ℕ) → asked_by_line reads w n line course ≡ 0 → taken t account ≡ taken s account
       → taken s account ≡ risen count (asked_in_all reads w options kinds shelf lines n) → taken t account ≡ risen count now_asked
-  uncharged s t account none same before =
-      same ∙ before
-      ∙ ap (risen count) (sym (asked_in_all_more reads w options kinds shelf lines line n ∙ ap (λ (k : ℕ). asked_in_all reads w options kinds shelf lines n + k) none ∙ add-zero (asked_in_all reads w options kinds shelf lines n)))
+  uncharged s t account none same before = grind (arith, nat_tests, asked_in_all_more reads w options kinds shelf lines line n)

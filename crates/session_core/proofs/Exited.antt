@@ -1,35 +1,8 @@
 -- The end of a session: no level is left, and no context.
-use Rattle.std.proofs.Common.{◌≡◌, ℕ, ◌+◌, ◌<◌, Bool, true, false, List, [], ◌∷◌, ◌++◌, length, None, refl, sym, ◌∙◌, ap, subst, arith, append-nil}
-use Rattle.std.specs.Prelude.{if◌then◌else◌, not}
-use Rattle.std.proofs.lemmas.Bool.{le-ltb}
-use Rattle.std.proofs.lemmas.List.{append_assoc}
-use Rattle.pgs_step.specs.declared.events.What.{What}
-use Rattle.pgs_step.specs.declared.events.What.TheVariants as what
-use Rattle.addr_space.specs.Space.{Asks, Space}
-use Rattle.reset_callbacks.specs.ShelfState.{ShelfState}
-use Rattle.context_tree.specs.State.{Moves}
-use Rattle.context_tree.proofs.Composed.{tree_more}
-use Rattle.subxact_stack.specs.declared.levels.Level.{Level}
-use Rattle.session_rules.specs.State.{LevelState}
-use Rattle.session_rules.specs.World.{Around, Moment, Scene}
-use Rattle.session_rules.specs.Acts.{Ended, behind, context_gone, for_each, in_order, switched, where_so}
-use Rattle.session_rules.specs.Asked.{asked, asked_all}
-use Rattle.session_rules.specs.Calls.{Done, unfailing}
-use Rattle.session_rules.specs.Commands.{rolled_back_to}
-use Rattle.session_rules.specs.Does.{does, does_all, done_behind, then_done}
-use Rattle.session_rules.specs.Elements.{Element}
-use Rattle.session_rules.specs.Elements as element
-use Rattle.session_rules.specs.Ends.{aborted, cleaned_up, exited, level_rolled_back}
-use Rattle.session_owners.specs.Commons.{CommonState}
-use Rattle.session_owners.proofs.Balances.{balances_more}
-use Rattle.session_store.specs.State.{StoreState, levels_of, scene_of, session_of}
-use Rattle.session_store.specs.Calls.{Acted, Keeps}
-use Rattle.session_commands.specs.Answers.{at_calls}
-use Rattle.session_core.specs.Ended.{Ends}
-use Rattle.session_commands.specs.Performed.{Grows, Now, Performed, scene_in}
+use Rattle.session_core.proofs.Base.{nat_tests, ◌≡◌, ℕ, ◌+◌, ◌<◌, Bool, true, false, List, [], ◌∷◌, ◌++◌, length, None, refl, sym, ◌∙◌, ap, subst, arith, append-nil, if◌then◌else◌, not, le-ltb, append_assoc}
+use Rattle.session_core.proofs.Words.{What, Asks, Space, ShelfState, Moves, tree_more, Level, LevelState, Around, Moment, Scene, Ended, behind, context_gone, for_each, in_order, switched, where_so, asked, asked_all, Done, unfailing, rolled_back_to, does, does_all, done_behind, then_done, Element, aborted, cleaned_up, exited, level_rolled_back, CommonState, balances_more, StoreState, levels_of, scene_of, session_of, Acted, Keeps, at_calls, Ends, Grows, Now, Performed, scene_in, empty_around}
 use Rattle.session_core.proofs.Numbers.{KeepsNumbers, numbers_grow}
 use Rattle.session_core.proofs.OnLevels.{does_abort, does_cleanup}
-use Rattle.session_commands.proofs.Standing.{empty_around}
 
 -- all levels are rolled back
 abbrev pub all_rolled : Scene → Ended
@@ -40,11 +13,11 @@ rolled_does : (ls : List LevelState) (m : Moment) → does_all None (rolled_back
 unfolding does_all
 rolled_does [] m = refl
 rolled_does (l ∷ ls) m =
-    ap (λ (b : Bool). does_all None (if b then [] else (if l.aborted then element.Cleanup ∷ [] else element.Abort ∷ element.Cleanup ∷ []) ++ rolled_back_to 1 ls) m) (le-ltb (length ls + 1) 1 (omega arith))
+    ap (λ (b : Bool). does_all None (if b then [] else (if l.aborted then Element.Cleanup ∷ [] else Element.Abort ∷ Element.Cleanup ∷ []) ++ rolled_back_to 1 ls) m) (le-ltb (length ls + 1) 1 (omega arith))
     ∙ go l.aborted (λ n. rolled_does ls n)
   where
     go : (b : Bool) → ((n : Moment) → does_all None (rolled_back_to 1 ls) n ≡ unfailing n (for_each level_rolled_back ls))
-        → does_all None ((if b then element.Cleanup ∷ [] else element.Abort ∷ element.Cleanup ∷ []) ++ rolled_back_to 1 ls) m
+        → does_all None ((if b then Element.Cleanup ∷ [] else Element.Abort ∷ Element.Cleanup ∷ []) ++ rolled_back_to 1 ls) m
         ≡ unfailing m (λ scene. let first = in_order (where_so (not b) aborted ∷ cleaned_up ∷ []) scene in behind first.events (for_each level_rolled_back ls first.scene))
     go true rest =
         let n : Moment = record m { scene = (cleaned_up m.scene).scene } in
@@ -56,7 +29,7 @@ rolled_does (l ∷ ls) m =
         let k : Moment = record m { scene = (aborted m.scene).scene } in
         let n : Moment = record k { scene = (cleaned_up k.scene).scene } in
         let last : List What = (for_each level_rolled_back ls n.scene).events in
-        ap (λ (d : Done). then_done d d.refusal (does_all None (element.Cleanup ∷ rolled_back_to 1 ls))) (does_abort None m)
+        ap (λ (d : Done). then_done d d.refusal (does_all None (Element.Cleanup ∷ rolled_back_to 1 ls))) (does_abort None m)
         ∙ ap (λ (d : Done). done_behind (aborted m.scene).events (then_done d d.refusal (does_all None (rolled_back_to 1 ls)))) (does_cleanup None k)
         ∙ ap (λ (d : Done). done_behind (aborted m.scene).events (done_behind (cleaned_up k.scene).events d)) (rest n)
         ∙ ap (λ (es : List What). record { moment = record n { scene = (for_each level_rolled_back ls n.scene).scene }; events = es; refusal = None })
@@ -67,13 +40,7 @@ rolled_does (l ∷ ls) m =
 rolled_asks : (ls : List LevelState) (m : Moment) → asked_all None (rolled_back_to 1 ls) m ≡ 0
 unfolding does asked asked_all
 rolled_asks [] m = refl
-rolled_asks (l ∷ ls) m =
-    ap (λ (b : Bool). asked_all None (if b then [] else (if l.aborted then element.Cleanup ∷ [] else element.Abort ∷ element.Cleanup ∷ []) ++ rolled_back_to 1 ls) m) (le-ltb (length ls + 1) 1 (omega arith))
-    ∙ go l.aborted (λ n. rolled_asks ls n)
-  where
-    go : (b : Bool) → ((n : Moment) → asked_all None (rolled_back_to 1 ls) n ≡ 0) → asked_all None ((if b then element.Cleanup ∷ [] else element.Abort ∷ element.Cleanup ∷ []) ++ rolled_back_to 1 ls) m ≡ 0
-    go true rest = let behind = rest (record m { scene = (cleaned_up m.scene).scene }) in omega (arith, behind)
-    go false rest = let behind = rest (record m { scene = (cleaned_up (aborted m.scene).scene).scene }) in omega (arith, behind)
+rolled_asks (l ∷ ls) m = grind (arith, nat_tests, le-ltb (length ls + 1) 1, rolled_asks ls)
 
 -- what was performed is an act
 pub ends_of : (es : List Element) (act : Scene → Ended) (a b : Now) (P : List What → Type 0) → ((m : Moment) → does_all None es m ≡ unfailing m act) → ((m : Moment) → asked_all None es m ≡ 0) → Performed 0 es a b P None → Ends act a b P
@@ -123,7 +90,7 @@ pub closing_keeps : KeepsNumbers closing
 closing_keeps a s x c around = refl
 
 module _ (O : Type 0) (emits : O → List What → O → Type 0) (more : (o p q : O) (xs ys : List What) → emits o xs p → emits p ys q → emits o (xs ++ ys) q) (o p q r : O) where
-  exits : (a b c : StoreState) (s t u : Space) (x y z : ShelfState) (k l m : CommonState) → Acted all_rolled a b s t x y k l (λ events. emits o events p) → Acted closing b c t u y z l m (λ events. emits p events q) → emits q (what.Exit ∷ []) r
+  exits : (a b c : StoreState) (s t u : Space) (x y z : ShelfState) (k l m : CommonState) → Acted all_rolled a b s t x y k l (λ events. emits o events p) → Acted closing b c t u y z l m (λ events. emits p events q) → emits q (What.Exit ∷ []) r
       → Acted exited a c s u x z k m (λ events. emits o events r)
   unfolding exited
   exits a b c s t u x y z k l m first second said = record {
@@ -131,16 +98,16 @@ module _ (O : Type 0) (emits : O → List What → O → Type 0) (more : (o p q 
     says = λ around.
         let w : Scene = (all_rolled (scene_of a s x k around)).scene in
         let v : Scene = scene_of b t y l around in
-        more o p r (all_rolled (scene_of a s x k around)).events ((context_gone 1 (switched 1 w).scene).events ++ what.Exit ∷ []) (first.says around)
+        more o p r (all_rolled (scene_of a s x k around)).events ((context_gone 1 (switched 1 w).scene).events ++ What.Exit ∷ []) (first.says around)
         (subst (λ (es : List What). emits p es r)
-        (ap (λ (es : List What). es ++ what.Exit ∷ [])
+        (ap (λ (es : List What). es ++ What.Exit ∷ [])
         (append-nil (context_gone 1 (switched 1 v).scene).events ∙ ap (λ (h : Scene). (context_gone 1 (switched 1 h).scene).events) (sym (first.leads around))))
-        (more p q r (closing v).events (what.Exit ∷ []) (second.says around) said));
+        (more p q r (closing v).events (What.Exit ∷ []) (second.says around) said));
     balances = balances_more _ _ _ _ _ _ first.balances second.balances;
   }
 
   pub session_exits : (a b c : Now) → Ends all_rolled a b (λ events. emits o events p) → Acted closing b.store c.store b.space c.space b.shelf c.shelf b.commons c.commons (λ events. emits p events q) → Keeps c.store c.space
-      → Moves b.store.tree c.store.tree b.space c.space → Asks b.store.tree.account 0 b.space c.space → c.calls ≡ b.calls → emits q (what.Exit ∷ []) r → Ends exited a c (λ events. emits o events r)
+      → Moves b.store.tree c.store.tree b.space c.space → Asks b.store.tree.account 0 b.space c.space → c.calls ≡ b.calls → emits q (What.Exit ∷ []) r → Ends exited a c (λ events. emits o events r)
   session_exits a b c first acted keeps moves asks calls said =
       let grows : Grows 0 b c = numbers_grow closing b c (λ events. emits p events q) closing_keeps acted calls in
       record {

@@ -14,3 +14,6 @@ pub mod Turning
 pub mod Opened
 pub mod Charged
 pub mod Placing
+pub mod Base
+pub mod Words
+pub mod Lemmas

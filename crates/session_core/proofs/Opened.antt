@@ -1,31 +1,11 @@
 -- What a caller needs that performs one line after another: where a session starts, and the room that a line leaves.
-use Rattle.std.proofs.Common.{◌≡◌, false, ℕ, ◌+◌, ◌*◌, ◌<◌, ◌≤◌, List, [], refl, sym, ap, subst, arith}
-use Rattle.std.specs.Prelude.{◌^◌, get_or, replicate, slice_index, All}
-use Rattle.std.proofs.lemmas.Grind.{common_steps}
-use Rattle.std.proofs.lemmas.List.Elements.{All-nil}
-use Rattle.addr_space.specs.Space.{Space, held}
-use Rattle.pgs_step.specs.declared.lock_modes.Mode.{Mode}
-use Rattle.lock_shared.specs.Holdings.{holds}
-use Rattle.session_rules.specs.State.{SessionState, opening}
-use Rattle.session_rules.specs.Standing.{IsAtRest}
-use Rattle.session_owners.specs.Commons.{Serves}
-use Rattle.owner_kinds.specs.KindShelf.{table_of}
-use Rattle.owner_kinds.specs.KindTable.{IsSound}
-use Rattle.session_owners.proofs.Balances.{serves_nothing}
-use Rattle.session_store.specs.State.{session_of}
-use Rattle.session_store.specs.Calls.{Keeps, StandsIn}
-use Rattle.session_core.specs.Lines.{IsBetweenLines}
-use Rattle.session_commands.specs.Performed.{Grows, HasRoom, Now, most_count, most_steps}
+use Rattle.session_core.proofs.Base.{◌≡◌, false, ℕ, ◌+◌, ◌*◌, ◌<◌, ◌≤◌, List, [], refl, sym, ap, subst, arith, ◌^◌, get_or, replicate, slice_index, All, common_steps, All-nil}
+use Rattle.session_core.proofs.Words.{Space, held, Mode, holds, SessionState, opening, IsAtRest, Serves, table_of, IsSound, serves_nothing, session_of, Keeps, StandsIn, IsBetweenLines, Grows, HasRoom, Now, most_count, most_steps}
 use Rattle.session_core.proofs.BetweenLines.{opened_levels}
 
 -- Lines in turn, each of which raises no counter by more than a line may.
 pub room_before : (i n : ℕ) (a b : Now) → i < n → HasRoom (most_steps * n) a → Grows (most_steps * i) a b → HasRoom most_steps b
-room_before i n a b l h g = record {
-  contexts = omega (arith, l, h.contexts, g.contexts);
-  owners = omega (arith, l, h.owners, g.owners);
-  serials = omega (arith, l, h.serials, g.serials);
-  calls = omega (arith, l, h.calls, g.calls);
-}
+room_before i n a b l h g = grind arith
 
 -- A session as it opens is between two lines, and has room.
 pub opened_lines : (a : Now) → session_of a.store a.space ≡ opening → Keeps a.store a.space → Serves a.store.owners a.commons → StandsIn a.store a.space a.shelf a.commons → IsBetweenLines a
@@ -57,9 +37,4 @@ none_held s account e = rw (e) refl
 
 pub opened_room : (k : ℕ) (a : Now) → session_of a.store a.space ≡ opening → a.calls.count ≡ 0 → k + 6 < most_count → HasRoom k a
 unfolding session_of opening
-opened_room k a e none l = record {
-  contexts = omega (arith, l, ap (λ (s : SessionState). s.next_context) e);
-  owners = omega (arith, l, ap (λ (s : SessionState). s.next_owner) e);
-  serials = omega (arith, l, ap (λ (s : SessionState). s.next_serial) e);
-  calls = omega (arith, l, none);
-}
+opened_room k a e none l = grind arith

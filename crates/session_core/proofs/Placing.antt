@@ -1,38 +1,10 @@
 -- Bytes that are written over known bytes of a chunk leave a session between two lines.
-use Rattle.std.proofs.Common.{ℕ, List, [], ◌∷◌, refl, subst}
-use Rattle.std.proofs.lemmas.Bool.{both_ways}
-use Rattle.addr_space.specs.Space.{Space}
-use Rattle.reset_callbacks.specs.ShelfState.{ShelfState}
-use Rattle.context_rules.specs.Contexts.{Contexts}
-use Rattle.context_rules.specs.Chunks.{written}
-use Rattle.owner_core.specs.Owners.{OwnerTree}
-use Rattle.session_rules.specs.State.{LevelState}
-use Rattle.session_rules.specs.World.{Scene}
-use Rattle.session_rules.specs.Parts.{contexts_become}
-use Rattle.session_rules.specs.Standing.{AreOpen, FitLevels, StandsBetweenLines}
-use Rattle.session_rules.proofs.LevelsKept.{levels_stay}
-use Rattle.session_rules.proofs.StepsStand.{KeepsContexts, keeps_written, still_planned, still_portals}
-use Rattle.session_owners.specs.Commons.{CommonState}
-use Rattle.session_store.specs.State.{StoreState, scene_of}
-use Rattle.session_store.specs.Calls.{Acted, ContextsAlone, IsSilent}
-use Rattle.session_commands.specs.declared.calls.Calls.{Calls}
-use Rattle.session_core.specs.Lines.{IsBetweenLines}
+use Rattle.session_core.proofs.Base.{arith, ℕ, List, refl, subst, both_ways}
+use Rattle.session_core.proofs.Words.{Space, ShelfState, Contexts, written, OwnerTree, LevelState, Scene, contexts_become, AreOpen, FitLevels, StandsBetweenLines, levels_stay, KeepsContexts, keeps_written, still_planned, still_portals, CommonState, StoreState, scene_of, Acted, ContextsAlone, IsSilent, Calls, IsBetweenLines}
 
 -- where no level is being started, nothing that is asked of the levels depends on what the contexts hold
 fit_open : (levels : List LevelState) (t u : Contexts) (x : OwnerTree) (current : ℕ) → AreOpen levels → FitLevels levels t x current → FitLevels levels u x current
-fit_open [] t u x current open_levels h = h
-fit_open (level ∷ levels) t u x current open_levels h = (
-  record {
-    made = h.0.made;
-    empty = λ n starting e. absurd (both_ways level.starting open_levels.0.started starting);
-    alone = h.0.alone;
-    idle = h.0.idle;
-    released = h.0.released;
-    at_abort = h.0.at_abort;
-    open_level = h.0.open_level;
-  },
-  h.1,
-)
+fit_open x0 t u x current open_levels h = grind (arith, both_ways)
 
 -- contexts that stay hold something else
 kept_lines : (s : Scene) (u : Contexts) → StandsBetweenLines s → KeepsContexts s.session.contexts u s.session.next_context → StandsBetweenLines (record s { session = record s.session { contexts = u } })

@@ -1,27 +1,6 @@
 -- What is done after an error, and at the end of a session.
-use Rattle.std.proofs.Common.{◌≡◌, ℕ, ◌+◌, ◌<◌, Bool, true, false, List, [], ◌∷◌, ◌++◌, length, Some, None, refl, sym, ◌∙◌, ap, subst, arith, append-nil}
-use Rattle.std.specs.Prelude.{not}
-use Rattle.pgs_step.specs.declared.errors.Error.{Error}
-use Rattle.pgs_step.specs.declared.events.What.{What}
-use Rattle.pgs_step.specs.declared.events.What.TheVariants as what
-use Rattle.addr_space.specs.Space.{Asks, Space}
-use Rattle.reset_callbacks.specs.ShelfState.{ShelfState}
-use Rattle.session_rules.specs.State.{LevelState, first_of, is_aborted}
-use Rattle.session_rules.specs.World.{Scene}
-use Rattle.session_rules.specs.Acts.{Ended, in_order, nothing, where_so}
-use Rattle.session_rules.specs.Ends.{aborted, cleaned_up, given_up, recovered}
-use Rattle.subxact_stack.specs.declared.levels.Level.{Level}
-use Rattle.session_owners.specs.Commons.{CommonState}
-use Rattle.session_owners.proofs.Balances.{balances_more, balances_none}
-use Rattle.session_store.specs.State.{StoreState, levels_of, scene_of, session_of}
-use Rattle.context_tree.specs.State.{Moves}
-use Rattle.context_tree.proofs.Composed.{tree_more}
-use Rattle.session_store.specs.Calls.{Acted, Keeps}
-use Rattle.session_store.proofs.Depths.{levels_long}
-use Rattle.session_commands.specs.declared.shared.Shared.{Shared}
-use Rattle.session_core.specs.Begun.{IsStarting}
-use Rattle.session_core.specs.Ended.{Ends}
-use Rattle.session_commands.specs.Performed.{Now, now, scene_in}
+use Rattle.session_core.proofs.Base.{◌≡◌, ℕ, ◌<◌, Bool, true, false, List, [], ◌∷◌, ◌++◌, length, Some, None, refl, sym, ◌∙◌, ap, subst, arith, append-nil, not}
+use Rattle.session_core.proofs.Words.{Error, What, Asks, Space, ShelfState, LevelState, first_of, is_aborted, Scene, Ended, in_order, nothing, where_so, aborted, cleaned_up, given_up, recovered, Level, CommonState, balances_more, balances_none, StoreState, levels_of, scene_of, session_of, Moves, tree_more, Acted, Keeps, levels_long, Shared, IsStarting, Ends, Now, now, scene_in}
 use Rattle.session_core.proofs.Numbers.{KeepsNumbers, numbers_grow}
 
 -- what is given up, of these levels
@@ -30,57 +9,35 @@ GivesUp ls act = (z : Scene) → where_so (not (is_aborted ls)) (given_up ls) z 
 
 -- the levels by the deepest
 pub gives_none : (ls : List LevelState) → first_of ls ≡ None → GivesUp ls nothing
-gives_none [] e z = refl
-gives_none (l ∷ ls) e z = absurd (cc e)
+gives_none x0 e z = grind arith
 
 pub gives_aborted : (ls : List LevelState) (l : LevelState) → first_of ls ≡ Some l → l.aborted ≡ true → GivesUp ls nothing
-gives_aborted [] l e is z = absurd (cc e)
-gives_aborted (k ∷ ls) l e is z = rw (was k l e is) refl
-  where
-    was : (k l : LevelState) → Some k ≡ Some l → l.aborted ≡ true → k.aborted ≡ true
-    was k l e is = let same : k ≡ l = cc e in ap (λ (l : LevelState). l.aborted) same ∙ is
+gives_aborted x0 l e is z = grind arith
 
 -- what is given up where the deepest isn't aborted
 pub gives_up : (ls : List LevelState) (l : LevelState) → first_of ls ≡ Some l → l.aborted ≡ false → GivesUp ls (given_up ls)
-gives_up [] l e active z = refl
-gives_up (k ∷ ls) l e active z =
-    let same : k ≡ l = cc e in
-    ap (λ (b : Bool). where_so (not b) (given_up (k ∷ ls)) z) (ap (λ (x : LevelState). x.aborted) same ∙ active)
+gives_up x0 l e active z = grind arith
 
 -- a level as its parts say
 abbrev level_of : LevelState → Bool → Bool → LevelState
 level_of l implicit starting = record { name = l.name; context = l.context; owner = l.owner; implicit = implicit; aborted = false; starting = starting }
 
 is_of : (k l : LevelState) (implicit starting : Bool) → Some k ≡ Some l → l.implicit ≡ implicit → l.aborted ≡ false → l.starting ≡ starting → k ≡ level_of l implicit starting
-is_of k l implicit starting e block active started =
-    let same : k ≡ l = cc e in
-    same
-    ∙ ap (λ (b : Bool). record l { implicit = b }) block
-    ∙ ap (λ (b : Bool). record l { implicit = implicit; aborted = b }) active
-    ∙ ap (λ (b : Bool). record l { implicit = implicit; aborted = false; starting = b }) started
+is_of k l implicit starting e block active started = grind arith
 
 -- one that was begun for one command alone goes, and any other aborts
 pub gives_implicit : (ls : List LevelState) (l : LevelState) → first_of ls ≡ Some l → l.aborted ≡ false → l.starting ≡ false → l.implicit ≡ true → GivesUp ls (in_order (aborted ∷ cleaned_up ∷ []))
-gives_implicit [] l e active started alone z = absurd (cc e)
-gives_implicit (k ∷ ls) l e active started alone z =
-    ap (λ (x : LevelState). where_so (not (is_aborted (x ∷ ls))) (given_up (x ∷ ls)) z) (is_of k l true false e alone active started)
+gives_implicit x0 l e active started alone z = grind (arith, is_of)
 
 pub gives_open : (ls : List LevelState) (l : LevelState) → first_of ls ≡ Some l → l.aborted ≡ false → l.starting ≡ false → l.implicit ≡ false → GivesUp ls aborted
-gives_open [] l e active started block z = absurd (cc e)
-gives_open (k ∷ ls) l e active started block z =
-    ap (λ (x : LevelState). where_so (not (is_aborted (x ∷ ls))) (given_up (x ∷ ls)) z) (is_of k l false false e block active started)
+gives_open x0 l e active started block z = grind (arith, is_of)
 
 pub starting_some : (levels : List Level) → IsStarting (levels_of levels) → 0 < length levels
-starting_some levels h = go (levels_of levels) refl h
-  where
-    go : (ls : List LevelState) → levels_of levels ≡ ls → IsStarting ls → 0 < length levels
-    go [] e h = absurd h
-    go (l ∷ ls) e h = omega (arith, levels_long levels, ap length e)
+starting_some levels h = grind (arith, levels_long levels)
 
 -- What is given up of a level that is being started: it is rolled back, and the level above it, where there is one, aborts.
 started_of : (l : LevelState) (ls : List LevelState) → IsStarting (l ∷ ls) → l ≡ level_of l l.implicit true
-started_of l ls h =
-    ap (λ (b : Bool). record l { aborted = b }) h.1 ∙ ap (λ (b : Bool). record l { aborted = false; starting = b }) h.0
+started_of l ls h = grind arith
 
 pub gives_start_alone : (ls : List LevelState) → IsStarting ls → length ls ≡ 1 → (z : Scene) → given_up ls z ≡ in_order (aborted ∷ cleaned_up ∷ []) z
 gives_start_alone [] h one z = absurd h
@@ -97,12 +54,12 @@ gives_start (l ∷ k ∷ ls) h more z = ap (λ (x : LevelState). given_up (x ∷
 -- the error is said, and something is given up
 pub recovers : (O : Type 0) (emits : O → List What → O → Type 0) (more : (o p q : O) (xs ys : List What) → emits o xs p → emits p ys q → emits o (xs ++ ys) q)
     (error : Error) (act : Scene → Ended) (a b : StoreState) (s t : Space) (x y : ShelfState) (c d : CommonState) (o p q : O)
-    → GivesUp (levels_of a.levels) act → emits o (what.Error error ∷ []) p → Acted act a b s t x y c d (λ events. emits p events q) → Acted (recovered error) a b s t x y c d (λ events. emits o events q)
+    → GivesUp (levels_of a.levels) act → emits o (What.Error error ∷ []) p → Acted act a b s t x y c d (λ events. emits p events q) → Acted (recovered error) a b s t x y c d (λ events. emits o events q)
 unfolding recovered session_of
 recovers O emits more error act a b s t x y c d o p q gives said acted = record {
   leads = λ around. ap (λ (e : Ended). e.scene) (gives (scene_of a s x c around)) ∙ acted.leads around;
   says = λ around.
-      more o p q (what.Error error ∷ []) _ said
+      more o p q (What.Error error ∷ []) _ said
       (subst (λ (es : List What). emits p es q)
       (sym (append-nil (where_so (not (is_aborted (levels_of a.levels))) (given_up (levels_of a.levels)) (scene_of a s x c around)).events ∙ ap (λ (e : Ended). e.events) (gives (scene_of a s x c around))))
       (acted.says around));
@@ -111,28 +68,12 @@ recovers O emits more error act a b s t x y c d o p q gives said acted = record 
 
 pub ended : (act : Scene → Ended) (a b : Now) (P : List What → Type 0) → KeepsNumbers act → Acted act a.store b.store a.space b.space a.shelf b.shelf a.commons b.commons P
     → Keeps b.store b.space → Moves a.store.tree b.store.tree a.space b.space → Asks a.store.tree.account 0 a.space b.space → b.calls ≡ a.calls → Ends act a b P
-ended act a b P numbers acted keeps moves asks calls = record {
-  acted = acted;
-  keeps = keeps;
-  moves = moves;
-  asked = asks;
-  balances = acted.balances;
-  calls = calls;
-  grows = numbers_grow act a b P numbers acted calls;
-}
+ended act a b P numbers acted keeps moves asks calls = grind (arith, numbers_grow act a b P numbers acted calls)
 
 pub recovery_ends : (O : Type 0) (emits : O → List What → O → Type 0) (more : (o p q : O) (xs ys : List What) → emits o xs p → emits p ys q → emits o (xs ++ ys) q)
     (error : Error) (act : Scene → Ended) (a b : Now) (o p q : O)
-    → GivesUp (levels_of a.store.levels) act → emits o (what.Error error ∷ []) p → Ends act a b (λ events. emits p events q) → Ends (recovered error) a b (λ events. emits o events q)
-recovery_ends O emits more error act a b o p q gives said did = record {
-  acted = recovers O emits more error act a.store b.store a.space b.space a.shelf b.shelf a.commons b.commons o p q gives said did.acted;
-  keeps = did.keeps;
-  moves = did.moves;
-  asked = did.asked;
-  balances = did.balances;
-  calls = did.calls;
-  grows = did.grows;
-}
+    → GivesUp (levels_of a.store.levels) act → emits o (What.Error error ∷ []) p → Ends act a b (λ events. emits p events q) → Ends (recovered error) a b (λ events. emits o events q)
+recovery_ends O emits more error act a b o p q gives said did = grind (arith, recovers O emits more error act a.store b.store a.space b.space a.shelf b.shelf a.commons b.commons o p q gives said did.acted)
 
 -- the same by another name
 pub ends_as : (f h : Scene → Ended) (a b : Now) (P : List What → Type 0) → ((z : Scene) → f z ≡ h z) → Ends h a b P → Ends f a b P

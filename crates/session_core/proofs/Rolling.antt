@@ -1,26 +1,10 @@
 -- Levels end one behind the other, from the deepest up.
-use Rattle.std.proofs.Common.{◌≡◌, ◌∙◌, ℕ, suc, ◌+◌, ◌-◌, ◌<◌, ◌≤◌, Bool, Option, Some, None, List, [], ◌∷◌, ◌++◌, length, refl, sym, ap, subst, arith, append-nil, length-append}
-use Rattle.std.specs.Prelude.{All, if◌then◌else◌, replicate}
-use Rattle.std.specs.Option.{option_map_or}
-use Rattle.std.proofs.lemmas.Bool.{le-ltb, lt-ltb}
-use Rattle.std.proofs.lemmas.List.{append_assoc}
-use Rattle.pgs_step.specs.declared.errors.Error.TheVariants as error
-use Rattle.pgs_step.specs.declared.events.What.{What}
-use Rattle.subxact_stack.specs.declared.levels.Level.{Level}
-use Rattle.session_rules.specs.State.{LevelState, is_aborted}
-use Rattle.session_rules.specs.Commands.{at_savepoint, committed_to, refused, rolled_back_to, savepoint}
-use Rattle.session_rules.specs.Elements.{Element, Text}
-use Rattle.session_rules.specs.Elements as element
-use Rattle.session_rules.specs.Standing.{AreOuter, FitLevels, IsAtRest, Stands}
-use Rattle.session_store.specs.State.{level_state, levels_of, portals_of, session_of}
-use Rattle.session_store.proofs.Depths.{levels_are, levels_long}
-use Rattle.session_commands.specs.Performed.{IsBetweenSteps, Now, Performed, scene_in}
-use Rattle.session_commands.proofs.Performing.{performed_both, performed_none}
-use Rattle.session_commands.proofs.Standing.{empty_around}
+use Rattle.session_core.proofs.Base.{◌≡◌, ◌∙◌, ℕ, suc, ◌+◌, ◌-◌, ◌<◌, ◌≤◌, Bool, Some, None, List, [], ◌∷◌, ◌++◌, length, refl, sym, ap, subst, arith, append-nil, length-append, All, if◌then◌else◌, replicate, le-ltb, lt-ltb, append_assoc}
+use Rattle.session_core.proofs.Words.{Error, What, Level, LevelState, is_aborted, at_savepoint, committed_to, refused, rolled_back_to, savepoint, Element, Text, AreOuter, FitLevels, IsAtRest, Stands, level_state, levels_of, portals_of, session_of, levels_are, levels_long, IsBetweenSteps, Now, Performed, scene_in, performed_both, performed_none, empty_around}
 
 -- how a level is rolled back
 abbrev level_ends : Bool → List Element
-level_ends b = if b then element.Cleanup ∷ [] else element.Abort ∷ element.Cleanup ∷ []
+level_ends b = if b then Element.Cleanup ∷ [] else Element.Abort ∷ Element.Cleanup ∷ []
 
 none_rolled : (n : ℕ) (ls : List LevelState) → length ls < n → rolled_back_to n ls ≡ []
 none_rolled n [] h = refl
@@ -30,8 +14,7 @@ first_rolled : (n : ℕ) (l : LevelState) (ls : List LevelState) → n ≤ lengt
 first_rolled n l ls h = ap (λ (b : Bool). if b then [] else level_ends l.aborted ++ rolled_back_to n ls) (le-ltb (length ls + 1) n h)
 
 one_rolled : (n : ℕ) (l : LevelState) (ls : List LevelState) → n ≡ length ls + 1 → rolled_back_to n (l ∷ ls) ≡ level_ends l.aborted
-one_rolled n l ls e =
-    first_rolled n l ls (omega (arith, e)) ∙ ap (λ (es : List Element). level_ends l.aborted ++ es) (none_rolled n ls (omega (arith, e))) ∙ append-nil (level_ends l.aborted)
+one_rolled n l ls e = grind (arith, first_rolled n l ls, none_rolled n ls)
 
 rolled_on : (n m : ℕ) (l : LevelState) (ls : List LevelState) → n ≤ length ls + 1 → m ≡ length ls + 1 → rolled_back_to m (l ∷ ls) ++ rolled_back_to n ls ≡ rolled_back_to n (l ∷ ls)
 rolled_on n m l ls h e = ap (λ (es : List Element). es ++ rolled_back_to n ls) (one_rolled m l ls e) ∙ sym (first_rolled n l ls h)
@@ -67,36 +50,11 @@ pub record IsRolling (level : ℕ) (a b : Now) (Said : List What → Type 0) : T
   pub fewer : length b.store.levels ≤ length a.store.levels
 
 pub rolling_start : (level : ℕ) (a : Now) (P : List What → Type 0) → IsBetweenSteps a → P [] → IsRolling level a a P
-rolling_start level a P between silent = record {
-  done = [];
-  performed = performed_none a P between.keeps silent;
-  all = refl;
-  between = between;
-  outer = λ less. absurd (omega (arith, less));
-  rest = λ less. absurd (omega (arith, less));
-  fewer = omega arith;
-}
+rolling_start level a P between silent = grind (arith, performed_none a P between.keeps silent)
 
 pub rolling_on : (level : ℕ) (a b c : Now) (P Q R : List What → Type 0) → IsRolling level a b P → level ≤ length b.store.levels → Performed 0 (rolled_back_to (length b.store.levels) (levels_of b.store.levels)) b c Q None
     → (last : Level) → b.store.levels ≡ c.store.levels ++ last ∷ [] → IsBetweenSteps c → All IsAtRest (portals_of c.store.portals) → ((us vs : List What) → P us → Q vs → R (us ++ vs)) → IsRolling level a c R
-rolling_on level a b c P Q R rolling deep done last popped between rest joins =
-    let are : levels_of b.store.levels ≡ level_state last ∷ levels_of c.store.levels = ap levels_of popped ∙ levels_are c.store.levels last in
-    let less = one_less b.store.levels c.store.levels last popped in
-    let long : length (levels_of c.store.levels) + 1 ≡ length b.store.levels = omega (arith, less, levels_long c.store.levels) in
-    let step : rolled_back_to (length b.store.levels) (levels_of b.store.levels) ++ rolled_back_to level (levels_of c.store.levels) ≡ rolled_back_to level (levels_of b.store.levels) =
-    ap (λ (ls : List LevelState). rolled_back_to (length b.store.levels) ls ++ rolled_back_to level (levels_of c.store.levels)) are
-    ∙ rolled_on level (length b.store.levels) (level_state last) (levels_of c.store.levels) (omega (arith, long, deep)) (sym long)
-    ∙ ap (rolled_back_to level) (sym are) in
-    record {
-      done = rolling.done ++ rolled_back_to (length b.store.levels) (levels_of b.store.levels);
-      performed = performed_both 0 0 rolling.done (rolled_back_to (length b.store.levels) (levels_of b.store.levels)) a b c P Q R None rolling.performed done joins;
-      all = append_assoc rolling.done (rolled_back_to (length b.store.levels) (levels_of b.store.levels)) (rolled_back_to level (levels_of c.store.levels))
-          ∙ ap (λ (es : List Element). rolling.done ++ es) step ∙ rolling.all;
-      between = between;
-      outer = λ _. above_deepest b (level_state last) (levels_of c.store.levels) rolling.between are;
-      rest = λ _. rest;
-      fewer = omega (arith, rolling.fewer, less);
-    }
+rolling_on level a b c P Q R rolling deep done last popped between rest joins = grind (arith, levels_are c.store.levels last, one_less b.store.levels c.store.levels last popped, levels_long c.store.levels, rolled_on level (length b.store.levels) (level_state last) (levels_of c.store.levels), performed_both 0 0 rolling.done (rolled_back_to (length b.store.levels) (levels_of b.store.levels)) a b c P Q R None rolling.performed done joins, append_assoc rolling.done (rolled_back_to (length b.store.levels) (levels_of b.store.levels)) (rolled_back_to level (levels_of c.store.levels)), above_deepest b (level_state last) (levels_of c.store.levels) rolling.between)
 
 pub rolling_done : (level : ℕ) (a b : Now) (P : List What → Type 0) → IsRolling level a b P → length b.store.levels < level → Performed 0 (rolled_back_to level (levels_of a.store.levels)) a b P None
 rolling_done level a b P rolling below =
@@ -118,25 +76,19 @@ pub record IsCommitting (level : ℕ) (a b : Now) (Said : List What → Type 0) 
   pub left : level ≤ length a.store.levels + 1 → level ≤ length b.store.levels + 1
 
 pub committing_start : (level : ℕ) (a : Now) (P : List What → Type 0) → IsBetweenSteps a → P [] → IsCommitting level a a P
-committing_start level a P between silent = record {
-  done = [];
-  performed = performed_none a P between.keeps silent;
-  all = refl;
-  between = between;
-  left = λ h. h;
-}
+committing_start level a P between silent = grind (arith, performed_none a P between.keeps silent)
 
-committed_on : (level : ℕ) (ls ks : List LevelState) → length ls ≡ length ks + 1 → level ≤ length ls → element.Subcommit ∷ committed_to level ks ≡ committed_to level ls
-committed_on level ls ks e deep = ap (λ (n : ℕ). replicate n element.Subcommit) (let more : suc (length ks + 1 - level) ≡ length ls + 1 - level = omega (arith, e, deep) in more)
+committed_on : (level : ℕ) (ls ks : List LevelState) → length ls ≡ length ks + 1 → level ≤ length ls → Element.Subcommit ∷ committed_to level ks ≡ committed_to level ls
+committed_on level ls ks e deep = ap (λ (n : ℕ). replicate n Element.Subcommit) (let more : suc (length ks + 1 - level) ≡ length ls + 1 - level = omega (arith, e, deep) in more)
 
-pub committing_on : (level : ℕ) (a b c : Now) (P Q R : List What → Type 0) → IsCommitting level a b P → level ≤ length b.store.levels → Performed 0 (element.Subcommit ∷ []) b c Q None
+pub committing_on : (level : ℕ) (a b c : Now) (P Q R : List What → Type 0) → IsCommitting level a b P → level ≤ length b.store.levels → Performed 0 (Element.Subcommit ∷ []) b c Q None
     → (last : Level) → b.store.levels ≡ c.store.levels ++ last ∷ [] → IsBetweenSteps c → ((us vs : List What) → P us → Q vs → R (us ++ vs)) → IsCommitting level a c R
 committing_on level a b c P Q R committing deep done last popped between joins =
     let less = one_less b.store.levels c.store.levels last popped in
     record {
-      done = committing.done ++ (element.Subcommit ∷ []);
-      performed = performed_both 0 0 committing.done (element.Subcommit ∷ []) a b c P Q R None committing.performed done joins;
-      all = append_assoc committing.done (element.Subcommit ∷ []) (committed_to level (levels_of c.store.levels))
+      done = committing.done ++ (Element.Subcommit ∷ []);
+      performed = performed_both 0 0 committing.done (Element.Subcommit ∷ []) a b c P Q R None committing.performed done joins;
+      all = append_assoc committing.done (Element.Subcommit ∷ []) (committed_to level (levels_of c.store.levels))
           ∙ ap (λ (es : List Element). committing.done ++ es)
           (committed_on level (levels_of b.store.levels) (levels_of c.store.levels) (omega (arith, less, levels_long b.store.levels, levels_long c.store.levels)) (omega (arith, deep, levels_long b.store.levels)))
           ∙ committing.all;
@@ -147,7 +99,7 @@ committing_on level a b c P Q R committing deep done last popped between joins =
 pub committing_done : (level : ℕ) (a b : Now) (P : List What → Type 0) → IsCommitting level a b P → length b.store.levels < level → Performed 0 (committed_to level (levels_of a.store.levels)) a b P None
 committing_done level a b P committing below =
     let none : length (levels_of b.store.levels) + 1 - level ≡ 0 = omega (arith, below, levels_long b.store.levels) in
-    let left : committed_to level (levels_of b.store.levels) ≡ [] = ap (λ (n : ℕ). replicate n element.Subcommit) none in
+    let left : committed_to level (levels_of b.store.levels) ≡ [] = ap (λ (n : ℕ). replicate n Element.Subcommit) none in
     subst (λ (es : List Element). Performed 0 es a b P None) (sym (append-nil committing.done) ∙ ap (λ (es : List Element). committing.done ++ es) (sym left) ∙ committing.all) committing.performed
 
 pub committing_left : (level : ℕ) (a b : Now) (P : List What → Type 0) → IsCommitting level a b P → length b.store.levels < level → level ≤ length a.store.levels + 1 → length b.store.levels + 1 ≡ level
@@ -155,12 +107,7 @@ committing_left level a b P committing below within = let least = committing.lef
 
 -- the savepoint of a name, where there is one, and where there is none
 pub at_found : (name : Text) (ls : List LevelState) (go_on : ℕ → List Element) (n : ℕ) → Some n ≡ savepoint name ls → at_savepoint name ls go_on ≡ go_on n
-at_found name [] go_on n e = absurd (cc e)
-at_found name (l ∷ ls) go_on n e = ap (λ (o : Option ℕ). option_map_or go_on o (refused error.NoSuchSavepoint)) (sym e)
+at_found name x1 go_on n e = grind arith
 
-pub at_missing : (name : Text) (levels : List Level) (go_on : ℕ → List Element) → 0 < length levels → None ≡ savepoint name (levels_of levels) → at_savepoint name (levels_of levels) go_on ≡ refused error.NoSuchSavepoint
-at_missing name levels go_on some e = go (levels_of levels) refl e
-  where
-    go : (ls : List LevelState) → levels_of levels ≡ ls → None ≡ savepoint name ls → at_savepoint name ls go_on ≡ refused error.NoSuchSavepoint
-    go [] f e = absurd (omega (arith, some, levels_long levels, ap length f))
-    go (l ∷ ls) f e = ap (λ (o : Option ℕ). option_map_or go_on o (refused error.NoSuchSavepoint)) (sym e)
+pub at_missing : (name : Text) (levels : List Level) (go_on : ℕ → List Element) → 0 < length levels → None ≡ savepoint name (levels_of levels) → at_savepoint name (levels_of levels) go_on ≡ refused Error.NoSuchSavepoint
+at_missing name levels go_on some e = grind (arith, levels_long levels)

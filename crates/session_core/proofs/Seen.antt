@@ -1,15 +1,6 @@
 -- A session is seen as its store.
-use Rattle.std.proofs.Common.{◌≡◌, ℕ, List, length, Option, sym, subst}
-use Rattle.pgs_step.specs.declared.errors.Error.{Error}
-use Rattle.pgs_step.specs.declared.events.What.{What}
-use Rattle.addr_space.specs.Space.{Space}
-use Rattle.reset_callbacks.specs.ShelfState.{ShelfState}
-use Rattle.session_rules.specs.Elements.{Element}
-use Rattle.session_owners.specs.Commons.{CommonState, Serves}
-use Rattle.session_store.specs.State.{StoreState}
-use Rattle.session_store.specs.Calls.{Keeps, StandsIn}
-use Rattle.session_commands.specs.declared.shared.Shared.{Shared}
-use Rattle.session_commands.specs.Performed.{Now, Performed, now}
+use Rattle.session_core.proofs.Base.{◌≡◌, ℕ, List, length, Option, sym, subst}
+use Rattle.session_core.proofs.Words.{Error, What, Space, ShelfState, Element, CommonState, Serves, StoreState, Keeps, StandsIn, Shared, Now, Performed, now}
 
 module _ (store v : StoreState) (is : store ≡ v) where
   -- what was performed from the store was performed from the value

@@ -1,29 +1,6 @@
 -- What a line does, from what its elements answer.
-use Rattle.std.proofs.Common.{◌≡◌, ◌∙◌, ℕ, ◌<◌, ◌≤◌, Bool, false, List, [], ◌++◌, Option, Some, None, refl, sym, ap, subst, arith}
-use Rattle.pgs_command.specs.declared.commands.Command.{Command}
-use Rattle.pgs_step.specs.declared.errors.Error.{Error}
-use Rattle.pgs_step.specs.declared.errors.Error.TheVariants as error
-use Rattle.pgs_step.specs.declared.events.What.{What}
-use Rattle.context_tree.proofs.Composed.{tree_more}
-use Rattle.session_rules.specs.Calls.{Done}
-use Rattle.session_rules.specs.Commands.{refused}
-use Rattle.session_rules.specs.Does.{does_all}
-use Rattle.session_rules.specs.Asked.{asked_all, asked_by_turn}
-use Rattle.session_rules.specs.Elements as element
-use Rattle.session_rules.specs.Ends.{recovered}
-use Rattle.session_rules.specs.Transcript.{Turn, is_want, line_elements, turn, turn_of}
-use Rattle.session_rules.specs.World.{Around, Moment}
-use Rattle.session_owners.proofs.Balances.{balances_more}
-use Rattle.session_store.specs.Calls.{Keeps}
-use Rattle.session_store.specs.State.{session_of}
-use Rattle.session_commands.specs.declared.calls.Calls.{Calls}
-use Rattle.session_commands.specs.Answers.{Fits}
-use Rattle.session_core.specs.Ended.{Ends}
-use Rattle.session_commands.specs.Performed.{Now, Performed, Takes, most_steps, scene_in}
-use Rattle.session_core.specs.Turns.{Turned, moment_in}
-use Rattle.session_commands.proofs.Commands.{fails}
-use Rattle.session_commands.proofs.Performing.{performed_more}
-use Rattle.session_commands.proofs.Takings.{takes_on}
+use Rattle.session_core.proofs.Base.{◌≡◌, ◌∙◌, ℕ, ◌<◌, ◌≤◌, Bool, false, List, [], ◌++◌, Option, Some, None, refl, sym, ap, subst, arith}
+use Rattle.session_core.proofs.Words.{Command, Error, What, tree_more, Done, refused, does_all, asked_all, asked_by_turn, Check, recovered, Turn, is_want, line_elements, turn, turn_of, Around, Moment, balances_more, Keeps, session_of, Calls, Fits, Ends, Now, Performed, Takes, most_steps, scene_in, Turned, moment_in, fails, performed_more, takes_on}
 
 -- what is known of a turn
 record TurnIs (t : Turn) (m : Moment) (P : List What → Type 0) (wanted : Bool) : Type 0 where
@@ -112,11 +89,11 @@ module _ (line : Option Command) (a : Now) where
     }
 
 -- a bad line
-pub turned_bad : (a b : Now) (Q : List What → Type 0) → Keeps a.store a.space → Ends (recovered error.SyntaxError) a b Q → Turned None a b Q false
+pub turned_bad : (a b : Now) (Q : List What → Type 0) → Keeps a.store a.space → Ends (recovered Error.SyntaxError) a b Q → Turned None a b Q false
 turned_bad a b Q keeps ended =
-    turned_err None a a b (λ events. events ≡ []) Q Q error.SyntaxError
-    (performed_more 0 most_steps (refused error.SyntaxError) a a (λ events. events ≡ []) (Some error.SyntaxError) (omega arith)
-    (fails 0 (element.Refuse error.SyntaxError) [] a (λ events. events ≡ []) error.SyntaxError keeps refl refl (λ around. refl)))
+    turned_err None a a b (λ events. events ≡ []) Q Q Error.SyntaxError
+    (performed_more 0 most_steps (refused Error.SyntaxError) a a (λ events. events ≡ []) (Some Error.SyntaxError) (omega arith)
+    (fails 0 (Check.Refuse Error.SyntaxError) [] a (λ events. events ≡ []) Error.SyntaxError keeps refl refl (λ around. refl)))
     ended (λ us vs e q. subst Q (sym (ap (λ (xs : List What). xs ++ vs) e)) q)
 
 -- a line by what it is known to be

@@ -1,13 +1,6 @@
 -- What is done within a transaction, by its row of the table.
-use Rattle.std.proofs.Common.{◌≡◌, List, Option, subst, arith}
-use Rattle.pgs_command.specs.declared.commands.Work.{Work}
-use Rattle.pgs_step.specs.declared.errors.Error.{Error}
-use Rattle.pgs_step.specs.declared.events.What.{What}
-use Rattle.session_rules.specs.State.{OpenPortal}
-use Rattle.session_rules.specs.Works.{elements, row_of}
-use Rattle.session_commands.specs.Performed.{Now, Performed, most_calls, most_work}
-use Rattle.session_commands.proofs.Commands.{as_row}
-use Rattle.session_commands.proofs.Performing.{performed_more}
+use Rattle.session_core.proofs.Base.{◌≡◌, List, Option, subst, arith}
+use Rattle.session_core.proofs.Words.{Work, Error, What, OpenPortal, elements, row_of, Now, Performed, most_calls, most_work, as_row, performed_more}
 
 -- what it is done to takes no more calls than `most_work`
 pub work_as : (w v : Work) (ps : List OpenPortal) (a b : Now) (P : List What → Type 0) (r : Option Error) → w ≡ v → Performed most_calls (elements (row_of v ps)) a b P r

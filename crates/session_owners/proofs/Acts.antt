@@ -1,46 +1,7 @@
 -- The acts of a session's rules on its owners.
-use Rattle.std.proofs.Common.{◌≡◌, ℕ, ◌+◌, ◌-◌, ◌≤◌, Bool, false, find, Option, None, Some, List, [], ◌∷◌, ◌++◌, append-nil, length, map, reverse, take, refl, sym, ap, ◌∙◌, subst, arith}
-use Rattle.std.specs.Prelude.{slice_index}
-use Rattle.std.proofs.lemmas.List.{map-append}
-use Rattle.pgs_step.specs.declared.events.What.{What}
-use Rattle.pgs_step.specs.declared.events.What.TheVariants as what
-use Rattle.pgs_step.specs.declared.ids.Item.{Item}
-use Rattle.pgs_step.specs.declared.ids.KindId.{KindId}
-use Rattle.pgs_step.specs.declared.ids.Phase.{Phase}
-use Rattle.pgs_step.specs.declared.ids.Phase.TheVariants.{BeforeLocks, Locks, AfterLocks}
-use Rattle.forest.specs.Forest.{moved, removed}
-use Rattle.owner_kinds.specs.Kind.{Kind, changed_at, opened}
-use Rattle.owner_kinds.specs.KindShelf.{table_of}
-use Rattle.owner_items.specs.ItemList.{is_of}
-use Rattle.owner_core.specs.Owners.{OwnerTable}
-use Rattle.owner_core.specs.Released.{released}
-use Rattle.owner_core.specs.Steps.{GivesBack, gone_events, made_event, release_steps}
-use Rattle.lock_shared.specs.declared.shared_locks.Holding.{Holding}
-use Rattle.lock_shared.specs.Ranked.{beside}
-use Rattle.lock_shared.proofs.BesideLemmas.{beside_stays}
-use Rattle.lock_local.specs.Locks.{Lock, SessionLocks}
-use Rattle.snap_table.specs.declared.active.Active.{Active}
-use Rattle.snap_table.specs.Snapshots.{kept_below, lowered, pops}
-use Rattle.plan_store.specs.Plans.{Plans}
-use Rattle.plan_store.specs.declared.plan.Plan.{Plan}
-use Rattle.session_owners.specs.Hosting.{Contexts}
-use Rattle.reset_callbacks.specs.ShelfState.{ShelfState}
-use Rattle.session_rules.specs.State.{StandingPlan, buffer_pin, file_kind, last_of, plan_reference}
-use Rattle.session_rules.specs.Lookup.{plan_changed}
-use Rattle.session_rules.specs.Ends.{stack_lowered, stack_popped}
-use Rattle.session_rules.specs.Parts.{snapshot_popped}
-use Rattle.session_rules.specs.World.{Scene}
-use Rattle.session_rules.specs.Acts.{Ended, and_then, changes, for_each, in_order, nothing, say, where_there}
-use Rattle.session_rules.specs.Making.{owner_made}
-use Rattle.session_rules.proofs.ItemsStand.{extension_keeps}
-use Rattle.session_rules.specs.Taking.{descriptor_given, item_taken, pushed_at, remembers, taken_by}
-use Rattle.session_rules.specs.Releases.{Keeper, NoOne, TheKind, given_back, item_released, keeper_of, owner_gone, owner_moved, owner_released, phase_released}
-use Rattle.file_table.specs.Files.{Files, touch_events, touched_file}
-use Rattle.session_owners.specs.ResourceState.{OwnerTree, ResourceState, created, files_of, forgotten, items_of, locks_of, owners_of, plan_state, plans_of, remembered}
-use Rattle.session_owners.specs.Commons.{CommonState, LocksBalance, pinned_beside, pinned_once}
-use Rattle.session_owners.specs.Tables.{Lending, TablesDo, TablesFit}
-use Rattle.session_owners.specs.Placing.{PlansDo, plan_added, with_plans}
-use Rattle.session_owners.specs.Fitting.{Acted, ActedOn, Hosting, HostsFit, OwnersFit, hosting_of, with_hosting, with_owners}
+use Rattle.session_owners.proofs.Base.{◌≡◌, ℕ, ◌+◌, ◌-◌, ◌≤◌, Bool, false, find, Option, None, Some, List, [], ◌∷◌, ◌++◌, append-nil, length, map, reverse, take, refl, sym, ap, ◌∙◌, subst, arith, slice_index, map-append}
+use Rattle.session_owners.proofs.Words.{What, Item, KindId, Phase, BeforeLocks, Locks, AfterLocks, moved, removed, Kind, changed_at, opened, table_of, is_of, OwnerTable, released, GivesBack, gone_events, made_event, release_steps, Holding, beside, beside_stays, Lock, SessionLocks, Active, kept_below, lowered, pops, Plans, Plan, StandingPlan, buffer_pin, file_kind, last_of, plan_reference, plan_changed, stack_lowered, stack_popped, snapshot_popped, Scene, Ended, and_then, changes, for_each, in_order, nothing, say, where_there, owner_made, extension_keeps, descriptor_given, item_taken, pushed_at, remembers, taken_by, Keeper, NoOne, TheKind, item_released, keeper_of, owner_gone, owner_moved, owner_released, phase_released, Files, touch_events, touched_file, OwnerTree, ResourceState, created, files_of, forgotten, items_of, locks_of, owners_of, plan_state, plans_of, remembered, CommonState, LocksBalance, pinned_beside, pinned_once, Lending, TablesDo, TablesFit, PlansDo, plan_added, with_plans, Acted, ActedOn, Hosting, HostsFit, OwnersFit, hosting_of, with_hosting, with_owners}
+use Rattle.session_rules.specs.Releases.{given_back}
 use Rattle.session_owners.proofs.Counts.{held_created}
 use Rattle.session_owners.proofs.OwnPins.{beside_same, beside_still, pinned_remembered, pinned_same}
 use Rattle.session_owners.proofs.Stack.{last_newest, take_others}
@@ -58,10 +19,7 @@ owners_same scene o p m n s t fs gs d e ks js ls ms hs is us vs xs ys ps qs f g 
 
 pub fit_is : (a : ResourceState) (c : CommonState) (scene : Scene) → OwnersFit a c scene → scene ≡ with_owners a c scene
 unfolding parts_in
-fit_is a c scene fit =
-    owners_same scene scene.session.owners (owners_of a) scene.session.next_owner a.next_owner scene.session.next_serial a.next_serial scene.session.recent a.recent scene.around.descriptors a.descriptors scene.around.kinds c.kinds
-    scene.session.locks a.locks scene.around.locked (beside a.session c.locks) scene.around.pinned (pinned_beside (owners_of a) c.pins) scene.session.snapshots a.stack scene.session.plans (plans_of a)
-    fit.owners fit.next_owner fit.next_serial fit.recent fit.descriptors fit.kinds fit.locks fit.locked fit.pinned fit.snapshots fit.plans
+fit_is a c scene fit = grind (arith, owners_same)
 
 -- owners, files, locks, active snapshots and plans as a session's resources
 abbrev pub state_of : OwnerTable → Files → SessionLocks → List Active → Plans → ResourceState
@@ -99,10 +57,7 @@ bare a c scene = with_parts scene (owners_of a) a.next_owner a.next_serial a.rec
 
 is_bare : (a : ResourceState) (c : CommonState) (scene : Scene) → OwnersFit a c scene → scene ≡ bare a c scene
 unfolding bare with_parts
-is_bare a c scene fit =
-    parts_same scene scene.session.owners (owners_of a) scene.session.next_owner a.next_owner scene.session.next_serial a.next_serial scene.session.recent a.recent scene.around.descriptors a.descriptors
-    scene.session.locks a.locks scene.session.plans (plans_of a) scene.around.kinds c.kinds scene.around.locked (beside a.session c.locks) scene.around.pinned (pinned_beside (owners_of a) c.pins) scene.session.snapshots a.stack
-    fit.owners fit.next_owner fit.next_serial fit.recent fit.descriptors fit.locks fit.plans fit.kinds fit.locked fit.pinned fit.snapshots
+is_bare a c scene fit = grind (arith, parts_same scene scene.session.owners (owners_of a) scene.session.next_owner a.next_owner scene.session.next_serial a.next_serial scene.session.recent a.recent scene.around.descriptors a.descriptors)
 
 -- an act that leads so from each such scene
 acted_bare : (act : Scene → Ended) (a b : ResourceState) (c d : CommonState) (Says : List What → Type 0)
@@ -143,7 +98,7 @@ acted_made parent a b c Says e f g files same says =
 pub acted_taken : (n : ℕ) (kind : KindId) (key : ℕ) (a b : ResourceState) (c : CommonState) (Says : List What → Type 0) → keeper_of kind ≡ NoOne → 2 ≤ kind.0
     → owners_of b ≡ remembered n (record { kind = kind; key = key; serial = a.next_serial }) (owners_of a)
     → b.next_owner ≡ a.next_owner → b.next_serial ≡ a.next_serial + 1 → SameFiles a b → SameLocks a b
-    → Says (what.Acquire (record { kind = kind; key = key; serial = a.next_serial }) n ∷ []) → Acted (item_taken n kind key) a b c c Says
+    → Says (What.Acquire (record { kind = kind; key = key; serial = a.next_serial }) n ∷ []) → Acted (item_taken n kind key) a b c c Says
 unfolding bare with_parts parts_in
 acted_taken n kind key a b c Says unkept from e f g files same says =
     acted_bare (item_taken n kind key) a b c c Says
@@ -156,7 +111,7 @@ pub acted_pinned : (n buffer : ℕ) (a b : ResourceState) (c d : CommonState) (S
     → owners_of b ≡ remembered n (record { kind = record { 0 = 1 }; key = buffer; serial = a.next_serial }) (owners_of a)
     → b.next_owner ≡ a.next_owner → b.next_serial ≡ a.next_serial + 1 → SameFiles a b → SameLocks a b → d.kinds ≡ c.kinds → d.locks ≡ c.locks
     → ((q : ℕ) → slice_index d.pins q + pinned_once q (owners_of a) ≡ slice_index c.pins q + pinned_once q (owners_of b))
-    → Says (what.Acquire (record { kind = record { 0 = 1 }; key = buffer; serial = a.next_serial }) n ∷ []) → Acted (item_taken n buffer_pin buffer) a b c d Says
+    → Says (What.Acquire (record { kind = record { 0 = 1 }; key = buffer; serial = a.next_serial }) n ∷ []) → Acted (item_taken n buffer_pin buffer) a b c d Says
 unfolding bare with_parts parts_in
 acted_pinned n buffer a b c d Says e f g files same kinds held pins says =
     acted_bare (item_taken n buffer_pin buffer) a b c d Says
@@ -169,7 +124,7 @@ acted_pinned n buffer a b c d Says e f g files same kinds held pins says =
 pub acted_extension : (n : ℕ) (kind : KindId) (key : ℕ) (a b : ResourceState) (c d : CommonState) (Says : List What → Type 0) → 16 ≤ kind.0
     → owners_of b ≡ remembered n (record { kind = kind; key = key; serial = a.next_serial }) (owners_of a)
     → b.next_owner ≡ a.next_owner → b.next_serial ≡ a.next_serial + 1 → SameFiles a b → SameLocks a b → d.kinds ≡ changed_at (kind.0 - 16) (opened key) c.kinds → d.locks ≡ c.locks → d.pins ≡ c.pins
-    → Says (what.Acquire (record { kind = kind; key = key; serial = a.next_serial }) n ∷ []) → Acted (item_taken n kind key) a b c d Says
+    → Says (What.Acquire (record { kind = kind; key = key; serial = a.next_serial }) n ∷ []) → Acted (item_taken n kind key) a b c d Says
 unfolding bare with_parts parts_in
 acted_extension n kind key a b c d Says high e f g files same kinds held counted says =
     let kept : keeper_of kind ≡ TheKind (kind.0 - 16) = extension_keeps kind high in
@@ -194,7 +149,7 @@ acted_touched file a b c Says e f g recent descriptors same says =
 pub acted_opened : (n file : ℕ) (a b : ResourceState) (c : CommonState) (Says : List What → Type 0)
     → owners_of b ≡ remembered n (record { kind = file_kind; key = file; serial = a.next_serial }) (owners_of a)
     → b.next_owner ≡ a.next_owner → b.next_serial ≡ a.next_serial + 1 → b.recent ≡ (touched_file file (files_of a)).recent → b.descriptors ≡ a.descriptors → SameLocks a b
-    → Says (touch_events file (files_of a) ++ (what.Acquire (record { kind = file_kind; key = file; serial = a.next_serial }) n ∷ [])) → Acted (item_taken n file_kind file) a b c c Says
+    → Says (touch_events file (files_of a) ++ (What.Acquire (record { kind = file_kind; key = file; serial = a.next_serial }) n ∷ [])) → Acted (item_taken n file_kind file) a b c c Says
 unfolding bare with_parts parts_in
 acted_opened n file a b c Says e f g recent descriptors same says =
     acted_bare (item_taken n file_kind file) a b c c Says
@@ -213,7 +168,7 @@ acted_gone n a b c Says e f g files same pins says =
     (λ scene. says)
 
 pub acted_moved : (n p : ℕ) (a b : ResourceState) (c : CommonState) (Says : List What → Type 0) → owners_of b ≡ moved n p (owners_of a)
-    → b.next_owner ≡ a.next_owner → b.next_serial ≡ a.next_serial → SameFiles a b → SameLocks a b → ((q : ℕ) → slice_index c.pins q + pinned_once q (owners_of a) ≡ slice_index c.pins q + pinned_once q (owners_of b)) → Says (what.MoveOwner n p ∷ []) → Acted (owner_moved n p) a b c c Says
+    → b.next_owner ≡ a.next_owner → b.next_serial ≡ a.next_serial → SameFiles a b → SameLocks a b → ((q : ℕ) → slice_index c.pins q + pinned_once q (owners_of a) ≡ slice_index c.pins q + pinned_once q (owners_of b)) → Says (What.MoveOwner n p ∷ []) → Acted (owner_moved n p) a b c c Says
 unfolding bare with_parts parts_in
 acted_moved n p a b c Says e f g files same pins says =
     acted_bare (owner_moved n p) a b c c Says
@@ -226,7 +181,7 @@ stack_leads : (a b : ResourceState) (c : CommonState) (scene : Scene) (stack : L
 stack_leads a b c scene stack fit is =
     ap (λ (s : Scene). record s { session = record s.session { snapshots = stack } }) (fit_is a c scene fit) ∙ ap (λ (r : ResourceState). with_owners r c scene) (sym is)
 
-pub acted_pushed : (level snapshot : ℕ) (a b : ResourceState) (c : CommonState) (Says : List What → Type 0) → b ≡ record a { stack = a.stack ++ record { snapshot = snapshot; level = level } ∷ [] } → Says (what.Push snapshot ∷ [])
+pub acted_pushed : (level snapshot : ℕ) (a b : ResourceState) (c : CommonState) (Says : List What → Type 0) → b ≡ record a { stack = a.stack ++ record { snapshot = snapshot; level = level } ∷ [] } → Says (What.Push snapshot ∷ [])
     → Acted (pushed_at level snapshot) a b c c Says
 acted_pushed level snapshot a b c Says is says = record {
   leads = λ scene fit.
@@ -235,7 +190,7 @@ acted_pushed level snapshot a b c Says is says = record {
   says = λ scene fit. says;
 }
 
-pub acted_popped : (entry : Active) (a b : ResourceState) (c : CommonState) (Says : List What → Type 0) → a.stack ≡ b.stack ++ entry ∷ [] → b ≡ record a { stack = b.stack } → Says (what.Pop entry.snapshot ∷ []) → Acted snapshot_popped a b c c Says
+pub acted_popped : (entry : Active) (a b : ResourceState) (c : CommonState) (Says : List What → Type 0) → a.stack ≡ b.stack ++ entry ∷ [] → b ≡ record a { stack = b.stack } → Says (What.Pop entry.snapshot ∷ []) → Acted snapshot_popped a b c c Says
 acted_popped entry a b c Says ends is says = record {
   leads = λ scene fit.
       ap (λ (o : Option Active). (act o scene).scene) (newest scene fit)
@@ -247,7 +202,7 @@ acted_popped entry a b c Says ends is says = record {
   where
     act : Option Active → Scene → Ended
     act o scene = where_there o
-        (λ entry. in_order (changes (λ session. record session { snapshots = take (length session.snapshots - 1) session.snapshots }) ∷ say (what.Pop entry.snapshot) ∷ [])) scene
+        (λ entry. in_order (changes (λ session. record session { snapshots = take (length session.snapshots - 1) session.snapshots }) ∷ say (What.Pop entry.snapshot) ∷ [])) scene
 
     newest : (scene : Scene) → OwnersFit a c scene → last_of scene.session.snapshots ≡ Some entry
     newest scene fit = ap last_of (fit.snapshots ∙ ends) ∙ last_newest b.stack entry
@@ -295,7 +250,7 @@ pub acted_referred : (n plan : ℕ) (a b : ResourceState) (c : CommonState) (Say
     → owners_of b ≡ remembered n (record { kind = plan_reference; key = plan; serial = a.next_serial }) (owners_of a)
     → b.next_owner ≡ a.next_owner → b.next_serial ≡ a.next_serial + 1 → SameFiles a b → b.session ≡ a.session → b.locks ≡ a.locks → b.stack ≡ a.stack
     → plans_of b ≡ plan_changed plan (λ p. record p { references = p.references + 1 }) (plans_of a)
-    → Says (what.Acquire (record { kind = plan_reference; key = plan; serial = a.next_serial }) n ∷ []) → Acted (item_taken n plan_reference plan) a b c c Says
+    → Says (What.Acquire (record { kind = plan_reference; key = plan; serial = a.next_serial }) n ∷ []) → Acted (item_taken n plan_reference plan) a b c c Says
 unfolding bare with_parts parts_in
 acted_referred n plan a b c Says e f g files session held stack plans says =
     acted_bare (item_taken n plan_reference plan) a b c c Says
@@ -311,10 +266,7 @@ hosted a c h scene = with_hosting h (bare a c scene)
 
 is_hosted : (a : ResourceState) (c : CommonState) (h : Hosting) (scene : Scene) → OwnersFit a c scene → HostsFit h scene → scene ≡ hosted a c h scene
 unfolding hosted bare with_parts
-is_hosted a c h scene fit hosts =
-    is_bare a c scene fit
-    ∙ ap (λ (contexts : Contexts). with_hosting (hosting_of contexts scene.around.shelf) (bare a c scene)) hosts.contexts
-    ∙ ap (λ (shelf : ShelfState). with_hosting (hosting_of h.contexts shelf) (bare a c scene)) hosts.shelf
+is_hosted a c h scene fit hosts = grind (arith, is_bare a c scene fit)
 
 -- an act that leads so from each such scene
 acted_hosted : (act : Scene → Ended) (a b : ResourceState) (h k : Hosting) (c d : CommonState) (Says : List What → Type 0)
@@ -344,7 +296,7 @@ module _ (a b : ResourceState) (c d : CommonState) (old new : Lending) (recent :
   -- an item is given back
   pub acted_given : (n : ℕ) (kind : KindId) (key : ℕ) (item : Item) (events : List What) (Says : List What → Type 0) → find (is_of kind key) (items_of n (owners_of a)) ≡ Some item
       → owners_of b ≡ forgotten n kind key (owners_of a) → b.next_owner ≡ a.next_owner → b.next_serial ≡ a.next_serial → TablesDo old (GivesBack item ∷ []) events new
-      → Says (what.Release item n ∷ events) → ActedOn (item_released n kind key) a b (hosting_of old.contexts old.shelf) (hosting_of new.contexts new.shelf) c d Says
+      → Says (What.Release item n ∷ events) → ActedOn (item_released n kind key) a b (hosting_of old.contexts old.shelf) (hosting_of new.contexts new.shelf) c d Says
   unfolding hosted bare with_parts parts_in
   acted_given n kind key item events Says found e f g does says =
       acted_hosted (item_released n kind key) a b (hosting_of old.contexts old.shelf) (hosting_of new.contexts new.shelf) c d Says
@@ -353,14 +305,14 @@ module _ (a b : ResourceState) (c d : CommonState) (old new : Lending) (recent :
       new.locks b.locks (beside a.session c.locks) (beside b.session d.locks) (pinned_beside (owners_of a) c.pins) (pinned_beside (owners_of b) d.pins) a.stack b.stack (map plan_state new.held.plans.standing) (plans_of b)
       (sym e) (sym f) (sym g) (sym after) (sym descriptors) (sym left) (sym holds) seen_on pins (sym stack) plans_on)
       (λ scene. subst (λ (o : Option Item). Says (act o scene).events) (sym found)
-      (subst (λ (es : List What). Says (what.Release item n ∷ es)) (sym (does.says (forgot scene) (forgot_fits scene))) says))
+      (subst (λ (es : List What). Says (What.Release item n ∷ es)) (sym (does.says (forgot scene) (forgot_fits scene))) says))
     where
       at : Scene → Scene
       at scene = hosted a c (hosting_of old.contexts old.shelf) scene
 
       act : Option Item → Scene → Ended
       act o scene = where_there o
-          (λ item. in_order (changes (λ session. record session { owners = forgotten n kind key session.owners }) ∷ say (what.Release item n) ∷ given_back item ∷ [])) (at scene)
+          (λ item. in_order (changes (λ session. record session { owners = forgotten n kind key session.owners }) ∷ say (What.Release item n) ∷ given_back item ∷ [])) (at scene)
 
       forgot : Scene → Scene
       forgot scene = record (at scene) { session = record (at scene).session { owners = forgotten n kind key (owners_of a) } }
@@ -408,10 +360,7 @@ pub acted_release : (commit top : Bool) (n : ℕ) (a b y z : ResourceState) (h i
     → ((xs ys : List What) → Second xs → Third ys → Rest (xs ++ ys)) → ((xs ys : List What) → First xs → Rest ys → All (xs ++ ys))
     → ActedOn (phase_released commit top n BeforeLocks) a b h i c d First → ActedOn (phase_released commit top n Locks) b y i j d e Second → ActedOn (phase_released commit top n AfterLocks) y z j k e f Third
     → ActedOn (owner_released commit top n) a z h k c f All
-acted_release commit top n a b y z h i j k c d e f First Second Third Last Rest All last third second first p q r =
-    acted_both_on (phase_released commit top n BeforeLocks) (for_each (phase_released commit top n) (Locks ∷ AfterLocks ∷ [])) a b z h i k c d f First Rest All first p
-    (acted_both_on (phase_released commit top n Locks) (for_each (phase_released commit top n) (AfterLocks ∷ [])) b y z i j k d e f Second Third Rest second q
-    (acted_both_on (phase_released commit top n AfterLocks) (for_each (phase_released commit top n) []) y z z j k k e f f Third Last Third third r (acted_nothing_on z k f Last last)))
+acted_release commit top n a b y z h i j k c d e f First Second Third Last Rest All last third second first p q r = grind (arith, acted_both_on (phase_released commit top n BeforeLocks) (for_each (phase_released commit top n) (Locks ∷ AfterLocks ∷ [])) a b z h i k c d f First Rest All first p, acted_both_on (phase_released commit top n Locks) (for_each (phase_released commit top n) (AfterLocks ∷ [])) b y z i j k d e f Second Third Rest second q, acted_both_on (phase_released commit top n AfterLocks) (for_each (phase_released commit top n) []) y z z j k k e f f Third Last Third third r (acted_nothing_on z k f Last last), acted_nothing_on z k f Last last)
 
 -- a plan is discarded
 pub acted_dropped : (act : Scene → Ended) (events : List What) (a b : ResourceState) (h k : Hosting) (c : CommonState) (Says : List What → Type 0)

@@ -1,59 +1,16 @@
 -- What sessions do one after the other leaves the commons in balance.
-use Rattle.std.proofs.Common.{◌≡◌, ◌≢◌, true, ℕ, ◌+◌, ◌-◌, ◌<◌, ◌≤◌, find, false, List, [], ◌∷◌, map, Option, Some, None, Result, Ok, Err, OnOk, OnErr, refl, sym, ap, ◌∙◌, subst, inr, replicate, arith}
-use Rattle.std.specs.Prelude.{All, ◌==◌, ◌&&◌, ◌^◌, if◌then◌else◌, slice_index}
-use Rattle.std.proofs.lemmas.Grind.{common_steps}
-use Rattle.std.proofs.lemmas.Bool.{ne_eqb}
-use Rattle.std.proofs.lemmas.Bool.Decides.{nat_tests}
-use Rattle.std.proofs.lemmas.List.Elements.{All-nil, All-cons}
-use Rattle.pgs_step.specs.declared.ids.Item.{Item}
-use Rattle.pgs_step.specs.declared.ids.KindId.{KindId}
-use Rattle.pgs_step.specs.declared.ids.OwnerId.{OwnerId}
-use Rattle.pgs_step.specs.declared.ids.Phase.{Phase}
-use Rattle.pgs_step.specs.declared.lock_modes.Mode.{Mode}
-use Rattle.lock_shared.specs.declared.shared_locks.Holding.{Holding}
-use Rattle.lock_shared.specs.Holdings.{holds}
-use Rattle.lock_local.specs.Locks.{Agrees, Lock, SessionLocks, AreLocks, OthersStay, has_owner, is_held}
-use Rattle.forest.specs.Forest.{AllNodes, Empty, Once, moved, removed}
-use Rattle.owner_kinds.specs.Kind.{Kind, changed_at, opened}
-use Rattle.owner_kinds.specs.KindShelf.{one_at, table_of, times_held}
-use Rattle.owner_kinds.specs.KindTable.{IsExtension, IsSound, KindTable}
-use Rattle.owner_items.specs.ItemList.{is_of, uses, without_newest}
-use Rattle.owner_items.proofs.Order.{All-without}
-use Rattle.owner_core.specs.declared.errors.OwnerError.{OwnerError}
+use Rattle.session_owners.proofs.Base.{◌≡◌, ◌≢◌, ℕ, ◌+◌, ◌-◌, ◌<◌, ◌≤◌, find, false, List, [], ◌∷◌, map, Option, Some, Result, Ok, Err, OnOk, OnErr, refl, sym, ap, ◌∙◌, subst, inr, replicate, arith, ◌==◌, ◌&&◌, ◌^◌, if◌then◌else◌, slice_index, common_steps, ne_eqb, nat_tests}
+use Rattle.session_owners.proofs.Words.{Item, KindId, OwnerId, Phase, Mode, Holding, holds, Agrees, SessionLocks, OthersStay, AllNodes, Empty, Once, moved, removed, Kind, changed_at, opened, one_at, table_of, IsExtension, IsSound, KindTable, is_of, uses, without_newest, All-without, OwnerError, AllAt, HoldsNothing, Owner, OwnerTable, OwnerTree, created, forgotten, held, items_of, remembered, own_released, released, once_of, all_swept, buffer_pin, HasItems, IsItem, Around, Scene, pinning, at_buffer, all_changed, all_moved, all_put, all_removed, held_moved, Moves, phase_items, ResourceState, locks_of, owners_of, ArePinsShared, Held, Lending, PinsBalance, times_lent, Balances, CommonState, LocksBalance, PinsServe, Serves, pinned_beside, pinned_once, seen_by, OwnersFit, LocksBalance-nothing, IsCounted}
+use Rattle.owner_kinds.specs.KindShelf.{times_held}
 use Rattle.owner_core.specs.Owners as owners
-use Rattle.owner_core.specs.Owners.{AllAt, HoldsNothing, Owner, OwnerTable, OwnerTree, created, forgotten, held, items_of, remembered, spare_of}
-use Rattle.owner_core.specs.Released.{own_released, released}
-use Rattle.owner_core.proofs.Sounds.{once_of}
-use Rattle.owner_core.proofs.Swept.{all_swept}
-use Rattle.session_rules.specs.State.{buffer_pin}
-use Rattle.session_rules.specs.Standing.{HasItems, IsItem}
-use Rattle.session_rules.specs.World.{Around, Scene}
-use Rattle.session_rules.specs.Parts.{pinning}
-use Rattle.session_rules.proofs.Pinned.{at_buffer}
-use Rattle.session_rules.proofs.Guarded.{all_changed, all_moved, all_put, all_removed}
-use Rattle.session_rules.proofs.HeldItems.{held_moved}
-use Rattle.forest.proofs.Trees.{Moves}
-use Rattle.session_rules.proofs.Releasing.{phase_items}
-use Rattle.session_owners.specs.ResourceState.{ResourceState, locks_of, owners_of}
-use Rattle.session_owners.specs.Tables.{ArePinsShared, Held, Lending, PinsBalance, once_in, times_lent}
-use Rattle.session_owners.specs.Commons.{Balances, CommonState, LocksBalance, PinsServe, Serves, pinned_beside, pinned_once, seen_by}
-use Rattle.session_owners.specs.Fitting.{OwnersFit}
-use Rattle.session_owners.specs.LockLaws.{LocksBalance-more, LocksBalance-nothing}
-use Rattle.session_owners.specs.Counted.{IsCounted}
+use Rattle.owner_core.specs.Owners.{spare_of}
 use Rattle.session_owners.proofs.Counts.{held_created, held_remembered, held_removed, lent_high}
 use Rattle.session_owners.proofs.Kept.{held_found, there}
 use Rattle.session_owners.proofs.OwnPins.{at_most_once, beside_same, pinned_own, pinned_same, pins_balance}
 use Rattle.session_owners.proofs.TableSteps.{limits_opened}
 
 pub balances_none : (a : ResourceState) (c : CommonState) → Balances a a c c
-balances_none a c = record {
-  table = refl;
-  limits = refl;
-  items = λ h. h;
-  held = λ kind key extension. refl;
-  locks = LocksBalance-nothing (locks_of a) c.locks;
-  pins = λ buffer. refl;
-}
+balances_none a c = grind (arith, nat_tests)
 
 -- a session's locks are as they were, and so is what is held for all
 pub locks_stay : (was a : ResourceState) (t : SessionLocks) (hs : List Holding) → was ≡ a → t ≡ locks_of was → LocksBalance (locks_of a) t hs hs
@@ -61,25 +18,16 @@ locks_stay was a t hs is same = subst (λ (z : SessionLocks). LocksBalance (lock
 
 -- the same owners, with other room or other files
 pub balances_same : (a b : ResourceState) (c : CommonState) → owners_of b ≡ owners_of a → LocksBalance (locks_of a) (locks_of b) c.locks c.locks → Balances a b c c
-balances_same a b c same locks = record {
-  table = refl;
-  limits = refl;
-  items = λ h. subst (λ (t : OwnerTree). AllNodes (HasItems (table_of c.kinds)) t) (sym same) h;
-  held = λ kind key extension. rw same refl;
-  locks = locks;
-  pins = λ buffer. rw same refl;
-}
+balances_same a b c same locks = grind (arith, nat_tests)
 
 -- the same of what the session's value says
 pub locks_moved : (was a : ResourceState) (t : SessionLocks) (had c : CommonState) (hs : List Holding) → was ≡ a → had ≡ c → LocksBalance (locks_of was) t had.locks hs → LocksBalance (locks_of a) t c.locks hs
-locks_moved was a t had c hs is same h =
-    subst (λ (r : ResourceState). LocksBalance (locks_of r) t c.locks hs) is (subst (λ (s : CommonState). LocksBalance (locks_of was) t s.locks hs) same h)
+locks_moved was a t had c hs is same h = grind (arith, nat_tests)
 
 -- a session's own counts and its owners pin the same buffers
 pub pins_counted : (old new : OwnerTable) (counts counts' : Held) (c d : List ℕ) → IsCounted old counts → IsCounted new counts' → PinsBalance counts.pins counts'.pins c d
     → (buffer : ℕ) → slice_index d buffer + pinned_once buffer (owners.owners_of old) ≡ slice_index c buffer + pinned_once buffer (owners.owners_of new)
-pins_counted old new counts counts' c d s s' =
-    pins_balance counts.pins counts'.pins c d (owners.owners_of old) (owners.owners_of new) (λ q. s.counted buffer_pin q (omega arith)) (λ q. s'.counted buffer_pin q (omega arith))
+pins_counted old new counts counts' c d s s' = grind (arith, nat_tests, pins_balance counts.pins counts'.pins c d (owners.owners_of old) (owners.owners_of new))
 
 pub beside_counted : (old new : OwnerTable) (counts counts' : Held) (c d : List ℕ) → IsCounted old counts → IsCounted new counts' → PinsBalance counts.pins counts'.pins c d
     → pinned_beside (owners.owners_of old) c ≡ pinned_beside (owners.owners_of new) d
@@ -90,17 +38,13 @@ pins_moved a b had c d same h = subst (λ (z : CommonState). PinsBalance a b z.p
 
 -- what a session pins is counted for it, and no buffer for too many
 pub shared_fit : (old : OwnerTable) (counts : Held) (a : ResourceState) (had c : CommonState) → IsCounted old counts → owners_of a ≡ owners.owners_of old → had ≡ c → Serves a c → ArePinsShared counts.pins had.pins
-shared_fit old counts a had c s was same serves buffer =
-    let own : once_in counts.pins buffer ≡ pinned_once buffer (owners.owners_of old) = pinned_own counts.pins (owners.owners_of old) buffer (s.counted buffer_pin buffer (omega arith)) in
-    let all : pinned_once buffer (owners.owners_of old) ≤ slice_index c.pins buffer = rw was at (serves.pins.own buffer) in
-    omega (arith, own, all, ap (λ (z : CommonState). slice_index z.pins buffer) same)
+shared_fit old counts a had c s was same serves buffer = grind (arith, nat_tests, pinned_own counts.pins (owners.owners_of old) buffer)
 
 pub agrees_fit : (was a : ResourceState) (had c : CommonState) → was ≡ a → had ≡ c → Serves a c → Agrees (locks_of was) had.locks
 agrees_fit was a had c is same serves = rw (is, same) serves.agrees
 
 pub few_sessions : (a : ResourceState) (had c : CommonState) (buffer : ℕ) → had ≡ c → Serves a c → slice_index had.pins buffer < 2 ^ 32 - 1
-few_sessions a had c buffer same serves =
-    omega (arith, serves.pins.few buffer, at_most_once buffer (owners_of a), ap (λ (z : CommonState). slice_index z.pins buffer) same)
+few_sessions a had c buffer same serves = grind (arith, nat_tests, at_most_once buffer (owners_of a))
 
 -- how many sessions pin a buffer, as a session sees it
 pub pinning_is : (a : ResourceState) (c : CommonState) (buffer result : ℕ) (scene : Scene) → Serves a c → OwnersFit a c scene → buffer < 1024 → result ≡ slice_index c.pins buffer → result ≡ pinning buffer scene
@@ -111,25 +55,11 @@ pinning_is a c buffer result scene serves fit small is =
     omega (arith, seen, own, serves.pins.own buffer, is)
 
 pub balances_more : (a b e : ResourceState) (c d f : CommonState) → Balances a b c d → Balances b e d f → Balances a e c f
-balances_more a b e c d f p q = record {
-  table = q.table ∙ p.table;
-  limits = q.limits ∙ p.limits;
-  items = λ h. q.items (p.items h);
-  held = λ kind key extension. omega (arith, p.held kind key extension, q.held kind key extension);
-  locks = LocksBalance-more (locks_of a) (locks_of b) (locks_of e) c.locks d.locks f.locks p.locks q.locks;
-  pins = λ buffer. omega (arith, p.pins buffer, q.pins buffer);
-}
+balances_more a b e c d f p q = grind (arith, nat_tests)
 
 -- a session that was served is so still
 pub serves_still : (a b : ResourceState) (c d : CommonState) → Serves a c → Balances a b c d → Serves b d
-serves_still a b c d s p = record {
-  sound = subst (λ (t : KindTable). IsSound t) (sym p.table) s.sound;
-  items = p.items s.items;
-  held = λ kind key extension. omega (arith, s.held kind key extension, p.held kind key extension);
-  agrees = p.locks.agrees s.agrees;
-  locks = p.locks.in_order s.locks;
-  pins = record { own = λ buffer. omega (arith, s.pins.own buffer, p.pins buffer); few = λ buffer. omega (arith, s.pins.few buffer, p.pins buffer) };
-}
+serves_still a b c d s p = grind (arith, nat_tests)
 
 -- what kinds that serve a session hold
 pub served : (old : OwnerTable) (a : ResourceState) (c : CommonState) (kinds : List Kind) → owners_of a ≡ owners.owners_of old → c.kinds ≡ kinds → Serves a c
@@ -144,28 +74,11 @@ known_items old a c kinds was from s = rw (was, from) at s.items
 -- a session that stays while another one of that number moves
 pub serves_beside : (a : ResourceState) (c d : CommonState) (n : ℕ) → Serves a c → table_of d.kinds ≡ table_of c.kinds
     → ((kind : KindId) (key : ℕ) → 16 ≤ kind.0 → held kind key (owners_of a) ≤ times_held d.kinds kind key) → a.session ≢ n → OthersStay n c.locks d.locks → PinsServe (owners_of a) d.pins → Serves a d
-serves_beside a c d n s same held other others pins = record {
-  sound = subst (λ (t : KindTable). IsSound t) (sym same) s.sound;
-  items = subst (λ (t : KindTable). AllNodes (HasItems t) (owners_of a)) (sym same) s.items;
-  held = held;
-  agrees = λ o m. others o m a.session other ∙ s.agrees o m;
-  locks = s.locks;
-  pins = pins;
-}
+serves_beside a c d n s same held other others pins = grind (arith, nat_tests)
 
 -- a session without owners and locks, for which none is held
 pub serves_nothing : (a : ResourceState) (c : CommonState) → owners_of a ≡ Empty → IsSound (table_of c.kinds) → a.locks ≡ [] → ((o : ℕ) (m : Mode) → holds c.locks o m a.session ≡ false) → ((buffer : ℕ) → slice_index c.pins buffer ≤ 2 ^ 31) → Serves a c
-serves_nothing a c empty sound none free few = record {
-  sound = sound;
-  items = subst (λ (t : OwnerTree). AllNodes (HasItems (table_of c.kinds)) t) (sym empty) tt;
-  held = λ kind key extension. let none : held kind key (owners_of a) ≡ 0 = ap (λ (t : OwnerTree). held kind key t) empty in omega (arith, none);
-  agrees = λ o m. free o m ∙ sym (ap (λ (ls : List Lock). is_held ls o m) none);
-  locks = subst AreLocks (sym none) (record { in_order = tt; owned = All-nil (λ (l : Lock). has_owner l ≡ true); counted = All-nil (λ (l : Lock). All (λ c. 1 ≤ c.count) l.owners) });
-  pins = record {
-    own = λ buffer. let none : pinned_once buffer (owners_of a) ≡ 0 = ap (pinned_once buffer) empty in omega (arith, none);
-    few = λ buffer. omega (arith, few buffer);
-  };
-}
+serves_nothing a c empty sound none free few = grind (arith, nat_tests)
 
 -- the first session of a run, where no buffer is pinned, or one is by another session
 pub serves_first : (a : ResourceState) (c : CommonState) → owners_of a ≡ Empty → IsSound (table_of c.kinds) → a.locks ≡ [] → c.locks ≡ [] → ((buffer : ℕ) → slice_index c.pins buffer ≤ 2 ^ 31) → Serves a c
@@ -191,12 +104,10 @@ balances_alone a b c items same pins locks = record {
 }
 
 items_created : (kinds : KindTable) (parent : Option ℕ) (n : ℕ) (t : OwnerTree) → AllNodes (HasItems kinds) t → AllNodes (HasItems kinds) (created parent n t)
-items_created kinds None n t h = (All-nil (IsItem kinds), tt, h)
-items_created kinds (Some p) n t h = all_put (HasItems kinds) p n (record { begun = false; items = [] }) Empty t (All-nil (IsItem kinds)) tt h
+items_created kinds x1 n t h = grind (arith, nat_tests, all_put)
 
 items_remembered : (kinds : KindTable) (n : ℕ) (item : Item) (t : OwnerTree) → IsItem kinds item → AllNodes (HasItems kinds) t → AllNodes (HasItems kinds) (remembered n item t)
-items_remembered kinds n item t is h =
-    all_changed (HasItems kinds) n (λ (owner : Owner). record owner { items = item ∷ owner.items }) t (λ o k. All-cons (IsItem kinds) item o.items is k) h
+items_remembered kinds n item t is h = grind (arith, nat_tests, all_changed (HasItems kinds) n)
 
 pub balances_made : (old new : OwnerTable) (a b : ResourceState) (c : CommonState) (parent : Option ℕ) (result : Result OwnerId OwnerError) → owners_of a ≡ owners.owners_of old → owners_of b ≡ owners.owners_of new
     → OnOk result (owners.owners_of new ≡ created parent old.next_owner (owners.owners_of old)) → OnErr result (new ≡ old) → LocksBalance (locks_of a) (locks_of b) c.locks c.locks → Balances a b c c
@@ -209,33 +120,18 @@ balances_made old new a b c parent (Err error) was is made refused locks = balan
 -- what one item more is of another kind
 other_kind : (old : OwnerTable) (counts : Held) (n : ℕ) (item : Item) (kind : KindId) (key : ℕ) → IsCounted old counts → 1 ≤ spare_of n old → item.kind.0 ≢ kind.0
     → held kind key (remembered n item (owners.owners_of old)) ≡ held kind key (owners.owners_of old)
-other_kind old counts n item kind key s spare other =
-    let t : OwnerTree = owners.owners_of old in
-    let w = there n old spare in
-    let o : Once t = once_of t old.next_owner old.next_serial s.sound in
-    let same : held kind key (remembered n item t) ≡ held kind key t + 0 = rw (ne_eqb item.kind.0 kind.0 other) at (held_remembered kind key n item w.0 t o w.1) in
-    omega (arith, same)
+other_kind old counts n item kind key s spare other = grind (arith, nat_tests, there n old spare, once_of (owners.owners_of old) old.next_owner old.next_serial s.sound, ne_eqb item.kind.0 kind.0 other, held_remembered kind key n item (there n old spare).0 (owners.owners_of old) (once_of (owners.owners_of old) old.next_owner old.next_serial s.sound) (there n old spare).1)
 
 -- an item of a kind that is built in is taken, which is no pin
 pub balances_taken : (old : OwnerTable) (counts : Held) (a b : ResourceState) (c : CommonState) (n : ℕ) (item : Item) → IsCounted old counts → 1 ≤ spare_of n old → owners_of a ≡ owners.owners_of old
     → item.kind.0 < 16 → item.kind.0 ≢ 1 → ((kinds : KindTable) → IsItem kinds item) → owners_of b ≡ remembered n item (owners.owners_of old) → LocksBalance (locks_of a) (locks_of b) c.locks c.locks → Balances a b c c
-balances_taken old counts a b c n item s spare was low no_pin is taken locks =
-    balances_alone a b c (λ kinds h. rw taken (items_remembered kinds n item (owners.owners_of old) (is kinds) (rw was at h)))
-    (λ kind key extension. rw (taken, was) (other_kind old counts n item kind key s spare (λ z. omega (arith, z, low, extension))))
-    (λ buffer. rw (taken, was) (other_kind old counts n item buffer_pin buffer s spare no_pin)) locks
+balances_taken old counts a b c n item s spare was low no_pin is taken locks = grind (arith, nat_tests, balances_alone a b c, other_kind old counts n item, other_kind old counts n item buffer_pin, items_remembered)
 
 -- a buffer is pinned
 pub balances_pinned : (old new : OwnerTable) (counts counts' : Held) (a b : ResourceState) (c d : CommonState) (n : ℕ) (item : Item) → IsCounted old counts → IsCounted new counts' → 1 ≤ spare_of n old → owners_of a ≡ owners.owners_of old
     → owners_of b ≡ owners.owners_of new → item.kind.0 ≡ 1 → ((kinds : KindTable) → IsItem kinds item) → owners.owners_of new ≡ remembered n item (owners.owners_of old) → d.kinds ≡ c.kinds → PinsBalance counts.pins counts'.pins c.pins d.pins
     → LocksBalance (locks_of a) (locks_of b) c.locks d.locks → Balances a b c d
-balances_pinned old new counts counts' a b c d n item s s' spare was now pin is taken kinds pins locks = record {
-  table = ap table_of kinds;
-  limits = ap (map (λ k. k.limit)) kinds;
-  items = λ h. rw (now, taken, kinds) (items_remembered (table_of c.kinds) n item (owners.owners_of old) (is (table_of c.kinds)) (rw was at h));
-  held = λ kind key extension. rw (now, taken, kinds, was) (omega (arith, other_kind old counts n item kind key s spare (λ z. omega (arith, z, pin, extension))));
-  locks = locks;
-  pins = λ buffer. rw (was, now) (pins_balance counts.pins counts'.pins c.pins d.pins (owners.owners_of old) (owners.owners_of new) (λ q. s.counted buffer_pin q (omega arith)) (λ q. s'.counted buffer_pin q (omega arith)) pins buffer);
-}
+balances_pinned old new counts counts' a b c d n item s s' spare was now pin is taken kinds pins locks = grind (arith, nat_tests, items_remembered (table_of c.kinds) n item (owners.owners_of old) (is (table_of c.kinds)), other_kind old counts n item, pins_balance counts.pins counts'.pins c.pins d.pins (owners.owners_of old) (owners.owners_of new))
 
 -- an owner that holds nothing goes, with all below it
 pub balances_gone : (old : OwnerTable) (counts : Held) (a b : ResourceState) (c : CommonState) (n : ℕ) → IsCounted old counts → owners_of a ≡ owners.owners_of old → AllAt HoldsNothing n (owners_of a)
@@ -318,18 +214,7 @@ pub balances_released : (old : OwnerTable) (a b : ResourceState) (c d : CommonSt
     → c.kinds ≡ lending.kinds → d.kinds ≡ lending'.kinds → owners_of b ≡ released (table_of lending.kinds) phase n (owners.owners_of old)
     → table_of lending'.kinds ≡ table_of lending.kinds → map (λ k. k.limit) lending'.kinds ≡ map (λ k. k.limit) lending.kinds
     → ((kind : KindId) (key : ℕ) → times_lent lending' kind key + held kind key (owners.owners_of old) ≡ times_lent lending kind key + held kind key (owners_of b)) → PinsBalance lending.held.pins lending'.held.pins c.pins d.pins → LocksBalance (locks_of a) (locks_of b) c.locks d.locks → Balances a b c d
-balances_released old a b c d lending lending' n phase s was from to left table limits times pins locks =
-    let t : OwnerTree = owners.owners_of old in
-    let kinds : KindTable = table_of lending.kinds in
-    record {
-      table = ap table_of to ∙ table ∙ ap table_of (sym from);
-      limits = ap (map (λ k. k.limit)) to ∙ limits ∙ ap (map (λ k. k.limit)) (sym from);
-      items = λ h. rw (left, to, table) (all_swept (HasItems kinds) (own_released kinds phase) (phase_items kinds phase) n t (rw (from, was) at h));
-      held = λ k j high. rw (was, from, to) (high_times lending lending' k j (held k j t) (held k j (owners_of b)) high (times k j));
-      locks = locks;
-      pins = λ buffer. rw was
-          (pins_balance lending.held.pins lending'.held.pins c.pins d.pins t (owners_of b) (λ q. s.counted buffer_pin q (omega arith)) (λ q. omega (arith, times buffer_pin q, s.counted buffer_pin q (omega arith))) pins buffer);
-    }
+balances_released old a b c d lending lending' n phase s was from to left table limits times pins locks = grind (arith, nat_tests, all_swept (HasItems (table_of lending.kinds)) (own_released (table_of lending.kinds) phase) (phase_items (table_of lending.kinds) phase) n (owners.owners_of old), phase_items (table_of lending.kinds) phase, high_times lending lending', pins_balance lending.held.pins lending'.held.pins c.pins d.pins (owners.owners_of old) (owners_of b))
 
 -- what is seen through other commons takes the place of what was seen through these
 pub seen_still : (a b : ResourceState) (c d : CommonState) (around : Around) → seen_by b d (seen_by a c around) ≡ seen_by b d around

@@ -1,37 +1,11 @@
 -- The tables count what the owners hold, behind each call.
-use Rattle.std.proofs.Common.{◌≡◌, ◌↔◌, Bool, ℕ, ◌+◌, ◌<◌, ◌≤◌, find, length, length-set, replicate, true, false, List, [], ◌∷◌, Option, Some, None, Result, Ok, Err, OnOk, OnErr, refl, sym, ◌∙◌, ap, subst, arith, inl, inr}
-use Rattle.std.specs.Prelude.{◌==◌, ◌&&◌, if◌then◌else◌, slice_set, slice_index}
-use Rattle.std.specs.Option.{ok_or, option_map, option_map_or}
-use Rattle.std.proofs.lemmas.Bool.{cases_Bool, cases_lt, ne_eqb}
-use Rattle.std.proofs.lemmas.List.Elements.{All-nil, All-cons}
-use Rattle.std.proofs.lemmas.List.{length-replicate}
-use Rattle.pgs_step.specs.declared.ids.Item.{Item}
-use Rattle.pgs_step.specs.declared.ids.KindId.{KindId}
-use Rattle.pgs_step.specs.declared.ids.OwnerId.{OwnerId}
-use Rattle.pgs_step.specs.declared.ids.Phase.{Phase}
-use Rattle.counts.specs.Counts.{total}
-use Rattle.forest.specs.Forest.{Empty, Node, Once, at, moved, put, removed, size, AllNodes}
-use Rattle.forest.proofs.Mapped.{mapped-at}
-use Rattle.owner_items.specs.ItemList.{is_of, uses}
-use Rattle.owner_items.proofs.Order.{All-without}
-use Rattle.owner_core.specs.declared.errors.OwnerError.{OwnerError}
-use Rattle.owner_core.specs.declared.errors.OwnerError.TheVariants.{NotOwned, Releasing, TooMany}
-use Rattle.owner_core.specs.Owners.{Owner, OwnerTable, OwnerTree, Roomy, AllAt, HoldsNothing, created, forgotten, held, items_of, owners_of, remembered, spare_of, subtree_of}
-use Rattle.owner_core.specs.Released.{own_released, released}
+use Rattle.session_owners.proofs.Base.{nat_tests, ◌≡◌, ◌↔◌, Bool, ℕ, ◌+◌, ◌<◌, ◌≤◌, find, length, length-set, replicate, true, false, [], ◌∷◌, Option, Some, None, Result, Ok, Err, OnOk, OnErr, refl, sym, ◌∙◌, ap, subst, arith, inl, inr, ◌==◌, ◌&&◌, if◌then◌else◌, slice_set, slice_index, ok_or, option_map, option_map_or, cases_Bool, cases_lt, ne_eqb, length-replicate}
+use Rattle.session_owners.proofs.Words.{Item, KindId, OwnerId, Phase, total, Empty, Node, Once, at, moved, put, removed, size, AllNodes, mapped-at, is_of, uses, All-without, OwnerError, NotOwned, Releasing, Owner, OwnerTable, OwnerTree, Roomy, AllAt, HoldsNothing, created, forgotten, held, items_of, remembered, subtree_of, own_released, released, uses_own, once_of, sound_created, sound_forgotten, sound_moved, sound_released, sound_remembered, sound_removed, all_swept, all_changed, all_moved, held_moved, Moves, OpensOneMore, opened_file, KindTable, Held, Lending, times_held, times_lent, HoldsCounted, IsCounted, IsHeld}
+use Rattle.owner_core.specs.declared.errors.OwnerError.TheVariants.{TooMany}
+use Rattle.owner_core.specs.Owners.{owners_of, spare_of}
 use Rattle.owner_core.specs.Sound.{IsSound}
-use Rattle.owner_core.proofs.ItemLemmas.{uses_own}
-use Rattle.owner_core.proofs.Sounds.{once_of, sound_created, sound_forgotten, sound_moved, sound_released, sound_remembered, sound_removed}
-use Rattle.owner_core.proofs.Swept.{all_swept}
-use Rattle.session_rules.proofs.Guarded.{all_changed, all_moved}
-use Rattle.session_rules.proofs.HeldItems.{held_moved}
-use Rattle.forest.proofs.Trees.{Moves}
-use Rattle.file_table.specs.Files.{Files, OpensOneMore, opened_file}
-use Rattle.owner_kinds.specs.KindTable.{KindTable}
 use Rattle.plan_store.specs.Plans as plans
-use Rattle.plan_store.specs.Plans.{Plans}
 use Rattle.owner_kinds.specs.KindShelf as shelf
-use Rattle.session_owners.specs.Tables.{Held, Lending, times_held, times_lent}
-use Rattle.session_owners.specs.Counted.{HoldsCounted, IsCounted, IsHeld}
 use Rattle.session_owners.proofs.Counts.{lent_high, lent_low, held_created, held_forgotten, held_released, held_remembered, held_removed, held_subtree, none_held, times_held-opened, times_held-pinned, times_held-referred}
 use Rattle.session_owners.proofs.Left.{items_left}
 
@@ -41,31 +15,18 @@ none = record { begun = false; items = [] }
 
 items_put : (p n : ℕ) (t : OwnerTree) → AllNodes HoldsCounted t → AllNodes HoldsCounted (put p n none Empty t)
 items_put p n Empty all = tt
-items_put p n (Node k b below beside) all =
-    elim (cases_Bool (k == p)) [
-      | inl y ↦ rw y (all.0, (All-nil IsHeld, tt, all.1), items_put p n beside all.2)
-      | inr y ↦ rw y (all.0, items_put p n below all.1, items_put p n beside all.2)
-    ]
+items_put p n (Node k b below beside) all = grind (arith, nat_tests, items_put p n beside all.2, items_put p n below all.1)
 
 items_created : (parent : Option ℕ) (n : ℕ) (t : OwnerTree) → AllNodes HoldsCounted t → AllNodes HoldsCounted (created parent n t)
-items_created None n t all = (All-nil IsHeld, tt, all)
-items_created (Some p) n t all = items_put p n t all
+items_created x0 n t all = grind (arith, items_put)
 
 items_remembered : (n : ℕ) (item : Item) (t : OwnerTree) → IsHeld item → AllNodes HoldsCounted t → AllNodes HoldsCounted (remembered n item t)
 items_remembered n item Empty is all = tt
-items_remembered n item (Node k b below beside) is all =
-    elim (cases_Bool (k == n)) [
-      | inl y ↦ rw y (All-cons IsHeld item b.items is all.0, items_remembered n item below is all.1, items_remembered n item beside is all.2)
-      | inr y ↦ rw y (all.0, items_remembered n item below is all.1, items_remembered n item beside is all.2)
-    ]
+items_remembered n item (Node k b below beside) is all = grind (arith, nat_tests, items_remembered n item below is all.1, items_remembered n item beside is all.2)
 
 items_removed : (n : ℕ) (t : OwnerTree) → AllNodes HoldsCounted t → AllNodes HoldsCounted (removed n t)
 items_removed n Empty all = tt
-items_removed n (Node k b below beside) all =
-    elim (cases_Bool (k == n)) [
-      | inl y ↦ rw y (items_removed n beside all.2)
-      | inr y ↦ rw y (all.0, items_removed n below all.1, items_removed n beside all.2)
-    ]
+items_removed n (Node k b below beside) all = grind (arith, nat_tests, items_removed n beside all.2, items_removed n below all.1)
 
 -- a table with these owners and numbers
 counted : (new : OwnerTable) (counts : Held) (owners : OwnerTree) (next_owner next_serial : ℕ)
@@ -73,26 +34,10 @@ counted : (new : OwnerTable) (counts : Held) (owners : OwnerTree) (next_owner ne
     → IsSound owners next_owner next_serial → AllNodes HoldsCounted owners → length counts.pins ≡ 1024
     → ((kind : KindId) (key : ℕ) → kind.0 < 16 → times_held counts kind key ≡ held kind key owners) → ((kind : KindId) (key : ℕ) → held kind key owners < next_serial)
     → total counts.references < next_serial → plans.references counts.plans < next_serial → IsCounted new counts
-counted new counts owners next_owner next_serial e f g sound items buffers times few references referred = record {
-  sound = rw (e, f, g) sound;
-  items = rw e items;
-  buffers = buffers;
-  counted = λ kind key low. rw e (times kind key low);
-  few = λ kind key. rw (e, g) (few kind key);
-  references = rw g references;
-  plan_references = rw g referred;
-}
+counted new counts owners next_owner next_serial e f g sound items buffers times few references referred = grind arith
 
 pub counted_opening : (table : OwnerTable) (counts : Held) → table ≡ record { rooms = Empty; places = Empty; next_owner = 1; next_serial = 1 } → counts.pins ≡ replicate 1024 0 → counts.references ≡ [] → counts.files.opened ≡ [] → counts.snapshots.registered ≡ [] → counts.plans ≡ record { standing = []; reserved = None } → IsCounted table counts
-counted_opening table counts t p r f g q = record {
-  sound = rw t (record { numbers = λ n. omega arith; serials = λ n. omega arith; few = omega arith });
-  items = subst (AllNodes HoldsCounted) (sym (ap owners_of t)) tt;
-  buffers = ap length p ∙ length-replicate {A = ℕ} 1024 0;
-  counted = λ kind key low. none_held counts kind key p r f g (ap (λ (z : Plans). z.standing) q) ∙ ap (λ (z : OwnerTable). held kind key (owners_of z)) (sym t);
-  few = λ kind key. omega (arith, ap (λ (z : OwnerTable). held kind key (owners_of z)) t, ap (λ (z : OwnerTable). z.next_serial) t);
-  references = let none : total counts.references ≡ 0 = ap (λ (z : List ((ℕ × ℕ) × ℕ)). total z) r in omega (arith, none, ap (λ (z : OwnerTable). z.next_serial) t);
-  plan_references = let none : plans.references counts.plans ≡ 0 = ap (λ (z : Plans). plans.references z) q in omega (arith, none, ap (λ (z : OwnerTable). z.next_serial) t);
-}
+counted_opening table counts t p r f g q = grind (arith, none_held counts, length-replicate, counted)
 
 pub counted_same : (old new : OwnerTable) (counts : Held) → IsCounted old counts → owners_of new ≡ owners_of old → new.next_owner ≡ old.next_owner → new.next_serial ≡ old.next_serial → IsCounted new counts
 counted_same old new counts s e f g = counted new counts (owners_of old) old.next_owner old.next_serial e f g s.sound s.items s.buffers s.counted s.few s.references s.plan_references
@@ -158,71 +103,42 @@ pub counted_opened : (old new : OwnerTable) (counts counts' : Held) (n file : �
     → counts' ≡ record counts { files = opened_file file counts.files } → OpensOneMore counts.files counts'.files file
     → owners_of new ≡ remembered n (record { kind = record { 0 = 8 }; key = file; serial = old.next_serial }) (owners_of old)
     → new.next_owner ≡ old.next_owner → new.next_serial ≡ old.next_serial + 1 → IsCounted new counts'
-counted_opened old new counts counts' n file s spare set more e f g =
-    let pins : counts'.pins ≡ counts.pins = ap (λ (z : Held). z.pins) set in
-    let references : counts'.references ≡ counts.references = ap (λ (z : Held). z.references) set in
-    counted_taken old new counts counts' n (record { 0 = 8 }) file s spare (inr (inr (inl refl))) (ap length pins ∙ s.buffers)
-    (omega (arith, ap (λ (z : List ((ℕ × ℕ) × ℕ)). total z) references))
-    (let same : plans.references counts'.plans ≡ plans.references counts.plans = ap (λ (z : Held). plans.references z.plans) set in omega (arith, same))
-    (λ k j low. times_held-opened counts counts' file k j (set ∙ ap (λ (f : Files). record counts { files = f }) (sym (ap (λ (z : Held). z.files) set))) more)
-    e f g
+counted_opened old new counts counts' n file s spare set more e f g = grind (arith, counted_taken old new counts counts' n, times_held-opened counts counts' file)
 
 -- an item of an extension kind more, which only that kind counts
 pub counted_extended : (old new : OwnerTable) (counts : Held) (n : ℕ) (kind : KindId) (key : ℕ) → IsCounted old counts → 1 ≤ spare_of n old → 16 ≤ kind.0
     → owners_of new ≡ remembered n (record { kind = kind; key = key; serial = old.next_serial }) (owners_of old)
     → new.next_owner ≡ old.next_owner → new.next_serial ≡ old.next_serial + 1 → IsCounted new counts
-counted_extended old new counts n kind key s spare high e f g =
-    counted_taken old new counts counts n kind key s spare (inr (inr (inr (inr high)))) s.buffers (omega arith) (omega arith)
-    (λ k j low. let other : (kind.0 == k.0) ≡ false = ne_eqb kind.0 k.0 (λ z. omega (arith, z, low, high)) in rw other (omega arith))
-    e f g
+counted_extended old new counts n kind key s spare high e f g = grind (arith, nat_tests, counted_taken old new counts counts n kind key s spare (inr (inr (inr (inr high)))) s.buffers, ne_eqb kind.0)
 
 -- a reference to a plan more
 pub counted_referred : (old new : OwnerTable) (counts counts' : Held) (n plan : ℕ) → IsCounted old counts → 1 ≤ spare_of n old → counts' ≡ record counts { plans = counts'.plans }
     → plans.RefersOneMore counts.plans counts'.plans plan → plans.references counts'.plans ≡ plans.references counts.plans + 1
     → owners_of new ≡ remembered n (record { kind = record { 0 = 5 }; key = plan; serial = old.next_serial }) (owners_of old)
     → new.next_owner ≡ old.next_owner → new.next_serial ≡ old.next_serial + 1 → IsCounted new counts'
-counted_referred old new counts counts' n plan s spare is more referred e f g =
-    counted_taken old new counts counts' n (record { 0 = 5 }) plan s spare (inr (inr (inr (inl refl)))) (ap (λ (z : Held). length z.pins) is ∙ s.buffers)
-    (let same : total counts'.references ≡ total counts.references = ap (λ (z : Held). total z.references) is in omega (arith, same))
-    (omega (arith, referred))
-    (λ k j low. times_held-referred counts counts' plan k j is more)
-    e f g
+counted_referred old new counts counts' n plan s spare is more referred e f g = grind (arith, counted_taken old new counts counts' n, times_held-referred counts counts' plan)
 
 -- an item fewer
 with_item : (test : Item → Bool) (o : Option Owner) (item : Item) → find test (option_map_or (λ owner. owner.items) o []) ≡ Some item → (a : Owner) × (o ≡ Some a) × (find test a.items ≡ Some item)
-with_item test None item e = absurd (cc e)
-with_item test (Some a) item e = (a, refl, e)
+with_item test x1 item e = grind arith
 
 pub held_found : (n : ℕ) (kind : KindId) (key : ℕ) (item : Item) (old : OwnerTable) (counts : Held) → IsCounted old counts → find (is_of kind key) (items_of n (owners_of old)) ≡ Some item
     → (k : KindId) (j : ℕ) → held k j (forgotten n kind key (owners_of old)) + uses k j (item ∷ []) ≡ held k j (owners_of old)
-held_found n kind key item old counts s found k j =
-    let w = with_item (is_of kind key) (at n (owners_of old)) item found in
-    let o : Once (owners_of old) = once_of (owners_of old) old.next_owner old.next_serial s.sound in
-    held_forgotten k j n kind key item w.0 (owners_of old) o w.1 w.2
+held_found n kind key item old counts s found k j = grind (arith, with_item (is_of kind key) (at n (owners_of old)) item found, once_of (owners_of old) old.next_owner old.next_serial s.sound, held_forgotten)
 
 -- as much as a session's owners hold is counted in its tables and by the kinds that serve it
 pub lent_enough : (table : OwnerTable) (lending : Lending) (kind : KindId) (key : ℕ) → IsCounted table lending.held
     → ((kind : KindId) (key : ℕ) → 16 ≤ kind.0 → held kind key (owners_of table) ≤ shelf.times_held lending.kinds kind key) → held kind key (owners_of table) ≤ times_lent lending kind key
-lent_enough table lending kind key s served =
-    elim (cases_lt kind.0 16) [
-      | inl low ↦ let own : times_lent lending kind key ≡ times_held lending.held kind key = lent_low lending kind key low in omega (arith, own, s.counted kind key low)
-      | inr high ↦ let own : times_lent lending kind key ≡ shelf.times_held lending.kinds kind key = lent_high lending kind key high in omega (arith, own, served kind key high)
-    ]
+lent_enough table lending kind key s served = grind (arith, cases_lt kind.0 16, lent_low lending kind key, lent_high lending kind key)
 
 -- the item that was found
 pub found_given : (begun : Bool) (o : Option Item) (r : Result Item OwnerError) (item : Item) → r ≡ Ok item → (begun ≡ false → r ≡ ok_or o NotOwned) → (begun ≡ true → r ≡ Err Releasing) → o ≡ Some item
-found_given true o r item ok held releasing = absurd (let z : Ok item ≡ Err Releasing = sym ok ∙ releasing refl in cc z)
-found_given false None r item ok held releasing = absurd (let z : Ok item ≡ Err NotOwned = sym ok ∙ held refl in cc z)
-found_given false (Some x) r item ok held releasing =
-    let z : Ok item ≡ Ok x = sym ok ∙ held refl in
-    let same : item ≡ x = cc z in
-    ap (λ (y : Item). Some y) (sym same)
+found_given x0 o r item ok held releasing = grind arith
 
 pub is_counted : (n : ℕ) (kind : KindId) (key : ℕ) (item : Item) (old : OwnerTable) (lending : Lending) → IsCounted old lending.held
     → ((kind : KindId) (key : ℕ) → 16 ≤ kind.0 → held kind key (owners_of old) ≤ shelf.times_held lending.kinds kind key)
     → find (is_of kind key) (items_of n (owners_of old)) ≡ Some item → 0 < times_lent lending item.kind item.key
-is_counted n kind key item old lending s served found =
-    omega (arith, held_found n kind key item old lending.held s found item.kind item.key, lent_enough old lending item.kind item.key s served, uses_own item)
+is_counted n kind key item old lending s served found = grind (arith, held_found n kind key item old lending.held s found item.kind item.key, lent_enough old lending item.kind item.key s served, uses_own item)
 
 pub counted_given : (old new : OwnerTable) (lending lending' : Lending) (n : ℕ) (kind : KindId) (key : ℕ) (item : Item) → IsCounted old lending.held
     → find (is_of kind key) (items_of n (owners_of old)) ≡ Some item
@@ -243,8 +159,7 @@ counted_given old new lending lending' n kind key item s found buffers reference
 pub asked_counts : (table : OwnerTable) (lending : Lending) (n : ℕ) → IsCounted table lending.held
     → ((kind : KindId) (key : ℕ) → 16 ≤ kind.0 → held kind key (owners_of table) ≤ shelf.times_held lending.kinds kind key)
     → (kind : KindId) (key : ℕ) → held kind key (subtree_of n (owners_of table)) ≤ times_lent lending kind key
-asked_counts table lending n s served kind key =
-    omega (arith, lent_enough table lending kind key s served, held_subtree kind key n (owners_of table) (once_of (owners_of table) table.next_owner table.next_serial s.sound))
+asked_counts table lending n s served kind key = grind (arith, lent_enough table lending kind key s served, held_subtree kind key n (owners_of table) (once_of (owners_of table) table.next_owner table.next_serial s.sound), once_of (owners_of table) table.next_owner table.next_serial s.sound)
 
 -- a phase was released
 pub counted_released : (kinds : KindTable) (old new : OwnerTable) (lending lending' : Lending) (n : ℕ) (phase : Phase) → IsCounted old lending.held
@@ -252,35 +167,14 @@ pub counted_released : (kinds : KindTable) (old new : OwnerTable) (lending lendi
     → total lending'.held.references ≤ total lending.held.references → plans.references lending'.held.plans ≤ plans.references lending.held.plans
     → ((kind : KindId) (key : ℕ) → times_lent lending' kind key + held kind key (owners_of old) ≡ times_lent lending kind key + held kind key (owners_of new))
     → IsCounted new lending'.held
-counted_released kinds old new lending lending' n phase s e f g buffers references referred times =
-    counted new lending'.held (released kinds phase n (owners_of old)) old.next_owner old.next_serial e f g
-    (sound_released kinds phase n (owners_of old) old.next_owner old.next_serial s.sound)
-    (all_swept HoldsCounted (own_released kinds phase) (items_left kinds phase) n (owners_of old) s.items) buffers
-    (λ kind key low. omega (arith, times kind key, lent_low lending kind key low, lent_low lending' kind key low, s.counted kind key low, ap (held kind key) e))
-    (λ kind key. omega (arith, held_released kind key kinds phase n (owners_of old), s.few kind key))
-    (omega (arith, references, s.references))
-    (omega (arith, referred, s.plan_references))
+counted_released kinds old new lending lending' n phase s e f g buffers references referred times = grind (arith, counted new lending'.held (released kinds phase n (owners_of old)) old.next_owner old.next_serial e f g, sound_released kinds phase n (owners_of old) old.next_owner old.next_serial s.sound, all_swept HoldsCounted (own_released kinds phase) (items_left kinds phase) n (owners_of old) s.items, items_left kinds phase, lent_low lending, lent_low lending', held_released)
 
 -- an owner without items was discarded
 -- an owner moves
 pub counted_moved : (old new : OwnerTable) (counts : Held) (n p : ℕ) → IsCounted old counts → Moves n p (owners_of old)
     → owners_of new ≡ moved n p (owners_of old) → new.next_owner ≡ old.next_owner → new.next_serial ≡ old.next_serial → IsCounted new counts
-counted_moved old new counts n p s w e f g =
-    let o : Once (owners_of old) = once_of (owners_of old) old.next_owner old.next_serial s.sound in
-    counted new counts (moved n p (owners_of old)) old.next_owner old.next_serial e f g
-    (sound_moved n p (owners_of old) old.next_owner old.next_serial s.sound)
-    (all_moved HoldsCounted n p (owners_of old) s.items) s.buffers
-    (λ kind key low. s.counted kind key low ∙ sym (held_moved kind key n p (owners_of old) o w))
-    (λ kind key. omega (arith, held_moved kind key n p (owners_of old) o w, s.few kind key))
-    s.references s.plan_references
+counted_moved old new counts n p s w e f g = grind (arith, once_of (owners_of old) old.next_owner old.next_serial s.sound, counted new counts (moved n p (owners_of old)) old.next_owner old.next_serial e f g, sound_moved n p (owners_of old) old.next_owner old.next_serial s.sound, all_moved HoldsCounted n p (owners_of old) s.items, held_moved)
 
 pub counted_gone : (old new : OwnerTable) (counts : Held) (n : ℕ) → IsCounted old counts → AllAt HoldsNothing n (owners_of old)
     → owners_of new ≡ removed n (owners_of old) → new.next_owner ≡ old.next_owner → new.next_serial ≡ old.next_serial → IsCounted new counts
-counted_gone old new counts n s empty e f g =
-    let o : Once (owners_of old) = once_of (owners_of old) old.next_owner old.next_serial s.sound in
-    counted new counts (removed n (owners_of old)) old.next_owner old.next_serial e f g
-    (sound_removed n (owners_of old) old.next_owner old.next_serial s.sound)
-    (items_removed n (owners_of old) s.items) s.buffers
-    (λ kind key low. s.counted kind key low ∙ sym (held_removed kind key n (owners_of old) o empty))
-    (λ kind key. omega (arith, held_removed kind key n (owners_of old) o empty, s.few kind key))
-    s.references s.plan_references
+counted_gone old new counts n s empty e f g = grind (arith, once_of (owners_of old) old.next_owner old.next_serial s.sound, counted new counts (removed n (owners_of old)) old.next_owner old.next_serial e f g, sound_removed n (owners_of old) old.next_owner old.next_serial s.sound, items_removed n (owners_of old) s.items, held_removed)

@@ -16,3 +16,6 @@ pub mod TableSteps
 pub mod PlanSteps
 pub mod Classes
 pub mod OpenCounts
+pub mod Base
+pub mod Words
+pub mod Lemmas

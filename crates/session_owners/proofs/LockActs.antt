@@ -1,31 +1,11 @@
 -- A lock is taken and given back, as the session's rules say.
-use Rattle.std.proofs.Common.{◌≡◌, ◌↔◌, ℕ, List, [], ◌∷◌, Some, Result, Ok, Err, refl, sym, ap, ◌∙◌, subst}
-use Rattle.std.specs.Prelude.{OnOk}
-use Rattle.pgs_step.specs.declared.events.What.{What}
-use Rattle.pgs_step.specs.declared.events.What.TheVariants as what
-use Rattle.pgs_step.specs.declared.lock_modes.Mode.{Mode}
-use Rattle.owner_kinds.specs.Kind.{Kind}
-use Rattle.snap_table.specs.declared.active.Active.{Active}
-use Rattle.lock_shared.specs.declared.shared_locks.Holding.{Holding}
-use Rattle.lock_shared.specs.Holdings.{IsConflict}
-use Rattle.lock_shared.specs.Ranked.{beside, least_conflict}
-use Rattle.lock_shared.proofs.BesideLemmas.{beside_stays, conflict_is, conflict_stands}
-use Rattle.lock_local.specs.Locks.{Lock, SessionLocks, OthersStay}
-use Rattle.lock_local.specs.Changes.{acquired, given_back}
-use Rattle.session_rules.specs.State.{StandingPlan}
-use Rattle.session_rules.specs.World.{Scene}
-use Rattle.session_rules.specs.Taking.{lock_taken}
-use Rattle.session_rules.specs.Parts.{lock_given_back}
-use Rattle.session_owners.specs.ResourceState.{OwnerTree, ResourceState, owners_of, plans_of}
-use Rattle.session_owners.specs.Commons.{CommonState, pinned_beside}
-use Rattle.session_owners.specs.Fitting.{Acted, OwnersFit, with_owners}
+use Rattle.session_owners.proofs.Base.{arith, ◌≡◌, ◌↔◌, ℕ, List, [], ◌∷◌, Some, Result, refl, sym, ap, ◌∙◌, OnOk}
+use Rattle.session_owners.proofs.Words.{What, Mode, Kind, Active, Holding, IsConflict, beside, least_conflict, beside_stays, conflict_is, conflict_stands, Lock, SessionLocks, OthersStay, acquired, given_back, StandingPlan, Scene, lock_taken, lock_given_back, OwnerTree, ResourceState, owners_of, plans_of, CommonState, pinned_beside, Acted, OwnersFit, with_owners}
 
 -- a conflict among all that is held is one in what the session sees
 pub conflict_seen : (n : ℕ) (shared : List Holding) (a : ResourceState) (c : CommonState) (o : ℕ) (w : Mode) (Refused : ℕ → Mode → Type 0) → n ≡ a.session → shared ≡ c.locks
     → ((s : ℕ) (m : Mode) → Refused s m ↔ IsConflict shared o w n s m) → (s : ℕ) (m : Mode) → Refused s m ↔ (least_conflict o w (beside a.session c.locks) ≡ Some (s, m))
-conflict_seen n shared a c o w Refused e f refused s m =
-    let now : Refused s m ↔ IsConflict c.locks o w a.session s m = rw (← e, ← f) (refused s m) in
-    (λ r. conflict_is c.locks o w a.session s m (now.0 r), λ r. now.1 (conflict_stands c.locks o w a.session s m r))
+conflict_seen n shared a c o w Refused e f refused s m = grind (arith, conflict_is c.locks o w a.session s m, conflict_stands c.locks o w a.session s m)
 
 -- a scene with all that owners, locks and commons show of it
 shown_in : Scene → OwnerTree → ℕ → ℕ → List ℕ → List Lock → List Kind → List Holding → ℕ → List ℕ → List Active → List StandingPlan → Scene
@@ -47,12 +27,7 @@ pub record LocksAlone (a b : ResourceState) (c d : CommonState) : Type 0 where
 
 pub locks_alone : (was a : ResourceState) (had c d : CommonState) (t : SessionLocks) → was ≡ a → had ≡ c → t.session ≡ was.session → d.kinds ≡ had.kinds → d.pins ≡ had.pins → OthersStay was.session had.locks d.locks
     → LocksAlone a (record was { session = t.session; locks = t.locks }) c d
-locks_alone was a had c d t e f same kinds pins others = record {
-  alone = ap (λ (n : ℕ). record was { session = n; locks = t.locks }) same ∙ ap (λ (r : ResourceState). record r { locks = t.locks }) e;
-  kinds = kinds ∙ ap (λ (s : CommonState). s.kinds) f;
-  pins = pins ∙ ap (λ (s : CommonState). s.pins) f;
-  others = subst (λ (r : ResourceState). OthersStay r.session c.locks d.locks) e (subst (λ (s : CommonState). OthersStay was.session s.locks d.locks) f others);
-}
+locks_alone was a had c d t e f same kinds pins others = grind arith
 
 locks_lead : (scene : Scene) (ls : List Lock) (a b : ResourceState) (c d : CommonState) → LocksAlone a b c d → ls ≡ b.locks → OwnersFit a c scene
     → record scene { session = record scene.session { locks = ls } } ≡ with_owners b d scene
@@ -67,14 +42,14 @@ locks_lead scene ls a b c d alone is fit =
     (fit.pinned ∙ ap (λ (r : ResourceState). pinned_beside (owners_of r) c.pins) (sym alone.alone) ∙ ap (pinned_beside (owners_of b)) (sym alone.pins)) (fit.snapshots ∙ sym (ap (λ (r : ResourceState). r.stack) alone.alone)) (fit.plans ∙ sym (ap plans_of alone.alone))
 
 pub acted_locked : (o : ℕ) (w : Mode) (n : ℕ) (a b : ResourceState) (c d : CommonState) (Says : List What → Type 0) → LocksAlone a b c d → b.locks ≡ acquired n o w a.locks
-    → Says (what.AcquireLock o w n ∷ []) → Acted (lock_taken o w n) a b c d Says
+    → Says (What.AcquireLock o w n ∷ []) → Acted (lock_taken o w n) a b c d Says
 acted_locked o w n a b c d Says alone e says = record {
   leads = λ scene fit. locks_lead scene (acquired n o w scene.session.locks) a b c d alone (ap (acquired n o w) fit.locks ∙ sym e) fit;
   says = λ scene fit. says;
 }
 
 pub acted_unlocked : (o : ℕ) (w : Mode) (n : ℕ) (a b : ResourceState) (c d : CommonState) (Says : List What → Type 0) → LocksAlone a b c d → b.locks ≡ given_back n o w a.locks
-    → Says (what.ReleaseLock o w 1 n ∷ []) → Acted (lock_given_back o w n) a b c d Says
+    → Says (What.ReleaseLock o w 1 n ∷ []) → Acted (lock_given_back o w n) a b c d Says
 acted_unlocked o w n a b c d Says alone e says = record {
   leads = λ scene fit. locks_lead scene (given_back n o w scene.session.locks) a b c d alone (ap (given_back n o w) fit.locks ∙ sym e) fit;
   says = λ scene fit. says;
@@ -82,9 +57,7 @@ acted_unlocked o w n a b c d Says alone e says = record {
 
 -- two facts of an answer that is Ok make a third
 pub both_ok : {T E P Q R : Type 0} (r : Result T E) → OnOk r P → OnOk r Q → (P → Q → R) → OnOk r R
-both_ok (Ok u) p q f = f p q
-both_ok (Err e) p q f = tt
+both_ok x0 p q f = grind arith
 
 pub three_ok : {T E P Q R S : Type 0} (r : Result T E) → OnOk r P → OnOk r Q → OnOk r R → (P → Q → R → S) → OnOk r S
-three_ok (Ok u) p q r f = f p q r
-three_ok (Err e) p q r f = tt
+three_ok x0 p q r f = grind arith

@@ -1,13 +1,6 @@
 -- A file is open where it is counted.
-use Rattle.std.proofs.Common.{◌≡◌, ◌↔◌, ℕ, suc, zero, ◌<◌, Bool, true, false, ◌||◌, cond, List, [], ◌∷◌, Result, Ok, Err, IfErr, refl, sym, ap, ◌∙◌, arith}
-use Rattle.std.specs.Prelude.{◌==◌, nat_lt, count_by}
-use Rattle.std.specs.List.{list_any}
-use Rattle.std.proofs.lemmas.Bool.{both_ways, lt-ltb}
-use Rattle.std.proofs.lemmas.List.Sums.{sum_by-cons}
-use Rattle.file_table.specs.Descriptors.{is_among}
-use Rattle.file_table.specs.declared.files.FileError.{FileError}
-use Rattle.file_table.specs.declared.files.FileError.TheVariants.{NoFile}
-use Rattle.file_table.specs.Files.{Files, opens}
+use Rattle.session_owners.proofs.Base.{◌≡◌, ◌↔◌, ℕ, suc, zero, ◌<◌, Bool, true, false, ◌||◌, cond, List, [], ◌∷◌, Result, Ok, Err, IfErr, refl, sym, ap, ◌∙◌, arith, ◌==◌, nat_lt, count_by, list_any, both_ways, lt-ltb, sum_by-cons}
+use Rattle.session_owners.proofs.Words.{is_among, FileError, NoFile, Files, opens}
 
 -- an element passes a test where some do
 pub any_counts : {A : Type 0} (test : A → Bool) (xs : List A) → list_any test xs ≡ nat_lt 0 (count_by test xs)

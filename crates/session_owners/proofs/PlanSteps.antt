@@ -1,29 +1,6 @@
 -- What becomes of plans where one of them is referred to once less, or is discarded, and what their contexts are then.
-use Rattle.std.proofs.Common.{◌≡◌, ◌≢◌, ℕ, ◌-◌, ◌<◌, Bool, true, false, nat_eq, List, [], ◌∷◌, ◌++◌, map, append-nil, Option, Some, None, refl, sym, ap, ◌∙◌, subst, inl, inr, arith}
-use Rattle.std.specs.Prelude.{◌==◌, ◌&&◌, if◌then◌else◌, All, Contains, IfNone, IfSome, OnSome, is_some, not}
-use Rattle.std.specs.Option.{option_map, option_map_or}
-use Rattle.std.specs.List.{AllByRecursion, IsDistinct}
-use Rattle.std.specs.Map.{keys_of, lookup, set_value, remove_entry}
-use Rattle.std.proofs.lemmas.List.{map-append}
-use Rattle.std.proofs.lemmas.Bool.{both_ways, cases_Bool, eqb-true, eq-eqb}
-use Rattle.std.proofs.lemmas.Bool.Decides.{nat_tests}
-use Rattle.std.proofs.lemmas.List.Elements.{All-nil, All-cons, All-head, All-tail, All-contains, All-contains_itself, All-weaker}
-use Rattle.std.proofs.lemmas.Map.Keys.{IsDistinct-head, IsDistinct-tail}
-use Rattle.pgs_step.specs.declared.ids.CtxId.{CtxId}
-use Rattle.context_rules.specs.Contexts.{Contexts}
-use Rattle.context_rules.specs.Ends.{gone, handed_in}
-use Rattle.reset_callbacks.specs.ShelfState.{ShelfState}
-use Rattle.plan_store.specs.declared.plan.Plan.{Plan}
-use Rattle.session_rules.specs.State.{StandingPlan}
-use Rattle.session_rules.specs.World.{Scene}
-use Rattle.session_rules.specs.Lookup.{plan_at, plan_changed, plans_but}
-use Rattle.session_rules.specs.Acts.{Ended, where_there}
-use Rattle.session_rules.specs.Releases.{plan_becomes, plan_left, plan_settled, plan_stays}
-use Rattle.session_rules.specs.Standing.{AreApart, Differ}
-use Rattle.session_rules.proofs.PlansKept.{IsOther, but_is, changed_is}
-use Rattle.session_owners.specs.Hosting.{Hosting}
-use Rattle.session_owners.specs.PlanStates.{plan_state}
-use Rattle.session_owners.specs.Placing.{AreLeft, PlansDo, PlansFit, contexts_of, plan_dropped}
+use Rattle.session_owners.proofs.Base.{◌≡◌, ◌≢◌, ℕ, ◌-◌, ◌<◌, Bool, true, false, nat_eq, List, [], ◌∷◌, ◌++◌, map, append-nil, Option, Some, None, refl, sym, ap, ◌∙◌, subst, inl, inr, arith, ◌==◌, ◌&&◌, if◌then◌else◌, All, Contains, IfNone, IfSome, OnSome, is_some, not, option_map, option_map_or, AllByRecursion, IsDistinct, keys_of, lookup, set_value, remove_entry, map-append, both_ways, cases_Bool, eqb-true, eq-eqb, nat_tests, All-nil, All-cons, All-head, All-tail, All-contains, All-contains_itself, IsDistinct-head, IsDistinct-tail}
+use Rattle.session_owners.proofs.Words.{CtxId, Contexts, gone, handed_in, ShelfState, Plan, StandingPlan, Scene, plan_at, plan_changed, plans_but, Ended, where_there, plan_becomes, plan_left, plan_settled, plan_stays, AreApart, Differ, IsOther, but_is, changed_is, Hosting, plan_state, AreLeft, PlansDo, PlansFit, contexts_of, plan_dropped}
 
 -- the first entry of a number
 flip : (m n : ℕ) → (m == n) ≡ nat_eq n m
@@ -31,33 +8,21 @@ flip m n = grind (arith, nat_tests)
 
 pub at_found : (n : ℕ) (standing : List (ℕ × Plan)) → plan_at n (map plan_state standing) ≡ option_map (λ (plan : Plan). plan_state (n, plan)) (lookup (nat_eq n) standing)
 at_found n [] = refl
-at_found n (e ∷ es) =
-    elim (cases_Bool (nat_eq n e.0)) [
-      | inl y ↦ rw (flip e.0 n, y) (ap (λ (m : ℕ). Some (plan_state (m, e.1))) (sym (eqb-true n e.0 y)))
-      | inr y ↦ rw (flip e.0 n, y) (at_found n es)
-    ]
+at_found n (e ∷ es) = grind (arith, nat_tests, flip e.0 n, eqb-true n e.0, at_found n es)
 
 pub some_state : (n : ℕ) (o : Option Plan) → is_some (option_map (λ (plan : Plan). plan_state (n, plan)) o) ≡ is_some o
-some_state n None = refl
-some_state n (Some plan) = refl
+some_state n x1 = grind (arith, nat_tests)
 
 pub usable_state : (n : ℕ) (o : Option Plan)
     → option_map_or (λ (p : StandingPlan). not p.discarded) (option_map (λ (plan : Plan). plan_state (n, plan)) o) false ≡ option_map_or (λ (plan : Plan). not plan.discarded) o false
-usable_state n None = refl
-usable_state n (Some plan) = refl
+usable_state n x1 = grind (arith, nat_tests)
 
 -- a plan that references are held to, and one that isn't discarded
 pub is_referred : (o : Option Plan) → 0 < option_map_or (λ (plan : Plan). plan.references) o 0 → (kept : Plan) × (o ≡ Some kept) × (0 < kept.references)
-is_referred None h = absurd (omega (arith, h))
-is_referred (Some kept) h = (kept, refl, h)
+is_referred x0 h = grind (arith, nat_tests)
 
 pub is_kept : (o : Option Plan) → option_map_or (λ (plan : Plan). not plan.discarded) o false ≡ true → (kept : Plan) × (o ≡ Some kept) × (kept.discarded ≡ false)
-is_kept None h = absurd (cc h)
-is_kept (Some kept) h = (kept, refl, go kept.discarded h)
-  where
-    go : (b : Bool) → not b ≡ true → b ≡ false
-    go true e = absurd (cc e)
-    go false e = refl
+is_kept x0 h = grind (arith, nat_tests)
 
 -- of the entry, and of those before and behind it
 pub record Parted (n : ℕ) (kept : Plan) (standing : List (ℕ × Plan)) : Type 0 where
@@ -109,19 +74,10 @@ module _ (n : ℕ) (kept : Plan) (standing : List (ℕ × Plan)) (w : Parted n k
 
   pub states_set : (change : StandingPlan → StandingPlan) (other : Plan) → change (plan_state (n, kept)) ≡ plan_state (n, other)
       → plan_changed n change (map plan_state standing) ≡ map plan_state (set_value (nat_eq n) standing other)
-  states_set change other is =
-      ap (plan_changed n change) whole
-      ∙ changed_is n change (plan_state (n, kept)) (map plan_state w.front) (map plan_state w.back) refl w.before w.behind
-      ∙ ap (λ (p : StandingPlan). map plan_state w.front ++ (p ∷ map plan_state w.back)) is
-      ∙ sym (map-append plan_state w.front ((n, other) ∷ w.back))
-      ∙ ap (map plan_state) (sym (w.set other))
+  states_set change other is = grind (arith, nat_tests, changed_is n change (plan_state (n, kept)) (map plan_state w.front) (map plan_state w.back) refl w.before w.behind, map-append plan_state w.front ((n, other) ∷ w.back), whole)
 
   states_removed : plans_but n (map plan_state standing) ≡ map plan_state (remove_entry (nat_eq n) standing)
-  states_removed =
-      ap (plans_but n) whole
-      ∙ but_is n (plan_state (n, kept)) (map plan_state w.front) (map plan_state w.back) refl w.before w.behind
-      ∙ sym (map-append plan_state w.front w.back)
-      ∙ ap (map plan_state) (sym w.removed)
+  states_removed = grind (arith, nat_tests, but_is n (plan_state (n, kept)) (map plan_state w.front) (map plan_state w.back) refl w.before w.behind, map-append plan_state w.front w.back, whole)
 
 -- a scene with these plans, contexts and hooks
 placed_in : List StandingPlan → Contexts → ShelfState → Scene → Scene
@@ -137,8 +93,7 @@ module _ (n : ℕ) (kept : Plan) (old new : List (ℕ × Plan)) (w : Parted n ke
 
   becomes : (scene : Scene) → scene.session.plans ≡ map plan_state old → act scene ≡ plan_becomes (change (plan_state (n, kept))) scene
   unfolding act
-  becomes scene plans =
-      ap (λ (o : Option StandingPlan). where_there o (λ plan. plan_becomes (change plan)) scene) (ap (plan_at n) plans ∙ at_found n old ∙ ap (option_map (λ (plan : Plan). plan_state (n, plan))) found)
+  becomes scene plans = grind (arith, nat_tests, at_found n old)
 
   goes : (scene : Scene) → (((change (plan_state (n, kept))).discarded && ((change (plan_state (n, kept))).references == 0)) ≡ true) → plan_becomes (change (plan_state (n, kept))) scene ≡ plan_settled (change (plan_state (n, kept))) scene
   goes scene test = rw (test, plan_becomes) refl
@@ -169,30 +124,17 @@ module _ (n : ℕ) (kept : Plan) (old new : List (ℕ × Plan)) (w : Parted n ke
   pub does_stay : (h : Hosting) (other : Plan) → change (plan_state (n, kept)) ≡ plan_state (n, other) → (((change (plan_state (n, kept))).discarded && ((change (plan_state (n, kept))).references == 0)) ≡ false) → new ≡ set_value (nat_eq n) old other
       → PlansDo (λ scene. where_there (plan_at n scene.session.plans) (λ plan. plan_becomes (change plan)) scene) [] old new h h
   unfolding act placed_in
-  does_stay h other same test is = record {
-    leads = λ scene plans hosts.
-        ap (λ (z : Ended). z.scene) (becomes scene plans ∙ remains scene test)
-        ∙ ap (λ (m : ℕ). placed_in (plan_changed m (λ p. change (plan_state (n, kept))) scene.session.plans) scene.session.contexts scene.around.shelf scene) number
-        ∙ placed_same (plan_changed n (λ p. change (plan_state (n, kept))) scene.session.plans) (map plan_state new) scene.session.contexts h.contexts scene.around.shelf h.shelf scene
-        (ap (plan_changed n (λ p. change (plan_state (n, kept)))) plans ∙ states_set n kept old w (λ p. change (plan_state (n, kept))) other same ∙ ap (map plan_state) (sym is))
-        hosts.contexts hosts.shelf;
-    says = λ scene plans hosts. ap (λ (z : Ended). z.events) (becomes scene plans ∙ remains scene test);
-  }
+  does_stay h other same test is = grind (arith, nat_tests, states_set n kept old w, becomes, remains, placed_same)
 
 -- what the store answers is the context of a plan that has to go
 pub picks : (b : Bool) (x y : CtxId) → Some x ≡ (if b then Some y else None) → (b ≡ true) × (x ≡ y)
-picks true x y e = (refl, let z : Some x ≡ Some y = e in cc z)
-picks false x y e = absurd (cc e)
+picks x0 x y e = grind (arith, nat_tests)
 
 pub picks_none : (b : Bool) (y : CtxId) → None ≡ (if b then Some y else None) → b ≡ false
-picks_none true y e = absurd (cc e)
-picks_none false y e = refl
+picks_none x0 y e = grind (arith, nat_tests)
 
 pub last_one : (b : Bool) (r : ℕ) → 0 < r → (b && ((r - 1) == 0)) ≡ (b && (r == 1))
-last_one b r some = ap (λ (t : Bool). b && t) (go r some)
-  where
-    go : (r : ℕ) → 0 < r → ((r - 1) == 0) ≡ (r == 1)
-    go r some = grind (arith, nat_tests)
+last_one b r some = grind (arith, nat_tests)
 
 -- what holds of each context holds of that of a plan, and of what is left
 module _ (P : CtxId → Type 0) (n : ℕ) where
@@ -218,17 +160,10 @@ left_gone n old new is id here =
 -- a plan that changes keeps its context
 pub contexts_set : (n : ℕ) (standing : List (ℕ × Plan)) (kept other : Plan) → lookup (nat_eq n) standing ≡ Some kept → other.context ≡ kept.context → contexts_of (set_value (nat_eq n) standing other) ≡ contexts_of standing
 contexts_set n [] kept other e same = absurd (cc e)
-contexts_set n (x ∷ xs) kept other e same = elim (cases_Bool (nat_eq n x.0)) [
-  | inl y ↦
-      let found : Some x.1 ≡ Some kept = rw y at e in
-      let is : kept ≡ x.1 = cc found in
-      rw y (ap (λ (at : CtxId). at ∷ contexts_of xs) (same ∙ ap (λ (p : Plan). p.context) is))
-  | inr y ↦ rw y (ap (λ (ids : List CtxId). x.1.context ∷ ids) (contexts_set n xs kept other (rw y at e) same))
-]
+contexts_set n (x ∷ xs) kept other e same = grind (arith, nat_tests, contexts_set n xs kept other)
 
 pub left_set : (n : ℕ) (old new : List (ℕ × Plan)) (kept other : Plan) → lookup (nat_eq n) old ≡ Some kept → other.context ≡ kept.context → new ≡ set_value (nat_eq n) old other → AreLeft old new
-left_set n old new kept other found same is id here =
-    subst (λ (ids : List CtxId). Contains ids id) (ap contexts_of is ∙ contexts_set n old kept other found same) here
+left_set n old new kept other found same is id here = grind (arith, nat_tests, contexts_set n old kept other found same)
 
 -- The plans stay apart.
 module _ (P : StandingPlan → Type 0) (n : ℕ) where
@@ -263,27 +198,11 @@ module _ (P : StandingPlan → Type 0) (n : ℕ) where
 
 apart_left : (n : ℕ) (standing : List (ℕ × Plan)) → AreApart (map plan_state standing) → AreApart (map plan_state (remove_entry (nat_eq n) standing))
 apart_left n [] apart = apart
-apart_left n (x ∷ xs) apart = elim (cases_Bool (nat_eq n x.0)) [
-  | inl y ↦ rw y apart.1
-  | inr y ↦ rw y (states_left (Differ (plan_state x)) n xs apart.0, apart_left n xs apart.1)
-]
+apart_left n (x ∷ xs) apart = grind (arith, nat_tests, states_left (Differ (plan_state x)) n xs apart.0, apart_left n xs apart.1)
 
 apart_changed : (n : ℕ) (standing : List (ℕ × Plan)) (kept other : Plan) → lookup (nat_eq n) standing ≡ Some kept → other.context ≡ kept.context → AreApart (map plan_state standing) → AreApart (map plan_state (set_value (nat_eq n) standing other))
 apart_changed n [] kept other e same apart = absurd (cc e)
-apart_changed n (x ∷ xs) kept other e same apart = elim (cases_Bool (nat_eq n x.0)) [
-  | inl y ↦
-      let found : Some x.1 ≡ Some kept = rw y at e in
-      let is : kept ≡ x.1 = cc found in
-      let at : other.context ≡ x.1.context = same ∙ ap (λ (p : Plan). p.context) is in
-      rw y (
-        All-weaker (Differ (plan_state x)) (Differ (plan_state (x.0, other))) (λ q d. record { number = d.number; context = λ z. d.context (z ∙ ap (λ (i : CtxId). i.number) at) }) (map plan_state xs) apart.0,
-        apart.1,
-      )
-  | inr y ↦ rw y (
-    states_changed (Differ (plan_state x)) n xs kept other (rw y at e) (λ m d. record { number = d.number; context = λ z. d.context (sym (ap (λ (i : CtxId). i.number) same) ∙ z) }) apart.0,
-    apart_changed n xs kept other (rw y at e) same apart.1,
-  )
-]
+apart_changed n (x ∷ xs) kept other e same apart = grind (arith, nat_tests, states_changed (Differ (plan_state x)) n xs kept other, apart_changed n xs kept other)
 
 -- the context of a plan went, and those of the others may still go
 module _ (May Now : CtxId → Type 0) (at : CtxId) (stay : (other : CtxId) → other.number ≢ at.number → May other → Now other) where
@@ -308,13 +227,10 @@ module _ (May Now : CtxId → Type 0) (at : CtxId) (stay : (other : CtxId) → o
   ]
 
   pub fit_gone : (n : ℕ) (old new : List (ℕ × Plan)) (kept : Plan) → lookup (nat_eq n) old ≡ Some kept → kept.context.number ≡ at.number → new ≡ remove_entry (nat_eq n) old → PlansFit May old → PlansFit Now new
-  fit_gone n old new kept found is removed fit =
-      subst (λ (es : List (ℕ × Plan)). PlansFit Now es) (sym removed) (record { each = may_left n old kept found is fit.apart fit.each; apart = apart_left n old fit.apart })
+  fit_gone n old new kept found is removed fit = grind (arith, nat_tests, may_left n old kept found is fit.apart fit.each, apart_left n old fit.apart)
 
 pub fit_set : (May : CtxId → Type 0) (n : ℕ) (old new : List (ℕ × Plan)) (kept other : Plan) → lookup (nat_eq n) old ≡ Some kept → other.context ≡ kept.context → new ≡ set_value (nat_eq n) old other → PlansFit May old → PlansFit May new
-fit_set May n old new kept other found same is fit =
-    subst (λ (es : List (ℕ × Plan)). PlansFit May es) (sym is)
-    (record { each = subst (All May) (sym (contexts_set n old kept other found same)) fit.each; apart = apart_changed n old kept other found same fit.apart })
+fit_set May n old new kept other found same is fit = grind (arith, nat_tests, contexts_set n old kept other found same, apart_changed n old kept other found same fit.apart)
 
 -- what is so of a plan where there is one is so of that which was found
 pub in_some : (o : Option Plan) (kept : Plan) (P : Plan → Type 0) → o ≡ Some kept → IfSome o P → P kept

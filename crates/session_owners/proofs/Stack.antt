@@ -1,13 +1,6 @@
 -- The stack of active snapshots, by its newest entry.
-use Rattle.std.proofs.Common.{◌≡◌, ◌↔◌, ℕ, ◌+◌, ◌-◌, Bool, true, false, List, [], ◌∷◌, ◌++◌, length, take, reverse, Option, Some, None, Result, Ok, Err, refl, sym, ap, ◌∙◌, arith}
-use Rattle.std.specs.Prelude.{◌==◌, IsOk, IsErr}
-use Rattle.std.specs.Option.{option_map_or}
-use Rattle.std.proofs.lemmas.Bool.{both_ways, eqb-true}
-use Rattle.std.proofs.lemmas.Bool.Decides.{nat_tests}
-use Rattle.std.proofs.lemmas.List.{length-append, reverse-append, reverse-reverse, take-append-le}
-use Rattle.snap_table.specs.declared.active.Active.{Active}
-use Rattle.snap_table.specs.declared.active.SnapError.{SnapError}
-use Rattle.session_rules.specs.State.{first_of, last_of}
+use Rattle.session_owners.proofs.Base.{◌≡◌, ◌↔◌, ℕ, ◌+◌, ◌-◌, Bool, true, false, List, [], ◌∷◌, ◌++◌, length, take, reverse, Option, Some, None, Result, Ok, Err, refl, sym, ap, ◌∙◌, arith, ◌==◌, IsOk, IsErr, option_map_or, both_ways, eqb-true, nat_tests, length-append, reverse-append, reverse-reverse, take-append-le}
+use Rattle.session_owners.proofs.Words.{Active, SnapError, first_of, last_of}
 
 -- the newest entry, and the others
 pub last_newest : (rest : List Active) (entry : Active) → last_of (rest ++ entry ∷ []) ≡ Some entry

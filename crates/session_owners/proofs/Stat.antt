@@ -1,32 +1,7 @@
 -- What a session counts is what its owners hold.
-use Rattle.std.proofs.Common.{◌≡◌, ℕ, suc, zero, ◌+◌, ◌<◌, Bool, true, false, ◌||◌, cond, List, [], ◌∷◌, ◌++◌, length, map, refl, sym, ap, ◌∙◌, inl, inr, arith}
-use Rattle.std.specs.Prelude.{◌==◌, ◌&&◌, nat_lt, count_by, if◌then◌else◌, slice_index}
-use Rattle.std.specs.List.{list_any}
-use Rattle.std.specs.Set.{distinct_count}
-use Rattle.std.specs.Ordering.{nat_cmp, eq_by_cmp, is_eq, ordering_then}
-use Rattle.std.specs.Cmp.{unsigned_tied}
-use Rattle.std.specs.BTreeMap.{is_at}
-use Rattle.std.proofs.lemmas.Bool.{cases_Bool, eqb-true, ne_eqb}
-use Rattle.std.proofs.lemmas.Bool.Decides.{nat_tests}
-use Rattle.std.proofs.lemmas.List.Sums.{sum_by-append, sum_by-cons}
-use Rattle.std.specs.declared.cmp.Ordering.{Ordering}
-use Rattle.std.specs.declared.cmp.Ordering.TheVariants.{Less, Equal, Greater}
-use Rattle.counts.specs.Counts.{Tallies, count_of}
-use Rattle.ref_table.specs.References.{pair_cmp}
-use Rattle.session_owners.specs.Tables.{Held, is_class, times_held}
-use Rattle.session_owners.specs.Counted.{IsCounted}
-use Rattle.pgs_step.specs.declared.ids.Item.{Item}
-use Rattle.pgs_step.specs.declared.ids.KindId.{KindId}
-use Rattle.owner_items.specs.ItemList.{is_of, uses}
-use Rattle.pgs_step.specs.declared.counters.SessionCounts.{SessionCounts}
-use Rattle.forest.specs.Forest.{size}
-use Rattle.snap_table.specs.Snapshots.{snapshots_of}
-use Rattle.owner_core.specs.Owners.{OwnerTable, OwnerTree, held, owners_of}
-use Rattle.file_table.specs.Descriptors.{is_among}
-use Rattle.file_table.specs.Files.{IsDistinct}
-use Rattle.file_table.proofs.FileCounts.{different_length}
-use Rattle.session_rules.specs.State.{SessionState, buffer_pin, file_kind}
-use Rattle.session_rules.specs.Counts.{all_items, count, counts, distinct, keys_of}
+use Rattle.session_owners.proofs.Base.{◌≡◌, ℕ, suc, zero, ◌+◌, ◌<◌, Bool, true, false, ◌||◌, cond, List, [], ◌∷◌, ◌++◌, length, map, refl, sym, ap, ◌∙◌, inl, inr, arith, ◌==◌, ◌&&◌, nat_lt, count_by, if◌then◌else◌, slice_index, list_any, distinct_count, nat_cmp, eq_by_cmp, is_eq, ordering_then, unsigned_tied, is_at, cases_Bool, eqb-true, ne_eqb, nat_tests, sum_by-append, sum_by-cons, Ordering}
+use Rattle.session_owners.proofs.Words.{Tallies, count_of, pair_cmp, Held, is_class, times_held, IsCounted, Item, KindId, is_of, uses, SessionCounts, size, snapshots_of, OwnerTable, OwnerTree, held, is_among, IsDistinct, different_length, SessionState, buffer_pin, file_kind, all_items, count, counts, distinct, keys_of}
+use Rattle.owner_core.specs.Owners.{owners_of}
 use Rattle.session_owners.proofs.OpenFiles.{distinct_length, held_all, keys_among}
 use Rattle.session_owners.proofs.OpenCounts.{any_counts}
 
@@ -52,48 +27,24 @@ places_length n (p ∷ ps) =
 
 before_places : (b n : ℕ) (ps : List ℕ) → b < n → is_among b (places_from n ps) ≡ false
 before_places b n [] less = refl
-before_places b n (p ∷ ps) less =
-    elim (cases_Bool (nat_lt 0 p)) [
-      | inl y ↦ rw (y, ne_eqb b n (λ e. omega (arith, e, less)), before_places b (n + 1) ps (omega (arith, less))) refl
-      | inr y ↦ rw (y, before_places b (n + 1) ps (omega (arith, less))) refl
-    ]
+before_places b n (p ∷ ps) less = grind (arith, nat_tests, ne_eqb b n, before_places b (n + 1) ps)
 
 at_places : (b n m : ℕ) (ps : List ℕ) → b ≡ n + m → is_among b (places_from n ps) ≡ nat_lt 0 (slice_index ps m)
 at_places b n m [] is = refl
-at_places b n zero (p ∷ ps) is =
-    elim (cases_Bool (nat_lt 0 p)) [
-      | inl y ↦ rw (y, same b n (omega (arith, is))) refl
-      | inr y ↦ rw (y, before_places b (n + 1) ps (omega (arith, is))) refl
-    ]
-  where
-    same : (i j : ℕ) → i ≡ j → (i == j) ≡ true
-    same i j e = grind (arith, nat_tests)
-at_places b n (suc m) (p ∷ ps) is =
-    elim (cases_Bool (nat_lt 0 p)) [
-      | inl y ↦ rw (y, ne_eqb b n (λ e. omega (arith, e, is))) (at_places b (n + 1) m ps (omega (arith, is)))
-      | inr y ↦ rw y (at_places b (n + 1) m ps (omega (arith, is)))
-    ]
+at_places b n zero (p ∷ ps) is = grind (arith, nat_tests, before_places b (n + 1) ps)
+at_places b n (suc m) (p ∷ ps) is = grind (arith, nat_tests, ne_eqb b n, at_places b (n + 1) m ps)
 
 places_differ : (n : ℕ) (ps : List ℕ) → IsDistinct (places_from n ps)
 places_differ n [] = tt
-places_differ n (p ∷ ps) =
-    elim (cases_Bool (nat_lt 0 p)) [
-      | inl y ↦ rw y (before_places n (n + 1) ps (omega arith), places_differ (n + 1) ps)
-      | inr y ↦ rw y (places_differ (n + 1) ps)
-    ]
+places_differ n (p ∷ ps) = grind (arith, nat_tests, before_places n (n + 1) ps, places_differ (n + 1) ps)
 
 -- where a key is among those of the items, the items are of it
 keys_held : (kind : KindId) (key : ℕ) (owners : OwnerTree) → is_among key (keys_of kind (all_items owners)) ≡ nat_lt 0 (held kind key owners)
-keys_held kind key owners =
-    keys_among kind key (all_items owners) ∙ any_counts (is_of kind key) (all_items owners) ∙ ap (nat_lt 0) (sym (held_all kind key owners))
+keys_held kind key owners = grind (arith, nat_tests, keys_among kind key (all_items owners), any_counts (is_of kind key) (all_items owners), held_all kind key owners)
 
 -- as many counts are more than 0 as there are different keys
 pub different_pins : (kind : KindId) (pins : List ℕ) (owners : OwnerTree) → ((key : ℕ) → slice_index pins key ≡ held kind key owners) → count_by (λ count. nat_lt 0 count) pins ≡ length (distinct (keys_of kind (all_items owners)))
-different_pins kind pins owners same =
-    sym (places_length 0 pins)
-    ∙ different_length (places_from 0 pins) (keys_of kind (all_items owners)) (places_differ 0 pins)
-    (λ key. keys_held kind key owners ∙ ap (nat_lt 0) (sym (same key)) ∙ sym (at_places key 0 key pins (omega arith)))
-    ∙ distinct_length (keys_of kind (all_items owners))
+different_pins kind pins owners same = grind (arith, nat_tests, places_length 0 pins, different_length (places_from 0 pins) (keys_of kind (all_items owners)) (places_differ 0 pins), places_differ 0 pins, keys_held kind, distinct_length (keys_of kind (all_items owners)), at_places)
 
 -- a key stands among the keys as often as the items are of it
 flipped : (m n : ℕ) → (m == n) ≡ (n == m)
@@ -118,9 +69,7 @@ by_order : (key : ℕ) → is_at (nat_cmp key) ≡ (λ k. key == k)
 by_order key = λ i k. unsigned_tied key k i
 
 pub keys_tally : (kind : KindId) (owners : OwnerTree) (entries : List (ℕ × ℕ)) → ((key : ℕ) → count_of nat_cmp entries key ≡ held kind key owners) → Tallies nat_cmp (keys_of kind (all_items owners)) entries
-keys_tally kind owners entries same key =
-    ap (λ (test : ℕ → Bool). count_by test (keys_of kind (all_items owners))) (by_order key)
-    ∙ keys_count kind key (all_items owners) ∙ sym (held_all kind key owners) ∙ sym (same key)
+keys_tally kind owners entries same key = grind (arith, nat_tests, by_order key, keys_count kind key (all_items owners), held_all kind key owners)
 
 pub different_keys : (keys : List ℕ) → distinct_count (eq_by_cmp nat_cmp) keys ≡ length (distinct keys)
 different_keys keys = ap (λ (eq : ℕ → ℕ → Bool). distinct_count eq keys) (λ i x y. unsigned_tied x y i) ∙ distinct_length keys
@@ -130,13 +79,10 @@ tagged : ℕ → List ℕ → List (ℕ × ℕ)
 tagged class keys = map (λ key. (class, key)) keys
 
 both_tied : (a b : Ordering) → is_eq (ordering_then a b) ≡ (is_eq a && is_eq b)
-both_tied Less b = refl
-both_tied Equal b = refl
-both_tied Greater b = refl
+both_tied x0 b = grind (arith, nat_tests)
 
 pair_tied : (c k d j : ℕ) → eq_by_cmp pair_cmp (c, k) (d, j) ≡ ((c == d) && (k == j))
-pair_tied c k d j =
-    both_tied (nat_cmp c d) (nat_cmp k j) ∙ ap (λ (b : Bool). b && is_eq (nat_cmp k j)) (unsigned_tied c d) ∙ ap (λ (b : Bool). (c == d) && b) (unsigned_tied k j)
+pair_tied c k d j = grind (arith, nat_tests, both_tied (nat_cmp c d) (nat_cmp k j))
 
 same_number : (n : ℕ) → (n == n) ≡ true
 same_number n = grind (arith, nat_tests)
@@ -145,24 +91,16 @@ same_number n = grind (arith, nat_tests)
 any_tagged : (c k : ℕ) (keys : List ℕ) → list_any (eq_by_cmp pair_cmp (c, k)) (tagged c keys) ≡ list_any (λ m. m == k) keys
 unfolding tagged
 any_tagged c k [] = refl
-any_tagged c k (key ∷ keys) =
-    let here : eq_by_cmp pair_cmp (c, k) (c, key) ≡ (key == k) = pair_tied c k c key ∙ ap (λ (b : Bool). b && (k == key)) (same_number c) ∙ flipped k key in
-    ap (λ (b : Bool). b || list_any (eq_by_cmp pair_cmp (c, k)) (tagged c keys)) here ∙ ap (λ (b : Bool). (key == k) || b) (any_tagged c k keys)
+any_tagged c k (key ∷ keys) = grind (arith, nat_tests, pair_tied c k c key, same_number c, flipped k key, any_tagged c k keys)
 
 none_tagged : (c k d : ℕ) (keys : List ℕ) → (c == d) ≡ false → list_any (eq_by_cmp pair_cmp (c, k)) (tagged d keys) ≡ false
 unfolding tagged
 none_tagged c k d [] other = refl
-none_tagged c k d (key ∷ keys) other =
-    let here : eq_by_cmp pair_cmp (c, k) (d, key) ≡ false = pair_tied c k d key ∙ ap (λ (b : Bool). b && (k == key)) other in
-    ap (λ (b : Bool). b || list_any (eq_by_cmp pair_cmp (c, k)) (tagged d keys)) here ∙ none_tagged c k d keys other
+none_tagged c k d (key ∷ keys) other = grind (arith, nat_tests, pair_tied c k d key, none_tagged c k d keys other)
 
 count_tagged : (c k d : ℕ) (keys : List ℕ) → count_by (is_at (pair_cmp (c, k))) (tagged d keys) ≡ (if c == d then count_by (λ key. k == key) keys else 0)
 unfolding tagged
-count_tagged c k d [] = go (c == d)
-  where
-    go : (b : Bool) → ◌≡◌ {A = ℕ} 0 (if b then 0 else 0)
-    go true = refl
-    go false = refl
+count_tagged c k d [] = grind (arith, nat_tests)
 count_tagged c k d (key ∷ keys) =
     let all = sum_by-cons (λ pair. cond (is_at (pair_cmp (c, k)) pair) 1 0) (d, key) (tagged d keys) in
     let ones = sum_by-cons (λ j. cond (k == j) 1 0) key keys in
@@ -180,31 +118,14 @@ count_tagged c k d (key ∷ keys) =
 
 any_in_both : {A : Type 0} (test : A → Bool) (xs ys : List A) → list_any test (xs ++ ys) ≡ (list_any test xs || list_any test ys)
 any_in_both test [] ys = refl
-any_in_both test (x ∷ xs) ys = ap (λ (b : Bool). test x || b) (any_in_both test xs ys) ∙ grouped (test x)
-  where
-    grouped : (b : Bool) → (b || (list_any test xs || list_any test ys)) ≡ ((b || list_any test xs) || list_any test ys)
-    grouped true = refl
-    grouped false = refl
+any_in_both test (x ∷ xs) ys = grind (arith, nat_tests, any_in_both test xs ys)
 
 -- different pairs of a class, before pairs of others
 tagged_more : (c : ℕ) (keys : List ℕ) (others : List (ℕ × ℕ)) → ((k : ℕ) → list_any (eq_by_cmp pair_cmp (c, k)) others ≡ false)
     → distinct_count (eq_by_cmp pair_cmp) (tagged c keys ++ others) ≡ length (distinct keys) + distinct_count (eq_by_cmp pair_cmp) others
 unfolding tagged
 tagged_more c [] others apart = omega arith
-tagged_more c (key ∷ keys) others apart =
-    let seen : list_any (eq_by_cmp pair_cmp (c, key)) (tagged c keys ++ others) ≡ list_any (λ m. m == key) keys =
-    any_in_both (eq_by_cmp pair_cmp (c, key)) (tagged c keys) others ∙ ap (λ (b : Bool). list_any (eq_by_cmp pair_cmp (c, key)) (tagged c keys) || b) (apart key) ∙ none_more (list_any (eq_by_cmp pair_cmp (c, key)) (tagged c keys)) ∙ any_tagged c key keys in
-    elim (cases_Bool (list_any (λ m. m == key) keys)) [
-      | inl y ↦ let x : list_any (eq_by_cmp pair_cmp (c, key)) (tagged c keys ++ others) ≡ true = seen ∙ y in rw (x, y) (tagged_more c keys others apart)
-      | inr y ↦ let x : list_any (eq_by_cmp pair_cmp (c, key)) (tagged c keys ++ others) ≡ false = seen ∙ y in rw (x, y) (ap suc (tagged_more c keys others apart) ∙ one_more (length (distinct keys)) (distinct_count (eq_by_cmp pair_cmp) others))
-    ]
-  where
-    none_more : (b : Bool) → (b || false) ≡ b
-    none_more true = refl
-    none_more false = refl
-
-    one_more : (m n : ℕ) → suc (m + n) ≡ suc m + n
-    one_more m n = omega arith
+tagged_more c (key ∷ keys) others apart = grind (arith, nat_tests, any_in_both (eq_by_cmp pair_cmp (c, key)) (tagged c keys) others, any_tagged c key keys, tagged_more c keys others apart)
 
 -- the pairs of the four classes
 abbrev of_class : ℕ → OwnerTree → List ℕ
@@ -266,19 +187,11 @@ pairs_different owners =
 -- what is counted of a class is what owners hold of it
 pub class_counted : (table : OwnerTable) (counts : Held) (class key : ℕ) → IsCounted table counts
     → ◌≡◌ {A = ℕ} (if is_class class then held (record { 0 = class }) key (owners_of table) else 0) (if is_class class then times_held counts (record { 0 = class }) key else 0)
-class_counted table counts class key s =
-    elim (cases_Bool (is_class class)) [
-      | inl y ↦ rw y (sym (s.counted (record { 0 = class }) key (small class y)))
-      | inr n ↦ rw n refl
-    ]
-  where
-    small : (c : ℕ) → is_class c ≡ true → c < 16
-    small c is = grind (arith, nat_tests)
+class_counted table counts class key s = grind (arith, nat_tests)
 
 -- the nine numbers
 pub counts_are : (pins files descriptors locks snapshots plans refs owners contexts : ℕ) (session : SessionState) → pins ≡ count buffer_pin session → files ≡ count file_kind session → descriptors ≡ length session.recent → locks ≡ length session.locks
     → snapshots ≡ length (distinct (keys_of (record { 0 = 7 }) (all_items session.owners) ++ snapshots_of session.snapshots)) → plans ≡ length session.plans → refs ≡ classes_different session.owners → owners ≡ size session.owners
     → contexts ≡ size session.contexts
     → ◌≡◌ {A = SessionCounts} (record { pins = pins; files = files; descriptors = descriptors; locks = locks; snapshots = snapshots; plans = plans; refs = refs; owners = owners; contexts = contexts }) (counts session)
-counts_are pins files descriptors locks snapshots plans refs owners contexts session e f g h j k l m n =
-    λ i. record { pins = e i; files = f i; descriptors = g i; locks = h i; snapshots = j i; plans = k i; refs = l i; owners = m i; contexts = n i }
+counts_are pins files descriptors locks snapshots plans refs owners contexts session e f g h j k l m n = grind (arith, nat_tests)

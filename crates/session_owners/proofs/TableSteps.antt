@@ -1,30 +1,6 @@
 -- What the tables of a session's items do in a release: the steps of the rules.
-use Rattle.std.proofs.Common.{◌≡◌, ℕ, ◌≤◌, Bool, true, false, List, [], ◌∷◌, append-nil, refl, sym, ap, ◌∙◌, subst, arith}
-use Rattle.std.specs.Prelude.{zero, suc, ◌<◌, ◌==◌, ◌-◌, nat_lt, if◌then◌else◌, map, Contains}
-use Rattle.std.proofs.lemmas.Bool.{eqb-true, lt-ltb, ne_eqb}
-use Rattle.counts.specs.Counts.{total}
-use Rattle.pgs_step.specs.declared.events.What.{What}
-use Rattle.pgs_step.specs.declared.events.What.TheVariants as what
-use Rattle.pgs_step.specs.declared.ids.Item.{Item}
-use Rattle.pgs_step.specs.declared.ids.KindId.{KindId}
-use Rattle.owner_kinds.specs.Kind.{Kind, changed_at, closed, opened}
-use Rattle.owner_core.specs.Steps.{Step, GivesBack}
-use Rattle.lock_local.specs.Locks.{Lock}
-use Rattle.file_table.specs.Descriptors.{is_among, without}
-use Rattle.file_table.specs.Files.{Files, closed_file, closing_events}
-use Rattle.file_table.proofs.FileLists.{without_missing}
-use Rattle.context_rules.specs.Contexts.{Contexts}
-use Rattle.reset_callbacks.specs.ShelfState.{ShelfState}
-use Rattle.plan_store.specs.Plans.{Plans, references}
-use Rattle.session_rules.specs.World.{Scene}
-use Rattle.session_rules.specs.Acts.{Ended}
-use Rattle.session_rules.specs.Releases.{Keeper, NoOne, ThePlans, TheDescriptors, TheKind, keeper_of, left_to, plan_left, step_done}
-use Rattle.session_rules.proofs.ItemsStand.{extension_keeps}
-use Rattle.session_owners.specs.Hosting.{HostsFit, hosting_of}
-use Rattle.session_owners.specs.PlanStates.{plan_state}
-use Rattle.session_owners.specs.Placing.{AreLeft, PlansDo, contexts_of, with_plans}
-use Rattle.session_owners.specs.Tables.{Held, Lending, TablesDo, TablesFit, lending_of, with_lending}
-use Rattle.session_owners.specs.TableLaws.{lending_is}
+use Rattle.session_owners.proofs.Base.{nat_tests, ◌≡◌, ℕ, ◌≤◌, Bool, true, false, List, [], ◌∷◌, append-nil, refl, sym, ap, ◌∙◌, subst, arith, zero, suc, ◌<◌, ◌==◌, ◌-◌, nat_lt, if◌then◌else◌, map, Contains, eqb-true, lt-ltb, ne_eqb}
+use Rattle.session_owners.proofs.Words.{total, What, Item, KindId, Kind, changed_at, closed, opened, Step, GivesBack, Lock, is_among, without, closed_file, closing_events, without_missing, Contexts, ShelfState, Plans, references, Scene, Ended, Keeper, NoOne, ThePlans, TheDescriptors, TheKind, keeper_of, left_to, plan_left, step_done, extension_keeps, HostsFit, hosting_of, AreLeft, PlansDo, contexts_of, with_plans, Held, Lending, TablesDo, TablesFit, lending_of, with_lending, lending_is}
 
 -- a pin is no file, and no reference to a plan
 pub pin_is_other : (kind : ℕ) → (kind == 1) ≡ true → (kind == 8) ≡ false
@@ -51,10 +27,7 @@ one_step a b step events does descriptors stack fewer fewer_plans left limits = 
 
 -- What keeps count of an item that is built in and neither a file nor a plan's reference has none.
 left_still : (keeper : Keeper) (key : ℕ) (scene : Scene) → (keeper ≡ ThePlans → ⊥) → (keeper ≡ TheDescriptors → ⊥) → ((place : ℕ) → keeper ≡ TheKind place → ⊥) → left_to keeper key scene ≡ record { scene = scene; events = [] }
-left_still NoOne key scene no_plan no_file no_kind = refl
-left_still ThePlans key scene no_plan no_file no_kind = absurd (no_plan refl)
-left_still TheDescriptors key scene no_plan no_file no_kind = absurd (no_file refl)
-left_still (TheKind place) key scene no_plan no_file no_kind = absurd (no_kind place refl)
+left_still x0 key scene no_plan no_file no_kind = grind arith
 
 no_plan : (kind : KindId) → (kind.0 == 5) ≡ false → keeper_of kind ≡ ThePlans → ⊥
 no_plan kind other = rw other (go (kind.0 == 8) (nat_lt kind.0 16))
@@ -85,18 +58,7 @@ left_same a b same id here = subst (λ (p : Plans). Contains (contexts_of p.stan
 
 pub does_give : (a b : Held) (kinds : List Kind) (ls : List Lock) (cs : Contexts) (xs : ShelfState) (item : Item) → item.kind.0 < 16 → (item.kind.0 == 8) ≡ false → (item.kind.0 == 5) ≡ false → b.files ≡ a.files → b.snapshots.stack ≡ a.snapshots.stack → b.plans ≡ a.plans
     → total b.references ≤ total a.references → TablesDo (lending_of a kinds ls cs xs) (GivesBack item ∷ []) [] (lending_of b kinds ls cs xs)
-does_give a b kinds ls cs xs item low other no_reference files stack plans fewer =
-    one_step (lending_of a kinds ls cs xs) (lending_of b kinds ls cs xs) (GivesBack item) []
-    (λ scene fit. left_still (keeper_of item.kind) item.key scene (no_plan item.kind no_reference) (no_file item.kind other) (no_kind item.kind low)
-    ∙ ap (λ (s : Scene). record { scene = s; events = [] }) (lending_is (lending_of b kinds ls cs xs) scene (record {
-      recent = fit.recent ∙ ap (λ (f : Files). f.recent) (sym files);
-      kinds = fit.kinds;
-      locks = fit.locks;
-      plans = fit.plans ∙ ap (λ (p : Plans). map plan_state p.standing) (sym plans);
-      contexts = fit.contexts;
-      shelf = fit.shelf;
-    })))
-    (ap (λ (f : Files). f.descriptors) files) stack fewer (let same : references b.plans ≡ references a.plans = ap (λ (p : Plans). references p) plans in omega (arith, same)) (left_same a.plans b.plans plans) refl
+does_give a b kinds ls cs xs item low other no_reference files stack plans fewer = grind (arith, nat_tests, one_step (lending_of a kinds ls cs xs) (lending_of b kinds ls cs xs) (GivesBack item) [], left_still (keeper_of item.kind) item.key, left_same a.plans b.plans plans)
 
 -- what never changes of kinds
 limits_kept : (kinds : List Kind) (i : ℕ) (change : Kind → Kind) → ((k : Kind) → (change k).limit ≡ k.limit) → map (λ k. k.limit) (changed_at i change kinds) ≡ map (λ k. k.limit) kinds
@@ -113,38 +75,19 @@ limits_closed kinds i key = limits_kept kinds i (closed key) (λ k. refl)
 -- An extension kind holds a key once less.
 pub does_leave : (a : Held) (kinds after : List Kind) (ls : List Lock) (cs : Contexts) (xs : ShelfState) (item : Item) → 16 ≤ item.kind.0 → after ≡ changed_at (item.kind.0 - 16) (closed item.key) kinds
     → TablesDo (lending_of a kinds ls cs xs) (GivesBack item ∷ []) [] (lending_of a after ls cs xs)
-does_leave a kinds after ls cs xs item high is =
-    one_step (lending_of a kinds ls cs xs) (lending_of a after ls cs xs) (GivesBack item) []
-    (λ scene fit. ap (λ (k : Keeper). left_to k item.key scene) (extension_keeps item.kind high)
-    ∙ ap (λ (ks : List Kind). record { scene = record scene { around = record scene.around { kinds = ks } }; events = [] }) (ap (changed_at (item.kind.0 - 16) (closed item.key)) fit.kinds ∙ sym is)
-    ∙ ap (λ (s : Scene). record { scene = record s { around = record s.around { kinds = after } }; events = [] }) (lending_is (lending_of a kinds ls cs xs) scene fit))
-    refl refl (omega arith) (omega arith) (λ id here. here) (ap (map (λ k. k.limit)) is ∙ limits_closed kinds (item.kind.0 - 16) item.key)
+does_leave a kinds after ls cs xs item high is = grind (arith, one_step (lending_of a kinds ls cs xs) (lending_of a after ls cs xs) (GivesBack item) [], extension_keeps item.kind high, limits_closed kinds (item.kind.0 - 16) item.key)
 
 -- A file is closed.
 descriptor_left : (file : ℕ) (scene : Scene) → left_to TheDescriptors file scene
-    ≡ record { scene = record scene { session = record scene.session { recent = without file scene.session.recent } }; events = if is_among file scene.session.recent then what.DescriptorClosed file ∷ [] else [] }
-descriptor_left file scene = (elim (is_among file scene.session.recent) as (λ b. is_among file scene.session.recent ≡ b → left_to TheDescriptors file scene
-    ≡ record { scene = record scene { session = record scene.session { recent = without file scene.session.recent } }; events = if is_among file scene.session.recent then what.DescriptorClosed file ∷ [] else [] }) [
-      | true ↦ λ there. rw there refl
-      | false ↦ λ none. rw none (ap (λ (recent : List ℕ). record { scene = record scene { session = record scene.session { recent = recent } }; events = [] }) (sym (without_missing file scene.session.recent none)))
-    ]) refl
+    ≡ record { scene = record scene { session = record scene.session { recent = without file scene.session.recent } }; events = if is_among file scene.session.recent then What.DescriptorClosed file ∷ [] else [] }
+descriptor_left file scene = grind (arith, without_missing file scene.session.recent)
 
 is_file : (kind : KindId) → kind.0 ≡ 8 → keeper_of kind ≡ TheDescriptors
 is_file kind is = ap (λ (k : ℕ). keeper_of (record { 0 = k })) is
 
 pub does_close : (a b : Held) (kinds : List Kind) (ls : List Lock) (cs : Contexts) (xs : ShelfState) (item : Item) → item.kind.0 ≡ 8 → b ≡ record a { files = closed_file item.key a.files }
     → TablesDo (lending_of a kinds ls cs xs) (GivesBack item ∷ []) (closing_events item.key a.files) (lending_of b kinds ls cs xs)
-does_close a b kinds ls cs xs item is new =
-    one_step (lending_of a kinds ls cs xs) (lending_of b kinds ls cs xs) (GivesBack item) (closing_events item.key a.files)
-    (λ scene fit. ap (λ (k : Keeper). left_to k item.key scene) (is_file item.kind is)
-    ∙ descriptor_left item.key scene
-    ∙ ap (λ (s : Scene). record { scene = record s { session = record s.session { recent = without item.key s.session.recent } }; events = if is_among item.key s.session.recent then what.DescriptorClosed item.key ∷ [] else [] }) (lending_is (lending_of a kinds ls cs xs) scene fit)
-    ∙ ap (λ (h : Held). record { scene = with_lending (lending_of h kinds ls cs xs) scene; events = closing_events item.key a.files }) (sym new))
-    (ap (λ (h : Held). h.files.descriptors) new) (ap (λ (h : Held). h.snapshots.stack) new)
-    (let same : total b.references ≡ total a.references = ap (λ (h : Held). total h.references) new in omega (arith, same))
-    (let same : references b.plans ≡ references a.plans = ap (λ (h : Held). references h.plans) new in omega (arith, same))
-    (left_same a.plans b.plans (ap (λ (h : Held). h.plans) new))
-    refl
+does_close a b kinds ls cs xs item is new = grind (arith, one_step (lending_of a kinds ls cs xs) (lending_of b kinds ls cs xs) (GivesBack item) (closing_events item.key a.files), is_file item.kind is, descriptor_left item.key, left_same a.plans b.plans)
 
 -- A reference to a plan is given back.
 is_plan : (kind : KindId) → kind.0 ≡ 5 → keeper_of kind ≡ ThePlans

@@ -1,11 +1,6 @@
-use Rattle.std.proofs.Common.{[], refl}
-use Rattle.pgs_command.specs.declared.commands.Work.{Work}
-use Rattle.session_rules.specs.Works.{row_of}
-use Rattle.session_store.specs.State.{portals_of}
-use Rattle.session_commands.specs.Performed.{most_work}
-use Rattle.session_commands.proofs.Commands.{as_row}
-use Rattle.session_core.proofs.ByState.{performed_refused}
-use Rattle.session_core.proofs.Working.{work_as}
+use Rattle.session_core.proofs.Base.{[], refl}
+use Rattle.session_core.proofs.Words.{Work, row_of, portals_of, most_work, as_row}
+use Rattle.session_core.proofs.Lemmas.{performed_refused, work_as}
 use Rattle.session_core.proofs.works.do_work.Goals as goal
 
 pub returns-in-Raise : goal.returns-in-Raise

@@ -1,9 +1,6 @@
-use Rattle.std.proofs.Common.{◌≡◌, ◌∙◌, [], None, Some, ap, nat_eq, refl, subst, sym, true}
-use Rattle.std.specs.Prelude.{◌==◌, if◌then◌else◌, IfSome}
-use Rattle.std.specs.Map.{lookup, remove_entry, set_value}
-use Rattle.pgs_step.specs.declared.ids.CtxId.{CtxId}
-use Rattle.session_owners.specs.Hosting.{hosting_of}
-use Rattle.session_owners.proofs.PlanSteps.{fit_gone, fit_set, in_some, is_kept, discard_goes, discard_stays, left_gone, left_set, of_plan, on_none, on_some, picks}
+use Rattle.session_owners.proofs.Base.{nat_tests, arith, ◌≡◌, ◌∙◌, None, Some, ap, nat_eq, refl, subst, sym, true, ◌==◌, if◌then◌else◌, IfSome, lookup, remove_entry, set_value}
+use Rattle.session_owners.proofs.Words.{CtxId, hosting_of}
+use Rattle.session_owners.proofs.Lemmas.{fit_gone, fit_set, in_some, is_kept, discard_goes, discard_stays, left_gone, left_set, of_plan, on_none, on_some, picks}
 use Rattle.session_owners.proofs.plans.discard.Goals as goal
 
 pub drop_context-requires : goal.drop_context-requires
@@ -36,15 +33,7 @@ returns-in-Ok-Some-clause-left g c =
     left_gone c.args.plan c.args.plans.now.standing c.discard.new.self.standing (on_some c.in-Ok-Some.field-0 c.in-Ok-Some.context (c.discard.new.self.standing ≡ remove_entry (nat_eq c.args.plan) c.args.plans.now.standing) c.in-Ok-Some.field-0-is c.in-Ok-Some.ensures.gone)
 
 pub returns-in-Ok-None-clause-done : goal.returns-in-Ok-None-clause-done
-returns-in-Ok-None-clause-done g c =
-    let k = is_kept (lookup (nat_eq c.args.plan) c.args.plans.now.standing) c.requires.usable in
-    let picked = sym c.in-Ok-None.field-0-is ∙ in_some (lookup (nat_eq c.args.plan) c.args.plans.now.standing) k.0 (λ kept. c.in-Ok-None.field-0 ≡ (if kept.references == 0 then Some kept.context else None)) k.1 c.in-Ok-None.ensures.context in (
-      [],
-      discard_stays c.args.plan k.0 c.args.plans.now.standing c.discard.new.self.standing (hosting_of (g.P.PlanContexts.contexts c.args.place.now) (g.P.PlanContexts.shelf c.args.place.now)) c.laws.ensures.sound.different k.1 picked
-          (in_some (lookup (nat_eq c.args.plan) c.args.plans.now.standing) k.0 (λ kept. c.discard.new.self.standing ≡ set_value (nat_eq c.args.plan) c.args.plans.now.standing (record kept { discarded = true })) k.1
-          (on_none c.in-Ok-None.field-0 (IfSome (lookup (nat_eq c.args.plan) c.args.plans.now.standing) (λ kept. c.discard.new.self.standing ≡ set_value (nat_eq c.args.plan) c.args.plans.now.standing (record kept { discarded = true }))) c.in-Ok-None.field-0-is c.in-Ok-None.ensures.stays)),
-      g.met.E.Emit.emits_none c.args.out.now,
-    )
+returns-in-Ok-None-clause-done g c = grind (arith, nat_tests, is_kept (lookup (nat_eq c.args.plan) c.args.plans.now.standing) c.requires.usable, in_some (lookup (nat_eq c.args.plan) c.args.plans.now.standing) (is_kept (lookup (nat_eq c.args.plan) c.args.plans.now.standing) c.requires.usable).0, on_none c.in-Ok-None.field-0, discard_stays, c.requires.usable, c.in-Ok-None.field-0-is, c.in-Ok-None.ensures.context, c.laws.ensures.sound.different, c.in-Ok-None.ensures.stays)
 
 pub returns-in-Ok-None-clause-fit : goal.returns-in-Ok-None-clause-fit
 returns-in-Ok-None-clause-fit g c =

@@ -1,9 +1,6 @@
-use Rattle.std.proofs.Common.{◌≡◌, ◌∙◌, ◌-◌, [], None, Some, ap, nat_eq, refl, subst, sym}
-use Rattle.std.specs.Prelude.{◌==◌, ◌&&◌, if◌then◌else◌, IfSome}
-use Rattle.std.specs.Map.{lookup, remove_entry, set_value}
-use Rattle.pgs_step.specs.declared.ids.CtxId.{CtxId}
-use Rattle.session_owners.specs.Hosting.{hosting_of}
-use Rattle.session_owners.proofs.PlanSteps.{fit_gone, fit_set, in_some, is_referred, leave_goes, leave_stays, left_gone, left_set, of_plan, on_none, on_some, picks}
+use Rattle.session_owners.proofs.Base.{nat_tests, arith, ◌≡◌, ◌∙◌, ◌-◌, None, Some, ap, nat_eq, refl, subst, sym, ◌==◌, ◌&&◌, if◌then◌else◌, IfSome, lookup, remove_entry, set_value}
+use Rattle.session_owners.proofs.Words.{CtxId, hosting_of}
+use Rattle.session_owners.proofs.Lemmas.{fit_gone, fit_set, in_some, is_referred, leave_goes, leave_stays, left_gone, left_set, of_plan, on_none, on_some, picks}
 use Rattle.session_owners.proofs.plans.leave.Goals as goal
 
 pub drop_context-requires : goal.drop_context-requires
@@ -36,15 +33,7 @@ returns-in-Ok-Some-clause-left g c =
     left_gone c.args.plan c.args.plans.now.standing c.drop_ref.new.self.standing (on_some c.in-Ok-Some.field-0 c.in-Ok-Some.context (c.drop_ref.new.self.standing ≡ remove_entry (nat_eq c.args.plan) c.args.plans.now.standing) c.in-Ok-Some.field-0-is c.in-Ok-Some.ensures.gone)
 
 pub returns-in-Ok-None-clause-done : goal.returns-in-Ok-None-clause-done
-returns-in-Ok-None-clause-done g c =
-    let k = is_referred (lookup (nat_eq c.args.plan) c.args.plans.now.standing) c.requires.referred in
-    let picked = sym c.in-Ok-None.field-0-is ∙ in_some (lookup (nat_eq c.args.plan) c.args.plans.now.standing) k.0 (λ kept. c.in-Ok-None.field-0 ≡ (if kept.discarded && (kept.references == 1) then Some kept.context else None)) k.1 c.in-Ok-None.ensures.context in (
-      [],
-      leave_stays c.args.plan k.0 c.args.plans.now.standing c.drop_ref.new.self.standing (hosting_of (g.P.PlanContexts.contexts c.args.place.now) (g.P.PlanContexts.shelf c.args.place.now)) c.laws.ensures.sound.different k.1 k.2 picked
-          (in_some (lookup (nat_eq c.args.plan) c.args.plans.now.standing) k.0 (λ kept. c.drop_ref.new.self.standing ≡ set_value (nat_eq c.args.plan) c.args.plans.now.standing (record kept { references = kept.references - 1 })) k.1
-          (on_none c.in-Ok-None.field-0 (IfSome (lookup (nat_eq c.args.plan) c.args.plans.now.standing) (λ kept. c.drop_ref.new.self.standing ≡ set_value (nat_eq c.args.plan) c.args.plans.now.standing (record kept { references = kept.references - 1 }))) c.in-Ok-None.field-0-is c.in-Ok-None.ensures.stays)),
-      g.met.E.Emit.emits_none c.args.out.now,
-    )
+returns-in-Ok-None-clause-done g c = grind (arith, nat_tests, is_referred (lookup (nat_eq c.args.plan) c.args.plans.now.standing) c.requires.referred, in_some (lookup (nat_eq c.args.plan) c.args.plans.now.standing) (is_referred (lookup (nat_eq c.args.plan) c.args.plans.now.standing) c.requires.referred).0, on_none c.in-Ok-None.field-0, leave_stays, c.requires.referred, c.in-Ok-None.field-0-is, c.in-Ok-None.ensures.context, c.laws.ensures.sound.different, c.in-Ok-None.ensures.stays)
 
 pub returns-in-Ok-None-clause-fit : goal.returns-in-Ok-None-clause-fit
 returns-in-Ok-None-clause-fit g c =

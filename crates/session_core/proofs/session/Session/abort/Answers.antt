@@ -1,16 +1,10 @@
-use Rattle.std.proofs.Common.{◌≡◌, IfSome, false, refl, subst}
-use Rattle.session_rules.specs.State.{first_of}
-use Rattle.session_rules.specs.Standing.{IsOpen}
-use Rattle.session_store.specs.State.{StoreState, levels_of}
-use Rattle.session_commands.specs.Performed.{IsBetweenSteps, now}
-use Rattle.session_core.proofs.Between.{abort_between, between_of}
-use Rattle.session_core.proofs.OnLevels.{abort_performed}
-use Rattle.session_core.proofs.Seen.{seen, serves_of, stands_of}
+use Rattle.session_core.proofs.Base.{arith, ◌≡◌, IfSome, false, refl, subst}
+use Rattle.session_core.proofs.Words.{first_of, IsOpen, StoreState, levels_of, IsBetweenSteps, now}
+use Rattle.session_core.proofs.Lemmas.{abort_between, between_of, abort_performed, seen, serves_of, stands_of}
 use Rattle.session_core.proofs.session.Session.abort.Goals as goal
 
 pub abort-requires-clause-stands : goal.abort-requires-clause-stands
-abort-requires-clause-stands g c =
-    stands_of c.self.inside.store c.args.self.now c.self.view_is c.args.shared.now.space.now c.args.shared.now.shelf.now c.args.shared.now.commons.now c.requires.between.stands
+abort-requires-clause-stands g c = grind (arith, stands_of c.self.inside.store c.args.self.now c.self.view_is c.args.shared.now.space.now c.args.shared.now.shelf.now c.args.shared.now.commons.now c.requires.between.stands, c.self.view_is, c.requires.between.stands)
 
 pub returns-clause-performed : goal.returns-clause-performed
 returns-clause-performed g c =

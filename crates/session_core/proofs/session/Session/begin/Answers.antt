@@ -1,7 +1,6 @@
-use Rattle.std.proofs.Common.{refl}
-use Rattle.session_core.proofs.ByState.{performed_ok}
-use Rattle.session_commands.proofs.Performing.{performed_stop}
-use Rattle.session_commands.proofs.Refusing.{handed}
+use Rattle.session_core.proofs.Base.{refl}
+use Rattle.session_core.proofs.Words.{performed_stop, handed}
+use Rattle.session_core.proofs.Lemmas.{performed_ok}
 use Rattle.session_core.proofs.session.Session.begin.Goals as goal
 
 pub returns-in_err-start_level-clause-performed : goal.returns-in_err-start_level-clause-performed

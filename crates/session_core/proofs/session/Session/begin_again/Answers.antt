@@ -1,6 +1,5 @@
-use Rattle.std.proofs.Common.{refl}
-use Rattle.session_commands.proofs.Chains.{room_left}
-use Rattle.session_commands.proofs.Performing.{performed_both}
+use Rattle.session_core.proofs.Base.{refl}
+use Rattle.session_core.proofs.Words.{room_left, performed_both}
 use Rattle.session_core.proofs.session.Session.begin_again.Goals as goal
 
 pub start_level-requires-clause-room : goal.start_level-requires-clause-room

@@ -1,10 +1,6 @@
-use Rattle.std.proofs.Common.{◌≡◌, ◌<◌, true, length, refl, subst, sym}
-use Rattle.session_rules.specs.State.{is_aborted}
-use Rattle.session_store.specs.State.{StoreState, levels_of}
-use Rattle.session_commands.specs.Performed.{Now, now}
-use Rattle.session_core.proofs.Between.{between_of, clean_between, clean_rest}
-use Rattle.session_core.proofs.OnLevels.{cleanup_performed}
-use Rattle.session_core.proofs.Seen.{seen, stands_of}
+use Rattle.session_core.proofs.Base.{◌≡◌, ◌<◌, true, length, refl, subst, sym}
+use Rattle.session_core.proofs.Words.{is_aborted, StoreState, levels_of, Now, now}
+use Rattle.session_core.proofs.Lemmas.{between_of, clean_between, clean_rest, cleanup_performed, seen, stands_of}
 use Rattle.session_core.proofs.session.Session.clean_up.Goals as goal
 
 pub clean_up-requires-clause-stands : goal.clean_up-requires-clause-stands

@@ -1,5 +1,5 @@
-use Rattle.std.proofs.Common.{refl}
-use Rattle.session_commands.proofs.Performing.{performed_both}
+use Rattle.session_core.proofs.Base.{refl}
+use Rattle.session_core.proofs.Words.{performed_both}
 use Rattle.session_core.proofs.session.Session.commit_all.Goals as goal
 
 pub returns : goal.returns

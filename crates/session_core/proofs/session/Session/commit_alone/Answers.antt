@@ -1,5 +1,5 @@
-use Rattle.std.proofs.Common.{refl}
-use Rattle.session_core.proofs.ByState.{performed_ok}
+use Rattle.session_core.proofs.Base.{refl}
+use Rattle.session_core.proofs.Lemmas.{performed_ok}
 use Rattle.session_core.proofs.session.Session.commit_alone.Goals as goal
 
 pub returns : goal.returns

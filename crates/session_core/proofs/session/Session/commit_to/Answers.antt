@@ -1,5 +1,5 @@
-use Rattle.std.proofs.Common.{◌≤◌, ◌<◌, length, refl, arith}
-use Rattle.session_core.proofs.Rolling.{committing_done, committing_left, committing_on, committing_start}
+use Rattle.session_core.proofs.Base.{◌≤◌, ◌<◌, length, refl, arith}
+use Rattle.session_core.proofs.Lemmas.{committing_done, committing_left, committing_on, committing_start}
 use Rattle.session_core.proofs.session.Session.commit_to.Goals as goal
 
 pub loop-self-init : goal.loop-self-init
@@ -17,6 +17,4 @@ returns-clause-performed g c =
     committing_done _ _ _ _ c.loop-self.invariant below
 
 pub returns-clause-left : goal.returns-clause-left
-returns-clause-left g c within =
-    let below : length c.loop-self.self.levels < c.args.level = omega (arith, c.loop-self-test.false, c.depth.ensures.depth) in
-    committing_left _ _ _ _ c.loop-self.invariant below within
+returns-clause-left g c within = grind (arith, committing_left, c.loop-self-test.false, c.depth.ensures.depth, c.loop-self.invariant)

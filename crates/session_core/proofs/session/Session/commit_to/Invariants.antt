@@ -1,6 +1,6 @@
-use Rattle.std.proofs.Common.{length}
-use Rattle.session_commands.specs.Performed.{now}
-use Rattle.session_core.proofs.Rolling.{IsCommitting}
+use Rattle.session_core.proofs.Base.{length}
+use Rattle.session_core.proofs.Words.{now}
+use Rattle.session_core.proofs.Lemmas.{IsCommitting}
 use Rattle.session_core.proofs.session.Session.commit_to.Given as goal
 
 -- what is done and what remains is what is to be done in all

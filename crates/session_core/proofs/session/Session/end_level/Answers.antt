@@ -1,8 +1,6 @@
-use Rattle.std.proofs.Common.{◌≡◌, true, false, sym, ap, ◌∙◌}
-use Rattle.session_rules.specs.State.{is_aborted}
-use Rattle.session_store.specs.State.{StoreState, levels_of}
-use Rattle.session_core.proofs.ByState.{as_elements}
-use Rattle.session_core.proofs.Rolling.{deepest_rolled}
+use Rattle.session_core.proofs.Base.{◌≡◌, true, false, sym, ap, ◌∙◌}
+use Rattle.session_core.proofs.Words.{is_aborted, StoreState, levels_of}
+use Rattle.session_core.proofs.Lemmas.{as_elements, deepest_rolled}
 use Rattle.session_core.proofs.session.Session.end_level.Goals as goal
 
 pub returns-then-is_aborted-clause-performed : goal.returns-then-is_aborted-clause-performed

@@ -1,9 +1,6 @@
-use Rattle.std.proofs.Common.{◌∙◌, ap, refl, sym, subst}
-use Rattle.session_store.specs.State.{StoreState}
-use Rattle.session_core.specs.Ended.{Ends}
-use Rattle.session_commands.specs.Performed.{now}
-use Rattle.session_core.proofs.Exited.{all_rolled, none_below, rolled_ends, session_exits}
-use Rattle.session_core.proofs.Seen.{stands_of}
+use Rattle.session_core.proofs.Base.{◌∙◌, ap, refl, sym, subst}
+use Rattle.session_core.proofs.Words.{StoreState, Ends, now}
+use Rattle.session_core.proofs.Lemmas.{all_rolled, none_below, rolled_ends, session_exits, stands_of}
 use Rattle.session_core.proofs.session.Session.exit.Goals as goal
 
 pub close-requires-clause-stands : goal.close-requires-clause-stands

@@ -1,14 +1,6 @@
-use Rattle.std.proofs.Common.{◌≡◌, ◌<◌, [], ◌∷◌, length, ap, refl, subst, sym, arith}
-use Rattle.session_rules.specs.Acts.{in_order}
-use Rattle.session_rules.specs.Ends.{aborted, cleaned_up, given_up}
-use Rattle.session_store.proofs.Depths.{levels_long}
-use Rattle.session_store.specs.State.{StoreState, levels_of}
-use Rattle.session_commands.specs.Performed.{Now, now}
-use Rattle.session_core.proofs.Between.{between_of, roll_between}
-use Rattle.session_core.proofs.Numbers.{aborts, rolls}
-use Rattle.session_core.proofs.Recovered.{ended, ends_as, ends_both, ends_seen, gives_start, gives_start_alone, starting_some}
-use Rattle.session_core.proofs.Rolling.{one_less}
-use Rattle.session_core.proofs.Seen.{serves_of, stands_of}
+use Rattle.session_core.proofs.Base.{◌≡◌, ◌<◌, [], ◌∷◌, length, ap, refl, subst, sym, arith}
+use Rattle.session_core.proofs.Words.{in_order, aborted, cleaned_up, given_up, levels_long, StoreState, levels_of, Now, now}
+use Rattle.session_core.proofs.Lemmas.{between_of, roll_between, aborts, rolls, ended, ends_as, ends_both, ends_seen, gives_start, gives_start_alone, starting_some, one_less, serves_of, stands_of}
 use Rattle.session_core.proofs.session.Session.give_up_start.Goals as goal
 
 pub roll_back-requires-clause-stands : goal.roll_back-requires-clause-stands
@@ -36,12 +28,7 @@ abort-requires-clause-stands g c =
     between.stands
 
 pub abort-requires-clause-serves : goal.abort-requires-clause-serves
-abort-requires-clause-serves g c =
-    let left : Now = record { store = c.roll_back.new.store; space = c.roll_back.new.space; shelf = c.roll_back.new.shelf; commons = c.roll_back.new.commons; calls = c.args.shared.now.calls.now } in
-    let some : 0 < length c.self.inside.store.levels = subst (λ (v : StoreState). 0 < length v.levels) (sym c.self.view_is) (starting_some c.args.self.now.levels c.requires.level) in
-    let between = roll_between (now c.self.inside.store c.args.shared.now) left _
-    (between_of c.self.inside.store c.args.self.now c.self.view_is (λ store. now store c.args.shared.now) c.requires.between) c.roll_back.ensures.keeps some c.roll_back.ensures.acted in
-    between.serves
+abort-requires-clause-serves g c = grind (arith, starting_some c.args.self.now.levels c.requires.level, roll_between (now c.self.inside.store c.args.shared.now), between_of c.self.inside.store c.args.self.now c.self.view_is, c.self.view_is, c.requires.level, c.requires.between, c.roll_back.ensures.keeps, c.roll_back.ensures.acted)
 
 pub returns : goal.returns
 returns g c =

@@ -1,28 +1,20 @@
-use Rattle.std.proofs.Common.{codes, refl}
-use Rattle.any_ctx.specs.declared.any.CtxKind.TheVariants as kind
-use Rattle.session_rules.specs.Elements as element
-use Rattle.session_rules.specs.Elements.{LevelContext}
-use Rattle.session_rules.specs.Making.{new_context_made, new_context_refused}
-use Rattle.session_commands.specs.Performed.{now}
-use Rattle.session_commands.proofs.Making.{context_done, context_not_made, does_make_context}
-use Rattle.session_core.proofs.Seen.{seen, stands_of}
-use Rattle.session_core.proofs.Starting.{level_is_new}
-use Rattle.session_commands.proofs.Stepping.{said_nothing, still_injected}
-use Rattle.session_commands.proofs.Refusing.{handed}
+use Rattle.session_core.proofs.Base.{codes, refl}
+use Rattle.session_core.proofs.Words.{CtxKind, Element, LevelContext, new_context_made, new_context_refused, now, context_done, context_not_made, does_make_context, said_nothing, still_injected, handed}
+use Rattle.session_core.proofs.Lemmas.{seen, stands_of, level_is_new}
 use Rattle.session_core.proofs.session.Session.make_context_of_level.Goals as goal
 
 pub returns-in_err-next : goal.returns-in_err-next
 returns-in_err-next g c = record {
   performed =
       handed _ _ c.from_residual.ensures.1
-      (still_injected (element.MakeContext LevelContext) (new_context_refused LevelContext) (new_context_made LevelContext) (does_make_context LevelContext) _ _ _ c.next.ensures.counted refl c.requires.between.keeps refl (g.met.E.Emit.emits_none c.args.out.now) refl _ c.in_err-next.ensures.injected);
+      (still_injected (Element.MakeContext LevelContext) (new_context_refused LevelContext) (new_context_made LevelContext) (does_make_context LevelContext) _ _ _ c.next.ensures.counted refl c.requires.between.keeps refl (g.met.E.Emit.emits_none c.args.out.now) refl _ c.in_err-next.ensures.injected);
 }
 
 pub returns : goal.returns
 returns g c = record {
   performed =
       seen c.self.inside.store c.args.self.now c.self.view_is 1 _ c.args.shared.now _ _ _
-      (context_done LevelContext (codes "CurTransactionContext") kind.Default (now c.self.inside.store c.args.shared.now) _ (level_is_new (now c.self.inside.store c.args.shared.now)) _ c.next.ensures.counted c.in_ok-next.ensures.goes c.make_level_context.ensures.keeps c.make_level_context.ensures.moves
+      (context_done LevelContext (codes "CurTransactionContext") CtxKind.Default (now c.self.inside.store c.args.shared.now) _ (level_is_new (now c.self.inside.store c.args.shared.now)) _ c.next.ensures.counted c.in_ok-next.ensures.goes c.make_level_context.ensures.keeps c.make_level_context.ensures.moves
       c.in_default.ensures.served (c.in_default.ensures.acted c.args.shared.now.shelf.now c.args.shared.now.commons.now) c.in_default.ensures.asked);
 }
 
@@ -30,7 +22,7 @@ pub returns-in-Err : goal.returns-in-Err
 returns-in-Err g c = record {
   performed =
       seen c.self.inside.store c.args.self.now c.self.view_is 1 _ c.args.shared.now _ _ _
-      (context_not_made LevelContext (codes "CurTransactionContext") kind.Default (now c.self.inside.store c.args.shared.now) _ (level_is_new (now c.self.inside.store c.args.shared.now)) _ c.next.ensures.counted c.in_ok-next.ensures.goes c.make_level_context.ensures.keeps c.make_level_context.ensures.moves
+      (context_not_made LevelContext (codes "CurTransactionContext") CtxKind.Default (now c.self.inside.store c.args.shared.now) _ (level_is_new (now c.self.inside.store c.args.shared.now)) _ c.next.ensures.counted c.in_ok-next.ensures.goes c.make_level_context.ensures.keeps c.make_level_context.ensures.moves
       (c.in-Err.ensures.refused c.args.shared.now.shelf.now c.args.shared.now.commons.now)
       (said_nothing g.E.Emit.emits c.args.out.now c.make_level_context.new.out (g.met.E.Emit.emits_none c.args.out.now) c.in-Err.ensures.silent)
       _ _ c.in-Err.ensures.cause c.call_error.ensures.memory c.call_error.ensures.own c.in-Err.ensures.err_asked);

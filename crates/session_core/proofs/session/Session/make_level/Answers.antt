@@ -1,10 +1,6 @@
-use Rattle.std.proofs.Common.{◌≤◌, Err, refl, ap, ◌∙◌}
-use Rattle.session_store.specs.State.{StoreState}
-use Rattle.session_commands.specs.Performed.{now}
-use Rattle.session_core.proofs.Seen.{keeps_of, levels_seen, seen}
-use Rattle.session_core.proofs.Starting.{few_levels, make_level, many_levels}
-use Rattle.session_commands.proofs.Stepping.{call_done, call_injected, call_refused, call_wants, said_nothing}
-use Rattle.session_commands.proofs.Refusing.{handed}
+use Rattle.session_core.proofs.Base.{◌≤◌, Err, refl, ap, ◌∙◌}
+use Rattle.session_core.proofs.Words.{StoreState, now, call_done, call_injected, call_refused, call_wants, said_nothing, handed}
+use Rattle.session_core.proofs.Lemmas.{keeps_of, levels_seen, seen, few_levels, make_level, many_levels}
 use Rattle.session_core.proofs.session.Session.make_level.Goals as goal
 
 pub returns-in_err-next : goal.returns-in_err-next

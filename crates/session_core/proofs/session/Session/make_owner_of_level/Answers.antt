@@ -1,10 +1,6 @@
-use Rattle.std.proofs.Common.{Err, refl, ap, ◌∙◌}
-use Rattle.session_core.proofs.Seen.{keeps_of, seen, stands_of}
-use Rattle.session_rules.specs.Elements.{OfLevel}
-use Rattle.session_commands.specs.Performed.{now}
-use Rattle.session_commands.proofs.Making.{few_owners, make_owner, many_owners}
-use Rattle.session_commands.proofs.Stepping.{call_done, call_injected, call_refused, call_wants, said_nothing}
-use Rattle.session_commands.proofs.Refusing.{handed}
+use Rattle.session_core.proofs.Base.{Err, refl, ap, ◌∙◌}
+use Rattle.session_core.proofs.Words.{OfLevel, now, few_owners, make_owner, many_owners, call_done, call_injected, call_refused, call_wants, said_nothing, handed}
+use Rattle.session_core.proofs.Lemmas.{keeps_of, seen, stands_of}
 use Rattle.session_core.proofs.session.Session.make_owner_of_level.Goals as goal
 
 pub returns-in_err-next : goal.returns-in_err-next

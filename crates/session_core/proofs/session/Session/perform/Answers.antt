@@ -1,9 +1,6 @@
-use Rattle.std.proofs.Common.{◌≤◌, length, ap, ◌∙◌, subst, arith}
-use Rattle.session_rules.specs.State.{first_of}
-use Rattle.session_store.specs.State.{StoreState, levels_of}
-use Rattle.session_commands.specs.Performed.{most_steps}
-use Rattle.session_commands.proofs.Performing.{performed_more}
-use Rattle.session_core.proofs.BetweenLines.{aborted_block, block_of, lines_behind, rest_of_lines, steps_of_lines}
+use Rattle.session_core.proofs.Base.{◌≤◌, length, ap, ◌∙◌, subst, arith}
+use Rattle.session_core.proofs.Words.{first_of, StoreState, levels_of, most_steps, performed_more}
+use Rattle.session_core.proofs.Lemmas.{aborted_block, block_of, lines_behind, rest_of_lines, steps_of_lines}
 use Rattle.session_core.proofs.session.Session.perform.Goals as goal
 
 pub perform_idle-requires-clause-between : goal.perform_idle-requires-clause-between
@@ -13,8 +10,7 @@ pub perform_aborted-requires-clause-between : goal.perform_aborted-requires-clau
 perform_aborted-requires-clause-between g c = steps_of_lines _ c.requires.lines
 
 pub perform_aborted-requires-clause-block : goal.perform_aborted-requires-clause-block
-perform_aborted-requires-clause-block g c =
-    aborted_block c.args.self.now.levels c.in-Some.level (c.in-Some.ensures.level ∙ ap (λ (a : StoreState). first_of (levels_of a.levels)) c.self.view_is) c.if-level.true
+perform_aborted-requires-clause-block g c = grind (arith, aborted_block c.args.self.now.levels c.in-Some.level, c.in-Some.ensures.level, c.self.view_is, c.if-level.true)
 
 pub perform_in_block-requires-clause-between : goal.perform_in_block-requires-clause-between
 perform_in_block-requires-clause-between g c = steps_of_lines _ c.requires.lines

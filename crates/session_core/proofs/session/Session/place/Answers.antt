@@ -1,12 +1,7 @@
 -- Where the store has the chunk.
-use Rattle.std.proofs.Common.{◌+◌, ◌≤◌, length, IfSome, sym, subst}
-use Rattle.context_rules.specs.Contexts.{found}
-use Rattle.context_rules.specs.Chunks.{written}
-use Rattle.session_rules.specs.Parts.{contexts_become}
-use Rattle.session_store.specs.State.{StoreState, contexts_in}
-use Rattle.session_store.specs.Calls.{Acted, ContextsAlone, IsSilent}
-use Rattle.session_core.proofs.Placing.{placed_lines}
-use Rattle.session_core.proofs.Seen.{keeps_of}
+use Rattle.session_core.proofs.Base.{arith, ◌+◌, ◌≤◌, length, IfSome, sym, subst}
+use Rattle.session_core.proofs.Words.{found, written, contexts_become, StoreState, contexts_in, Acted, ContextsAlone, IsSilent}
+use Rattle.session_core.proofs.Lemmas.{placed_lines, keeps_of}
 use Rattle.session_core.proofs.session.Session.place.Goals as goal
 
 pub returns-clause-alone : goal.returns-clause-alone
@@ -22,7 +17,4 @@ returns-clause-written g c s t offset bytes keeps within changes x commons =
     (subst (λ (a : StoreState). IfSome (found c.args.chunk.now (contexts_in a s)) (λ f. offset + length bytes ≤ length f.chunk.known)) (sym c.self.view_is) within) changes x commons)
 
 pub returns-clause-between : goal.returns-clause-between
-returns-clause-between g c s t offset bytes within changes x commons calls lines =
-    placed_lines c.args.self.now s t x commons calls c.args.chunk.now offset bytes
-    (returns-clause-alone g c s t offset bytes lines.keeps within changes commons)
-    (returns-clause-written g c s t offset bytes lines.keeps within changes x commons) lines
+returns-clause-between g c s t offset bytes within changes x commons calls lines = grind (arith, placed_lines c.args.self.now s t x commons calls c.args.chunk.now offset bytes, returns-clause-alone g c s t offset bytes lines.keeps within changes commons, returns-clause-written g c s t offset bytes lines.keeps within changes x commons)

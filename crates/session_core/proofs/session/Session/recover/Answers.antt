@@ -1,11 +1,6 @@
-use Rattle.std.proofs.Common.{◌≡◌, Some, ap, ◌∙◌, refl, sym}
-use Rattle.session_rules.specs.State.{first_of}
-use Rattle.session_store.specs.State.{StoreState, level_state, levels_of}
-use Rattle.session_core.proofs.Between.{recovery_lines}
-use Rattle.session_core.proofs.Numbers.{aborts, nothing_keeps, rolls}
-use Rattle.session_commands.proofs.Performing.{moves_nothing}
-use Rattle.session_core.proofs.Recovered.{acted_nothing, ended, ends_same, ends_seen, gives_aborted, gives_implicit, gives_none, gives_open, gives_up, recovery_ends}
-use Rattle.session_core.proofs.Seen.{keeps_of, serves_of, stands_of}
+use Rattle.session_core.proofs.Base.{arith, ◌≡◌, Some, ap, ◌∙◌, refl, sym}
+use Rattle.session_core.proofs.Words.{first_of, StoreState, level_state, levels_of, moves_nothing}
+use Rattle.session_core.proofs.Lemmas.{recovery_lines, aborts, nothing_keeps, rolls, acted_nothing, ended, ends_same, ends_seen, gives_aborted, gives_implicit, gives_none, gives_open, gives_up, recovery_ends, keeps_of, serves_of, stands_of}
 use Rattle.session_core.proofs.session.Session.recover.Goals as goal
 
 pub returns-in_default-clause-did : goal.returns-in_default-clause-did
@@ -53,8 +48,7 @@ pub returns-then-level-3-clause-lines : goal.returns-then-level-3-clause-lines
 returns-then-level-3-clause-lines g c = recovery_lines c.args.error _ _ _ c.requires.between (returns-then-level-3-clause-did g c)
 
 pub abort-requires-clause-stands : goal.abort-requires-clause-stands
-abort-requires-clause-stands g c =
-    stands_of c.self.inside.store c.args.self.now c.self.view_is c.args.shared.now.space.now c.args.shared.now.shelf.now c.args.shared.now.commons.now c.requires.between.stands
+abort-requires-clause-stands g c = grind (arith, stands_of c.self.inside.store c.args.self.now c.self.view_is c.args.shared.now.space.now c.args.shared.now.shelf.now c.args.shared.now.commons.now c.requires.between.stands, c.self.view_is, c.requires.between.stands)
 
 pub returns-clause-did : goal.returns-clause-did
 returns-clause-did g c =

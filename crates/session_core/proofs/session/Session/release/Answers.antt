@@ -1,8 +1,6 @@
-use Rattle.std.proofs.Common.{◌≡◌, None, Some, ap, ◌∙◌, refl}
-use Rattle.session_rules.specs.Commands.{committed_to, savepoint, then_ok}
-use Rattle.session_store.specs.State.{StoreState, levels_of}
-use Rattle.session_core.proofs.ByState.{as_elements, performed_ok, performed_refused}
-use Rattle.session_core.proofs.Rolling.{at_found, at_missing}
+use Rattle.session_core.proofs.Base.{◌≡◌, None, Some, ap, ◌∙◌, refl}
+use Rattle.session_core.proofs.Words.{committed_to, savepoint, then_ok, StoreState, levels_of}
+use Rattle.session_core.proofs.Lemmas.{as_elements, performed_ok, performed_refused, at_found, at_missing}
 use Rattle.session_core.proofs.session.Session.release.Goals as goal
 
 pub returns-in_default-clause-performed : goal.returns-in_default-clause-performed

@@ -1,10 +1,6 @@
-use Rattle.std.proofs.Common.{◌≡◌, ◌≤◌, ◌++◌, false, None, Some, length, ap, ◌∙◌, refl, subst}
-use Rattle.session_rules.specs.Commands.{rolled_back_to, savepoint, start, then_ok}
-use Rattle.session_store.specs.State.{StoreState, levels_of}
-use Rattle.session_core.proofs.ByState.{as_elements, performed_ok, performed_refused}
-use Rattle.session_commands.proofs.Performing.{performed_stop}
-use Rattle.session_core.proofs.Rolling.{at_found, at_missing}
-use Rattle.session_commands.proofs.Refusing.{handed}
+use Rattle.session_core.proofs.Base.{◌≡◌, ◌≤◌, ◌++◌, false, None, Some, length, ap, ◌∙◌, refl, subst}
+use Rattle.session_core.proofs.Words.{rolled_back_to, savepoint, start, then_ok, StoreState, levels_of, performed_stop, handed}
+use Rattle.session_core.proofs.Lemmas.{as_elements, performed_ok, performed_refused, at_found, at_missing}
 use Rattle.session_core.proofs.session.Session.return_to.Goals as goal
 
 pub begin_again-requires-clause-within : goal.begin_again-requires-clause-within

@@ -1,9 +1,6 @@
-use Rattle.std.proofs.Common.{◌<◌, length, refl, subst, sym}
-use Rattle.session_store.specs.State.{StoreState}
-use Rattle.session_commands.specs.Performed.{Now, now}
-use Rattle.session_core.proofs.Between.{between_of, roll_between, roll_rest}
-use Rattle.session_core.proofs.OnLevels.{roll_performed}
-use Rattle.session_core.proofs.Seen.{seen, serves_of, stands_of}
+use Rattle.session_core.proofs.Base.{◌<◌, length, refl, subst, sym}
+use Rattle.session_core.proofs.Words.{StoreState, Now, now}
+use Rattle.session_core.proofs.Lemmas.{between_of, roll_between, roll_rest, roll_performed, seen, serves_of, stands_of}
 use Rattle.session_core.proofs.session.Session.roll_back.Goals as goal
 
 pub roll_back-requires-clause-stands : goal.roll_back-requires-clause-stands

@@ -1,5 +1,5 @@
-use Rattle.std.proofs.Common.{◌≤◌, ◌<◌, length, refl, arith}
-use Rattle.session_core.proofs.Rolling.{rolling_done, rolling_on, rolling_outer, rolling_rest, rolling_start}
+use Rattle.session_core.proofs.Base.{◌≤◌, ◌<◌, length, refl, arith}
+use Rattle.session_core.proofs.Lemmas.{rolling_done, rolling_on, rolling_outer, rolling_rest, rolling_start}
 use Rattle.session_core.proofs.session.Session.roll_back_to.Goals as goal
 
 pub loop-self-init : goal.loop-self-init
@@ -17,11 +17,7 @@ returns-clause-performed g c =
     rolling_done _ _ _ _ c.loop-self.invariant below
 
 pub returns-clause-outer : goal.returns-clause-outer
-returns-clause-outer g c within =
-    let below : length c.loop-self.self.levels < c.args.level = omega (arith, c.loop-self-test.false, c.depth.ensures.depth) in
-    rolling_outer _ _ _ _ c.loop-self.invariant below within
+returns-clause-outer g c within = grind (arith, rolling_outer, c.loop-self-test.false, c.depth.ensures.depth, c.loop-self.invariant)
 
 pub returns-clause-rest : goal.returns-clause-rest
-returns-clause-rest g c within =
-    let below : length c.loop-self.self.levels < c.args.level = omega (arith, c.loop-self-test.false, c.depth.ensures.depth) in
-    rolling_rest _ _ _ _ c.loop-self.invariant below within
+returns-clause-rest g c within = grind (arith, rolling_rest, c.loop-self-test.false, c.depth.ensures.depth, c.loop-self.invariant)

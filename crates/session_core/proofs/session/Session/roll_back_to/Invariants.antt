@@ -1,6 +1,6 @@
-use Rattle.std.proofs.Common.{length}
-use Rattle.session_commands.specs.Performed.{now}
-use Rattle.session_core.proofs.Rolling.{IsRolling}
+use Rattle.session_core.proofs.Base.{length}
+use Rattle.session_core.proofs.Words.{now}
+use Rattle.session_core.proofs.Lemmas.{IsRolling}
 use Rattle.session_core.proofs.session.Session.roll_back_to.Given as goal
 
 -- what is done and what remains is what is to be done in all

@@ -1,4 +1,4 @@
-use Rattle.session_core.proofs.BetweenLines.{opened_levels}
+use Rattle.session_core.proofs.Lemmas.{opened_levels}
 use Rattle.session_core.proofs.session.Session.start.Goals as goal
 
 pub returns-in-Ok-clause-levels : goal.returns-in-Ok-clause-levels

@@ -1,10 +1,6 @@
-use Rattle.std.proofs.Common.{◌<◌, refl, ap}
-use Rattle.session_store.specs.State.{levels_of}
-use Rattle.session_core.proofs.Seen.{keeps_of, levels_seen, seen, stands_of}
-use Rattle.session_commands.specs.Performed.{now}
-use Rattle.session_core.proofs.Starting.{stood_performed}
-use Rattle.session_core.proofs.LevelsBegin.{context_behind, level_behind, owner_behind, some_level, stands_now, start_performed, start_stops_first, start_stops_second, start_stops_third}
-use Rattle.session_commands.proofs.Refusing.{handed}
+use Rattle.session_core.proofs.Base.{◌<◌, refl, ap}
+use Rattle.session_core.proofs.Words.{levels_of, now, handed}
+use Rattle.session_core.proofs.Lemmas.{keeps_of, levels_seen, seen, stands_of, stood_performed, context_behind, level_behind, owner_behind, some_level, stands_now, start_performed, start_stops_first, start_stops_second, start_stops_third}
 use Rattle.session_core.proofs.session.Session.start_level.Goals as goal
 
 pub returns-in_err-make_level-clause-performed : goal.returns-in_err-make_level-clause-performed

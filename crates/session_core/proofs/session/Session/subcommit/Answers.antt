@@ -1,9 +1,6 @@
-use Rattle.std.proofs.Common.{◌<◌, length, refl, subst, sym}
-use Rattle.session_store.specs.State.{StoreState}
-use Rattle.session_commands.specs.Performed.{now}
-use Rattle.session_core.proofs.Between.{between_of, subcommit_between}
-use Rattle.session_core.proofs.OnLevels.{subcommit_performed}
-use Rattle.session_core.proofs.Seen.{seen, serves_of, stands_of}
+use Rattle.session_core.proofs.Base.{◌<◌, length, refl, subst, sym}
+use Rattle.session_core.proofs.Words.{StoreState, now}
+use Rattle.session_core.proofs.Lemmas.{between_of, subcommit_between, subcommit_performed, seen, serves_of, stands_of}
 use Rattle.session_core.proofs.session.Session.subcommit.Goals as goal
 
 pub subcommit-requires-clause-stands : goal.subcommit-requires-clause-stands

@@ -1,7 +1,5 @@
-use Rattle.std.proofs.Common.{None, Some, refl, ap}
-use Rattle.std.specs.Prelude.{option_copied}
-use Rattle.session_core.proofs.BetweenLines.{steps_of_lines}
-use Rattle.session_core.proofs.Turning.{of_line, of_wanted, turned_bad, turned_err, turned_ok}
+use Rattle.session_core.proofs.Base.{None, Some, refl, ap, option_copied}
+use Rattle.session_core.proofs.Lemmas.{steps_of_lines, of_line, of_wanted, turned_bad, turned_err, turned_ok}
 use Rattle.session_core.proofs.session.Session.take_turn.Goals as goal
 
 pub recover-requires : goal.recover-requires

@@ -1,17 +1,12 @@
-use Rattle.std.proofs.Common.{ap, arith}
-use Rattle.pgs_command.specs.declared.commands.TransactionCommand.{TransactionCommand}
-use Rattle.pgs_step.specs.declared.events.What.TheVariants as what
-use Rattle.session_rules.specs.Commands.{transaction_of}
-use Rattle.session_store.specs.State.{levels_of}
-use Rattle.session_commands.specs.Performed.{most_steps}
-use Rattle.session_commands.proofs.Chains.{less_room}
-use Rattle.session_core.proofs.ByState.{begun_inside, committed_inside, performed_warned, rolled_back_inside, saved_inside, transacts}
+use Rattle.session_core.proofs.Base.{ap, arith}
+use Rattle.session_core.proofs.Words.{TransactionCommand, What, transaction_of, levels_of, most_steps, less_room}
+use Rattle.session_core.proofs.Lemmas.{begun_inside, committed_inside, performed_warned, rolled_back_inside, saved_inside, transacts}
 use Rattle.session_core.proofs.session.Session.transact_in_block.Goals as goal
 
 pub returns-in-Begin-clause-performed : goal.returns-in-Begin-clause-performed
 returns-in-Begin-clause-performed g c =
     transacts 0 most_steps c.args.command.now _ _ _ _ _ _ (omega arith) (begun_inside c.args.self.now.levels c.requires.block c.args.command.now c.in-Begin.is)
-    (performed_warned what.AlreadyInTransaction _ _ c.requires.between.keeps c.warn_inside.ensures)
+    (performed_warned What.AlreadyInTransaction _ _ c.requires.between.keeps c.warn_inside.ensures)
 
 pub returns-in-Commit-clause-performed : goal.returns-in-Commit-clause-performed
 returns-in-Commit-clause-performed g c =
@@ -39,9 +34,7 @@ returns-in-RollbackTo-clause-performed g c =
     c.return_to.ensures.performed
 
 pub begin-requires-clause-room : goal.begin-requires-clause-room
-begin-requires-clause-room g c =
-    less_room 3 most_steps _ (omega arith) c.requires.room
+begin-requires-clause-room g c = grind (arith, less_room 3 most_steps, c.requires.room)
 
 pub return_to-requires-clause-room : goal.return_to-requires-clause-room
-return_to-requires-clause-room g c =
-    less_room 3 most_steps _ (omega arith) c.requires.room
+return_to-requires-clause-room g c = grind (arith, less_room 3 most_steps, c.requires.room)

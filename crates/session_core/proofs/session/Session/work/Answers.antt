@@ -1,8 +1,5 @@
-use Rattle.session_rules.specs.Works.{elements, row_of}
-use Rattle.session_store.specs.State.{StoreState, portals_of}
-use Rattle.session_commands.specs.Performed.{most_work}
-use Rattle.session_commands.proofs.Standing.{where_done, work_levels, work_stands}
-use Rattle.session_core.proofs.Seen.{seen_from}
+use Rattle.session_core.proofs.Words.{elements, row_of, StoreState, portals_of, most_work, where_done, work_levels, work_stands}
+use Rattle.session_core.proofs.Lemmas.{seen_from}
 use Rattle.session_core.proofs.session.Session.work.Goals as goal
 
 pub returns-clause-performed : goal.returns-clause-performed

@@ -1,9 +1,6 @@
-use Rattle.std.proofs.Common.{◌+◌, refl, arith}
-use Rattle.session_commands.specs.Performed.{most_steps, most_work}
-use Rattle.session_commands.proofs.Refusing.{handed}
-use Rattle.session_core.proofs.ByState.{alone_done, alone_refused, alone_unstarted, level_and_work}
-use Rattle.session_commands.proofs.Chains.{less_room, room_left}
-use Rattle.session_core.proofs.Working.{same_portals}
+use Rattle.session_core.proofs.Base.{◌+◌, refl, arith}
+use Rattle.session_core.proofs.Words.{most_steps, most_work, handed, less_room, room_left}
+use Rattle.session_core.proofs.Lemmas.{alone_done, alone_refused, alone_unstarted, level_and_work, same_portals}
 use Rattle.session_core.proofs.session.Session.work_alone.Goals as goal
 
 pub returns-in_err-start_level-clause-performed : goal.returns-in_err-start_level-clause-performed

@@ -1,8 +1,6 @@
-use Rattle.std.proofs.Common.{refl, arith}
-use Rattle.session_commands.specs.Performed.{most_steps, most_work}
-use Rattle.session_commands.proofs.Refusing.{handed}
-use Rattle.session_core.proofs.ByState.{work_stopped, work_then_ok, working_block}
-use Rattle.session_commands.proofs.Chains.{less_room}
+use Rattle.session_core.proofs.Base.{refl, arith}
+use Rattle.session_core.proofs.Words.{most_steps, most_work, handed, less_room}
+use Rattle.session_core.proofs.Lemmas.{work_stopped, work_then_ok, working_block}
 use Rattle.session_core.proofs.session.Session.work_in_block.Goals as goal
 
 pub work-requires-clause-active : goal.work-requires-clause-active

@@ -1,7 +1,6 @@
-use Rattle.std.proofs.Common.{[], refl}
-use Rattle.session_owners.specs.LockLaws.{LocksBalance-nothing}
-use Rattle.session_owners.specs.TableLaws.{PinsBalance-nothing}
-use Rattle.session_owners.proofs.TableSteps.{does_leave}
+use Rattle.session_owners.proofs.Base.{[], refl}
+use Rattle.session_owners.proofs.Words.{LocksBalance-nothing, PinsBalance-nothing}
+use Rattle.session_owners.proofs.Lemmas.{does_leave}
 use Rattle.session_owners.proofs.lent.LentRelease.give_back.Goals as goal
 
 pub returns-then-item-ge-FIRST_EXTENSION-clause-done :

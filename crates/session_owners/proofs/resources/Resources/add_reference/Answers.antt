@@ -1,13 +1,6 @@
-use Rattle.std.proofs.Common.{◌≡◌, ◌≤◌, List, ap, subst, sym, arith, inl, inr, refl}
-use Rattle.session_owners.specs.ResourceState.{ResourceState, owners_of, spare_of}
-use Rattle.session_owners.proofs.Kept.{counted_taken}
-use Rattle.session_owners.proofs.Acts.{acted_taken, state_of}
-use Rattle.session_owners.proofs.Balances.{balances_same, balances_taken, locks_stay}
-use Rattle.pgs_step.specs.declared.events.What.{What}
-use Rattle.session_owners.specs.Fitting.{Acted}
-use Rattle.file_table.specs.Files.{Files}
-use Rattle.plan_store.specs.Plans.{Plans, references}
-use Rattle.session_rules.specs.Taking.{item_taken}
+use Rattle.session_owners.proofs.Base.{◌≡◌, ◌≤◌, ap, subst, sym, arith, inl, inr, refl}
+use Rattle.session_owners.proofs.Words.{ResourceState, owners_of, spare_of, Plans, references}
+use Rattle.session_owners.proofs.Lemmas.{counted_taken, acted_taken, state_of, balances_same, balances_taken, locks_stay}
 use Rattle.session_owners.proofs.resources.Resources.add_reference.Goals as goal
 
 pub invariant_of-self-2 : goal.invariant_of-self-2
@@ -32,11 +25,4 @@ returns-in_err-add_reference-clause-balances g c =
     (locks_stay (state_of c.self.inside.owners c.self.inside.tables.files c.self.inside.locks c.self.inside.tables.snapshots.stack c.self.inside.tables.plans) _ _ commons.locks c.self.view_is refl)
 
 pub returns-clause-acted : goal.returns-clause-acted
-returns-clause-acted g c =
-    let was : ResourceState = state_of c.self.inside.owners c.self.inside.tables.files c.self.inside.locks c.self.inside.tables.snapshots.stack c.self.inside.tables.plans in
-    let now : ResourceState = state_of c.remember.new.self c.add_reference.new.self.files c.self.inside.locks c.add_reference.new.self.snapshots.stack c.add_reference.new.self.plans in
-    let says : List What → Type 0 = λ (events : List What). g.E.Emit.emits c.args.out.now events c.remember.new.out in
-    λ commons. subst (λ (a : ResourceState). Acted (item_taken c.args.owner.number c.args.class c.args.key) a now commons commons says) c.self.view_is
-    (acted_taken c.args.owner.number c.args.class c.args.key was now commons says c.requires.class.unkept c.requires.class.from c.remember.ensures.owners c.remember.ensures.next_owner c.remember.ensures.next_serial
-    (record { recent = ap (λ (f : Files). f.recent) c.add_reference.ensures.files; descriptors = ap (λ (f : Files). f.descriptors) c.add_reference.ensures.files })
-    (record { session = refl; locks = refl; stack = c.add_reference.ensures.stack; plans = c.add_reference.ensures.plans }) c.remember.ensures.emits)
+returns-clause-acted g c = grind (arith, state_of c.self.inside.owners c.self.inside.tables.files c.self.inside.locks c.self.inside.tables.snapshots.stack c.self.inside.tables.plans, state_of c.remember.new.self c.add_reference.new.self.files c.self.inside.locks c.add_reference.new.self.snapshots.stack c.add_reference.new.self.plans, acted_taken c.args.owner.number c.args.class c.args.key, c.self.view_is, c.requires.class.unkept, c.requires.class.from, c.remember.ensures.owners, c.remember.ensures.next_owner, c.remember.ensures.next_serial, c.add_reference.ensures.files, c.add_reference.ensures.stack, c.add_reference.ensures.plans, c.remember.ensures.emits)

@@ -1,14 +1,7 @@
-use Rattle.std.proofs.Common.{◌≡◌, ℕ, ◌++◌, List, length, sym, ap, ◌∙◌, arith}
-use Rattle.std.proofs.lemmas.List.{length-map}
-use Rattle.forest.specs.Forest.{size}
-use Rattle.snap_table.specs.declared.active.Active.{Active}
-use Rattle.snap_table.specs.Snapshots.{snapshots_of}
+use Rattle.session_owners.proofs.Base.{◌≡◌, ℕ, ◌++◌, List, length, sym, ap, ◌∙◌, arith, length-map}
+use Rattle.session_owners.proofs.Words.{size, Active, snapshots_of, all_items, distinct, keys_of, buffer_pin, file_kind, OwnerTree, ResourceState, owners_of, plan_state}
+use Rattle.session_owners.proofs.Lemmas.{open_length, class_counted, classes_different, counts_are, different_keys, different_pins, keys_tally, pairs_count, pairs_different, pairs_held}
 use Rattle.owner_core.specs.Owners as owners
-use Rattle.session_rules.specs.Counts.{all_items, distinct, keys_of}
-use Rattle.session_rules.specs.State.{buffer_pin, file_kind}
-use Rattle.session_owners.specs.ResourceState.{OwnerTree, ResourceState, owners_of, plan_state}
-use Rattle.session_owners.proofs.OpenFiles.{open_length}
-use Rattle.session_owners.proofs.Stat.{class_counted, classes_different, counts_are, different_keys, different_pins, keys_tally, pairs_count, pairs_different, pairs_held}
 use Rattle.session_owners.proofs.resources.Resources.counts.Goals as goal
 
 pub returns : goal.returns

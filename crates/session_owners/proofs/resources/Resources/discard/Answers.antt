@@ -1,11 +1,6 @@
-use Rattle.std.proofs.Common.{List, ap, subst, sym, refl, ◌∙◌}
-use Rattle.pgs_step.specs.declared.events.What.{What}
-use Rattle.forest.specs.Forest.{removed}
-use Rattle.owner_core.specs.Steps.{gone_events}
-use Rattle.session_owners.specs.ResourceState.{AllAt, HoldsNothing, ResourceState, owners_of}
-use Rattle.session_owners.proofs.Kept.{counted_gone}
-use Rattle.session_owners.proofs.Acts.{acted_gone, state_of}
-use Rattle.session_owners.proofs.Balances.{balances_gone, locks_stay}
+use Rattle.session_owners.proofs.Base.{List, ap, subst, sym, refl, ◌∙◌}
+use Rattle.session_owners.proofs.Words.{What, removed, gone_events, AllAt, HoldsNothing, ResourceState, owners_of}
+use Rattle.session_owners.proofs.Lemmas.{counted_gone, acted_gone, state_of, balances_gone, locks_stay}
 use Rattle.session_owners.proofs.resources.Resources.discard.Goals as goal
 
 pub invariant_of-self : goal.invariant_of-self

@@ -1,7 +1,6 @@
-use Rattle.std.proofs.Common.{ap, refl, ◌∙◌}
-use Rattle.session_owners.specs.ResourceState.{owners_of}
-use Rattle.session_owners.proofs.Acts.{state_of}
-use Rattle.session_owners.proofs.Balances.{balances_same, locks_stay}
+use Rattle.session_owners.proofs.Base.{ap, refl, ◌∙◌}
+use Rattle.session_owners.proofs.Words.{owners_of}
+use Rattle.session_owners.proofs.Lemmas.{state_of, balances_same, locks_stay}
 use Rattle.session_owners.proofs.resources.Resources.enlarge.Goals as goal
 
 pub returns-clause-balances : goal.returns-clause-balances

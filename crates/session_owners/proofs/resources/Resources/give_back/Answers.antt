@@ -1,23 +1,10 @@
-use Rattle.std.proofs.Common.{List, ap, refl, subst, sym}
-use Rattle.pgs_step.specs.declared.events.What.{What}
-use Rattle.session_rules.specs.Releases.{item_released}
-use Rattle.session_owners.specs.Commons.{CommonState}
-use Rattle.session_owners.specs.Fitting.{ActedOn, Hosting, hosting_of}
-use Rattle.session_owners.specs.Placing.{AreLeft, PlansFit}
-use Rattle.session_owners.specs.ResourceState.{ResourceState, owners_of}
-use Rattle.session_owners.specs.Tables.{lending_of}
-use Rattle.session_owners.proofs.Acts.{acted_given, state_of}
-use Rattle.session_owners.proofs.Balances.{agrees_fit, balances_given, beside_counted, locks_moved, pins_moved, served, serves_still, shared_fit}
-use Rattle.session_owners.proofs.Kept.{counted_given, found_given, is_counted}
+use Rattle.session_owners.proofs.Base.{arith, List, ap, refl, subst, sym}
+use Rattle.session_owners.proofs.Words.{What, item_released, CommonState, ActedOn, Hosting, hosting_of, AreLeft, ResourceState, owners_of, lending_of}
+use Rattle.session_owners.proofs.Lemmas.{acted_given, state_of, agrees_fit, balances_given, beside_counted, locks_moved, pins_moved, served, serves_still, shared_fit, counted_given, found_given, is_counted}
 use Rattle.session_owners.proofs.resources.Resources.give_back.Goals as goal
 
 pub give_back-requires-clause-fit : goal.give_back-requires-clause-fit
-give_back-requires-clause-fit g c = (
-  c.self.invariant.buffers,
-  agrees_fit (state_of c.self.inside.owners c.self.inside.tables.files c.self.inside.locks c.self.inside.tables.snapshots.stack c.self.inside.tables.plans) c.args.self.now (record { kinds = c.commons.inside.kinds; locks = c.commons.inside.locks; pins = c.commons.inside.pins }) c.args.commons.now c.self.view_is c.commons.view_is c.requires.serves,
-  shared_fit c.self.inside.owners c.self.inside.tables c.args.self.now (record { kinds = c.commons.inside.kinds; locks = c.commons.inside.locks; pins = c.commons.inside.pins }) c.args.commons.now c.self.invariant (sym (ap owners_of c.self.view_is)) c.commons.view_is c.requires.serves,
-  subst (λ (r : ResourceState). PlansFit (g.P.PlanContexts.MayGo c.args.place.now) r.plans.standing) (sym c.self.view_is) c.requires.fit,
-)
+give_back-requires-clause-fit g c = grind (arith, agrees_fit (state_of c.self.inside.owners c.self.inside.tables.files c.self.inside.locks c.self.inside.tables.snapshots.stack c.self.inside.tables.plans) c.args.self.now, state_of c.self.inside.owners c.self.inside.tables.files c.self.inside.locks c.self.inside.tables.snapshots.stack c.self.inside.tables.plans, shared_fit c.self.inside.owners c.self.inside.tables c.args.self.now, c.self.invariant.buffers, c.self.view_is, c.commons.view_is, c.requires.serves, c.self.invariant, c.requires.fit)
 
 pub give_back-requires-clause-counted : goal.give_back-requires-clause-counted
 give_back-requires-clause-counted g c =

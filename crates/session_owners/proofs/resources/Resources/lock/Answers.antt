@@ -1,9 +1,6 @@
-use Rattle.std.proofs.Common.{refl, ap, ◌∙◌}
-use Rattle.lock_local.specs.Locks.{SessionLocks}
-use Rattle.lock_local.specs.Changes.{acquired}
-use Rattle.session_owners.specs.Commons.{CommonState}
-use Rattle.session_owners.specs.ResourceState.{ResourceState}
-use Rattle.session_owners.proofs.LockActs.{acted_locked, both_ok, conflict_seen, locks_alone}
+use Rattle.session_owners.proofs.Base.{refl, ap, ◌∙◌}
+use Rattle.session_owners.proofs.Words.{SessionLocks, acquired, CommonState, ResourceState}
+use Rattle.session_owners.proofs.Lemmas.{acted_locked, both_ok, conflict_seen, locks_alone}
 use Rattle.session_owners.proofs.resources.Resources.lock.Goals as goal
 
 pub returns-clause-conflict : goal.returns-clause-conflict

@@ -1,14 +1,6 @@
-use Rattle.std.proofs.Common.{ℕ, List, Option, ap, refl, subst, sym}
-use Rattle.std.specs.Option.{option_map}
-use Rattle.session_owners.proofs.Kept.{counted_made}
-use Rattle.session_owners.specs.ResourceState.{ResourceState, owners_of}
-use Rattle.session_owners.proofs.Acts.{acted_made, state_of}
-use Rattle.session_owners.proofs.Balances.{balances_made, locks_stay}
-use Rattle.pgs_step.specs.declared.events.What.{What}
-use Rattle.session_owners.specs.Fitting.{Acted}
-use Rattle.pgs_step.specs.declared.ids.OwnerId.{OwnerId}
-use Rattle.session_rules.specs.Making.{owner_made}
-use Rattle.session_owners.proofs.LockActs.{three_ok}
+use Rattle.session_owners.proofs.Base.{ℕ, List, Option, ap, refl, subst, sym, option_map}
+use Rattle.session_owners.proofs.Words.{ResourceState, owners_of, What, Acted, OwnerId, owner_made}
+use Rattle.session_owners.proofs.Lemmas.{counted_made, acted_made, state_of, balances_made, locks_stay, three_ok}
 use Rattle.session_owners.proofs.resources.Resources.make_owner.Goals as goal
 
 pub invariant_of-self : goal.invariant_of-self

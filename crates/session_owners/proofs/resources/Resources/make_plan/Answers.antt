@@ -1,10 +1,6 @@
-use Rattle.std.proofs.Common.{◌∷◌, ◌++◌, None, ap, false, refl, [], List, ◌≡◌, ◌∙◌}
-use Rattle.pgs_step.specs.declared.events.What.{What}
-use Rattle.plan_store.specs.declared.plan.Plan.{Plan}
-use Rattle.session_owners.specs.ResourceState.{ResourceState, owners_of}
-use Rattle.session_owners.specs.Tables.{Held}
-use Rattle.session_owners.proofs.Acts.{acted_added, state_of}
-use Rattle.session_owners.proofs.Balances.{balances_same, locks_stay}
+use Rattle.session_owners.proofs.Base.{◌∷◌, ◌++◌, None, ap, false, refl, [], List, ◌≡◌, ◌∙◌}
+use Rattle.session_owners.proofs.Words.{What, Plan, ResourceState, owners_of, Held}
+use Rattle.session_owners.proofs.Lemmas.{acted_added, state_of, balances_same, locks_stay}
 use Rattle.session_owners.proofs.resources.Resources.make_plan.Goals as goal
 
 pub returns-clause-acted : goal.returns-clause-acted

@@ -1,12 +1,7 @@
 -- An owner moves where it is there, and so is its parent.
-use Rattle.std.proofs.Common.{List, ap, subst, sym, refl, ◌∙◌}
-use Rattle.pgs_step.specs.declared.events.What.{What}
-use Rattle.forest.specs.Forest.{moved}
-use Rattle.forest.proofs.Trees.{Moves}
-use Rattle.session_owners.specs.ResourceState.{ResourceState, owners_of}
-use Rattle.session_owners.proofs.Kept.{counted_moved}
-use Rattle.session_owners.proofs.Acts.{acted_moved, state_of}
-use Rattle.session_owners.proofs.Balances.{balances_moved, locks_stay}
+use Rattle.session_owners.proofs.Base.{List, ap, subst, sym, refl, ◌∙◌}
+use Rattle.session_owners.proofs.Words.{What, moved, Moves, ResourceState, owners_of}
+use Rattle.session_owners.proofs.Lemmas.{counted_moved, acted_moved, state_of, balances_moved, locks_stay}
 use Rattle.session_owners.proofs.resources.Resources.move_owner.Goals as goal
 
 pub invariant_of-self : goal.invariant_of-self

@@ -1,7 +1,6 @@
-use Rattle.std.proofs.Common.{ap}
-use Rattle.file_table.specs.Files.{Files}
-use Rattle.snap_table.specs.Snapshots.{Snapshots}
-use Rattle.session_owners.proofs.Kept.{counted_opening}
+use Rattle.session_owners.proofs.Base.{ap}
+use Rattle.session_owners.proofs.Words.{Files, Snapshots}
+use Rattle.session_owners.proofs.Lemmas.{counted_opening}
 use Rattle.session_owners.proofs.resources.Resources.new.Goals as goal
 
 pub invariant_of-result : goal.invariant_of-result

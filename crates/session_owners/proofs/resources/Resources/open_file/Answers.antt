@@ -1,38 +1,14 @@
-use Rattle.std.proofs.Common.{◌≡◌, ◌≢◌, ◌↔◌, ◌≤◌, false, List, [], ◌∷◌, ◌++◌, length, Result, Ok, Err, ap, inl, refl, subst, sym, ◌∙◌, arith}
-use Rattle.file_table.specs.declared.files.FileError.{FileError}
-use Rattle.file_table.specs.declared.files.FileError.TheVariants.{NoFile, Taken, TooMany}
+use Rattle.session_owners.proofs.Base.{◌≡◌, ◌≤◌, false, List, [], ◌∷◌, ◌++◌, ap, inl, refl, subst, sym, ◌∙◌, arith}
+use Rattle.session_owners.proofs.Words.{file_kind, holds_file, ResourceState, owners_of, spare_of, What, Acted, Item, is_among, Files, item_taken, Held}
+use Rattle.session_owners.proofs.Lemmas.{counted_opened, full, not_taken, open_held, opened_touches, opening_touches, recent_alone, acted_opened, state_of, balances_same, balances_taken, locks_stay}
 use Rattle.owner_core.specs.Owners as owners
-use Rattle.session_rules.specs.State.{file_kind}
-use Rattle.session_owners.specs.Counted.{files_held, holds_file}
-use Rattle.session_owners.specs.ResourceState.{ResourceState, owners_of, spare_of}
-use Rattle.session_owners.proofs.Kept.{counted_opened}
-use Rattle.session_owners.proofs.OpenFiles.{full, not_taken, open_held, opened_touches, opening_touches, recent_alone}
-use Rattle.session_owners.proofs.Acts.{acted_opened, state_of}
-use Rattle.session_owners.proofs.Balances.{balances_same, balances_taken, locks_stay}
-use Rattle.pgs_step.specs.declared.events.What.{What}
-use Rattle.session_owners.specs.Fitting.{Acted}
-use Rattle.pgs_step.specs.declared.events.What.TheVariants as what
-use Rattle.pgs_step.specs.declared.ids.Item.{Item}
-use Rattle.file_table.specs.Descriptors.{is_among}
-use Rattle.file_table.specs.Files.{Files}
-use Rattle.session_rules.specs.Taking.{item_taken}
-use Rattle.session_owners.specs.Tables.{Held}
 use Rattle.session_owners.proofs.resources.Resources.open_file.Goals as goal
 
 pub returns-in-Err-clause-too_many : goal.returns-in-Err-clause-too_many
-returns-in-Err-clause-too_many g c =
-    let t = owners.owners_of c.self.inside.owners in
-    let closed : holds_file c.args.file t ≡ false = ap (λ (state : ResourceState). holds_file c.args.file (owners_of state)) c.self.view_is ∙ c.requires.closed in
-    subst (λ (state : ResourceState). (Err c.in-Err.error ≡ Err TooMany) ↔ (4096 ≤ length (files_held (owners_of state)))) c.self.view_is
-    (subst (λ (r : Result (Unit {0}) FileError). (r ≡ Err TooMany) ↔ (4096 ≤ length (files_held t))) c.in-Err.is
-    (full c.self.inside.tables.files t c.args.file c.open_file.result c.laws.ensures.sound (λ key. c.self.invariant.counted file_kind key (omega arith)) closed c.open_file.ensures.too_many))
+returns-in-Err-clause-too_many g c = grind (arith, full c.self.inside.tables.files (owners.owners_of c.self.inside.owners) c.args.file c.open_file.result c.laws.ensures.sound, c.self.view_is, c.requires.closed, c.in-Err.is, c.laws.ensures.sound, c.self.invariant.counted, c.open_file.ensures.too_many)
 
 pub returns-in-Err-clause-causes : goal.returns-in-Err-clause-causes
-returns-in-Err-clause-causes g c =
-    let t = owners.owners_of c.self.inside.owners in
-    let closed : holds_file c.args.file t ≡ false = ap (λ (state : ResourceState). holds_file c.args.file (owners_of state)) c.self.view_is ∙ c.requires.closed in
-    subst (λ (r : Result (Unit {0}) FileError). (r ≢ Err Taken) × (r ≢ Err NoFile)) c.in-Err.is
-    (not_taken c.self.inside.tables.files t c.args.file c.open_file.result (c.self.invariant.counted file_kind c.args.file (omega arith)) closed c.open_file.ensures.taken c.open_file.ensures.no_other)
+returns-in-Err-clause-causes g c = grind (arith, not_taken c.self.inside.tables.files (owners.owners_of c.self.inside.owners) c.args.file c.open_file.result, c.self.view_is, c.requires.closed, c.in-Err.is, c.self.invariant.counted, c.open_file.ensures.taken, c.open_file.ensures.no_other)
 
 pub invariant_of-self-2 : goal.invariant_of-self-2
 invariant_of-self-2 g c =
@@ -41,12 +17,7 @@ invariant_of-self-2 g c =
     c.in_default.ensures.opened c.in_default.ensures.counts c.remember.ensures.owners c.remember.ensures.next_owner c.remember.ensures.next_serial
 
 pub returns-clause-too_many : goal.returns-clause-too_many
-returns-clause-too_many g c =
-    let t = owners.owners_of c.self.inside.owners in
-    let closed : holds_file c.args.file t ≡ false = ap (λ (state : ResourceState). holds_file c.args.file (owners_of state)) c.self.view_is ∙ c.requires.closed in
-    subst (λ (state : ResourceState). (Ok (tt {0}) ≡ Err TooMany) ↔ (4096 ≤ length (files_held (owners_of state)))) c.self.view_is
-    (subst (λ (r : Result (Unit {0}) FileError). (r ≡ Err TooMany) ↔ (4096 ≤ length (files_held t))) c.in_default.is
-    (full c.self.inside.tables.files t c.args.file c.open_file.result c.laws.ensures.sound (λ key. c.self.invariant.counted file_kind key (omega arith)) closed c.open_file.ensures.too_many))
+returns-clause-too_many g c = grind (arith, full c.self.inside.tables.files (owners.owners_of c.self.inside.owners) c.args.file c.open_file.result c.laws.ensures.sound, c.self.view_is, c.requires.closed, c.in_default.is, c.laws.ensures.sound, c.self.invariant.counted, c.open_file.ensures.too_many)
 
 pub returns-clause-balances : goal.returns-clause-balances
 returns-clause-balances g c =
@@ -75,4 +46,4 @@ returns-clause-acted g c =
     (ap (λ (h : Held). h.files.recent) c.in_default.ensures.opened ∙ opened_touches files c.args.file c.laws.ensures.sound shut ∙ recent_alone files [] c.args.file)
     (ap (λ (h : Held). h.files.descriptors) c.in_default.ensures.opened)
     (record { session = refl; locks = refl; stack = ap (λ (h : Held). h.snapshots.stack) c.in_default.ensures.opened; plans = ap (λ (h : Held). h.plans) c.in_default.ensures.opened })
-    (g.met.E.Emit.emits_more _ _ _ _ _ _ c.in_default.ensures.events c.remember.ensures.emits (ap (λ (events : List What). events ++ (what.Acquire item c.args.owner.number ∷ [])) (opening_touches files c.args.file c.laws.ensures.sound shut))))
+    (g.met.E.Emit.emits_more _ _ _ _ _ _ c.in_default.ensures.events c.remember.ensures.emits (ap (λ (events : List What). events ++ (What.Acquire item c.args.owner.number ∷ [])) (opening_touches files c.args.file c.laws.ensures.sound shut))))

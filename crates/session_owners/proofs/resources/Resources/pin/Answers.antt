@@ -1,15 +1,6 @@
-use Rattle.std.proofs.Common.{◌≤◌, List, ap, inl, subst, sym, arith, refl}
-use Rattle.pgs_step.specs.declared.events.What.{What}
-use Rattle.session_rules.specs.State.{buffer_pin}
-use Rattle.session_rules.specs.Taking.{item_taken}
-use Rattle.session_owners.specs.Commons.{CommonState}
-use Rattle.session_owners.specs.Fitting.{Acted}
-use Rattle.session_owners.specs.ResourceState.{ResourceState, owners_of, spare_of}
-use Rattle.session_owners.specs.LockLaws.{LocksBalance-nothing}
-use Rattle.session_owners.specs.Tables.{Held}
-use Rattle.session_owners.proofs.Kept.{counted_pinned}
-use Rattle.session_owners.proofs.Acts.{acted_pinned, state_of}
-use Rattle.session_owners.proofs.Balances.{balances_pinned, few_sessions, locks_moved, pins_counted, pins_moved, serves_still}
+use Rattle.session_owners.proofs.Base.{◌≤◌, List, ap, inl, subst, sym, arith, refl}
+use Rattle.session_owners.proofs.Words.{What, buffer_pin, item_taken, CommonState, Acted, ResourceState, owners_of, spare_of, LocksBalance-nothing, Held}
+use Rattle.session_owners.proofs.Lemmas.{counted_pinned, acted_pinned, state_of, balances_pinned, few_sessions, locks_moved, pins_counted, pins_moved, serves_still}
 use Rattle.session_owners.proofs.resources.Resources.pin.Goals as goal
 
 pub pin-requires-clause-room : goal.pin-requires-clause-room

@@ -1,7 +1,6 @@
-use Rattle.std.proofs.Common.{ap, ◌∙◌}
-use Rattle.std.specs.Prelude.{slice_index}
-use Rattle.session_owners.specs.Commons.{CommonState}
-use Rattle.session_owners.proofs.Balances.{pinning_is}
+use Rattle.session_owners.proofs.Base.{ap, ◌∙◌, slice_index}
+use Rattle.session_owners.proofs.Words.{CommonState}
+use Rattle.session_owners.proofs.Lemmas.{pinning_is}
 use Rattle.session_owners.proofs.resources.Resources.pinned.Goals as goal
 
 pub returns : goal.returns

@@ -1,20 +1,10 @@
-use Rattle.std.proofs.Common.{◌≡◌, ◌↔◌, List, false, ap, refl, subst, sym, ◌∙◌}
-use Rattle.std.specs.Prelude.{◌==◌, IsErr}
-use Rattle.std.specs.Option.{option_map_or}
-use Rattle.pgs_step.specs.declared.events.What.{What}
-use Rattle.session_rules.specs.State.{last_of}
-use Rattle.session_owners.specs.ResourceState.{ResourceState, owners_of}
-use Rattle.session_owners.specs.Tables.{Held}
-use Rattle.session_owners.proofs.Acts.{acted_popped, state_of}
-use Rattle.session_owners.proofs.Balances.{balances_same, locks_stay}
-use Rattle.session_owners.proofs.LockActs.{both_ok}
-use Rattle.session_owners.proofs.Stack.{pop_refused}
+use Rattle.session_owners.proofs.Base.{nat_tests, arith, List, ap, refl, sym, ◌∙◌}
+use Rattle.session_owners.proofs.Words.{What, ResourceState, owners_of, Held}
+use Rattle.session_owners.proofs.Lemmas.{acted_popped, state_of, balances_same, locks_stay, both_ok, pop_refused}
 use Rattle.session_owners.proofs.resources.Resources.pop.Goals as goal
 
 pub returns-clause-not_held : goal.returns-clause-not_held
-returns-clause-not_held g c =
-    subst (λ (state : ResourceState). IsErr c.pop.result ↔ (option_map_or (λ entry. entry.level == c.args.level) (last_of state.stack) false ≡ false)) c.self.view_is
-    (pop_refused c.self.inside.tables.snapshots.stack c.args.level c.pop.result c.pop.ensures.held)
+returns-clause-not_held g c = grind (arith, nat_tests, pop_refused c.self.inside.tables.snapshots.stack c.args.level c.pop.result c.pop.ensures.held, c.self.view_is, c.pop.ensures.held)
 
 pub returns-clause-acted : goal.returns-clause-acted
 returns-clause-acted g c =

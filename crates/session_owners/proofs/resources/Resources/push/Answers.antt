@@ -1,10 +1,6 @@
-use Rattle.std.proofs.Common.{List, [], ◌∷◌, ◌++◌, ap, refl, ◌∙◌}
-use Rattle.pgs_step.specs.declared.events.What.{What}
-use Rattle.session_owners.specs.ResourceState.{ResourceState, owners_of}
-use Rattle.session_owners.specs.Tables.{Held}
-use Rattle.session_owners.proofs.Acts.{acted_pushed, state_of}
-use Rattle.session_owners.proofs.Balances.{balances_same, locks_stay}
-use Rattle.session_owners.proofs.LockActs.{both_ok}
+use Rattle.session_owners.proofs.Base.{List, [], ◌∷◌, ◌++◌, ap, refl, ◌∙◌}
+use Rattle.session_owners.proofs.Words.{What, ResourceState, owners_of, Held}
+use Rattle.session_owners.proofs.Lemmas.{acted_pushed, state_of, balances_same, locks_stay, both_ok}
 use Rattle.session_owners.proofs.resources.Resources.push.Goals as goal
 
 pub returns-clause-acted : goal.returns-clause-acted

@@ -1,14 +1,6 @@
-use Rattle.std.proofs.Common.{◌≤◌, List, ap, subst, sym, arith, inl, refl}
-use Rattle.pgs_step.specs.declared.events.What.{What}
-use Rattle.session_rules.specs.State.{plan_reference}
-use Rattle.session_rules.specs.Taking.{item_taken}
-use Rattle.session_owners.specs.Fitting.{Acted}
-use Rattle.session_owners.specs.Placing.{AreLeft}
-use Rattle.session_owners.specs.ResourceState.{ResourceState, owners_of, spare_of}
-use Rattle.session_owners.specs.Tables.{Held}
-use Rattle.session_owners.proofs.Acts.{acted_referred, state_of}
-use Rattle.session_owners.proofs.Balances.{balances_same, balances_taken, locks_stay}
-use Rattle.session_owners.proofs.Kept.{counted_referred}
+use Rattle.session_owners.proofs.Base.{◌≤◌, ap, subst, sym, arith, inl, refl}
+use Rattle.session_owners.proofs.Words.{plan_reference, AreLeft, ResourceState, owners_of, spare_of}
+use Rattle.session_owners.proofs.Lemmas.{acted_referred, state_of, balances_same, balances_taken, locks_stay, counted_referred}
 use Rattle.session_owners.proofs.resources.Resources.reference_plan.Goals as goal
 
 pub invariant_of-self-2 : goal.invariant_of-self-2
@@ -33,11 +25,4 @@ pub returns-clause-left : goal.returns-clause-left
 returns-clause-left g c = subst (λ (r : ResourceState). AreLeft r.plans.standing c.reference_plan.new.self.plans.standing) c.self.view_is c.in_ok-reference_plan.ensures.left
 
 pub returns-clause-acted : goal.returns-clause-acted
-returns-clause-acted g c =
-    let was : ResourceState = state_of c.self.inside.owners c.self.inside.tables.files c.self.inside.locks c.self.inside.tables.snapshots.stack c.self.inside.tables.plans in
-    let now : ResourceState = state_of c.remember.new.self c.reference_plan.new.self.files c.self.inside.locks c.reference_plan.new.self.snapshots.stack c.reference_plan.new.self.plans in
-    let says : List What → Type 0 = λ (events : List What). g.E.Emit.emits c.args.out.now events c.remember.new.out in
-    λ commons. subst (λ (a : ResourceState). Acted (item_taken c.args.owner.number plan_reference c.args.plan) a now commons commons says) c.self.view_is
-    (acted_referred c.args.owner.number c.args.plan was now commons says c.remember.ensures.owners c.remember.ensures.next_owner c.remember.ensures.next_serial
-    (record { recent = ap (λ (h : Held). h.files.recent) c.reference_plan.ensures.alone; descriptors = ap (λ (h : Held). h.files.descriptors) c.reference_plan.ensures.alone }) refl refl (ap (λ (h : Held). h.snapshots.stack) c.reference_plan.ensures.alone)
-    c.in_ok-reference_plan.ensures.changed c.remember.ensures.emits)
+returns-clause-acted g c = grind (arith, state_of c.self.inside.owners c.self.inside.tables.files c.self.inside.locks c.self.inside.tables.snapshots.stack c.self.inside.tables.plans, state_of c.remember.new.self c.reference_plan.new.self.files c.self.inside.locks c.reference_plan.new.self.snapshots.stack c.reference_plan.new.self.plans, acted_referred c.args.owner.number c.args.plan, c.self.view_is, c.remember.ensures.owners, c.remember.ensures.next_owner, c.remember.ensures.next_serial, c.reference_plan.ensures.alone, c.in_ok-reference_plan.ensures.changed, c.remember.ensures.emits)

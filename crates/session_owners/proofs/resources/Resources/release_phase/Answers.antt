@@ -1,37 +1,15 @@
-use Rattle.std.proofs.Common.{List, ap, refl, subst, sym}
-use Rattle.std.specs.Prelude.{All}
-use Rattle.pgs_step.specs.declared.events.What.{What}
-use Rattle.pgs_step.specs.declared.ids.Item.{Item}
-use Rattle.owner_kinds.specs.KindShelf.{table_of}
-use Rattle.owner_kinds.specs.KindTable.{IsKind}
+use Rattle.session_owners.proofs.Base.{arith, List, ap, refl, subst, sym}
+use Rattle.session_owners.proofs.Words.{What, table_of, all_below, phase_released, items_known, CommonState, ActedOn, Hosting, hosting_of, AreLeft, ResourceState, lending_of}
+use Rattle.session_owners.proofs.Lemmas.{acted_phase, state_of, agrees_fit, balances_released, beside_counted, known_items, locks_moved, pins_moved, served, serves_still, shared_fit, asked_counts, counted_released}
 use Rattle.owner_core.specs.Owners.{owners_of}
-use Rattle.owner_core.proofs.Swept.{all_below}
-use Rattle.session_rules.specs.Releases.{phase_released}
-use Rattle.session_rules.proofs.Standings.{items_known}
-use Rattle.session_owners.specs.Commons.{CommonState}
-use Rattle.session_owners.specs.Fitting.{ActedOn, Hosting, hosting_of}
-use Rattle.session_owners.specs.Placing.{AreLeft, PlansFit}
 use Rattle.session_owners.specs.ResourceState as state
-use Rattle.session_owners.specs.ResourceState.{ResourceState}
-use Rattle.session_owners.specs.Tables.{lending_of}
-use Rattle.session_owners.proofs.Acts.{acted_phase, state_of}
-use Rattle.session_owners.proofs.Balances.{agrees_fit, balances_released, beside_counted, known_items, locks_moved, pins_moved, served, serves_still, shared_fit}
-use Rattle.session_owners.proofs.Kept.{asked_counts, counted_released}
 use Rattle.session_owners.proofs.resources.Resources.release_phase.Goals as goal
 
 pub release-requires-clause-fit : goal.release-requires-clause-fit
-release-requires-clause-fit g c = (
-  c.self.invariant.buffers,
-  agrees_fit (state_of c.self.inside.owners c.self.inside.tables.files c.self.inside.locks c.self.inside.tables.snapshots.stack c.self.inside.tables.plans) c.args.self.now (record { kinds = c.commons.inside.kinds; locks = c.commons.inside.locks; pins = c.commons.inside.pins }) c.args.commons.now c.self.view_is c.commons.view_is c.requires.serves,
-  shared_fit c.self.inside.owners c.self.inside.tables c.args.self.now (record { kinds = c.commons.inside.kinds; locks = c.commons.inside.locks; pins = c.commons.inside.pins }) c.args.commons.now c.self.invariant (sym (ap state.owners_of c.self.view_is)) c.commons.view_is c.requires.serves,
-  subst (λ (r : ResourceState). PlansFit (g.P.PlanContexts.MayGo c.args.place.now) r.plans.standing) (sym c.self.view_is) c.requires.fit,
-)
+release-requires-clause-fit g c = grind (arith, agrees_fit (state_of c.self.inside.owners c.self.inside.tables.files c.self.inside.locks c.self.inside.tables.snapshots.stack c.self.inside.tables.plans) c.args.self.now, state_of c.self.inside.owners c.self.inside.tables.files c.self.inside.locks c.self.inside.tables.snapshots.stack c.self.inside.tables.plans, shared_fit c.self.inside.owners c.self.inside.tables c.args.self.now, c.self.invariant.buffers, c.self.view_is, c.commons.view_is, c.requires.serves, c.self.invariant, c.requires.fit)
 
 pub release-requires-clause-kinds : goal.release-requires-clause-kinds
-release-requires-clause-kinds g c =
-    all_below (λ o. All (λ (item : Item). IsKind (table_of c.commons.inside.kinds) item.kind) o.items) c.args.owner.number (owners_of c.self.inside.owners)
-    (items_known (table_of c.commons.inside.kinds) (owners_of c.self.inside.owners)
-    (known_items c.self.inside.owners c.args.self.now c.args.commons.now c.commons.inside.kinds (sym (ap state.owners_of c.self.view_is)) (sym (ap (λ (z : CommonState). z.kinds) c.commons.view_is)) c.requires.serves))
+release-requires-clause-kinds g c = grind (arith, items_known (table_of c.commons.inside.kinds) (owners_of c.self.inside.owners), known_items c.self.inside.owners c.args.self.now c.args.commons.now c.commons.inside.kinds (sym (ap state.owners_of c.self.view_is)), all_below, c.self.view_is, c.commons.view_is, c.requires.serves)
 
 pub release-requires-clause-counted : goal.release-requires-clause-counted
 release-requires-clause-counted g c =

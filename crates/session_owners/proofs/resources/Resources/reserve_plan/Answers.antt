@@ -1,10 +1,6 @@
-use Rattle.std.proofs.Common.{List, Option, Some, Result, Ok, Err, OnOk, OnErr, [], ap, refl, ◌≡◌, ◌∙◌, ℕ}
-use Rattle.pgs_step.specs.declared.events.What.{What}
-use Rattle.plan_store.specs.declared.plan.PlanError.{PlanError}
-use Rattle.session_owners.specs.ResourceState.{ResourceState, owners_of}
-use Rattle.session_owners.specs.Tables.{Held}
-use Rattle.session_owners.proofs.Acts.{acted_silent, state_of}
-use Rattle.session_owners.proofs.Balances.{balances_same, locks_stay}
+use Rattle.session_owners.proofs.Base.{List, Option, Some, Result, Ok, Err, OnOk, OnErr, [], ap, refl, ◌≡◌, ◌∙◌, ℕ}
+use Rattle.session_owners.proofs.Words.{What, PlanError, ResourceState, owners_of, Held}
+use Rattle.session_owners.proofs.Lemmas.{acted_silent, state_of, balances_same, locks_stay}
 use Rattle.session_owners.proofs.resources.Resources.reserve_plan.Goals as goal
 
 -- what is reserved behind the call

@@ -1,23 +1,11 @@
-use Rattle.std.proofs.Common.{◌≡◌, true, List, [], ap, refl, subst, ◌∙◌, arith}
+use Rattle.session_owners.proofs.Base.{List, [], ap, refl, subst, ◌∙◌, arith}
+use Rattle.session_owners.proofs.Words.{ResourceState, owners_of, What, Acted, descriptor_given, Held}
+use Rattle.session_owners.proofs.Lemmas.{acted_touched, state_of, balances_same, locks_stay, descriptors_kept, recent_alone, touch_wants, both_ok}
 use Rattle.owner_core.specs.Owners as owners
-use Rattle.session_rules.specs.State.{file_kind}
-use Rattle.session_owners.specs.Counted.{holds_file}
-use Rattle.session_owners.specs.ResourceState.{ResourceState, owners_of}
-use Rattle.session_owners.proofs.Acts.{acted_touched, state_of}
-use Rattle.session_owners.proofs.Balances.{balances_same, locks_stay}
-use Rattle.session_owners.proofs.OpenFiles.{descriptors_kept, recent_alone, touch_wants}
-use Rattle.pgs_step.specs.declared.events.What.{What}
-use Rattle.session_owners.specs.Fitting.{Acted}
-use Rattle.session_rules.specs.Taking.{descriptor_given}
-use Rattle.session_owners.specs.Tables.{Held}
-use Rattle.session_owners.proofs.LockActs.{both_ok}
 use Rattle.session_owners.proofs.resources.Resources.touch.Goals as goal
 
 pub returns-clause-causes : goal.returns-clause-causes
-returns-clause-causes g c =
-    let t = owners.owners_of c.self.inside.owners in
-    let kept : holds_file c.args.file t ≡ true = ap (λ (state : ResourceState). holds_file c.args.file (owners_of state)) c.self.view_is ∙ c.requires.open in
-    touch_wants c.self.inside.tables.files t c.args.file c.touch.result (c.self.invariant.counted file_kind c.args.file (omega arith)) kept c.touch.ensures.no_file c.touch.ensures.no_other
+returns-clause-causes g c = grind (arith, touch_wants c.self.inside.tables.files (owners.owners_of c.self.inside.owners) c.args.file c.touch.result, c.self.view_is, c.requires.open, c.self.invariant.counted, c.touch.ensures.no_file, c.touch.ensures.no_other)
 
 pub returns-clause-balances : goal.returns-clause-balances
 returns-clause-balances g c =

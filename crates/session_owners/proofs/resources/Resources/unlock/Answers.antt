@@ -1,8 +1,6 @@
-use Rattle.std.proofs.Common.{refl, ap, ◌∙◌}
-use Rattle.lock_local.specs.Locks.{SessionLocks}
-use Rattle.lock_local.specs.Changes.{given_back}
-use Rattle.session_owners.specs.ResourceState.{ResourceState}
-use Rattle.session_owners.proofs.LockActs.{acted_unlocked, both_ok, locks_alone}
+use Rattle.session_owners.proofs.Base.{refl, ap, ◌∙◌}
+use Rattle.session_owners.proofs.Words.{SessionLocks, given_back, ResourceState}
+use Rattle.session_owners.proofs.Lemmas.{acted_unlocked, both_ok, locks_alone}
 use Rattle.session_owners.proofs.resources.Resources.unlock.Goals as goal
 
 pub returns-clause-acted : goal.returns-clause-acted

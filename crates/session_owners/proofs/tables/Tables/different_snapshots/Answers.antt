@@ -1,9 +1,5 @@
-use Rattle.std.proofs.Common.{◌≡◌, ◌++◌, subst}
-use Rattle.std.specs.Ordering.{nat_cmp, eq_by_cmp}
-use Rattle.std.specs.Set.{distinct_count}
-use Rattle.counts.specs.Counts.{Tallies}
-use Rattle.snap_table.specs.Snapshots.{snapshots_of}
-use Rattle.session_owners.specs.Tables.{Held}
+use Rattle.session_owners.proofs.Base.{◌≡◌, ◌++◌, subst, nat_cmp, eq_by_cmp, distinct_count}
+use Rattle.session_owners.proofs.Words.{Tallies, snapshots_of, Held}
 use Rattle.session_owners.proofs.tables.Tables.different_snapshots.Goals as goal
 
 pub returns : goal.returns

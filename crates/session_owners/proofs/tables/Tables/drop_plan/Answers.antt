@@ -1,7 +1,5 @@
-use Rattle.std.proofs.Common.{ap, subst}
-use Rattle.plan_store.specs.Plans.{Plans}
-use Rattle.session_owners.specs.Placing.{AreLeft}
-use Rattle.session_owners.specs.Tables.{Held}
+use Rattle.session_owners.proofs.Base.{ap, subst}
+use Rattle.session_owners.proofs.Words.{Plans, AreLeft, Held}
 use Rattle.session_owners.proofs.tables.Tables.drop_plan.Goals as goal
 
 pub returns-clause-left : goal.returns-clause-left

@@ -1,11 +1,6 @@
-use Rattle.std.proofs.Common.{◌≡◌, [], ap, refl, subst, sym, ◌∙◌, ◌∷◌, arith}
-use Rattle.std.proofs.lemmas.Bool.{eqb-true}
-use Rattle.counts.specs.Counts.{total}
-use Rattle.context_rules.specs.Contexts.{Contexts}
-use Rattle.reset_callbacks.specs.ShelfState.{ShelfState}
-use Rattle.owner_core.specs.Steps.{GivesBack}
-use Rattle.session_owners.specs.Tables.{Held, TablesDo, lending_of}
-use Rattle.session_owners.proofs.TableSteps.{does_close, does_give, does_refer_less, pin_is_none, pin_is_other}
+use Rattle.session_owners.proofs.Base.{◌≡◌, [], ap, refl, subst, sym, ◌∙◌, ◌∷◌, arith, eqb-true}
+use Rattle.session_owners.proofs.Words.{total, Contexts, ShelfState, GivesBack, Held, TablesDo, lending_of}
+use Rattle.session_owners.proofs.Lemmas.{does_close, does_give, does_refer_less, pin_is_none, pin_is_other}
 use Rattle.session_owners.proofs.tables.Tables.give_back.Goals as goal
 
 pub returns-then-eq-clause-done : goal.returns-then-eq-clause-done

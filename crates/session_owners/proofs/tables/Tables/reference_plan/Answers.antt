@@ -1,11 +1,6 @@
-use Rattle.std.proofs.Common.{◌≡◌, ◌+◌, map, nat_eq, refl, subst, sym, ◌∙◌, ap}
-use Rattle.std.specs.Map.{lookup, set_value}
-use Rattle.plan_store.specs.Plans.{Plans, is_usable}
-use Rattle.session_rules.specs.Lookup.{plan_changed}
-use Rattle.session_owners.specs.PlanStates.{plan_state}
-use Rattle.session_owners.specs.Placing.{AreLeft}
-use Rattle.session_owners.specs.Tables.{Held}
-use Rattle.session_owners.proofs.PlanSteps.{in_some, is_kept, left_set, parted, states_set}
+use Rattle.session_owners.proofs.Base.{◌≡◌, ◌+◌, map, nat_eq, refl, subst, sym, ◌∙◌, ap, lookup, set_value}
+use Rattle.session_owners.proofs.Words.{Plans, is_usable, plan_changed, plan_state, AreLeft, Held}
+use Rattle.session_owners.proofs.Lemmas.{in_some, is_kept, left_set, parted, states_set}
 use Rattle.session_owners.proofs.tables.Tables.reference_plan.Goals as goal
 
 pub returns-clause-changed : goal.returns-clause-changed

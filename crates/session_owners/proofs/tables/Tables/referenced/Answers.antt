@@ -1,11 +1,6 @@
-use Rattle.std.proofs.Common.{◌≡◌, ℕ, subst}
-use Rattle.std.specs.Prelude.{if◌then◌else◌, count_by}
-use Rattle.std.specs.BTreeMap.{is_at}
-use Rattle.std.specs.Ordering.{eq_by_cmp}
-use Rattle.std.specs.Set.{distinct_count}
-use Rattle.ref_table.specs.References.{pair_cmp}
-use Rattle.session_owners.specs.Tables.{Held, is_class, times_held}
-use Rattle.session_owners.proofs.Classes.{classes_tally}
+use Rattle.session_owners.proofs.Base.{◌≡◌, ℕ, subst, if◌then◌else◌, count_by, is_at, eq_by_cmp, distinct_count}
+use Rattle.session_owners.proofs.Words.{pair_cmp, Held, is_class, times_held}
+use Rattle.session_owners.proofs.Lemmas.{classes_tally}
 use Rattle.session_owners.proofs.tables.Tables.referenced.Goals as goal
 
 pub returns : goal.returns
