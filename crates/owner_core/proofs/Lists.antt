@@ -1,12 +1,11 @@
 -- Lists of numbers that differ, and what is said of each element.
-use Rattle.std.proofs.Common.{◌≡◌, ◌≢◌, ℕ, ◌+◌, Bool, true, false, List, [], ◌∷◌, ◌++◌, refl, sym, ap, ◌∙◌, append_assoc}
+use Rattle.std.proofs.Common.{◌≡◌, ◌≢◌, ℕ, ◌+◌, true, false, List, [], ◌∷◌, ◌++◌, refl, sym, ap, ◌∙◌, append_assoc, arith}
 use Rattle.std.specs.List.{flat_map}
-use Rattle.std.specs.Prelude.{◌==◌, ◌||◌}
-use Rattle.std.proofs.Common.{◌⊎◌, inl, inr}
 use Rattle.std.proofs.lemmas.Bool.{both_ways, or_left, or_right, eq-eqb}
 use Rattle.forest.specs.Forest.{Forest, Empty, Node, has, Once}
 use Rattle.forest.specs.Walk.{order}
-use Rattle.forest.proofs.Trees.{Apart, apart_of}
+use Rattle.forest.proofs.Trees.{apart_of}
+use Rattle.std.proofs.lemmas.Bool.Decides.{nat_tests}
 
 -- each element is so
 abbrev pub Each : {X : Type 0} → (X → Type 0) → List X → Type 0
@@ -52,17 +51,7 @@ module _ {A : Type 0} where
   -- each number of the walk stands in the forest
   pub order_in : (t : Forest A) → Each (λ n. has n t ≡ true) (order t)
   order_in Empty = tt
-  order_in (Node k a below beside) =
-      Each-both (λ n. has n (Node k a below beside) ≡ true) (order below) (k ∷ order beside)
-      (Each-more (λ n. has n below ≡ true) (λ n. has n (Node k a below beside) ≡ true) (order below) (λ n h. in_node n k a below beside (inl h)) (order_in below)) (
-        in_node k k a below beside (inr (inl refl)),
-        Each-more (λ n. has n beside ≡ true) (λ n. has n (Node k a below beside) ≡ true) (order beside) (λ n h. in_node n k a below beside (inr (inr h))) (order_in beside),
-      )
-    where
-      in_node : (n k : ℕ) (a : A) (below beside : Forest A) → (has n below ≡ true) ⊎ ((k ≡ n) ⊎ (has n beside ≡ true)) → has n (Node k a below beside) ≡ true
-      in_node n k a below beside (inl h) = or_right (k == n) (has n below || has n beside) (or_left (has n below) (has n beside) h)
-      in_node n k a below beside (inr (inl h)) = or_left (k == n) (has n below || has n beside) (eq-eqb k n h)
-      in_node n k a below beside (inr (inr h)) = or_right (k == n) (has n below || has n beside) (or_right (has n below) (has n beside) h)
+  order_in (Node k a below beside) = grind (arith, nat_tests, Each-both, Each-more, order_in below, order_in beside, or_right, or_left, eq-eqb k)
 
   apart_of_one : (n : ℕ) (t : Forest A) (ns : List ℕ) → has n t ≡ false → Each (λ m. has m t ≡ true) ns → Each (λ m. m ≢ n) ns
   apart_of_one n t [] h a = tt
@@ -70,16 +59,7 @@ module _ {A : Type 0} where
 
   pub order_differ : (t : Forest A) → Once t → Differ (order t)
   order_differ Empty o = tt
-  order_differ (Node k a below beside) o =
-      let apart : Apart k below beside = apart_of k a below beside o in
-      differ_both (order below) (k ∷ order beside)
-      (order_differ below apart.once_below)
-      (apart_of_one k beside (order beside) apart.not_beside (order_in beside), order_differ beside apart.once_beside)
-      (Each-more (λ n. has n below ≡ true) (λ n. Each (λ m. m ≢ n) (k ∷ order beside)) (order below)
-      (λ n h. (λ e. both_ways (has n below) (rw e at apart.not_below) h, apart_of_one n beside (order beside) (apart.apart n h) (order_in beside)))
-      (order_in below))
+  order_differ (Node k a below beside) o = grind (arith, nat_tests, apart_of k a below beside o, differ_both (order below) (k ∷ order beside), order_differ below (apart_of k a below beside o).once_below, order_differ beside (apart_of k a below beside o).once_beside, apart_of_one k beside (order beside) (apart_of k a below beside o).not_beside (order_in beside), apart_of_one, order_in beside, order_in below, Each-more, both_ways)
 
   pub order_at_differ : (n : ℕ) (t : Forest A) → Once t → has n t ≡ false → Differ (order t ++ n ∷ [])
-  order_at_differ n t o h =
-      differ_both (order t) (n ∷ []) (order_differ t o) (tt, tt)
-      (Each-more (λ m. has m t ≡ true) (λ m. Each (λ x. x ≢ m) (n ∷ [])) (order t) (λ m i. (λ e. both_ways (has m t) (rw e at h) i, tt)) (order_in t))
+  order_at_differ n t o h = grind (arith, nat_tests, differ_both (order t) (n ∷ []) (order_differ t o) (tt, tt), order_differ t o, Each-more, both_ways, order_in t)

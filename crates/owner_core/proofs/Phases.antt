@@ -1,15 +1,14 @@
 -- Three phases leave no item and no lock.
-use Rattle.std.proofs.Common.{◌≡◌, ◌≢◌, ◌⊎◌, ℕ, ◌+◌, ◌<◌, ◌≤◌, Bool, true, false, Option, Some, None, List, [], ◌∷◌, ◌++◌, length, slice_get, All, refl, sym, ap, ◌∙◌, subst, inl, inr, arith, rules}
-use Rattle.std.specs.Prelude.{zero, suc, ◌-◌, ◌↔◌, ◌==◌, ◌||◌, not, filter, unwrap_or, if◌then◌else◌}
-use Rattle.std.specs.Option.{option_map, option_map_or}
+use Rattle.std.proofs.Common.{◌≡◌, ◌≢◌, ◌⊎◌, ℕ, ◌+◌, ◌<◌, Bool, true, false, Option, Some, None, List, [], ◌∷◌, ◌++◌, length, slice_get, All, refl, sym, ap, ◌∙◌, inl, inr, arith, rules}
+use Rattle.std.specs.Prelude.{zero, suc, ◌-◌, ◌↔◌, ◌==◌, ◌||◌, not, filter, unwrap_or}
+use Rattle.std.specs.Option.{option_map}
 use Rattle.std.proofs.lemmas.Bool.{cases_Bool, le-ltb, lt-ltb, ne_eqb, eq-eqb, or_parts, both_ways}
 use Rattle.std.proofs.lemmas.List.Elements.{All-nil, All-cons, All-head, All-tail, All-filter}
 use Rattle.pgs_step.specs.declared.ids.Item.{Item}
 use Rattle.pgs_step.specs.declared.ids.Phase.{Phase}
 use Rattle.pgs_step.specs.declared.ids.Phase.TheVariants.{BeforeLocks, Locks, AfterLocks}
-use Rattle.forest.specs.Forest.{Forest, Empty, Node, Once, has, at, children, parent_of, is_above}
-use Rattle.forest.specs.Walk.{swept}
-use Rattle.forest.proofs.Trees.{Apart, apart_of, Where, Here, Below, Beside, where_is, at_some, at_absent, first_child_other}
+use Rattle.forest.specs.Forest.{Empty, Node, Once, has, children, parent_of, is_above}
+use Rattle.forest.proofs.Trees.{Apart, apart_of, Here, Below, Beside, where_is, at_some, at_absent, first_child_other}
 use Rattle.forest.proofs.Moved.{below_parent, below_below}
 use Rattle.forest.proofs.Walks.{once_children}
 use Rattle.owner_kinds.specs.KindTable.{KindTable, IsKind, built_in_rows, row_of, IsSound}
@@ -19,8 +18,9 @@ use Rattle.owner_items.specs.Next.{is_of_phase, is_phase}
 use Rattle.owner_core.specs.Owners.{Owner, OwnerTree, AllAt, HoldsNothing, items_of}
 use Rattle.owner_core.specs.Phases.{HasKinds, all_released, may_lock, may_lock_behind}
 use Rattle.owner_core.specs.Released.{own_released, released}
-use Rattle.owner_core.specs.Steps.{Step, ReleasesAllLocks, lock_step, steps_below, top_locks, release_steps}
+use Rattle.owner_core.specs.Steps.{Step, ReleasesAllLocks, lock_step, steps_below, release_steps}
 use Rattle.owner_core.proofs.Swept.{all_from}
+use Rattle.std.proofs.lemmas.Bool.Decides.{nat_tests}
 
 -- the kinds of a row of kinds, of which none is released with the locks
 abbrev in_phase : Phase → Option KindRow → Bool
@@ -44,15 +44,7 @@ late : (kinds : KindTable) (key serial k : ℕ) → IsSound kinds → IsKind kin
     → is_of_phase kinds BeforeLocks (record { kind = record { 0 = k }; key = key; serial = serial }) ≡ false
     → is_of_phase kinds AfterLocks (record { kind = record { 0 = k }; key = key; serial = serial }) ≡ true
 unfolding row_of
-late kinds key serial k sound is e = elim is [
-  | inl own ↦
-      let low = lt-ltb k 16 (omega (arith, own.to)) in
-      let some = ne_eqb k 0 (λ z. absurd (omega (arith, z, own.from))) in
-      rw (low, some) (last_of_rows built_in_rows (k - 1) built_in_places (omega (arith, own.from, own.to)) (rw (low, some) at e))
-  | inr extension ↦
-      let high = le-ltb k 16 extension.from in
-      rw high (last_of_rows kinds.rows (k - 16) sound.places extension.placed (rw high at e))
-]
+late kinds key serial k sound is e = grind (arith, nat_tests, lt-ltb k 16, ne_eqb k 0, last_of_rows built_in_rows (k - 1) built_in_places, last_of_rows kinds.rows (k - 16) sound.places, built_in_places, le-ltb k 16)
 
 abbrev IsLate : KindTable → Item → Type 0
 IsLate kinds item = is_of_phase kinds AfterLocks item ≡ true
@@ -69,8 +61,7 @@ module _ (kinds : KindTable) where
 
   after_left : (items : List Item) → All (IsLate kinds) items → filter (λ item. not (is_of_phase kinds AfterLocks item)) items ≡ []
   after_left [] all = refl
-  after_left (item ∷ items) all =
-      rw (All-head (IsLate kinds) item items all) (after_left items (All-tail (IsLate kinds) item items all))
+  after_left (item ∷ items) all = grind (arith, nat_tests, All-head (IsLate kinds) item items all, after_left items (All-tail (IsLate kinds) item items all), All-tail (IsLate kinds) item items all)
 
   abbrev Late : Owner → Type 0
   Late owner = All (IsLate kinds) owner.items
@@ -91,13 +82,7 @@ module _ (kinds : KindTable) where
   still_kinds phase n owners all = all_from (HasKinds kinds) (HasKinds kinds) (own_released kinds phase) (phase_kinds phase) n owners all
 
 pub own_nothing : (n : ℕ) (owners : OwnerTree) → AllAt HoldsNothing n owners → items_of n owners ≡ []
-own_nothing n owners all = elim (cases_Bool (has n owners)) [
-  | inl h ↦
-      let w = at_some n owners h in
-      let own = (rw w.1 at all).0 in
-      ap (λ (o : Option Owner). option_map_or (λ owner. owner.items) o []) w.1 ∙ own
-  | inr h ↦ ap (λ (o : Option Owner). option_map_or (λ owner. owner.items) o []) (at_absent n owners h)
-]
+own_nothing n owners all = grind (arith, nat_tests, cases_Bool (has n owners), at_some n owners, at_absent n owners)
 
 module _ (m : ℕ) where
   behind_more : (xs ys : List Step) (before : Bool) → may_lock_behind m before (xs ++ ys) ≡ may_lock_behind m (may_lock_behind m before xs) ys
@@ -110,14 +95,8 @@ module _ (m : ℕ) where
   own_step false n parent before e = rw (eq-eqb n m e) refl
 
   other_step : (commit : Bool) (n parent : ℕ) → parent ≢ m → may_lock m false (lock_step commit n parent) ≡ false
-  other_step true n parent ne = elim (cases_Bool (n == m)) [
-    | inl y ↦ rw y refl
-    | inr y ↦ rw (y, ne_eqb parent m ne) refl
-  ]
-  other_step false n parent ne = elim (cases_Bool (n == m)) [
-    | inl y ↦ rw y refl
-    | inr y ↦ rw y refl
-  ]
+  other_step true n parent ne = grind (arith, nat_tests, cases_Bool (n == m), ne_eqb parent m ne)
+  other_step false n parent ne = grind (arith, nat_tests, cases_Bool (n == m))
 
   module _ (kinds : KindTable) (commit : Bool) where
     abbrev steps : ℕ → OwnerTree → List Step
@@ -159,14 +138,11 @@ with_parent (Some p) top = (p, refl)
 
 -- no owner is below itself
 not_inside : (n m : ℕ) (owners : OwnerTree) → Once owners → has n owners ≡ true → has m (children n owners) ≡ true → n ≢ m
-not_inside n m owners once stands inside e =
-    both_ways (has m (children n owners)) (ap (λ (x : ℕ). has x (children n owners)) (sym e) ∙ first_child_other n owners once stands) inside
+not_inside n m owners once stands inside e = grind (arith, nat_tests, both_ways (has m (children n owners)), first_child_other n owners once stands)
 
 pub no_lock : (kinds : KindTable) (commit top : Bool) (n m : ℕ) (owners : OwnerTree) → Once owners → has n owners ≡ true → (top ≡ true) ↔ (parent_of n owners ≡ None) → (m ≡ n) ⊎ (is_above n m owners ≡ true)
     → (before : Bool) → may_lock_behind m before (release_steps kinds Locks commit top n owners) ≡ false
-no_lock kinds commit true n m owners once stands top within before =
-    let w = at_some n owners stands in
-    rw w.1 (behind_more m (steps_below kinds Locks commit true n (children n owners)) (ReleasesAllLocks n ∷ []) before)
+no_lock kinds commit true n m owners once stands top within before = grind (arith, nat_tests, at_some n owners stands, behind_more m (steps_below kinds Locks commit true n (children n owners)) (ReleasesAllLocks n ∷ []) before)
 no_lock kinds commit false n m owners once stands top within before =
     let w = at_some n owners stands in
     let up = with_parent (parent_of n owners) top in

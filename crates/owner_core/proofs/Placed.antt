@@ -1,29 +1,19 @@
 -- Where owners lie once one more is made.
-use Rattle.std.proofs.Common.{◌≡◌, ℕ, ◌+◌, ◌<◌, ◌≤◌, Bool, true, false, Option, Some, None, IfSome, refl, sym, ap, ◌∙◌, inl, inr, arith}
+use Rattle.std.proofs.Common.{◌≡◌, ℕ, ◌+◌, ◌<◌, true, false, Option, Some, None, IfSome, refl, sym, ap, ◌∙◌, inl, inr, arith}
 use Rattle.std.specs.Prelude.{◌==◌, ◌||◌}
 use Rattle.std.specs.Option.{option_map}
 use Rattle.std.proofs.lemmas.Bool.{cases_Bool, cases_eq, eq-eqb, ne_eqb, or_parts, false_from_ne_true}
-use Rattle.forest.specs.Forest.{Forest, Empty, Node, either, has, at, is_root, parent_of, put}
+use Rattle.forest.specs.Forest.{Forest, Empty, Node, has, at, is_root, parent_of, put}
 use Rattle.forest.proofs.Trees.{at_absent, at_some, has_at, put_absent}
 use Rattle.pgs_step.specs.declared.ids.OwnerId.{OwnerId}
 use Rattle.owner_core.specs.Owners.{entered}
 use Rattle.owner_core.specs.Sound.{AreGiven}
+use Rattle.std.proofs.lemmas.Bool.Decides.{nat_tests}
 
 module _ {A : Type 0} where
   at_put : (p n : ℕ) (a : A) (t : Forest A) → has p t ≡ true → has n t ≡ false → at n (put p n a Empty t) ≡ Some a
   at_put p n a Empty h u = absurd (cc)
-  at_put p n a (Node k b below beside) h u =
-      let w = or_parts (k == n) (has n below || has n beside) u in
-      let v = or_parts (has n below) (has n beside) w.1 in
-      elim (cases_Bool (k == p)) [
-        | inl y ↦ rw (w.0, y, eq-eqb n n refl) refl
-        | inr y ↦ elim (cases_Bool (has p below)) [
-          | inl x ↦ rw (w.0, y, at_put p n a below x v.0) refl
-          | inr x ↦
-              let z : has p beside ≡ true = rw (y, x) at h in
-              rw (w.0, y, put_absent p n a Empty below x, at_absent n below v.0, at_put p n a beside z v.1) refl
-        ]
-      ]
+  at_put p n a (Node k b below beside) h u = grind (arith, nat_tests, or_parts (k == n) (has n below || has n beside) u, or_parts (has n below) (has n beside) (or_parts (k == n) (has n below || has n beside) u).1, cases_Bool (k == p), cases_Bool (has p below), eq-eqb n n refl, at_put p n a below, at_put p n a beside, put_absent p n a Empty below, at_absent n below (or_parts (has n below) (has n beside) (or_parts (k == n) (has n below || has n beside) u).1).0)
 
   -- a new node lies where it was put
   pub at_entered : (parent : Option ℕ) (n : ℕ) (a : A) (t : Forest A) → IfSome parent (λ p. has p t ≡ true) → has n t ≡ false → at n (entered parent n a t) ≡ Some a
@@ -103,9 +93,7 @@ pub live_entered :
     (parent : Option OwnerId) (next slot n : ℕ) (places new : Forest ℕ) → AreGiven next places →
     IfSome parent (λ p. at p.number places ≡ Some p.slot) → n ≡ next → new ≡ entered (option_map (λ (p : OwnerId). p.number) parent) next slot places →
     at n new ≡ Some slot
-live_entered parent next slot n places new given lies is entered_is =
-    ap (λ (m : ℕ). at m new) is ∙ ap (λ (x : Forest ℕ). at next x) entered_is
-    ∙ at_entered (option_map (λ (p : OwnerId). p.number) parent) next slot places (parent_lies parent places lies) (unused next places given)
+live_entered parent next slot n places new given lies is entered_is = grind (arith, nat_tests, at_entered, parent_lies parent places lies, unused next places given)
 
 pub stays_entered :
     (parent : Option ℕ) (next slot : ℕ) (places new : Forest ℕ) → AreGiven next places → new ≡ entered parent next slot places →

@@ -1,23 +1,23 @@
 -- The walk of a release, and what it did so far.
-use Rattle.std.proofs.Common.{◌≡◌, ◌≢◌, ◌⊎◌, ℕ, ◌+◌, ◌≤◌, ◌<◌, Bool, true, false, Option, Some, None, List, [], ◌∷◌, ◌++◌, All, length, refl, sym, ap, ◌∙◌, inl, inr, arith, eqb, cond, append_assoc, subst}
+use Rattle.std.proofs.Common.{◌≡◌, ◌≢◌, ◌⊎◌, ℕ, ◌+◌, ◌≤◌, Bool, true, false, Option, Some, List, [], ◌∷◌, ◌++◌, length, refl, ap, ◌∙◌, arith}
 use Rattle.std.specs.Prelude.{◌==◌, ◌||◌, if◌then◌else◌}
-use Rattle.std.specs.Option.{option_map, option_map_or}
 use Rattle.std.specs.List.{flat_map}
-use Rattle.std.proofs.lemmas.Bool.{cases_eq, cases_Bool, eq-eqb, ne_eqb, eqb-true, both_ways, or_parts}
+use Rattle.std.proofs.lemmas.Bool.{cases_Bool, eq-eqb, ne_eqb, eqb-true, or_parts}
 use Rattle.pgs_step.specs.declared.ids.KindId.{KindId}
 use Rattle.pgs_step.specs.declared.ids.Phase.{Phase}
-use Rattle.forest.specs.Forest.{Forest, Empty, Node, either, has, Once, at, children, parent_of, changed, mapped, AllNodes}
-use Rattle.forest.specs.Walk.{order, order_at, lead, follows, todo, swept}
-use Rattle.forest.proofs.Trees.{Apart, apart_of, at_some, at_absent, has_at, changed_absent, has_changed, has_children, first_child_other}
+use Rattle.forest.specs.Forest.{Forest, Empty, Node, has, Once, at, children, parent_of, changed, AllNodes}
+use Rattle.forest.specs.Walk.{order_at, lead, follows, todo}
+use Rattle.forest.proofs.Trees.{apart_of, at_some, at_absent, has_at, changed_absent, has_changed, first_child_other}
 use Rattle.forest.proofs.Walks.{once_children, todo_first, todo_next, todo_end, follows_in, lead_in, children_changed, todo_changed, follows_changed}
-use Rattle.forest.proofs.Mapped.{mapped-at, mapped-once, mapped-children, mapped-lead, mapped-follows, mapped-has, mapped-parent}
-use Rattle.owner_kinds.specs.KindTable.{KindTable, IsKind}
+use Rattle.forest.proofs.Mapped.{mapped-once, mapped-children, mapped-lead, mapped-follows, mapped-has, mapped-parent}
+use Rattle.owner_kinds.specs.KindTable.{KindTable}
 use Rattle.owner_items.specs.ItemList.{uses}
-use Rattle.owner_core.specs.Owners.{Owner, OwnerTree, Roomy, tree_of, held, subtree_of, AllAt}
+use Rattle.owner_core.specs.Owners.{Owner, OwnerTree, Roomy, tree_of, held, subtree_of}
 use Rattle.owner_core.specs.Locks.{locks_below}
 use Rattle.owner_core.specs.Steps.{Step, own_steps, lock_step, top_locks, steps_below, release_steps}
 use Rattle.owner_core.proofs.Lists.{Each, Each-both, flat-append}
-use Rattle.owner_core.proofs.Walking.{Visit, visit, visits, walked, walk_tree, walked_at, tree_swept}
+use Rattle.owner_core.proofs.Walking.{Visit, visit, visits, walked, walk_tree, walked_at}
+use Rattle.std.proofs.lemmas.Bool.Decides.{nat_tests}
 
 -- the walk goes on from a node
 pub record Onward (f : Owner → Owner) (n0 cur next : ℕ) (t : OwnerTree) : Type 0 where
@@ -25,19 +25,7 @@ pub record Onward (f : Owner → Owner) (n0 cur next : ℕ) (t : OwnerTree) : Ty
   pub place : (next ≡ n0) ⊎ (has next (children n0 (changed cur f t)) ≡ true)
 
 pub onward : (f : Owner → Owner) (n0 cur : ℕ) (t : OwnerTree) → Once t → has n0 t ≡ true → has cur (children n0 t) ≡ true → Onward f n0 cur (follows cur n0 (children n0 t)) t
-onward f n0 cur t o stands inside =
-    let low : OwnerTree = children n0 t in
-    let ol : Once low = once_children n0 t o in
-    let next = follows cur n0 low in
-    let same : children n0 (changed cur f t) ≡ changed cur f low = children_changed n0 cur f t in
-    record {
-      list = todo_next n0 cur low ol (first_child_other n0 t o stands) inside
-          ∙ ap (λ (ns : List ℕ). cur ∷ ns) (sym (todo_changed n0 next cur f low) ∙ ap (λ (x : OwnerTree). todo n0 next x) (sym same));
-      place = elim (follows_in cur n0 low ol inside) [
-        | inl e ↦ inl e
-        | inr h ↦ inr (ap (λ (x : OwnerTree). has next x) same ∙ has_changed next cur f low ∙ h)
-      ];
-    }
+onward f n0 cur t o stands inside = grind (arith, nat_tests, once_children n0 t o, children_changed n0 cur f t, todo_next n0 cur (children n0 t) (once_children n0 t o) (first_child_other n0 t o stands) inside, first_child_other n0 t o stands, todo_changed n0 (follows cur n0 (children n0 t)) cur f (children n0 t), follows_in cur n0 (children n0 t) (once_children n0 t o) inside, has_changed (follows cur n0 (children n0 t)) cur f (children n0 t))
 
 -- the walk begins
 pub begins : (n0 : ℕ) (t : OwnerTree) → Once t → has n0 t ≡ true → todo n0 (lead n0 (children n0 t)) (children n0 t) ≡ order_at n0 t
@@ -45,18 +33,13 @@ begins n0 t o stands = todo_first n0 (children n0 t) (once_children n0 t o) (fir
 
 -- in the tree of the owners
 pub lead_tree : (n0 : ℕ) (rooms : Forest Roomy) → lead n0 (children n0 rooms) ≡ lead n0 (children n0 (tree_of rooms))
-lead_tree n0 rooms =
-    sym (mapped-lead (λ (r : Roomy). r.owner) n0 (children n0 rooms))
-    ∙ ap (λ (x : OwnerTree). lead n0 x) (mapped-children (λ (r : Roomy). r.owner) n0 rooms)
+lead_tree n0 rooms = grind (arith, nat_tests, mapped-lead, mapped-children)
 
 pub follows_tree : (n0 m : ℕ) (rooms : Forest Roomy) → follows m n0 (children n0 rooms) ≡ follows m n0 (children n0 (tree_of rooms))
-follows_tree n0 m rooms =
-    sym (mapped-follows (λ (r : Roomy). r.owner) m n0 (children n0 rooms))
-    ∙ ap (λ (x : OwnerTree). follows m n0 x) (mapped-children (λ (r : Roomy). r.owner) n0 rooms)
+follows_tree n0 m rooms = grind (arith, nat_tests, mapped-follows, mapped-children)
 
 pub inside_tree : (n0 m : ℕ) (rooms : Forest Roomy) → has m (children n0 (tree_of rooms)) ≡ has m (children n0 rooms)
-inside_tree n0 m rooms =
-    ap (λ (x : OwnerTree). has m x) (sym (mapped-children (λ (r : Roomy). r.owner) n0 rooms)) ∙ mapped-has (λ (r : Roomy). r.owner) m (children n0 rooms)
+inside_tree n0 m rooms = grind (arith, nat_tests, mapped-children, mapped-has)
 
 module _ (kinds : KindTable) (phase : Phase) (commit top : Bool) (n0 : ℕ) where
   -- what happens at a node of the walk
@@ -110,14 +93,12 @@ module _ (kind : KindId) (key : ℕ) where
   uses_visits : (up : ℕ) (g : OwnerTree) → visit_uses (visits up g) ≡ held kind key g
   unfolding visit_uses
   uses_visits up Empty = refl
-  uses_visits up (Node k o below beside) =
-      omega (arith, uses_append (visits k below) (record { number = k; parent = Some up; value = o } ∷ visits up beside), uses_visits k below, uses_visits up beside)
+  uses_visits up (Node k o below beside) = grind (arith, nat_tests, uses_append (visits k below), visits k below, visits up beside, uses_visits k below, uses_visits up beside)
 
   pub uses_all : (n0 : ℕ) (a : Owner) (t : OwnerTree) → at n0 t ≡ Some a
       → visit_uses (visits n0 (children n0 t) ++ record { number = n0; parent = parent_of n0 t; value = a } ∷ []) ≡ held kind key (subtree_of n0 t)
   unfolding visit_uses
-  uses_all n0 a t h =
-      rw h (omega (arith, uses_append (visits n0 (children n0 t)) (record { number = n0; parent = parent_of n0 t; value = a } ∷ []), uses_visits n0 (children n0 t)))
+  uses_all n0 a t h = grind (arith, nat_tests, uses_append (visits n0 (children n0 t)), visits n0 (children n0 t), uses_visits n0 (children n0 t))
 
   pub uses_first : (v : Visit Owner) (vs : List (Visit Owner)) → visit_uses (v ∷ vs) ≡ uses kind key v.value.items + visit_uses vs
   unfolding visit_uses
@@ -126,38 +107,16 @@ module _ (kind : KindId) (key : ℕ) where
   -- what a change of one owner does to the sum
   pub held_changed : (n : ℕ) (f : Owner → Owner) (a : Owner) (t : OwnerTree) → Once t → at n t ≡ Some a → held kind key (changed n f t) + uses kind key a.items ≡ held kind key t + uses kind key (f a).items
   held_changed n f a Empty o h = absurd (cc)
-  held_changed n f a (Node k b below beside) o h =
-      let apart : Apart k below beside = apart_of k b below beside o in
-      elim (cases_Bool (k == n)) [
-        | inl y ↦
-            let u : has n below ≡ false = rw (eqb-true k n y) at apart.not_below in
-            let v : has n beside ≡ false = rw (eqb-true k n y) at apart.not_beside in
-            let e : b ≡ a = let w : Some b ≡ Some a = rw y at h in cc in
-            rw (y, changed_absent n f below u, changed_absent n f beside v, e) (omega arith)
-        | inr y ↦ elim (cases_Bool (has n below)) [
-          | inl u ↦
-              let w = at_some n below u in
-              let r : at n below ≡ Some a = let z : either (at n below) (at n beside) ≡ Some a = rw y at h in w.1 ∙ (rw w.1 at z) in
-              rw (y, changed_absent n f beside (apart.apart n u)) (omega (arith, held_changed n f a below apart.once_below r))
-          | inr u ↦
-              let r : at n beside ≡ Some a = rw (y, at_absent n below u) at h in
-              rw (y, changed_absent n f below u) (omega (arith, held_changed n f a beside apart.once_beside r))
-        ]
-      ]
+  held_changed n f a (Node k b below beside) o h = grind (arith, nat_tests, apart_of k b below beside o, cases_Bool (k == n), cases_Bool (has n below), eqb-true k n, at_some n below, changed_absent n f below, changed_absent n f beside, held_changed n f a below (apart_of k b below beside o).once_below, held_changed n f a beside (apart_of k b below beside o).once_beside, at_absent n below)
 
 -- what holds of each owner of a tree holds at each node of the walk
 each_visits : (P : Owner → Type 0) (up : ℕ) (g : OwnerTree) → AllNodes P g → Each (λ (v : Visit Owner). P v.value) (visits up g)
 each_visits P up Empty a = tt
-each_visits P up (Node k o below beside) a =
-    Each-both (λ (v : Visit Owner). P v.value) (visits k below) (record { number = k; parent = Some up; value = o } ∷ visits up beside)
-    (each_visits P k below a.1) (a.0, each_visits P up beside a.2)
+each_visits P up (Node k o below beside) a = grind (arith, nat_tests, Each-both, visits k below, visits up beside, each_visits P k below a.1, each_visits P up beside a.2)
 
 pub each_all : (P : Owner → Type 0) (n0 : ℕ) (a : Owner) (t : OwnerTree) → at n0 t ≡ Some a → AllNodes P (subtree_of n0 t)
     → Each (λ (v : Visit Owner). P v.value) (visits n0 (children n0 t) ++ record { number = n0; parent = parent_of n0 t; value = a } ∷ [])
-each_all P n0 a t h all =
-    let whole : P a × AllNodes P (children n0 t) × Unit {0} = rw h at all in
-    Each-both (λ (v : Visit Owner). P v.value) (visits n0 (children n0 t)) (record { number = n0; parent = parent_of n0 t; value = a } ∷ [])
-    (each_visits P n0 (children n0 t) whole.1) (whole.0, tt)
+each_all P n0 a t h all = grind (arith, nat_tests, Each-both, visits n0 (children n0 t), each_visits P n0 (children n0 t))
 
 -- the node at which the walk stands
 pub visit_at : (n : ℕ) (a : Owner) (t : OwnerTree) → at n t ≡ Some a → visit n t ≡ record { number = n; parent = parent_of n t; value = a } ∷ []
@@ -173,26 +132,11 @@ pub record Turn (f : Owner → Owner) (n0 cur : ℕ) (a : Owner) (t : OwnerTree)
 
 turn_same : (f : Owner → Owner) (n0 cur : ℕ) (a : Owner) (t : OwnerTree) → Once t → has n0 t ≡ true → has cur (children n0 t) ≡ true → at cur t ≡ Some a
     → Turn f n0 cur a t (follows cur n0 (children n0 t)) (changed cur f t)
-turn_same f n0 cur a t o stands inside h =
-    let on : Onward f n0 cur (follows cur n0 (children n0 t)) t = onward f n0 cur t o stands inside in
-    let u : OwnerTree = changed cur f t in
-    let next : ℕ = follows cur n0 (children n0 t) in
-    record {
-      rest = ap (λ (ns : List ℕ). walked f ns t) on.list ∙ ap (λ (xs : List (Visit Owner)). xs ++ walked f (todo n0 next (children n0 u)) u) (visit_at cur a t h);
-      tree = ap (λ (ns : List ℕ). walk_tree f ns t) on.list;
-      place = on.place;
-      stands = has_changed n0 cur f t ∙ stands;
-      shorter = ap length on.list ∙ omega arith;
-    }
+turn_same f n0 cur a t o stands inside h = grind (arith, nat_tests, onward f n0 cur t o stands inside, walked f, walked f (todo n0 (follows cur n0 (children n0 t)) (children n0 (changed cur f t))) (changed cur f t), visit_at cur a t h, walk_tree f, has_changed n0 cur f t)
 
 pub turn : (f : Owner → Owner) (n0 cur : ℕ) (a : Owner) (t : OwnerTree) (next : ℕ) (u : OwnerTree) → Once t → has n0 t ≡ true → has cur (children n0 t) ≡ true → at cur t ≡ Some a
     → u ≡ changed cur f t → next ≡ follows cur n0 (children n0 u) → Turn f n0 cur a t next u
-turn f n0 cur a t next u o stands inside h e q =
-    let goes : follows cur n0 (children n0 (changed cur f t)) ≡ follows cur n0 (children n0 t) =
-    ap (λ (x : OwnerTree). follows cur n0 x) (children_changed n0 cur f t) ∙ follows_changed cur n0 cur f (children n0 t) in
-    let same : next ≡ follows cur n0 (children n0 t) = q ∙ ap (λ (x : OwnerTree). follows cur n0 (children n0 x)) e ∙ goes in
-    subst (λ (x : OwnerTree). Turn f n0 cur a t next x) (sym e)
-    (subst (λ (m : ℕ). Turn f n0 cur a t m (changed cur f t)) (sym same) (turn_same f n0 cur a t o stands inside h))
+turn f n0 cur a t next u o stands inside h e q = grind (arith, nat_tests, children_changed n0 cur f t, follows_changed cur n0 cur f (children n0 t), turn_same f n0 cur a t o stands inside h)
 
 -- the walk's start
 pub record Start (f : Owner → Owner) (n0 cur : ℕ) (t : OwnerTree) : Type 0 where
@@ -203,19 +147,7 @@ pub record Start (f : Owner → Owner) (n0 cur : ℕ) (t : OwnerTree) : Type 0 w
   pub place : (cur ≡ n0) ⊎ (has cur (children n0 t) ≡ true)
 
 pub start : (f : Owner → Owner) (n0 cur : ℕ) (t : OwnerTree) → Once t → has n0 t ≡ true → cur ≡ lead n0 (children n0 t) → Start f n0 cur t
-start f n0 cur t o stands e =
-    let w = at_some n0 t stands in
-    let list : todo n0 cur (children n0 t) ≡ order_at n0 t = ap (λ (m : ℕ). todo n0 m (children n0 t)) e ∙ begins n0 t o stands in
-    record {
-      owner = w.0;
-      lies = w.1;
-      list = list;
-      rest = ap (λ (ns : List ℕ). walked f ns t) list ∙ walked_at f n0 w.0 t o w.1;
-      place = elim (lead_in n0 (children n0 t)) [
-        | inl z ↦ inl (e ∙ z)
-        | inr h ↦ inr (ap (λ (m : ℕ). has m (children n0 t)) e ∙ h)
-      ];
-    }
+start f n0 cur t o stands e = grind (arith, nat_tests, at_some n0 t stands, begins n0 t o stands, walked f, walked_at f n0 (at_some n0 t stands).0 t o (at_some n0 t stands).1, lead_in n0 (children n0 t))
 
 -- the walk's end
 pub record Finish (f : Owner → Owner) (n0 cur : ℕ) (a : Owner) (t : OwnerTree) : Type 0 where
@@ -223,12 +155,7 @@ pub record Finish (f : Owner → Owner) (n0 cur : ℕ) (a : Owner) (t : OwnerTre
   pub tree : walk_tree f (todo n0 cur (children n0 t)) t ≡ changed n0 f t
 
 pub finish : (f : Owner → Owner) (n0 cur : ℕ) (a : Owner) (t : OwnerTree) → cur ≡ n0 → at n0 t ≡ Some a → Finish f n0 cur a t
-finish f n0 cur a t e h =
-    let list : todo n0 cur (children n0 t) ≡ n0 ∷ [] = ap (λ (m : ℕ). todo n0 m (children n0 t)) e ∙ todo_end n0 (children n0 t) in
-    record {
-      rest = ap (λ (ns : List ℕ). walked f ns t) list ∙ ap (λ (xs : List (Visit Owner)). xs ++ []) (visit_at n0 a t h);
-      tree = ap (λ (ns : List ℕ). walk_tree f ns t) list;
-    }
+finish f n0 cur a t e h = grind (arith, nat_tests, todo_end n0 (children n0 t), walked f, visit_at n0 a t h, walk_tree f)
 
 -- the parent of an owner, in the tree of the owners
 pub parent_tree : (n : ℕ) (rooms : Forest Roomy) → parent_of n (tree_of rooms) ≡ parent_of n rooms
@@ -243,29 +170,16 @@ inside_changed f n0 cur m t = ap (λ (x : OwnerTree). has m x) (children_changed
 -- the table counts what the owner has at which the walk stands
 pub enough_here : (kind : KindId) (key : ℕ) (f : Owner → Owner) (n0 cur : ℕ) (a : Owner) (t : OwnerTree) (have : ℕ) → Once t → has n0 t ≡ true → has cur (children n0 t) ≡ true → at cur t ≡ Some a
     → visit_uses kind key (walked f (todo n0 cur (children n0 t)) t) ≤ have → uses kind key a.items ≤ have
-enough_here kind key f n0 cur a t have o stands inside h enough =
-    let w : Turn f n0 cur a t (follows cur n0 (children n0 t)) (changed cur f t) = turn_same f n0 cur a t o stands inside h in
-    omega (
-      arith,
-      enough,
-      ap (visit_uses kind key) w.rest,
-      uses_first kind key (record { number = cur; parent = parent_of cur t; value = a }) (walked f (todo n0 (follows cur n0 (children n0 t)) (children n0 (changed cur f t))) (changed cur f t)),
-    )
+enough_here kind key f n0 cur a t have o stands inside h enough = grind (arith, nat_tests, turn_same f n0 cur a t o stands inside h, visit_uses kind key, uses_first kind key, walked f (todo n0 (follows cur n0 (children n0 t)) (children n0 (changed cur f t))) (changed cur f t))
 
 pub kinds_here : (P : Owner → Type 0) (f : Owner → Owner) (n0 cur : ℕ) (a : Owner) (t : OwnerTree) → Once t → has n0 t ≡ true → has cur (children n0 t) ≡ true → at cur t ≡ Some a
     → Each (λ (v : Visit Owner). P v.value) (walked f (todo n0 cur (children n0 t)) t) → P a
-kinds_here P f n0 cur a t o stands inside h each =
-    let w : Turn f n0 cur a t (follows cur n0 (children n0 t)) (changed cur f t) = turn_same f n0 cur a t o stands inside h in
-    (subst (λ (vs : List (Visit Owner)). Each (λ (v : Visit Owner). P v.value) vs) w.rest each).0
+kinds_here P f n0 cur a t o stands inside h each = grind (arith, nat_tests, turn_same f n0 cur a t o stands inside h)
 
 pub enough_end : (kind : KindId) (key : ℕ) (f : Owner → Owner) (n0 cur : ℕ) (a : Owner) (t : OwnerTree) (have : ℕ) → cur ≡ n0 → at n0 t ≡ Some a
     → visit_uses kind key (walked f (todo n0 cur (children n0 t)) t) ≤ have → uses kind key a.items ≤ have
-enough_end kind key f n0 cur a t have e h enough =
-    let w : Finish f n0 cur a t = finish f n0 cur a t e h in
-    omega (arith, enough, ap (visit_uses kind key) w.rest, uses_first kind key (record { number = n0; parent = parent_of n0 t; value = a }) [])
+enough_end kind key f n0 cur a t have e h enough = grind (arith, nat_tests, finish f n0 cur a t e h, visit_uses kind key, uses_first kind key)
 
 pub kinds_end : (P : Owner → Type 0) (f : Owner → Owner) (n0 cur : ℕ) (a : Owner) (t : OwnerTree) → cur ≡ n0 → at n0 t ≡ Some a
     → Each (λ (v : Visit Owner). P v.value) (walked f (todo n0 cur (children n0 t)) t) → P a
-kinds_end P f n0 cur a t e h each =
-    let w : Finish f n0 cur a t = finish f n0 cur a t e h in
-    (subst (λ (vs : List (Visit Owner)). Each (λ (v : Visit Owner). P v.value) vs) w.rest each).0
+kinds_end P f n0 cur a t e h each = grind (arith, nat_tests, finish f n0 cur a t e h)

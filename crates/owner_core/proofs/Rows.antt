@@ -2,13 +2,12 @@
 use Rattle.std.proofs.Common.{◌≡◌, ℕ, true, false, List, [], ◌∷◌, refl}
 use Rattle.pgs_step.specs.declared.ids.Item.{Item}
 use Rattle.pgs_step.specs.declared.ids.Phase.TheVariants.{BeforeLocks, Locks, AfterLocks}
-use Rattle.pgs_step.specs.declared.events.What.{What}
 use Rattle.pgs_step.specs.declared.events.What.TheVariants.{Release, NotClosed, OwnerGone}
-use Rattle.forest.specs.Forest.{Forest, Empty, Node}
+use Rattle.forest.specs.Forest.{Empty, Node}
 use Rattle.owner_kinds.specs.KindTable.{KindTable, row_of}
 use Rattle.owner_core.specs.Owners.{Owner, OwnerTree}
 use Rattle.owner_core.specs.Released.{released}
-use Rattle.owner_core.specs.Steps.{Step, Said, GivesBack, ReleasesLocks, PassesLocks, ReleasesAllLocks, release_steps, gone_events}
+use Rattle.owner_core.specs.Steps.{Said, GivesBack, ReleasesLocks, PassesLocks, ReleasesAllLocks, release_steps, gone_events}
 
 -- the built-in kinds alone
 abbrev kinds : KindTable

@@ -1,17 +1,18 @@
 -- The owners of a forest of rooms.
-use Rattle.std.proofs.Common.{◌≡◌, ◌≢◌, ℕ, ◌+◌, ◌≤◌, Bool, true, false, Option, Some, None, List, [], ◌∷◌, ◌++◌, map, refl, sym, ap, ◌∙◌, inl, inr, arith}
-use Rattle.std.specs.Prelude.{◌==◌, if◌then◌else◌}
+use Rattle.std.proofs.Common.{◌≡◌, ◌≢◌, ℕ, false, Option, Some, None, [], refl, sym, ap, ◌∙◌, arith}
+use Rattle.std.specs.Prelude.{◌==◌}
 use Rattle.std.specs.Option.{option_map, option_map_or}
 use Rattle.std.specs.Result.{OnErr}
 use Rattle.std.proofs.Common.{Result, Ok, Err}
 use Rattle.std.proofs.lemmas.Bool.{cases_Bool, ne_eqb}
-use Rattle.forest.specs.Forest.{Forest, Empty, Node, has, times, Once, size, at, children, put, removed, changed, moved}
-use Rattle.forest.specs.Walk.{order, order_at}
+use Rattle.forest.specs.Forest.{Forest, Empty, Node, has, Once, at, changed, moved}
+use Rattle.forest.specs.Walk.{order_at}
 use Rattle.forest.specs.Forest.{either}
-use Rattle.forest.proofs.Trees.{Apart, apart_of, Where, Here, Below, Beside, where_is, at_some, at_absent, has_at, changed_absent}
-use Rattle.forest.proofs.Mapped.{mapped-at, mapped-times, mapped-size, mapped-has, mapped-put, mapped-removed, mapped-changed, mapped-children, mapped-order, at_changed_other}
+use Rattle.forest.proofs.Trees.{Apart, apart_of, Here, Below, Beside, where_is, at_some, at_absent, has_at, changed_absent}
+use Rattle.forest.proofs.Mapped.{mapped-at, mapped-times, mapped-has, mapped-put, mapped-removed, mapped-changed, mapped-children, mapped-order, at_changed_other}
 use Rattle.owner_core.specs.Owners.{Owner, OwnerTree, OwnerTable, Roomy, tree_of, entered, created}
 use Rattle.owner_core.proofs.Placed.{entered_other}
+use Rattle.std.proofs.lemmas.Bool.Decides.{nat_tests}
 
 abbrev own : Roomy → Owner
 own r = r.owner
@@ -24,17 +25,11 @@ once_rooms rooms o = record { once = λ n. rw (mapped-times (λ (x : Roomy). x.o
 
 changed_none : (n : ℕ) (t : OwnerTree) → changed n (λ o. o) t ≡ t
 changed_none n Empty = refl
-changed_none n (Node k a below beside) =
-    elim (cases_Bool (k == n)) [
-      | inl y ↦ rw (y, changed_none n below, changed_none n beside) refl
-      | inr y ↦ rw (y, changed_none n below, changed_none n beside) refl
-    ]
+changed_none n (Node k a below beside) = grind (arith, nat_tests, cases_Bool (k == n), changed_none n below, changed_none n beside)
 
 -- another room with an owner that changed
 pub changed_to : (n : ℕ) (f : Owner → Owner) (rooms : Forest Roomy) (r new : Roomy) → Once rooms → at n rooms ≡ Some r → new.owner ≡ f r.owner → tree_of (changed n (λ _. new) rooms) ≡ changed n f (tree_of rooms)
-changed_to n f rooms r new o h e =
-    mapped-changed (λ (x : Roomy). x.owner) n (λ _. new) f rooms
-    (λ a q. let s : Some r ≡ Some a = sym h ∙ q in let same : r ≡ a = cc in e ∙ ap (λ (x : Roomy). f x.owner) same) o
+changed_to n f rooms r new o h e = grind (arith, nat_tests, mapped-changed)
 
 pub changed_same : (n : ℕ) (rooms : Forest Roomy) (r new : Roomy) → Once rooms → at n rooms ≡ Some r → new.owner ≡ r.owner → tree_of (changed n (λ _. new) rooms) ≡ tree_of rooms
 changed_same n rooms r new o h e = changed_to n (λ o. o) rooms r new o h e ∙ changed_none n (tree_of rooms)
@@ -58,24 +53,13 @@ changed_back n (Node k a below beside) r o h =
 
 pub tree_entered : (parent : Option ℕ) (n : ℕ) (r : Roomy) (rooms : Forest Roomy) → r.owner ≡ record { begun = false; items = [] } → tree_of (entered parent n r rooms) ≡ created parent n (tree_of rooms)
 tree_entered None n r rooms e = rw e refl
-tree_entered (Some p) n r rooms e =
-    mapped-put (λ (x : Roomy). x.owner) p n r Empty rooms ∙ ap (λ (o : Owner). put p n o Empty (tree_of rooms)) e
+tree_entered (Some p) n r rooms e = grind (arith, nat_tests, mapped-put)
 
 pub tree_moved : (n p : ℕ) (rooms : Forest Roomy) → tree_of (moved n p rooms) ≡ moved n p (tree_of rooms)
-tree_moved n p rooms =
-    elim (cases_Bool (has n rooms)) [
-      | inl h ↦
-          let w = at_some n rooms h in
-          rw (w.1, at_tree n rooms w.0 w.1)
-          (mapped-put (λ (x : Roomy). x.owner) p n w.0 (children n rooms) (removed n rooms)
-          ∙ rw (mapped-children (λ (x : Roomy). x.owner) n rooms, mapped-removed (λ (x : Roomy). x.owner) n rooms) refl)
-      | inr h ↦ rw (at_absent n rooms h, at_absent n (tree_of rooms) (mapped-has (λ (x : Roomy). x.owner) n rooms ∙ h)) refl
-    ]
+tree_moved n p rooms = grind (arith, nat_tests, cases_Bool (has n rooms), at_some n rooms, at_tree n rooms, mapped-put, mapped-children, mapped-removed, at_absent n rooms, at_absent n (tree_of rooms), mapped-has)
 
 pub tree_order : (n : ℕ) (rooms : Forest Roomy) → order_at n (tree_of rooms) ≡ order_at n rooms
-tree_order n rooms =
-    ap (λ (t : OwnerTree). order t ++ n ∷ []) (sym (mapped-children (λ (x : Roomy). x.owner) n rooms))
-    ∙ ap (λ (ns : List ℕ). ns ++ n ∷ []) (mapped-order (λ (x : Roomy). x.owner) (children n rooms))
+tree_order n rooms = grind (arith, nat_tests, mapped-children, mapped-order)
 
 -- what follows where a call was refused
 pub on_err : {T E : Type 0} (r : Result T E) (P Q : Type 0) → (P → Q) → OnErr r P → OnErr r Q
@@ -84,9 +68,7 @@ on_err (Err e) P Q f h = f h
 
 -- the same room in the place of one
 pub room_back : (n : ℕ) (r new : Roomy) (table : OwnerTable) → Once table.rooms → at n table.rooms ≡ Some r → new ≡ r → record table { rooms = changed n (λ _. new) table.rooms } ≡ table
-room_back n r new table o h e =
-    ap (λ (x : Roomy). record table { rooms = changed n (λ _. x) table.rooms }) e
-    ∙ ap (λ (x : Forest Roomy). record table { rooms = x }) (changed_back n table.rooms r o h)
+room_back n r new table o h e = grind (arith, nat_tests, changed_back n table.rooms r o h)
 
 -- the room of the other owners
 

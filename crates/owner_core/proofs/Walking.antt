@@ -1,16 +1,17 @@
 -- The walk over an owner and all below it comes to each as it stands at first.
-use Rattle.std.proofs.Common.{◌≡◌, ◌≢◌, ◌⊎◌, ℕ, ◌+◌, ◌≤◌, Bool, true, false, Option, Some, None, List, [], ◌∷◌, ◌++◌, refl, sym, ap, ◌∙◌, inl, inr, arith, eqb, cond, append_assoc}
-use Rattle.std.specs.Prelude.{◌==◌, ◌||◌, if◌then◌else◌}
+use Rattle.std.proofs.Common.{◌≡◌, ◌≢◌, ℕ, ◌+◌, true, false, Option, Some, None, List, [], ◌∷◌, ◌++◌, refl, ap, ◌∙◌, arith}
+use Rattle.std.specs.Prelude.{◌==◌, ◌||◌}
 use Rattle.std.specs.Option.{option_map_or}
 use Rattle.std.specs.List.{flat_map}
-use Rattle.std.proofs.lemmas.Bool.{cases_eq, cases_Bool, eq-eqb, ne_eqb, eqb-true, both_ways, or_parts, or_left, or_right}
-use Rattle.forest.specs.Forest.{Forest, Empty, Node, either, has, Once, at, children, is_root, parent_of, changed}
+use Rattle.std.proofs.lemmas.Bool.{cases_Bool, eq-eqb, ne_eqb, eqb-true, both_ways, or_parts, or_left}
+use Rattle.forest.specs.Forest.{Forest, Empty, Node, has, Once, at, children, is_root, parent_of, changed}
 use Rattle.forest.specs.Walk.{order, order_at, all_changed, swept}
-use Rattle.forest.proofs.Trees.{Apart, apart_of, Where, Here, Below, Beside, where_is, at_some, at_absent, has_at, changed_absent, children_absent, has_changed, has_children, first_child_other}
-use Rattle.forest.proofs.Neighbours.{root_has, root_absent, parent_absent, parent_root}
+use Rattle.forest.proofs.Trees.{Apart, apart_of, Here, Below, Beside, where_is, at_absent, has_at, changed_absent, has_children, first_child_other}
+use Rattle.forest.proofs.Neighbours.{root_absent, parent_root}
 use Rattle.forest.proofs.Walks.{parent_has, once_children}
-use Rattle.forest.proofs.Mapped.{parent_changed, at_changed_other, at_changed}
-use Rattle.owner_core.proofs.Lists.{Each, Differ, Each-both, Each-more, flat-append, flat-same, order_in, order_differ, order_at_differ}
+use Rattle.forest.proofs.Mapped.{parent_changed, at_changed_other}
+use Rattle.owner_core.proofs.Lists.{Each, Differ, Each-both, Each-more, flat-append, flat-same, order_in, order_at_differ}
+use Rattle.std.proofs.lemmas.Bool.Decides.{nat_tests}
 
 -- a node of a walk: its number, its parent and its data
 pub record Visit (A : Type 0) : Type 0 where
@@ -42,11 +43,7 @@ module _ {A : Type 0} where
 
   walked_flat : (f : A → A) (ns : List ℕ) (t : Forest A) → Differ ns → walked f ns t ≡ flat_map (λ n. visit n t) ns
   walked_flat f [] t d = refl
-  walked_flat f (n ∷ ns) t d =
-      ap (λ (xs : List (Visit A)). visit n t ++ xs)
-      (walked_flat f ns (changed n f t) d.1
-      ∙ flat-same (λ m. visit m (changed n f t)) (λ m. visit m t) ns
-      (Each-more (λ m. m ≢ n) (λ m. visit m (changed n f t) ≡ visit m t) ns (λ m ne. visit_other m n f t ne) d.0))
+  walked_flat f (n ∷ ns) t d = grind (arith, nat_tests, walked_flat f ns (changed n f t) d.1, flat-same, Each-more, visit_other)
 
   -- each node of a part stands in the whole with this data and this parent
   abbrev Fits : Forest A → Option ℕ → Forest A → Type 0
@@ -59,100 +56,45 @@ module _ {A : Type 0} where
   Inside g t = (m : ℕ) → has m g ≡ true → has m t ≡ true
 
   at_below : (m k : ℕ) (a b : A) (below beside : Forest A) → Apart k below beside → at m below ≡ Some b → at m (Node k a below beside) ≡ Some b
-  at_below m k a b below beside apart h =
-      let inside : has m below ≡ true = has_at m below b h in
-      let ne : k ≢ m = λ e. both_ways (has m below) (rw e at apart.not_below) inside in
-      rw (ne_eqb k m ne, h) refl
+  at_below m k a b below beside apart h = grind (arith, nat_tests, has_at m below b h, both_ways (has m below), ne_eqb k m)
 
   at_beside : (m k : ℕ) (a b : A) (below beside : Forest A) → Apart k below beside → at m beside ≡ Some b → at m (Node k a below beside) ≡ Some b
-  at_beside m k a b below beside apart h =
-      let inside : has m beside ≡ true = has_at m beside b h in
-      let ne : k ≢ m = λ e. both_ways (has m beside) (rw e at apart.not_beside) inside in
-      rw (ne_eqb k m ne, at_absent m below (apart.apart_back m inside), h) refl
+  at_beside m k a b below beside apart h = grind (arith, nat_tests, has_at m beside b h, both_ways (has m beside), ne_eqb k m, at_absent m below (apart.apart_back m (has_at m beside b h)))
 
   root_parent : (m k : ℕ) (a b : A) (below beside : Forest A) → Apart k below beside → at m below ≡ Some b → parent_of m below ≡ None → parent_of m (Node k a below beside) ≡ Some k
-  root_parent m k a b below beside apart h q =
-      elim (cases_Bool (is_root m below)) [
-        | inl y ↦ rw y refl
-        | inr y ↦ let p = parent_has m below apart.once_below (has_at m below b h) y in absurd (cc (p.1, q))
-      ]
+  root_parent m k a b below beside apart h q = grind (arith, nat_tests, cases_Bool (is_root m below), parent_has m below apart.once_below (has_at m below b h), has_at m below b h)
 
   deep_parent : (m k p : ℕ) (a b : A) (below beside : Forest A) → Apart k below beside → at m below ≡ Some b → parent_of m below ≡ Some p → parent_of m (Node k a below beside) ≡ Some p
-  deep_parent m k p a b below beside apart h q =
-      elim (cases_Bool (is_root m below)) [
-        | inl y ↦ absurd (let none : parent_of m below ≡ None = parent_root m below apart.once_below y in cc)
-        | inr y ↦ rw (y, has_at m below b h) q
-      ]
+  deep_parent m k p a b below beside apart h q = grind (arith, nat_tests, cases_Bool (is_root m below), parent_root m below apart.once_below, has_at m below b h)
 
   lift_deep : (k p : ℕ) (a : A) (below beside g : Forest A) → Apart k below beside → Fits below (Some p) g → Fits (Node k a below beside) (Some p) g
   lift_deep k p a below beside Empty apart f = tt
-  lift_deep k p a below beside (Node m b low next) apart f = (
-    at_below m k a b below beside apart f.0,
-    deep_parent m k p a b below beside apart f.0 f.1,
-    lift_deep k m a below beside low apart f.2,
-    lift_deep k p a below beside next apart f.3,
-  )
+  lift_deep k p a below beside (Node m b low next) apart f = grind (arith, nat_tests, at_below m k a b below beside apart f.0, deep_parent m k p a b below beside apart f.0 f.1, lift_deep k m a below beside low apart f.2, lift_deep k p a below beside next apart f.3)
 
   lift_below : (k : ℕ) (a : A) (below beside g : Forest A) → Apart k below beside → Fits below None g → Fits (Node k a below beside) (Some k) g
   lift_below k a below beside Empty apart f = tt
-  lift_below k a below beside (Node m b low next) apart f = (
-    at_below m k a b below beside apart f.0,
-    root_parent m k a b below beside apart f.0 f.1,
-    lift_deep k m a below beside low apart f.2,
-    lift_below k a below beside next apart f.3,
-  )
+  lift_below k a below beside (Node m b low next) apart f = grind (arith, nat_tests, at_below m k a b below beside apart f.0, root_parent m k a b below beside apart f.0 f.1, lift_deep k m a below beside low apart f.2, lift_below k a below beside next apart f.3)
 
   lift_beside : (k : ℕ) (a : A) (up : Option ℕ) (below beside g : Forest A) → Apart k below beside → Fits beside up g → Fits (Node k a below beside) up g
   lift_beside k a up below beside Empty apart f = tt
-  lift_beside k a up below beside (Node m b low next) apart f =
-      let inside : has m beside ≡ true = has_at m beside b f.0 in
-      let out : has m below ≡ false = apart.apart_back m inside in (
-        at_beside m k a b below beside apart f.0,
-        rw (root_absent m below out, out) f.1,
-        lift_beside k a (Some m) below beside low apart f.2,
-        lift_beside k a up below beside next apart f.3,
-      )
+  lift_beside k a up below beside (Node m b low next) apart f = grind (arith, nat_tests, has_at m beside b f.0, at_beside m k a b below beside apart f.0, root_absent m below (apart.apart_back m (has_at m beside b f.0)), lift_beside k a (Some m) below beside low apart f.2, lift_beside k a up below beside next apart f.3)
 
   pub fits_all : (t : Forest A) → Once t → Fits t None t
   fits_all Empty o = tt
-  fits_all (Node k a below beside) o =
-      let apart : Apart k below beside = apart_of k a below beside o in
-      let root : is_root k (Node k a below beside) ≡ true = or_left (k == k) (is_root k beside) (eq-eqb k k refl) in (
-        rw (eq-eqb k k refl) refl,
-        parent_root k (Node k a below beside) o root,
-        lift_below k a below beside below apart (fits_all below apart.once_below),
-        lift_beside k a None below beside beside apart (fits_all beside apart.once_beside),
-      )
+  fits_all (Node k a below beside) o = grind (arith, nat_tests, apart_of k a below beside o, or_left (k == k) (is_root k beside) (eq-eqb k k refl), eq-eqb k k refl, parent_root k (Node k a below beside) o (or_left (k == k) (is_root k beside) (eq-eqb k k refl)), lift_below k a below beside below (apart_of k a below beside o) (fits_all below (apart_of k a below beside o).once_below), fits_all below (apart_of k a below beside o).once_below, fits_all beside (apart_of k a below beside o).once_beside, lift_beside k a None below beside beside (apart_of k a below beside o) (fits_all beside (apart_of k a below beside o).once_beside))
 
   pub fits_children : (n : ℕ) (t : Forest A) (up : Option ℕ) (g : Forest A) → Fits t up g → has n g ≡ true → Fits t (Some n) (children n g)
   fits_children n t up Empty f h = absurd (cc)
-  fits_children n t up (Node k a below beside) f h =
-      elim (cases_Bool (k == n)) [
-        | inl y ↦ rw y (rw (eqb-true k n y) at f.2)
-        | inr y ↦ elim (cases_Bool (has n below)) [
-          | inl u ↦ rw (y, u) (fits_children n t (Some k) below f.2 u)
-          | inr u ↦ let v : has n beside ≡ true = rw (y, u) at h in rw (y, u) (fits_children n t up beside f.3 v)
-        ]
-      ]
+  fits_children n t up (Node k a below beside) f h = grind (arith, nat_tests, cases_Bool (k == n), cases_Bool (has n below), eqb-true k n, fits_children n t (Some k) below f.2, fits_children n t up beside f.3)
 
   flat_visits : (t : Forest A) (up : ℕ) (g : Forest A) → Fits t (Some up) g → flat_map (λ n. visit n t) (order g) ≡ visits up g
   flat_visits t up Empty f = refl
-  flat_visits t up (Node k a below beside) f =
-      let here : visit k t ≡ record { number = k; parent = Some up; value = a } ∷ [] = rw (f.0, f.1) refl in
-      flat-append (λ n. visit n t) (order below) (k ∷ order beside)
-      ∙ rw (flat_visits t k below f.2, here, flat_visits t up beside f.3) refl
+  flat_visits t up (Node k a below beside) f = grind (arith, nat_tests, flat-append, flat_visits t k below f.2, flat_visits t up beside f.3)
 
   -- the walk over a node and all below it
   pub walked_at : (f : A → A) (n : ℕ) (a : A) (t : Forest A) → Once t → at n t ≡ Some a
       → walked f (order_at n t) t ≡ visits n (children n t) ++ record { number = n; parent = parent_of n t; value = a } ∷ []
-  walked_at f n a t o h =
-      let stands : has n t ≡ true = has_at n t a h in
-      let low : Forest A = children n t in
-      let once_low : Once low = once_children n t o in
-      let here : visit n t ≡ record { number = n; parent = parent_of n t; value = a } ∷ [] = rw h refl in
-      walked_flat f (order_at n t) t (order_at_differ n low once_low (first_child_other n t o stands))
-      ∙ flat-append (λ m. visit m t) (order low) (n ∷ [])
-      ∙ rw (flat_visits t n low (fits_children n t None t (fits_all t o) stands), here) refl
+  walked_at f n a t o h = grind (arith, nat_tests, has_at n t a h, once_children n t o, walked_flat f (order_at n t) t (order_at_differ n (children n t) (once_children n t o) (first_child_other n t o (has_at n t a h))), order_at_differ n (children n t) (once_children n t o) (first_child_other n t o (has_at n t a h)), first_child_other n t o (has_at n t a h), flat-append, flat_visits t n (children n t) (fits_children n t None t (fits_all t o) (has_at n t a h)), fits_children n t None t (fits_all t o) (has_at n t a h), fits_all t o)
 
   -- what the walk leaves
   tree_absent : (f : A → A) (ns : List ℕ) (t : Forest A) → Each (λ n. has n t ≡ false) ns → walk_tree f ns t ≡ t
@@ -162,8 +104,7 @@ module _ {A : Type 0} where
   tree_parts : (f : A → A) (ns : List ℕ) (k : ℕ) (a : A) (below beside : Forest A) → Each (λ n. n ≢ k) ns
       → walk_tree f ns (Node k a below beside) ≡ Node k a (walk_tree f ns below) (walk_tree f ns beside)
   tree_parts f [] k a below beside d = refl
-  tree_parts f (n ∷ ns) k a below beside d =
-      rw (ne_eqb k n (λ e. d.0 (sym e))) (tree_parts f ns k a (changed n f below) (changed n f beside) d.1)
+  tree_parts f (n ∷ ns) k a below beside d = grind (arith, nat_tests, ne_eqb k n, tree_parts f ns k a (changed n f below) (changed n f beside) d.1)
 
   tree_more : (f : A → A) (ms ns : List ℕ) (t : Forest A) → walk_tree f (ms ++ ns) t ≡ walk_tree f ns (walk_tree f ms t)
   tree_more f [] ns t = refl
@@ -201,17 +142,11 @@ module _ {A : Type 0} where
 
   swept_absent : (f : A → A) (n : ℕ) (t : Forest A) → has n t ≡ false → swept f n t ≡ t
   swept_absent f n Empty h = refl
-  swept_absent f n (Node k a below beside) h =
-      let p = or_parts (k == n) (has n below || has n beside) h in
-      let q = or_parts (has n below) (has n beside) p.1 in
-      rw (p.0, swept_absent f n below q.0, swept_absent f n beside q.1) refl
+  swept_absent f n (Node k a below beside) h = grind (arith, nat_tests, or_parts (k == n) (has n below || has n beside) h, or_parts (has n below) (has n beside) (or_parts (k == n) (has n below || has n beside) h).1, swept_absent f n below (or_parts (has n below) (has n beside) (or_parts (k == n) (has n below || has n beside) h).1).0, swept_absent f n beside (or_parts (has n below) (has n beside) (or_parts (k == n) (has n below || has n beside) h).1).1)
 
   -- the numbers of a walk below a node stand in the part where the node does
   at_order : (n : ℕ) (t : Forest A) → Once t → has n t ≡ true → Each (λ m. has m t ≡ true) (order_at n t)
-  at_order n t o h =
-      Each-both (λ m. has m t ≡ true) (order (children n t)) (n ∷ [])
-      (Each-more (λ m. has m (children n t) ≡ true) (λ m. has m t ≡ true) (order (children n t)) (λ m i. has_children m n t o i) (order_in (children n t)))
-      (h, tt)
+  at_order n t o h = grind (arith, nat_tests, Each-both, Each-more, has_children, order_in (children n t))
 
   pub tree_swept : (f : A → A) (n : ℕ) (t : Forest A) → Once t → has n t ≡ true → walk_tree f (order_at n t) t ≡ swept f n t
   tree_swept f n Empty o h = absurd (cc)

@@ -1,54 +1,26 @@
 -- Each turn takes out the first of what is still to go.
-use Rattle.std.proofs.Common.{◌≡◌, ◌≢◌, ℕ, List, [], ◌∷◌, ◌++◌, map, arith, ap, refl, sym, ◌∙◌, subst, append_assoc}
+use Rattle.std.proofs.Common.{◌≢◌, ℕ, List, [], ◌∷◌, ◌++◌, map, arith, ap, refl, sym, ◌∙◌, subst, append_assoc}
 use Rattle.std.proofs.lemmas.Bool.{both_ways}
 use Rattle.pgs_step.specs.declared.events.What.TheVariants.{OwnerGone}
-use Rattle.forest.specs.Forest.{Forest, Once, has, size, children, removed}
+use Rattle.forest.specs.Forest.{Forest, Once, has, children, removed}
 use Rattle.forest.specs.Walk.{lead, follows, order_at}
 use Rattle.forest.proofs.Trees.{removed_has, has_of_removed}
 use Rattle.owner_core.specs.Owners.{Roomy}
 use Rattle.owner_core.proofs.Gone.{takes, bare, order_bare, stays_apart}
 use Rattle.owner_core.proofs.discard_tree.discard_tree.Goals as goal
+use Rattle.std.proofs.lemmas.Bool.Decides.{nat_tests}
 
 pub loop-current-init : goal.loop-current-init
-loop-current-init g c = record {
-  once = c.first_leaf-current.ensures.once;
-  stands = c.first_leaf-current.ensures.stands;
-  owner = c.requires;
-  placed = c.first_leaf-current.ensures.placed;
-  first = c.first_leaf-current.ensures.number;
-  rooms = refl;
-  stays = λ other h. refl;
-  none_new = λ other h. h;
-  done = ([], g.met.E.Emit.emits_none _, refl);
-}
+loop-current-init g c = grind (arith, nat_tests, c.first_leaf-current.ensures.once, c.first_leaf-current.ensures.stands, c.requires, c.first_leaf-current.ensures.placed, c.first_leaf-current.ensures.number)
 
 pub following-next-requires-clause-below : goal.following-next-requires-clause-below
-following-next-requires-clause-below g c =
-    let inv = c.loop-current.invariant in
-    let n0 = c.args.owner.number in
-    let cur = c.loop-current.current.number in
-    let t = c.loop-current.nodes.forest in
-    let ne : cur ≢ n0 = λ e. omega arith in
-    (takes n0 cur (follows cur n0 (children n0 t)) t inv.once inv.stands inv.first ne refl).inside
+following-next-requires-clause-below g c = grind (arith, nat_tests, takes c.args.owner.number c.loop-current.current.number (follows c.loop-current.current.number c.args.owner.number (children c.args.owner.number c.loop-current.nodes.forest)) c.loop-current.nodes.forest c.loop-current.invariant.once c.loop-current.invariant.stands c.loop-current.invariant.first, c.loop-current.invariant, c.loop-current.invariant.once, c.loop-current.invariant.stands, c.loop-current.invariant.first)
 
 pub remove-requires-clause-leaf : goal.remove-requires-clause-leaf
-remove-requires-clause-leaf g c =
-    let inv = c.loop-current.invariant in
-    let n0 = c.args.owner.number in
-    let cur = c.loop-current.current.number in
-    let t = c.loop-current.nodes.forest in
-    let ne : cur ≢ n0 = λ e. omega arith in
-    (takes n0 cur (follows cur n0 (children n0 t)) t inv.once inv.stands inv.first ne refl).leaf
+remove-requires-clause-leaf g c = grind (arith, nat_tests, takes c.args.owner.number c.loop-current.current.number (follows c.loop-current.current.number c.args.owner.number (children c.args.owner.number c.loop-current.nodes.forest)) c.loop-current.nodes.forest c.loop-current.invariant.once c.loop-current.invariant.stands c.loop-current.invariant.first, c.loop-current.invariant, c.loop-current.invariant.once, c.loop-current.invariant.stands, c.loop-current.invariant.first)
 
 pub loop-current-smaller : goal.loop-current-smaller
-loop-current-smaller g c =
-    let inv = c.loop-current.invariant in
-    let n0 = c.args.owner.number in
-    let cur = c.loop-current.current.number in
-    let t = c.loop-current.nodes.forest in
-    let ne : cur ≢ n0 = λ e. omega arith in
-    let w = takes n0 cur (follows cur n0 (children n0 t)) t inv.once inv.stands inv.first ne refl in
-    omega (arith, w.smaller, ap (λ (x : Forest Roomy). size x) c.remove.ensures.forest)
+loop-current-smaller g c = grind (arith, nat_tests, takes c.args.owner.number c.loop-current.current.number (follows c.loop-current.current.number c.args.owner.number (children c.args.owner.number c.loop-current.nodes.forest)) c.loop-current.nodes.forest c.loop-current.invariant.once c.loop-current.invariant.stands c.loop-current.invariant.first, c.loop-current.invariant, c.loop-current.invariant.once, c.loop-current.invariant.stands, c.loop-current.invariant.first, c.remove.ensures.forest)
 
 pub loop-current-preserved : goal.loop-current-preserved
 loop-current-preserved g c =
@@ -81,32 +53,13 @@ loop-current-preserved g c =
     }
 
 pub remove-requires-2-clause-leaf : goal.remove-requires-2-clause-leaf
-remove-requires-2-clause-leaf g c =
-    let inv = c.loop-current.invariant in
-    let e : c.loop-current.current.number ≡ c.args.owner.number = omega arith in
-    bare c.args.owner.number c.loop-current.current.number c.loop-current.nodes.forest inv.once inv.stands inv.first e
+remove-requires-2-clause-leaf g c = grind (arith, nat_tests, bare c.args.owner.number c.loop-current.current.number c.loop-current.nodes.forest c.loop-current.invariant.once c.loop-current.invariant.stands c.loop-current.invariant.first, c.loop-current.invariant, c.loop-current.invariant.once, c.loop-current.invariant.stands, c.loop-current.invariant.first)
 
 pub returns-clause-stays : goal.returns-clause-stays
-returns-clause-stays g c other h =
-    let inv = c.loop-current.invariant in
-    let n0 = c.args.owner.number in
-    let t = c.loop-current.nodes.forest in
-    c.remove-2.ensures.stays other
-    (λ e. both_ways (has n0 (removed n0 t)) (removed_has n0 t inv.once inv.stands)
-    (ap (λ (m : ℕ). has m (removed n0 t)) (sym e) ∙ ap (λ (x : Forest Roomy). has other x) inv.rooms ∙ h))
-    ∙ inv.stays other h
+returns-clause-stays g c other h = grind (arith, nat_tests, both_ways (has c.args.owner.number (removed c.args.owner.number c.loop-current.nodes.forest)) (removed_has c.args.owner.number c.loop-current.nodes.forest c.loop-current.invariant.once c.loop-current.invariant.stands), removed_has c.args.owner.number c.loop-current.nodes.forest c.loop-current.invariant.once c.loop-current.invariant.stands, c.loop-current.invariant, c.remove-2.ensures.stays, c.loop-current.invariant.once, c.loop-current.invariant.stands, c.loop-current.invariant.rooms, c.loop-current.invariant.stays)
 
 pub returns-clause-none_new : goal.returns-clause-none_new
-returns-clause-none_new g c other h =
-    c.loop-current.invariant.none_new other
-    (has_of_removed other c.args.owner.number c.loop-current.nodes.places (ap (λ (x : Forest ℕ). has other x) (sym c.remove-2.ensures.places) ∙ h))
+returns-clause-none_new g c other h = grind (arith, nat_tests, has_of_removed other c.args.owner.number c.loop-current.nodes.places, c.loop-current.invariant.none_new, c.remove-2.ensures.places)
 
 pub returns-clause-emits : goal.returns-clause-emits
-returns-clause-emits g c =
-    let inv = c.loop-current.invariant in
-    let n0 = c.args.owner.number in
-    let t = c.loop-current.nodes.forest in
-    let e : c.loop-current.current.number ≡ n0 = omega arith in
-    let none = bare n0 c.loop-current.current.number t inv.once inv.stands inv.first e in
-    g.met.E.Emit.emits_more _ _ _ _ _ _ inv.done.1 c.emit-2.ensures.emitted
-    (ap (λ (ns : List ℕ). inv.done.0 ++ map (λ n. OwnerGone n) ns) (sym (order_bare n0 t none)) ∙ inv.done.2)
+returns-clause-emits g c = grind (arith, nat_tests, bare c.args.owner.number c.loop-current.current.number c.loop-current.nodes.forest c.loop-current.invariant.once c.loop-current.invariant.stands c.loop-current.invariant.first, order_bare c.args.owner.number c.loop-current.nodes.forest, c.loop-current.invariant, c.loop-current.invariant.once, c.loop-current.invariant.stands, c.loop-current.invariant.first, c.loop-current.invariant.done.1, c.emit-2.ensures.emitted, c.loop-current.invariant.done.0, c.loop-current.invariant.done.2)

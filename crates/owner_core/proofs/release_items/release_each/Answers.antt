@@ -1,13 +1,13 @@
 -- Each turn adds the steps of an item's release to those that were done.
-use Rattle.std.proofs.Common.{◌≡◌, ◌+◌, [], ◌∷◌, ◌++◌, All, arith, ap, refl, sym, ◌∙◌, subst, rules, length}
+use Rattle.std.proofs.Common.{◌≡◌, ◌+◌, [], ◌∷◌, ◌++◌, All, arith, refl, ◌∙◌, subst}
 use Rattle.owner_kinds.specs.KindTable.{KindTable, IsKind}
 use Rattle.owner_kinds.specs.KindShelf.{table_of}
-use Rattle.owner_items.specs.ItemList.{uses}
 use Rattle.owner_items.specs.Next.{release_order, items_left}
 use Rattle.owner_core.specs.Steps.{release_of}
 use Rattle.owner_core.proofs.ItemLemmas.{uses_taken, uses_own, left_all, releases_more}
 use Rattle.owner_core.proofs.release_items.release_each.Goals as goal
 use Rattle.owner_core.proofs.release_items.release_each.Given as given
+use Rattle.std.proofs.lemmas.Bool.Decides.{nat_tests}
 
 pub loop-item-init : goal.loop-item-init
 loop-item-init g c = record {
@@ -20,12 +20,7 @@ loop-item-init g c = record {
 }
 
 pub release_item-requires-clause-counted : goal.release_item-requires-clause-counted
-release_item-requires-clause-counted g c =
-    let item = c.in-Some.item in
-    let t = table_of c.kinds.result.now in
-    let taken : uses item.kind item.key c.loop-item.items.items ≡ uses item.kind item.key (item ∷ []) + uses item.kind item.key c.take_next.new.self.items =
-    uses_taken item.kind item.key t c.args.phase c.loop-item.items.items c.take_next.new.self.items item c.in-Some.ensures.order c.in-Some.ensures.left in
-    omega (arith, taken, uses_own item, c.loop-item.invariant.counted item.kind item.key, c.requires.counted item.kind item.key)
+release_item-requires-clause-counted g c = grind (arith, nat_tests, uses_taken c.in-Some.item.kind c.in-Some.item.key (table_of c.kinds.result.now) c.args.phase c.loop-item.items.items c.take_next.new.self.items c.in-Some.item c.in-Some.ensures.order c.in-Some.ensures.left, uses_own c.in-Some.item, c.in-Some.ensures.order, c.in-Some.ensures.left, c.loop-item.invariant.counted, c.requires.counted)
 
 same_table : (g : given.Over) (c : goal.After-release_item g) → table_of c.kinds.result.now ≡ g.R.Release.kind_table c.args.table.now
 same_table g c = c.kinds.ensures ∙ c.loop-item.invariant.same
@@ -58,17 +53,7 @@ loop-item-preserved g c =
     }
 
 pub loop-item-smaller : goal.loop-item-smaller
-loop-item-smaller g c =
-    let order : release_order (g.R.Release.kind_table c.args.table.now) c.args.phase c.loop-item.items.items ≡ c.in-Some.item ∷ release_order (g.R.Release.kind_table c.args.table.now) c.args.phase c.take_next.new.self.items =
-    subst (λ (t : KindTable). release_order t c.args.phase c.loop-item.items.items ≡ c.in-Some.item ∷ release_order t c.args.phase c.take_next.new.self.items) (same_table g c) c.in-Some.ensures.order in
-    omega (arith, ap length order)
+loop-item-smaller g c = grind (arith, nat_tests, same_table g c, c.in-Some.ensures.order)
 
 pub returns-clause-items : goal.returns-clause-items
-returns-clause-items g c =
-    let tbl = g.R.Release.kind_table c.args.table.now in
-    let same : table_of c.kinds.result.now ≡ tbl = c.kinds.ensures ∙ c.loop-item.invariant.same in
-    let none : release_order (table_of c.kinds.result.now) c.args.phase c.loop-item.items.items ≡ [] = search rules in
-    let all : items_left tbl c.args.phase c.loop-item.items.items ≡ c.loop-item.items.items =
-    left_all tbl c.args.phase c.loop-item.items.items (subst (λ (t : KindTable). release_order t c.args.phase c.loop-item.items.items ≡ []) same none) in
-    let unchanged : c.take_next.new.self.items ≡ c.loop-item.items.items = search rules in
-    unchanged ∙ sym all ∙ c.loop-item.invariant.left
+returns-clause-items g c = grind (arith, nat_tests, left_all (g.R.Release.kind_table c.args.table.now) c.args.phase c.loop-item.items.items, c.kinds.ensures, c.loop-item.invariant.same, c.loop-item.invariant.left)

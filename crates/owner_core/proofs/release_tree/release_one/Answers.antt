@@ -1,5 +1,5 @@
 -- The owner at the node changes, and no other.
-use Rattle.std.proofs.Common.{◌≡◌, Some, refl, ap, sym, ◌∙◌, ◌+◌}
+use Rattle.std.proofs.Common.{◌≡◌, Some, refl, ap, sym, ◌∙◌, ◌+◌, arith}
 use Rattle.std.specs.Option.{option_map}
 use Rattle.forest.proofs.Trees.{once_changed}
 use Rattle.forest.proofs.Mapped.{mapped-at, mapped-changed}
@@ -7,11 +7,10 @@ use Rattle.owner_items.specs.ItemList.{uses}
 use Rattle.owner_core.specs.Owners.{Owner, Roomy}
 use Rattle.owner_core.specs.Released.{own_released}
 use Rattle.owner_core.proofs.release_tree.release_one.Goals as goal
+use Rattle.std.proofs.lemmas.Bool.Decides.{nat_tests}
 
 pub release_own-requires-clause-kinds : goal.release_own-requires-clause-kinds
-release_own-requires-clause-kinds g c =
-    c.requires.kinds c.get_mut-node.result.now.owner
-    (mapped-at (λ (r : Roomy). r.owner) c.args.id.number c.args.nodes.now.forest ∙ ap (option_map (λ (r : Roomy). r.owner)) c.get_mut-node.ensures.value)
+release_own-requires-clause-kinds g c = grind (arith, nat_tests, mapped-at, c.requires.kinds, c.get_mut-node.ensures.value)
 
 pub release_own-requires-clause-counted : goal.release_own-requires-clause-counted
 release_own-requires-clause-counted g c =

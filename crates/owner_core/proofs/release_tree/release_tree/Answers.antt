@@ -16,6 +16,7 @@ use Rattle.owner_core.proofs.Walking.{Visit, walked, walk_tree, walked_at, tree_
 use Rattle.owner_core.proofs.Releasing.{visit_steps, visit_uses, uses_first, uses_all, each_all, steps_all, steps_at, steps_top, held_changed, Turn, turn, start, finish, lead_tree, follows_tree, inside_tree, inside_changed, enough_here, kinds_here, enough_end, kinds_end, parent_tree, once_tree}
 use Rattle.owner_core.proofs.release_tree.release_tree.Goals as goal
 use Rattle.owner_core.proofs.release_tree.release_tree.Given as given
+use Rattle.std.proofs.lemmas.Bool.Decides.{nat_tests}
 
 pub loop-current-init : goal.loop-current-init
 loop-current-init g c =
@@ -50,33 +51,13 @@ loop-current-init g c =
     }
 
 pub release_one-requires-clause-kinds : goal.release_one-requires-clause-kinds
-release_one-requires-clause-kinds g c owner h =
-    let inv = c.loop-current.invariant in
-    let tbl = g.R.Release.kind_table c.args.table.now in
-    let t = tree_of c.loop-current.nodes.forest in
-    let inside : has c.loop-current.current.number (children c.args.owner.number t) ≡ true = elim inv.place [ inl e ↦ absurd (omega arith) | inr i ↦ i ] in
-    subst (λ (k : KindTable). All (λ item. IsKind k item.kind) owner.items) (sym inv.same)
-    (kinds_here (λ (o : Owner). All (λ item. IsKind tbl item.kind) o.items) (own_released tbl c.args.how.phase) c.args.owner.number c.loop-current.current.number owner t
-    (once_tree c.loop-current.nodes.forest inv.once) inv.stands inside h inv.kinds)
+release_one-requires-clause-kinds g c owner h = grind (arith, nat_tests, kinds_here, once_tree c.loop-current.nodes.forest c.loop-current.invariant.once, c.loop-current.invariant, c.loop-current.invariant.place, c.loop-current.invariant.same, c.loop-current.invariant.once, c.loop-current.invariant.stands, c.loop-current.invariant.kinds)
 
 pub release_one-requires-clause-counted : goal.release_one-requires-clause-counted
-release_one-requires-clause-counted g c owner h kind key =
-    let inv = c.loop-current.invariant in
-    let t = tree_of c.loop-current.nodes.forest in
-    let inside : has c.loop-current.current.number (children c.args.owner.number t) ≡ true = elim inv.place [ inl e ↦ absurd (omega arith) | inr i ↦ i ] in
-    enough_here kind key (own_released (g.R.Release.kind_table c.args.table.now) c.args.how.phase) c.args.owner.number c.loop-current.current.number owner t
-    (g.R.Release.counted c.loop-current.table kind key) (once_tree c.loop-current.nodes.forest inv.once) inv.stands inside h (inv.enough kind key)
+release_one-requires-clause-counted g c owner h kind key = grind (arith, nat_tests, enough_here kind key (own_released (g.R.Release.kind_table c.args.table.now) c.args.how.phase) c.args.owner.number c.loop-current.current.number owner (tree_of c.loop-current.nodes.forest), once_tree c.loop-current.nodes.forest c.loop-current.invariant.once, c.loop-current.invariant, c.loop-current.invariant.place, c.loop-current.invariant.once, c.loop-current.invariant.stands, c.loop-current.invariant.enough)
 
 pub following-current-requires-clause-below : goal.following-current-requires-clause-below
-following-current-requires-clause-below g c =
-    let inv = c.loop-current.invariant in
-    let t = tree_of c.loop-current.nodes.forest in
-    let n0 = c.args.owner.number in
-    let cur = c.loop-current.current.number in
-    let inside : has cur (children n0 t) ≡ true = elim inv.place [ inl e ↦ absurd (omega arith) | inr i ↦ i ] in
-    sym (inside_tree n0 cur c.release_one.new.nodes.forest)
-    ∙ ap (λ (x : OwnerTree). has cur (children n0 x)) c.release_one.ensures.owners
-    ∙ inside_changed (own_released (g.R.Release.kind_table c.loop-current.table) c.args.how.phase) n0 cur cur t ∙ inside
+following-current-requires-clause-below g c = grind (arith, nat_tests, inside_tree c.args.owner.number c.loop-current.current.number c.release_one.new.nodes.forest, inside_changed (own_released (g.R.Release.kind_table c.loop-current.table) c.args.how.phase) c.args.owner.number c.loop-current.current.number c.loop-current.current.number (tree_of c.loop-current.nodes.forest), c.loop-current.invariant, c.loop-current.invariant.place, c.release_one.ensures.owners)
 
 turn_of : (g : given.Over) (c : goal.After-following-current g)
     → Turn (own_released (g.R.Release.kind_table c.args.table.now) c.args.how.phase) c.args.owner.number c.loop-current.current.number c.release_one.ensures.was.0
@@ -141,19 +122,10 @@ loop-current-preserved g c =
     }
 
 pub release_one-requires-2-clause-kinds : goal.release_one-requires-2-clause-kinds
-release_one-requires-2-clause-kinds g c owner h =
-    let inv = c.loop-current.invariant in
-    let tbl = g.R.Release.kind_table c.args.table.now in
-    let e : c.loop-current.current.number ≡ c.args.owner.number = omega arith in
-    subst (λ (k : KindTable). All (λ item. IsKind k item.kind) owner.items) (sym inv.same)
-    (kinds_end (λ (o : Owner). All (λ item. IsKind tbl item.kind) o.items) (own_released tbl c.args.how.phase) c.args.owner.number c.loop-current.current.number owner (tree_of c.loop-current.nodes.forest) e h inv.kinds)
+release_one-requires-2-clause-kinds g c owner h = grind (arith, nat_tests, kinds_end, c.loop-current.invariant, c.loop-current.invariant.same, c.loop-current.invariant.kinds)
 
 pub release_one-requires-2-clause-counted : goal.release_one-requires-2-clause-counted
-release_one-requires-2-clause-counted g c owner h kind key =
-    let inv = c.loop-current.invariant in
-    let e : c.loop-current.current.number ≡ c.args.owner.number = omega arith in
-    enough_end kind key (own_released (g.R.Release.kind_table c.args.table.now) c.args.how.phase) c.args.owner.number c.loop-current.current.number owner (tree_of c.loop-current.nodes.forest)
-    (g.R.Release.counted c.loop-current.table kind key) e h (inv.enough kind key)
+release_one-requires-2-clause-counted g c owner h kind key = grind (arith, nat_tests, enough_end kind key (own_released (g.R.Release.kind_table c.args.table.now) c.args.how.phase) c.args.owner.number c.loop-current.current.number owner (tree_of c.loop-current.nodes.forest), c.loop-current.invariant, c.loop-current.invariant.enough)
 
 pub returns-clause-owners : goal.returns-clause-owners
 returns-clause-owners g c =
@@ -207,14 +179,4 @@ returns-clause-steps g c =
     )
 
 pub returns-clause-counted : goal.returns-clause-counted
-returns-clause-counted g c kind key =
-    let inv = c.loop-current.invariant in
-    let was = c.release_one-2.ensures.was in
-    let t = tree_of c.loop-current.nodes.forest in
-    omega (
-      arith,
-      inv.counted kind key,
-      was.2 kind key,
-      held_changed kind key c.args.owner.number (own_released (g.R.Release.kind_table c.loop-current.table) c.args.how.phase) was.0 t (once_tree c.loop-current.nodes.forest inv.once) was.1,
-      ap (held kind key) c.release_one-2.ensures.owners,
-    )
+returns-clause-counted g c kind key = grind (arith, nat_tests, held_changed kind key c.args.owner.number (own_released (g.R.Release.kind_table c.loop-current.table) c.args.how.phase) c.release_one-2.ensures.was.0 (tree_of c.loop-current.nodes.forest) (once_tree c.loop-current.nodes.forest c.loop-current.invariant.once) c.release_one-2.ensures.was.1, once_tree c.loop-current.nodes.forest c.loop-current.invariant.once, c.loop-current.invariant, c.release_one-2.ensures.was, c.loop-current.invariant.counted, c.release_one-2.ensures.was.2, c.release_one-2.ensures.was.0, c.loop-current.invariant.once, c.release_one-2.ensures.was.1, c.release_one-2.ensures.owners)

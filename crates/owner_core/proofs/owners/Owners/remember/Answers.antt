@@ -4,11 +4,12 @@ use Rattle.pgs_step.specs.declared.ids.Item.{Item}
 use Rattle.forest.specs.declared.id.NodeId.{NodeId}
 use Rattle.forest.specs.Forest.{Once, at, changed}
 use Rattle.forest.proofs.Mapped.{at_changed}
-use Rattle.owner_core.specs.Owners.{Owner, OwnerTree, OwnerTable, Roomy, tree_of, owners_of, spare_of, remembered}
+use Rattle.owner_core.specs.Owners.{Owner, OwnerTree, OwnerTable, Roomy, tree_of, spare_of}
 use Rattle.owner_core.specs.Sound.{IsSound}
 use Rattle.owner_core.proofs.Sounds.{once_of, newest, sound_remembered}
 use Rattle.owner_core.proofs.Tables.{spare_other, at_tree, once_rooms, changed_to}
 use Rattle.owner_core.proofs.owners.Owners.remember.Goals as goal
+use Rattle.std.proofs.lemmas.Bool.Decides.{nat_tests}
 
 pub remember-requires-clause-newest : goal.remember-requires-clause-newest
 remember-requires-clause-newest g c =
@@ -27,19 +28,10 @@ invariant_of-self g c =
     )
 
 pub returns-clause-owners : goal.returns-clause-owners
-returns-clause-owners g c =
-    let forest = c.self.inside.nodes.forest in
-    let o : Once forest = once_rooms forest (once_of _ _ _ c.self.invariant.0) in
-    let item : Item = record { kind = c.args.kind; key = c.args.key; serial = c.self.inside.next_serial } in
-    changed_to c.node_at.result.number (λ (x : Owner). record x { items = item ∷ x.items }) forest c.get_mut.result.now c.remember.new.self o c.get_mut.ensures.value c.remember.ensures.owner
-    ∙ ap (λ (x : NodeId). remembered x.number item (tree_of forest)) c.node_at.ensures
-    ∙ ap (λ (t : OwnerTable). remembered c.args.owner.number (record { kind = c.args.kind; key = c.args.key; serial = t.next_serial }) (owners_of t)) c.self.view_is
+returns-clause-owners g c = grind (arith, nat_tests, once_rooms c.self.inside.nodes.forest (once_of _ _ _ c.self.invariant.0), once_of, changed_to c.node_at.result.number, c.self.invariant.0, c.get_mut.ensures.value, c.remember.ensures.owner, c.node_at.ensures, c.self.view_is)
 
 pub returns-clause-others : goal.returns-clause-others
-returns-clause-others g c other ne =
-    spare_other c.node_at.result.number other c.remember.new.self c.self.inside.nodes.forest
-    (λ is. ne (is ∙ ap (λ (x : NodeId). x.number) c.node_at.ensures))
-    ∙ ap (λ (t : OwnerTable). spare_of other t) c.self.view_is
+returns-clause-others g c other ne = grind (arith, nat_tests, spare_other c.node_at.result.number other c.remember.new.self c.self.inside.nodes.forest, c.node_at.ensures, c.self.view_is)
 
 pub returns-clause-spare : goal.returns-clause-spare
 returns-clause-spare g c =
