@@ -1,16 +1,6 @@
 -- What the other sessions hold, in order, and which of it conflicts.
-use Rattle.std.proofs.Common.{◌≡◌, ◌≢◌, ℕ, ◌≤◌, Bool, true, false, ◌&&◌, not, cond, nat_eq, List, [], ◌∷◌, ◌++◌, filter, inl, inr, refl, ap, sym, subst, ◌∙◌, append_assoc, append-nil, arith}
-use Rattle.std.specs.Prelude.{Option, None, Some, All, IsNone, IfSome, fold}
-use Rattle.std.proofs.lemmas.Bool.{true≢false, eqb-true, eq-eqb, ne_eqb, cases_Bool}
-use Rattle.std.proofs.lemmas.List.Elements.{All-head, All-tail, All-weaker, filter_passes}
-use Rattle.std.proofs.lemmas.List.Folds.{list_any_none}
-use Rattle.pgs_step.specs.declared.lock_modes.Mode.{Mode}
-use Rattle.pgs_step.specs.Mode.{mode_number}
-use Rattle.lock_shared.specs.declared.shared_locks.Holding.{Holding}
-use Rattle.lock_shared.specs.ModeTable.{conflicts}
-use Rattle.lock_shared.specs.Holdings.{is_holding, holds, Blocks, IsFree, IsConflict}
-use Rattle.lock_shared.specs.Blocking.{blocks, IsLeastOf, lesser_of}
-use Rattle.lock_shared.specs.Ranked.{IsRanked, beside, least_conflict}
+use Rattle.lock_shared.proofs.Base.{◌≡◌, ◌≢◌, ℕ, ◌≤◌, Bool, true, false, ◌&&◌, not, cond, nat_eq, List, [], ◌∷◌, ◌++◌, filter, inl, inr, refl, ap, sym, subst, ◌∙◌, append_assoc, append-nil, arith, Option, None, Some, All, IsNone, IfSome, fold, true≢false, eqb-true, eq-eqb, ne_eqb, cases_Bool, All-head, All-tail, All-weaker, filter_passes, list_any_none}
+use Rattle.lock_shared.proofs.Words.{Mode, mode_number, Holding, conflicts, is_holding, holds, Blocks, IsFree, IsConflict, blocks, IsLeastOf, lesser_of, IsRanked, beside, least_conflict}
 use Rattle.lock_shared.proofs.HoldingLemmas.{holding_parts, any_kept, lesser_is_first, least_stays, free_from, conflict_from}
 use Rattle.lock_shared.proofs.RankLemmas.{HoldSame, ranked_all, ranked_is_ranked, ranked_holds, ranked_unique, same_mode}
 

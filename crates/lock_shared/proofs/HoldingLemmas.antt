@@ -1,18 +1,6 @@
 -- Which holding blocks, and which of them is the first.
-use Rattle.std.proofs.Common.{◌≡◌, ◌≢◌, ℕ, ◌<◌, ◌≤◌, ◌+◌, Bool, true, false, ◌&&◌, ◌||◌, not, cond, nat_eq, nat_lt, List, [], ◌∷◌, ◌++◌, length, get_or, take, filter, inl, inr, refl, ap, sym, subst, ◌∙◌, arith}
-use Rattle.std.specs.Prelude.{Option, None, Some, All, Contains, nat_le, IsNone}
-use Rattle.std.specs.List.{list_any}
-use Rattle.std.proofs.lemmas.Bool.{true≢false, eqb-true, eq-eqb, ne_eqb, and_parts, and_from, cases_Bool}
-use Rattle.std.proofs.lemmas.Bool.Decides.{nat_tests}
-use Rattle.std.proofs.lemmas.List.{take_more}
-use Rattle.std.proofs.lemmas.List.Elements.{All-push, All-contains}
-use Rattle.std.proofs.lemmas.List.Folds.{list_any-append, Any-from_list_any}
-use Rattle.pgs_step.specs.declared.lock_modes.Mode.{Mode}
-use Rattle.pgs_step.specs.Mode.{mode_number}
-use Rattle.lock_shared.specs.declared.shared_locks.Holding.{Holding}
-use Rattle.lock_shared.specs.ModeTable.{conflicts, conflicting}
-use Rattle.lock_shared.specs.Holdings.{same_lock, is_holding, holds, Sets, Blocks, IsFree, IsConflict}
-use Rattle.lock_shared.specs.Blocking.{blocks, IsFirst, IsLeastOf, lesser_of}
+use Rattle.lock_shared.proofs.Base.{◌≡◌, ◌≢◌, ℕ, ◌<◌, ◌≤◌, ◌+◌, Bool, true, false, ◌&&◌, ◌||◌, not, cond, nat_eq, nat_lt, List, [], ◌∷◌, ◌++◌, length, get_or, take, filter, inl, inr, refl, ap, sym, subst, ◌∙◌, arith, Option, None, Some, All, Contains, nat_le, IsNone, list_any, true≢false, eqb-true, eq-eqb, ne_eqb, and_parts, and_from, cases_Bool, nat_tests, take_more, All-push, All-contains, list_any-append, Any-from_list_any}
+use Rattle.lock_shared.proofs.Words.{Mode, mode_number, Holding, conflicts, conflicting, same_lock, is_holding, holds, Sets, Blocks, IsFree, IsConflict, blocks, IsFirst, IsLeastOf, lesser_of}
 
 -- what a test of a holding tells
 pub holding_parts : (o : ℕ) (m : Mode) (s : ℕ) (h : Holding) → is_holding o m s h ≡ true → (h.object ≡ o) × (mode_number h.mode ≡ mode_number m) × (h.session ≡ s)

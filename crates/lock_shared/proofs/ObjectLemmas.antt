@@ -1,25 +1,6 @@
 -- The holdings of an object among all, and what one more or one less of them leaves.
-use Rattle.std.proofs.Common.{◌≡◌, ◌≢◌, ℕ, ◌<◌, ◌≤◌, ◌+◌, Bool, true, false, ◌&&◌, ◌||◌, not, cond, nat_eq, List, [], ◌∷◌, ◌++◌, length, filter, inl, inr, refl, ap, sym, subst, ◌∙◌, append-nil, length-append, arith}
-use Rattle.std.specs.Prelude.{Option, None, Some, Result, Ok, Err, OnOk, OnErr, All, IsNone, IfSome}
-use Rattle.std.specs.List.{list_any, count_by, IsDistinct}
-use Rattle.std.specs.Option.{option_map_or}
-use Rattle.std.specs.Cmp.{nat_eq_equiv}
-use Rattle.std.specs.Map.{lookup, keys_of}
-use Rattle.std.proofs.lemmas.Bool.{true≢false, eqb-true, eq-eqb, ne_eqb, and_from, cases_Bool}
-use Rattle.std.proofs.lemmas.List.Elements.{All-head, All-tail, All-push, All-filter, filter-append}
-use Rattle.std.proofs.lemmas.List.Sums.{length-filter, sum_by-cons, sum_by-append, count_by-le-length}
-use Rattle.std.proofs.lemmas.List.Folds.{list_any-append}
-use Rattle.std.proofs.lemmas.Map.{lookup-none}
-use Rattle.std.proofs.lemmas.Map.Entries.{lookup_head, lookup_tail, none_past_head}
-use Rattle.std.proofs.lemmas.Map.Keys.{IsDistinct-tail}
-use Rattle.std.proofs.lemmas.Map.Views.{any-filter_same}
-use Rattle.smallvec.specs.SmallVec.{SmallVec}
-use Rattle.pgs_step.specs.declared.lock_modes.Mode.{Mode}
-use Rattle.pgs_step.specs.Mode.{mode_number}
-use Rattle.lock_shared.specs.declared.shared_locks.Holding.{Holding}
-use Rattle.lock_shared.specs.Holdings.{is_holding, holds, Sets, Blocks, IsFree, IsConflict, AreOnce}
-use Rattle.lock_shared.specs.Blocking.{IsLeastOf}
-use Rattle.lock_shared.specs.Objects.{holdings_of, held_on, with_holding, IsKept, AreKept}
+use Rattle.lock_shared.proofs.Base.{◌≡◌, ◌≢◌, ℕ, ◌<◌, ◌≤◌, ◌+◌, Bool, true, false, ◌&&◌, ◌||◌, not, cond, nat_eq, List, [], ◌∷◌, ◌++◌, length, filter, inl, inr, refl, ap, sym, subst, ◌∙◌, append-nil, length-append, arith, Option, None, Some, Result, Ok, Err, OnOk, OnErr, All, IsNone, IfSome, list_any, count_by, IsDistinct, option_map_or, nat_eq_equiv, lookup, keys_of, true≢false, eqb-true, eq-eqb, ne_eqb, and_from, cases_Bool, All-head, All-tail, All-push, All-filter, filter-append, length-filter, sum_by-cons, sum_by-append, count_by-le-length, list_any-append, lookup-none, lookup_head, lookup_tail, none_past_head, IsDistinct-tail, any-filter_same}
+use Rattle.lock_shared.proofs.Words.{SmallVec, Mode, mode_number, Holding, is_holding, holds, Sets, Blocks, IsFree, IsConflict, AreOnce, IsLeastOf, holdings_of, held_on, with_holding, IsKept, AreKept}
 use Rattle.lock_shared.proofs.HoldingLemmas.{holding_parts, holds_last, taken_off, none_is_free, free_is_none, conflict_from}
 
 -- ---- a filter of all, of none, and within another

@@ -1,16 +1,6 @@
 -- Holdings in order: which they are, and that they are told by what is held alone.
-use Rattle.std.proofs.Common.{◌≡◌, ℕ, Bool, true, false, ◌&&◌, ◌||◌, cond, nat_eq, nat_lt, List, [], ◌∷◌, inl, inr, refl, ap, sym, subst, ◌∙◌, arith}
-use Rattle.std.specs.Prelude.{All}
-use Rattle.std.proofs.lemmas.Bool.{true≢false, cases_Bool}
-use Rattle.std.proofs.lemmas.Bool.Decides.{nat_tests}
-use Rattle.std.proofs.lemmas.List.Elements.{All-nil, All-cons, All-head, All-tail, All-weaker}
-use Rattle.std.proofs.lemmas.List.Folds.{list_any_none}
-use Rattle.pgs_step.specs.declared.lock_modes.Mode.{Mode}
-use Rattle.pgs_step.specs.declared.lock_modes.Mode.TheVariants.{AccessShareLock, RowShareLock, RowExclusiveLock, ShareUpdateExclusiveLock, ShareLock, ShareRowExclusiveLock, ExclusiveLock, AccessExclusiveLock}
-use Rattle.pgs_step.specs.Mode.{mode_number}
-use Rattle.lock_shared.specs.declared.shared_locks.Holding.{Holding}
-use Rattle.lock_shared.specs.Holdings.{is_holding, holds}
-use Rattle.lock_shared.specs.Ranked.{ranks_before, IsRanked, placed, ranked}
+use Rattle.lock_shared.proofs.Base.{◌≡◌, ℕ, Bool, true, false, ◌&&◌, ◌||◌, cond, nat_eq, nat_lt, List, [], ◌∷◌, inl, inr, refl, ap, sym, subst, ◌∙◌, arith, All, true≢false, cases_Bool, nat_tests, All-nil, All-cons, All-head, All-tail, All-weaker, list_any_none}
+use Rattle.lock_shared.proofs.Words.{Mode, AccessShareLock, RowShareLock, RowExclusiveLock, ShareUpdateExclusiveLock, ShareLock, ShareRowExclusiveLock, ExclusiveLock, AccessExclusiveLock, mode_number, Holding, is_holding, holds, ranks_before, IsRanked, placed, ranked}
 use Rattle.lock_shared.proofs.HoldingLemmas.{holding_parts, is_itself}
 
 -- two modes of one number are one

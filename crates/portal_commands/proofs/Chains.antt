@@ -1,18 +1,6 @@
 -- Steps that change portals alone.
-use Rattle.std.proofs.Common.{◌≡◌, ℕ, List, [], ◌∷◌, Option, None, refl, sym, subst, arith}
-use Rattle.addr_space.specs.Space.{Asks}
-use Rattle.session_rules.specs.World.{Moment, Scene}
-use Rattle.session_rules.specs.Acts.{Ended}
-use Rattle.session_rules.specs.Asked.{asks_in}
-use Rattle.session_rules.specs.Calls.{unfailing}
-use Rattle.session_rules.specs.Does.{does}
-use Rattle.session_rules.specs.Elements.{Element}
-use Rattle.session_store.specs.Calls.{Acted, IsSilent, Keeps, PortalsAlone}
-use Rattle.session_store.specs.State.{StoreState}
-use Rattle.session_commands.specs.Performed.{Now, Performed, scene_in}
-use Rattle.session_commands.proofs.Performing.{performed_end}
-use Rattle.session_commands.proofs.Numbering.{keeps_rises, numbers}
-use Rattle.session_commands.proofs.Stepping.{grown, moves_same}
+use Rattle.portal_commands.proofs.Base.{◌≡◌, ℕ, List, [], ◌∷◌, Option, None, refl, sym, subst, arith}
+use Rattle.portal_commands.proofs.Words.{Asks, Moment, Scene, Ended, asks_in, unfailing, does, Element, Acted, IsSilent, Keeps, PortalsAlone, StoreState, Now, Performed, scene_in, performed_end, keeps_rises, numbers, grown, moves_same}
 use Rattle.portal_commands.proofs.Listed.{keeps_alone}
 
 -- an element that changes portals alone, and says nothing

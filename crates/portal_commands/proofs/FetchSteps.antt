@@ -1,56 +1,10 @@
 -- A portal that is fetched from stands behind each step of a turn.
-use Rattle.std.proofs.Common.{◌≡◌, ℕ, Bool, true, false, List, [], ◌∷◌, ◌++◌, Option, Some, None, IsSome, IfSome, find, refl, sym, ◌∙◌, ap, subst, inl, arith}
-use Rattle.std.specs.Option.{option_and_then, option_map}
-use Rattle.addr_space.specs.Space.{Asks}
-use Rattle.context_tree.specs.State.{Moves, TreeState}
-use Rattle.forest.specs.Forest.{has}
-use Rattle.exec_core.specs.declared.scan.Scan.{Scan}
-use Rattle.exec_core.specs.declared.steps.ScanStep.{ScanStep}
-use Rattle.exec_core.specs.declared.steps.ScanStep.TheVariants as step
-use Rattle.exec_core.specs.Turn.{rest, taken}
-use Rattle.pgs_step.specs.declared.errors.Error.{Error}
-use Rattle.pgs_step.specs.declared.errors.Error.TheVariants as error
-use Rattle.pgs_step.specs.declared.events.What.{What}
-use Rattle.pgs_step.specs.declared.events.What.TheVariants as what
-use Rattle.pgs_step.specs.declared.ids.Item.{Item}
-use Rattle.pgs_step.specs.declared.ids.OwnerId.{OwnerId}
-use Rattle.portal_store.specs.Portal.{coming}
-use Rattle.portal_store.specs.declared.portal.Portal.{Portal}
+use Rattle.portal_commands.proofs.Base.{◌≡◌, ℕ, Bool, true, false, List, [], ◌∷◌, ◌++◌, Option, Some, None, IsSome, IfSome, find, refl, sym, ◌∙◌, ap, subst, inl, arith, option_and_then, option_map}
+use Rattle.portal_commands.proofs.Words.{Asks, Moves, TreeState, has, Scan, ScanStep, rest, taken, Error, What, Item, OwnerId, coming, Portal, is_of, forgotten, items_of, owners_of, balances_more, balances_none, serves_still, LevelState, OpenPortal, buffer_pin, depth, Around, Moment, Scene, Ended, changes, context_cleared_alone, in_order, nothing, portal_becomes, say, where_there, unfailing, Element, Check, InRow, OfPortal, Text, does, does_all, then_done, memory_in, owner_in, portal_named, at_portal, scan_part, scanned, given_back, item_released, IsFetched, IsWorking, Stands, fallible_part, Named, active_portal, named_changed, named_in, scan_portal, Beside, becomes_fetched, beside_turns, check_beside, nothing_beside, owner_named, part_beside, portal_enlarges, portal_takes, row_allocates, then_beside, Acted, BothAlone, ContextsAlone, IsSilent, Keeps, PortalsAlone, Refused, StoreState, levels_of, portal_state, portals_of, session_of, at_calls, wants, IsOwnerOf, IsBetweenSteps, Now, Performed, scene_in, Calls, item_keeps, numbers, there_keeps, moves_nothing, performed_end, performed_none, same_scene_in, fails, keeps_rises, empty_around, fitting, fitting_fits, grown, Follows, IsAt, IsFetching, IsPage, cost_of, part_of, scan_named}
 use Rattle.portal_store.specs.Portals as list
-use Rattle.owner_items.specs.ItemList.{is_of}
-use Rattle.owner_core.specs.Owners.{forgotten}
-use Rattle.session_owners.specs.ResourceState.{items_of, owners_of}
-use Rattle.session_owners.proofs.Balances.{balances_more, balances_none, serves_still}
-use Rattle.session_rules.specs.State.{LevelState, OpenPortal, buffer_pin, depth}
-use Rattle.session_rules.specs.World.{Around, Moment, Scene}
-use Rattle.session_rules.specs.Acts.{Ended, changes, context_cleared_alone, in_order, nothing, portal_becomes, say, where_there}
-use Rattle.session_rules.specs.Calls.{unfailing}
-use Rattle.session_rules.specs.Elements as element
-use Rattle.session_rules.specs.Elements.{Element, InRow, OfPortal, Text}
-use Rattle.session_rules.specs.Does.{does, does_all, then_done}
-use Rattle.session_rules.specs.Lookup.{memory_in, owner_in, portal_named}
-use Rattle.session_rules.specs.Parts.{at_portal, scan_part, scanned}
-use Rattle.session_rules.specs.Releases.{given_back, item_released}
-use Rattle.session_rules.specs.Standing.{IsFetched, IsWorking, Stands}
-use Rattle.session_rules.specs.Works.{fallible_part}
-use Rattle.session_rules.proofs.PortalsStand.{Named, active_portal, named_changed, named_in, scan_portal}
-use Rattle.session_rules.proofs.PortalWorks.{Beside, becomes_fetched, beside_turns, check_beside, nothing_beside, owner_named, part_beside, portal_enlarges, portal_takes, row_allocates, then_beside}
-use Rattle.session_store.specs.Calls.{Acted, BothAlone, ContextsAlone, IsSilent, Keeps, PortalsAlone, Refused}
-use Rattle.session_store.specs.State.{StoreState, levels_of, portal_state, portals_of, session_of}
-use Rattle.session_commands.specs.Answers.{at_calls, wants}
-use Rattle.session_commands.specs.Deepest.{IsOwnerOf}
-use Rattle.session_commands.specs.Performed.{IsBetweenSteps, Now, Performed, scene_in}
-use Rattle.session_commands.specs.declared.calls.Calls.{Calls}
-use Rattle.session_commands.proofs.Numbering.{item_keeps, numbers, there_keeps}
-use Rattle.session_commands.proofs.Performing.{moves_nothing, performed_end, performed_none, same_scene_in}
-use Rattle.session_commands.proofs.Commands.{fails}
-use Rattle.session_commands.proofs.Numbering.{keeps_rises}
-use Rattle.session_commands.proofs.Standing.{empty_around, fitting, fitting_fits}
-use Rattle.session_commands.proofs.Stepping.{grown}
 use Rattle.portal_commands.proofs.Listed.{keeps_alone, named_as}
 use Rattle.portal_commands.proofs.Places.{at_same}
 use Rattle.portal_commands.proofs.TurnLists.{is_bad_step}
-use Rattle.portal_commands.specs.Fetching.{Follows, IsAt, IsFetching, IsPage, cost_of, part_of, scan_named}
 
 -- the scan of the portal of a name, as the rules see it
 abbrev scan_in : Text → Scene → Option Scan
@@ -168,31 +122,31 @@ at_on name place scan k es a b P r h done beside at = at_same name place a.store
 
 -- what a step does by itself is what the rules say of the portal
 part_is : (name : Text) (st : ScanStep) (s : Scene) (p : OpenPortal) → portal_named name s.session.portals ≡ Some p → p.name ≡ name → part_of name st s ≡ scan_part st p s
-part_is name step.Reset s p e n = ap (λ (o : Option OpenPortal). where_there (option_and_then (λ q. q.expr) o) context_cleared_alone s) e
-part_is name (step.Unpin page) s p e n = ap (λ (o : Option OpenPortal). where_there (option_and_then (λ q. q.owner) o) (λ owner. item_released owner buffer_pin page) s) e
-part_is name (step.Row row value) s p e n = ap (λ (t : Text). say (what.Row t row value) s) (sym n)
-part_is name (step.Pin page) s p e n = refl
-part_is name (step.Bad row) s p e n = refl
-part_is name step.Alloc s p e n = refl
-part_is name step.End s p e n = refl
+part_is name ScanStep.Reset s p e n = ap (λ (o : Option OpenPortal). where_there (option_and_then (λ q. q.expr) o) context_cleared_alone s) e
+part_is name (ScanStep.Unpin page) s p e n = ap (λ (o : Option OpenPortal). where_there (option_and_then (λ q. q.owner) o) (λ owner. item_released owner buffer_pin page) s) e
+part_is name (ScanStep.Row row value) s p e n = ap (λ (t : Text). say (What.Row t row value) s) (sym n)
+part_is name (ScanStep.Pin page) s p e n = refl
+part_is name (ScanStep.Bad row) s p e n = refl
+part_is name ScanStep.Alloc s p e n = refl
+part_is name ScanStep.End s p e n = refl
 
 same_part : (st : ScanStep) (p : OpenPortal) (c : Scan) (s : Scene) → scan_part st (record p { scan = c }) s ≡ scan_part st p s
-same_part step.Reset p c s = refl
-same_part (step.Unpin page) p c s = refl
-same_part (step.Row row value) p c s = refl
-same_part (step.Pin page) p c s = refl
-same_part (step.Bad row) p c s = refl
-same_part step.Alloc p c s = refl
-same_part step.End p c s = refl
+same_part ScanStep.Reset p c s = refl
+same_part (ScanStep.Unpin page) p c s = refl
+same_part (ScanStep.Row row value) p c s = refl
+same_part (ScanStep.Pin page) p c s = refl
+same_part (ScanStep.Bad row) p c s = refl
+same_part ScanStep.Alloc p c s = refl
+same_part ScanStep.End p c s = refl
 
 part_keeps : (st : ScanStep) (p : OpenPortal) (s : Scene) → numbers (scan_part st p s).scene ≡ numbers s
-part_keeps step.Reset p s = there_keeps p.expr context_cleared_alone s (λ n. refl)
-part_keeps (step.Unpin page) p s = there_keeps p.owner (λ owner. item_released owner buffer_pin page) s (λ owner. item_keeps owner buffer_pin page s)
-part_keeps (step.Row row value) p s = refl
-part_keeps (step.Pin page) p s = refl
-part_keeps (step.Bad row) p s = refl
-part_keeps step.Alloc p s = refl
-part_keeps step.End p s = refl
+part_keeps ScanStep.Reset p s = there_keeps p.expr context_cleared_alone s (λ n. refl)
+part_keeps (ScanStep.Unpin page) p s = there_keeps p.owner (λ owner. item_released owner buffer_pin page) s (λ owner. item_keeps owner buffer_pin page s)
+part_keeps (ScanStep.Row row value) p s = refl
+part_keeps (ScanStep.Pin page) p s = refl
+part_keeps (ScanStep.Bad row) p s = refl
+part_keeps ScanStep.Alloc p s = refl
+part_keeps ScanStep.End p s = refl
 
 -- and leaves the portals as they are
 part_besides : (name : Text) (scan : Scan) (levels : List LevelState) (st : ScanStep) (s : Scene) → IsWorking levels → Runs name scan levels s → Beside s (part_of name st s).scene
@@ -222,7 +176,7 @@ at_follows name place scan st a b P h f at = at_same name place a.store b.store 
     whole : Beside (scene_in a empty_around) (scene_in b empty_around)
     whole = subst (Beside (scene_in a empty_around)) (f.acted.leads empty_around) (part_besides name scan (levels_of a.store.levels) st (scene_in a empty_around) h.working (runs_in name scan a empty_around h))
 
-does_scan : (name : Text) (st : ScanStep) (w : Option ℕ) (m : Moment) → does w (element.Scans name st) m ≡ unfailing m (at_portal name (scanned st))
+does_scan : (name : Text) (st : ScanStep) (w : Option ℕ) (m : Moment) → does w (Element.Scans name st) m ≡ unfailing m (at_portal name (scanned st))
 unfolding does
 does_scan name st w m = refl
 
@@ -278,9 +232,9 @@ module _ (name : Text) (scan : Scan) (st : ScanStep) (a c : Now) (store : StoreS
   whole : Acted (at_portal name (scanned st)) a.store c.store a.space c.space a.shelf c.shelf a.commons c.commons P
   whole = record { leads = scene_is; says = said; balances = balances_more _ _ _ _ _ _ acted.balances f.acted.balances }
 
-  pub scan_done : Performed 0 (element.Scans name st ∷ []) a c P None
+  pub scan_done : Performed 0 (Element.Scans name st ∷ []) a c P None
   scan_done =
-      performed_end 0 (element.Scans name st) (at_portal name (scanned st)) a c P (does_scan name st) whole f.keeps (subst (λ (t : TreeState). Moves t c.store.tree a.space c.space) alone.tree f.moves)
+      performed_end 0 (Element.Scans name st) (at_portal name (scanned st)) a c P (does_scan name st) whole f.keeps (subst (λ (t : TreeState). Moves t c.store.tree a.space c.space) alone.tree f.moves)
       (grown 0 (at_portal name (scanned st)) a c P (λ s. keeps_rises s (at_portal name (scanned st) s).scene (scan_keeps name st s)) whole (omega (arith, ap (λ (k : Calls). k.count) f.calls))) f.calls
       (λ around. subst (λ (t : TreeState). Asks t.account 0 a.space c.space) alone.tree f.asks)
 
@@ -303,18 +257,18 @@ all_beside w (x ∷ xs) m h working a =
 
 -- what a step needs besides leaves the portals as they are
 pub serves_beside : (name : Text) (st : ScanStep) → IsPage st → (w : Option ℕ) (m : Moment) → Stands m.scene → IsWorking m.scene.session.levels → Beside m.scene (does_all w (fallible_part name st) m).moment.scene
-serves_beside name (step.Pin page) small w m h working =
-    all_beside w (element.Enlarge (OfPortal name) ∷ element.Take (OfPortal name) buffer_pin page ∷ []) m h working (
+serves_beside name (ScanStep.Pin page) small w m h working =
+    all_beside w (Element.Enlarge (OfPortal name) ∷ Element.Take (OfPortal name) buffer_pin page ∷ []) m h working (
       λ n k v. portal_enlarges w n k v name,
       (λ n k v. portal_takes w n k v name buffer_pin page refl (λ z. absurd (omega (arith, z))) (λ serial. record { kind = inl (record { from = omega arith; to = omega arith }); buffer = λ _. small }), tt),
     )
-serves_beside name (step.Bad row) small w m h working =
-    all_beside w (element.Checks (element.Refuse (error.BadRow row)) ∷ []) m h working (λ n k v. check_beside w n k v name (element.Refuse (error.BadRow row)), tt)
-serves_beside name step.Alloc small w m h working = all_beside w (element.Alloc (InRow name) None 64 false ∷ []) m h working (λ n k v. row_allocates w n k v name None 64, tt)
-serves_beside name step.Reset small w m h working = all_beside w [] m h working tt
-serves_beside name (step.Unpin page) small w m h working = all_beside w [] m h working tt
-serves_beside name (step.Row row value) small w m h working = all_beside w [] m h working tt
-serves_beside name step.End small w m h working = all_beside w [] m h working tt
+serves_beside name (ScanStep.Bad row) small w m h working =
+    all_beside w (Element.Checks (Check.Refuse (Error.BadRow row)) ∷ []) m h working (λ n k v. check_beside w n k v name (Check.Refuse (Error.BadRow row)), tt)
+serves_beside name ScanStep.Alloc small w m h working = all_beside w (Element.Alloc (InRow name) None 64 false ∷ []) m h working (λ n k v. row_allocates w n k v name None 64, tt)
+serves_beside name ScanStep.Reset small w m h working = all_beside w [] m h working tt
+serves_beside name (ScanStep.Unpin page) small w m h working = all_beside w [] m h working tt
+serves_beside name (ScanStep.Row row value) small w m h working = all_beside w [] m h working tt
+serves_beside name ScanStep.End small w m h working = all_beside w [] m h working tt
 
 -- the owner of a portal is there
 pub fetched_owner : (name : Text) (scan : Scan) (a : Now) (owner : OwnerId) → IsFetching name scan a → IsOwnerOf (OfPortal name) a.store owner → has owner.number (owners_of a.store.owners) ≡ true
@@ -357,7 +311,7 @@ follows_nothing act a P none keeps silent = record {
 }
 
 -- a row was told
-pub row_told : (name : Text) (row value : ℕ) (a : Now) (P : List What → Type 0) → Keeps a.store a.space → P (what.Row name row value ∷ []) → Follows (part_of name (step.Row row value)) a a P
+pub row_told : (name : Text) (row value : ℕ) (a : Now) (P : List What → Type 0) → Keeps a.store a.space → P (What.Row name row value ∷ []) → Follows (part_of name (ScanStep.Row row value)) a a P
 row_told name row value a P keeps told = record {
   acted = record { leads = λ around. refl; says = λ around. told; balances = balances_none a.store.owners a.commons };
   keeps = keeps;
@@ -369,7 +323,7 @@ row_told name row value a P keeps told = record {
 module _ (name : Text) (a b : Now) (P : List What → Type 0) (calls : b.calls ≡ a.calls) (asks : Asks a.store.tree.account 0 a.space b.space) where
   -- the memory of one row was reset
   pub row_reset : (n : ℕ) → memory_in (InRow name) (session_of a.store a.space) ≡ Some n → Acted (context_cleared_alone n) a.store b.store a.space b.space a.shelf b.shelf a.commons b.commons P
-      → ContextsAlone a.store b.store a.space b.space a.commons b.commons → Follows (part_of name step.Reset) a b P
+      → ContextsAlone a.store b.store a.space b.space a.commons b.commons → Follows (part_of name ScanStep.Reset) a b P
   row_reset n is acted alone = record {
     acted = record {
       leads = λ around. ap (λ (o : Option ℕ). (where_there o context_cleared_alone (scene_in a around)).scene) is ∙ acted.leads around;
@@ -385,7 +339,7 @@ module _ (name : Text) (a b : Now) (P : List What → Type 0) (calls : b.calls �
   -- the page was given back, or the owner hasn't it
   module _ (page : ℕ) (owner : OwnerId) (is : IsOwnerOf (OfPortal name) a.store owner) where
     pub page_unpinned : Acted (item_released owner.number buffer_pin page) a.store b.store a.space b.space a.shelf b.shelf a.commons b.commons P → BothAlone a.store b.store a.space b.space a.commons b.commons
-        → Follows (part_of name (step.Unpin page)) a b P
+        → Follows (part_of name (ScanStep.Unpin page)) a b P
     page_unpinned acted alone = record {
       acted = record {
         leads = λ around. ap (λ (o : Option ℕ). (where_there o (λ n. item_released n buffer_pin page) (scene_in a around)).scene) (is a.space) ∙ acted.leads around;
@@ -399,7 +353,7 @@ module _ (name : Text) (a b : Now) (P : List What → Type 0) (calls : b.calls �
     }
 
     pub page_not_held : find (is_of buffer_pin page) (items_of owner.number (owners_of a.store.owners)) ≡ None → Refused a.store b.store a.space b.space a.shelf b.shelf a.commons b.commons
-        → BothAlone a.store b.store a.space b.space a.commons b.commons → P [] → Follows (part_of name (step.Unpin page)) a b P
+        → BothAlone a.store b.store a.space b.space a.commons b.commons → P [] → Follows (part_of name (ScanStep.Unpin page)) a b P
     unfolding session_of
     page_not_held missing same alone silent = record {
       acted = record {
@@ -414,20 +368,20 @@ module _ (name : Text) (a b : Now) (P : List What → Type 0) (calls : b.calls �
     }
       where
         released : (s : Scene) (o : Option Item) → o ≡ None
-            → where_there o (λ (item : Item). in_order (changes (λ session. record session { owners = forgotten owner.number buffer_pin page session.owners }) ∷ say (what.Release item owner.number) ∷ given_back item ∷ [])) s ≡ nothing s
+            → where_there o (λ (item : Item). in_order (changes (λ session. record session { owners = forgotten owner.number buffer_pin page session.owners }) ∷ say (What.Release item owner.number) ∷ given_back item ∷ [])) s ≡ nothing s
         released s None e = refl
         released s (Some item) e = absurd (cc e)
 
-        none : (around : Around) → part_of name (step.Unpin page) (scene_in a around) ≡ nothing (scene_in a around)
+        none : (around : Around) → part_of name (ScanStep.Unpin page) (scene_in a around) ≡ nothing (scene_in a around)
         none around =
             ap (λ (o : Option ℕ). where_there o (λ n. item_released n buffer_pin page) (scene_in a around)) (is a.space)
             ∙ released (scene_in a around) (find (is_of buffer_pin page) (items_of owner.number (owners_of a.store.owners))) missing
 
 -- without an owner nothing is given back
-pub no_owner : (name : Text) (page : ℕ) (a : Now) → owner_in (OfPortal name) (session_of a.store a.space) ≡ None → (around : Around) → part_of name (step.Unpin page) (scene_in a around) ≡ nothing (scene_in a around)
+pub no_owner : (name : Text) (page : ℕ) (a : Now) → owner_in (OfPortal name) (session_of a.store a.space) ≡ None → (around : Around) → part_of name (ScanStep.Unpin page) (scene_in a around) ≡ nothing (scene_in a around)
 no_owner name page a none around = ap (λ (o : Option ℕ). where_there o (λ n. item_released n buffer_pin page) (scene_in a around)) none
 
-pub no_row : (name : Text) (a : Now) → memory_in (InRow name) (session_of a.store a.space) ≡ None → (around : Around) → part_of name step.Reset (scene_in a around) ≡ nothing (scene_in a around)
+pub no_row : (name : Text) (a : Now) → memory_in (InRow name) (session_of a.store a.space) ≡ None → (around : Around) → part_of name ScanStep.Reset (scene_in a around) ≡ nothing (scene_in a around)
 no_row name a none around = ap (λ (o : Option ℕ). where_there o context_cleared_alone (scene_in a around)) none
 
 -- a step by another name
@@ -435,54 +389,54 @@ pub serves_as : (name : Text) (x y : ScanStep) (a b : Now) (P : List What → Ty
 serves_as name x y a b P r is h = subst (λ (z : ScanStep). Performed (cost_of z) (fallible_part name z) a b P r) (sym is) h
 
 -- a row that can't be made
-pub bad_performed : (name : Text) (row : ℕ) (a : Now) (P : List What → Type 0) → Keeps a.store a.space → P [] → Performed (cost_of (step.Bad row)) (fallible_part name (step.Bad row)) a a P (Some (error.BadRow row))
-bad_performed name row a P keeps silent = fails 0 (element.Refuse (error.BadRow row)) [] a P (error.BadRow row) keeps silent refl (λ around. refl)
+pub bad_performed : (name : Text) (row : ℕ) (a : Now) (P : List What → Type 0) → Keeps a.store a.space → P [] → Performed (cost_of (ScanStep.Bad row)) (fallible_part name (ScanStep.Bad row)) a a P (Some (Error.BadRow row))
+bad_performed name row a P keeps silent = fails 0 (Check.Refuse (Error.BadRow row)) [] a P (Error.BadRow row) keeps silent refl (λ around. refl)
 
 -- a step that needs nothing besides
 abbrev pub NeedsNothing : ScanStep → Type 0
-NeedsNothing (step.Pin page) = ⊥
-NeedsNothing (step.Bad row) = ⊥
-NeedsNothing step.Alloc = ⊥
+NeedsNothing (ScanStep.Pin page) = ⊥
+NeedsNothing (ScanStep.Bad row) = ⊥
+NeedsNothing ScanStep.Alloc = ⊥
 NeedsNothing other = Unit {0}
 
 pub other_performed : (name : Text) (s : ScanStep) (a : Now) (P : List What → Type 0) → NeedsNothing s → Keeps a.store a.space → P [] → Performed (cost_of s) (fallible_part name s) a a P None
-other_performed name step.Reset a P h keeps silent = performed_none a P keeps silent
-other_performed name (step.Unpin page) a P h keeps silent = performed_none a P keeps silent
-other_performed name (step.Row row value) a P h keeps silent = performed_none a P keeps silent
-other_performed name step.End a P h keeps silent = performed_none a P keeps silent
-other_performed name (step.Pin page) a P h keeps silent = absurd h
-other_performed name (step.Bad row) a P h keeps silent = absurd h
-other_performed name step.Alloc a P h keeps silent = absurd h
+other_performed name ScanStep.Reset a P h keeps silent = performed_none a P keeps silent
+other_performed name (ScanStep.Unpin page) a P h keeps silent = performed_none a P keeps silent
+other_performed name (ScanStep.Row row value) a P h keeps silent = performed_none a P keeps silent
+other_performed name ScanStep.End a P h keeps silent = performed_none a P keeps silent
+other_performed name (ScanStep.Pin page) a P h keeps silent = absurd h
+other_performed name (ScanStep.Bad row) a P h keeps silent = absurd h
+other_performed name ScanStep.Alloc a P h keeps silent = absurd h
 
 pub follows_as : (name : Text) (x y : ScanStep) (a b : Now) (P : List What → Type 0) → x ≡ y → Follows (part_of name y) a b P → Follows (part_of name x) a b P
 follows_as name x y a b P is h = subst (λ (z : ScanStep). Follows (part_of name z) a b P) (sym is) h
 
 -- the steps that are left
-pub needs_nothing : (s : ScanStep) → ((page : ℕ) → s ≡ step.Pin page → ⊥) → ((row : ℕ) → s ≡ step.Bad row → ⊥) → (s ≡ step.Alloc → ⊥) → NeedsNothing s
-needs_nothing step.Reset p b a = tt
-needs_nothing (step.Unpin page) p b a = tt
-needs_nothing (step.Row row value) p b a = tt
-needs_nothing step.End p b a = tt
-needs_nothing (step.Pin page) p b a = absurd (p page refl)
-needs_nothing (step.Bad row) p b a = absurd (b row refl)
-needs_nothing step.Alloc p b a = absurd (a refl)
+pub needs_nothing : (s : ScanStep) → ((page : ℕ) → s ≡ ScanStep.Pin page → ⊥) → ((row : ℕ) → s ≡ ScanStep.Bad row → ⊥) → (s ≡ ScanStep.Alloc → ⊥) → NeedsNothing s
+needs_nothing ScanStep.Reset p b a = tt
+needs_nothing (ScanStep.Unpin page) p b a = tt
+needs_nothing (ScanStep.Row row value) p b a = tt
+needs_nothing ScanStep.End p b a = tt
+needs_nothing (ScanStep.Pin page) p b a = absurd (p page refl)
+needs_nothing (ScanStep.Bad row) p b a = absurd (b row refl)
+needs_nothing ScanStep.Alloc p b a = absurd (a refl)
 
-pub other_part : (name : Text) (st : ScanStep) (s : Scene) → (st ≡ step.Reset → ⊥) → ((page : ℕ) → st ≡ step.Unpin page → ⊥) → ((row value : ℕ) → st ≡ step.Row row value → ⊥) → part_of name st s ≡ nothing s
-other_part name step.Reset s r u w = absurd (r refl)
-other_part name (step.Unpin page) s r u w = absurd (u page refl)
-other_part name (step.Row row value) s r u w = absurd (w row value refl)
-other_part name (step.Pin page) s r u w = refl
-other_part name (step.Bad row) s r u w = refl
-other_part name step.Alloc s r u w = refl
-other_part name step.End s r u w = refl
+pub other_part : (name : Text) (st : ScanStep) (s : Scene) → (st ≡ ScanStep.Reset → ⊥) → ((page : ℕ) → st ≡ ScanStep.Unpin page → ⊥) → ((row value : ℕ) → st ≡ ScanStep.Row row value → ⊥) → part_of name st s ≡ nothing s
+other_part name ScanStep.Reset s r u w = absurd (r refl)
+other_part name (ScanStep.Unpin page) s r u w = absurd (u page refl)
+other_part name (ScanStep.Row row value) s r u w = absurd (w row value refl)
+other_part name (ScanStep.Pin page) s r u w = refl
+other_part name (ScanStep.Bad row) s r u w = refl
+other_part name ScanStep.Alloc s r u w = refl
+other_part name ScanStep.End s r u w = refl
 
 -- a step that was served has no bad row
 pub served_good : (name : Text) (s : ScanStep) (k : ℕ) (a b : Now) (P : List What → Type 0) → Performed k (fallible_part name s) a b P None → is_bad_step s ≡ false
 unfolding does does_all
-served_good name (step.Bad row) k a b P h = let z : Some (error.BadRow row) ≡ None = h.answers.answer empty_around None tt in absurd (cc z)
-served_good name step.Reset k a b P h = refl
-served_good name (step.Unpin page) k a b P h = refl
-served_good name (step.Pin page) k a b P h = refl
-served_good name (step.Row row value) k a b P h = refl
-served_good name step.Alloc k a b P h = refl
-served_good name step.End k a b P h = refl
+served_good name (ScanStep.Bad row) k a b P h = let z : Some (Error.BadRow row) ≡ None = h.answers.answer empty_around None tt in absurd (cc z)
+served_good name ScanStep.Reset k a b P h = refl
+served_good name (ScanStep.Unpin page) k a b P h = refl
+served_good name (ScanStep.Pin page) k a b P h = refl
+served_good name (ScanStep.Row row value) k a b P h = refl
+served_good name ScanStep.Alloc k a b P h = refl
+served_good name ScanStep.End k a b P h = refl

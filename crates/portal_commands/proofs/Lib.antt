@@ -10,3 +10,6 @@ pub mod FetchSteps
 pub mod Turning
 pub mod OnCommands
 pub mod PinSteps
+pub mod Base
+pub mod Words
+pub mod Lemmas

@@ -1,19 +1,7 @@
 -- The portal of a name, as the store has it and as the rules see it.
-use Rattle.std.proofs.Common.{◌≡◌, Option, Some, None, List, [], ◌∷◌, IsSome, refl, sym, ap, ◌∙◌, subst, inl, inr}
-use Rattle.std.specs.Option.{option_map}
-use Rattle.std.proofs.lemmas.Bool.{cases_Bool}
-use Rattle.portal_store.specs.declared.portal.Portal.{Portal}
+use Rattle.portal_commands.proofs.Base.{◌≡◌, Option, Some, None, List, [], ◌∷◌, IsSome, refl, sym, ap, ◌∙◌, subst, inl, inr, option_map, cases_Bool}
+use Rattle.portal_commands.proofs.Words.{Portal, has_name, OpenPortal, Text, portal_named, Space, held, no_total, summed, Agrees, TreeState, stands_for, Keeps, PortalsAlone, StoreState, portal_state, portals_of, session_of}
 use Rattle.portal_store.specs.Portals as list
-use Rattle.portal_store.specs.Portals.{has_name}
-use Rattle.session_rules.specs.State.{OpenPortal}
-use Rattle.session_rules.specs.Elements.{Text}
-use Rattle.session_rules.specs.Lookup.{portal_named}
-use Rattle.addr_space.specs.Space.{Space, held}
-use Rattle.context_report.specs.Lines.{no_total}
-use Rattle.context_rules.specs.Reports.{summed}
-use Rattle.context_tree.specs.State.{Agrees, TreeState, stands_for}
-use Rattle.session_store.specs.Calls.{Keeps, PortalsAlone}
-use Rattle.session_store.specs.State.{StoreState, portal_state, portals_of, session_of}
 
 pub named_as : (name : Text) (ps : List Portal) → option_map portal_state (list.portal_named name ps) ≡ portal_named name (portals_of ps)
 named_as name [] = refl

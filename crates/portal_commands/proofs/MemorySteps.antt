@@ -1,32 +1,7 @@
 -- The steps by which memory without a name is taken in a context of a portal.
-use Rattle.std.proofs.Common.{◌≡◌, ◌≢◌, ◌⊎◌, ℕ, ◌+◌, ◌≤◌, ◌==◌, true, false, List, [], ◌∷◌, Option, Some, None, refl, sym, ◌∙◌, ap, subst, inl, inr, arith}
-use Rattle.std.specs.Option.{option_map, option_map_or}
-use Rattle.addr_space.specs.Space.{Asks, Space}
+use Rattle.portal_commands.proofs.Base.{◌≡◌, ◌≢◌, ◌⊎◌, ℕ, ◌+◌, ◌≤◌, ◌==◌, true, false, List, [], ◌∷◌, Option, Some, None, refl, sym, ◌∙◌, ap, subst, inl, inr, arith, option_map, option_map_or}
+use Rattle.portal_commands.proofs.Words.{Asks, Space, TreeError, alloc_refusal, Error, Injected, NoMemory, What, Around, Moment, Scene, Ended, where_there, MemoryRole, Element, fallible, tree_error, does, memory_in, alloc_refused, memory_taken, contexts_in, left_in, session_of, Acted, ContextsAlone, IsSilent, Keeps, Refused, CommonState, ShelfState, balances_none, Now, Performed, scene_in, tree_error_plain, performed_made, performed_step, same_scene_in, Rises, count_behind, grown, lent, still_injected, still_keeps, still_moves, still_refused, step_tree}
 use Rattle.context_rules.specs.Chunks as chunks
-use Rattle.context_rules.specs.declared.errors.TreeError.{TreeError}
-use Rattle.context_rules.specs.declared.errors.TreeError.TheVariants as tree
-use Rattle.context_rules.specs.Refusals.{alloc_refusal}
-use Rattle.pgs_step.specs.declared.errors.Error.{Error}
-use Rattle.pgs_step.specs.declared.errors.Error.TheVariants.{Injected, NoMemory}
-use Rattle.pgs_step.specs.declared.events.What.{What}
-use Rattle.session_rules.specs.World.{Around, Moment, Scene}
-use Rattle.session_rules.specs.Acts.{Ended, where_there}
-use Rattle.session_rules.specs.Elements.{MemoryRole}
-use Rattle.session_rules.specs.Elements as element
-use Rattle.session_rules.specs.Calls.{fallible}
-use Rattle.session_rules.specs.Checks.{tree_error}
-use Rattle.session_rules.specs.Does.{does}
-use Rattle.session_rules.specs.Lookup.{memory_in}
-use Rattle.session_rules.specs.Taking.{alloc_refused, memory_taken}
-use Rattle.session_store.specs.State.{contexts_in, left_in, session_of}
-use Rattle.session_store.specs.Calls.{Acted, ContextsAlone, IsSilent, Keeps, Refused}
-use Rattle.session_owners.specs.Commons.{CommonState}
-use Rattle.reset_callbacks.specs.ShelfState.{ShelfState}
-use Rattle.session_owners.proofs.Balances.{balances_none}
-use Rattle.session_commands.specs.Performed.{Now, Performed, scene_in}
-use Rattle.session_commands.proofs.Commands.{tree_error_plain}
-use Rattle.session_commands.proofs.Performing.{performed_made, performed_step, same_scene_in}
-use Rattle.session_commands.proofs.Stepping.{Rises, count_behind, grown, lent, still_injected, still_keeps, still_moves, still_refused, step_tree}
 
 module _ (role : MemoryRole) (bytes : ℕ) where
   abbrev own : Scene → Option Error
@@ -35,7 +10,7 @@ module _ (role : MemoryRole) (bytes : ℕ) where
   abbrev takes : Scene → Ended
   takes scene = where_there (memory_in role scene.session) (memory_taken None bytes false) scene
 
-  does_alloc : (w : Option ℕ) (m : Moment) → does w (element.Alloc role None bytes false) m ≡ fallible w m (own m.scene) takes
+  does_alloc : (w : Option ℕ) (m : Moment) → does w (Element.Alloc role None bytes false) m ≡ fallible w m (own m.scene) takes
   unfolding does
   does_alloc w m = refl
 
@@ -55,8 +30,8 @@ module _ (role : MemoryRole) (bytes : ℕ) where
 
   module _ (a b : Now) (P : List What → Type 0) (counted : b.calls ≡ record a.calls { count = a.calls.count + 1 }) where
     pub memory_injected : b.space ≡ a.space → Keeps a.store a.space → lent b ≡ lent a → P [] → b.store ≡ a.store → (e : Error) → (e ≡ Injected (a.calls.count + 1)) × ((a.calls.count + 1 == a.calls.fail) ≡ true)
-        → Performed 1 (element.Alloc role None bytes false ∷ []) a b P (Some e)
-    memory_injected = still_injected (element.Alloc role None bytes false) own takes does_alloc a b P counted
+        → Performed 1 (Element.Alloc role None bytes false ∷ []) a b P (Some e)
+    memory_injected = still_injected (Element.Alloc role None bytes false) own takes does_alloc a b P counted
 
     -- in a context that is there
     module _ (goes : (a.calls.count + 1 == a.calls.fail) ≡ false) (n : ℕ) (is : memory_in role (session_of a.store a.space) ≡ Some n) where
@@ -65,9 +40,9 @@ module _ (role : MemoryRole) (bytes : ℕ) where
 
       pub memory_done : alloc_refusal n (left_in a.store a.space) None bytes (contexts_in a.store a.space) ≡ None → Acted (memory_taken None bytes false n) a.store b.store a.space b.space a.shelf b.shelf a.commons b.commons IsSilent → P []
           → ContextsAlone a.store b.store a.space b.space a.commons b.commons → Asks a.store.tree.account (chunks.asked n (left_in a.store a.space) bytes (contexts_in a.store a.space)) a.space b.space
-          → Performed 1 (element.Alloc role None bytes false ∷ []) a b P None
+          → Performed 1 (Element.Alloc role None bytes false ∷ []) a b P None
       memory_done free taken silent alone asks =
-          performed_step (element.Alloc role None bytes false) own takes does_alloc a b P counted raises goes (λ around. told_in around ∙ ap (option_map tree_error) free) acted alone
+          performed_step (Element.Alloc role None bytes false) own takes does_alloc a b P counted raises goes (λ around. told_in around ∙ ap (option_map tree_error) free) acted alone
           (λ around. subst (λ (o : Option ℕ). Asks a.store.tree.account (option_map_or (λ c. chunks.asked c (left_in a.store a.space) bytes (contexts_in a.store a.space)) o 0) a.space b.space) (sym is) asks)
         where
           acted : Acted takes a.store b.store a.space b.space a.shelf b.shelf a.commons b.commons P
@@ -78,17 +53,17 @@ module _ (role : MemoryRole) (bytes : ℕ) where
           }
 
       pub memory_refused : Refused a.store b.store a.space b.space a.shelf b.shelf a.commons b.commons → P [] → ContextsAlone a.store b.store a.space b.space a.commons b.commons → b.space ≡ a.space → (e : TreeError) (t : Error)
-          → (e ≡ tree.Memory) ⊎ (alloc_refusal n (left_in a.store a.space) None bytes (contexts_in a.store a.space) ≡ Some e)
-          → (e ≡ tree.Memory → t ≡ NoMemory b.calls.count) → (e ≢ tree.Memory → t ≡ tree_error e) → Performed 1 (element.Alloc role None bytes false ∷ []) a b P (Some t)
+          → (e ≡ TreeError.Memory) ⊎ (alloc_refusal n (left_in a.store a.space) None bytes (contexts_in a.store a.space) ≡ Some e)
+          → (e ≡ TreeError.Memory → t ≡ NoMemory b.calls.count) → (e ≢ TreeError.Memory → t ≡ tree_error e) → Performed 1 (Element.Alloc role None bytes false ∷ []) a b P (Some t)
       memory_refused same silent alone space e t cause memory other =
-          step_tree (element.Alloc role None bytes false) own takes does_alloc a b P counted same alone.keeps alone.moves silent goes
+          step_tree (Element.Alloc role None bytes false) own takes does_alloc a b P counted same alone.keeps alone.moves silent goes
           (alloc_refusal n (left_in a.store a.space) None bytes (contexts_in a.store a.space)) told_in 0 e t cause memory other (inl (ap (λ (s : Space). s.taken) space))
 
     -- where there is no such context the call counts, and nothing is taken
     pub memory_nowhere : (a.calls.count + 1 == a.calls.fail) ≡ false → memory_in role (session_of a.store a.space) ≡ None → b.space ≡ a.space → lent b ≡ lent a → Keeps a.store a.space → b.store ≡ a.store → P []
-        → Performed 1 (element.Alloc role None bytes false ∷ []) a b P None
+        → Performed 1 (Element.Alloc role None bytes false ∷ []) a b P None
     memory_nowhere goes none space shelf keeps store silent =
-        performed_made (element.Alloc role None bytes false) own takes does_alloc a b P counted 1 goes (λ around. ap (λ (o : Option ℕ). alloc_refused o None bytes (scene_in a around)) none) acted
+        performed_made (Element.Alloc role None bytes false) own takes does_alloc a b P counted 1 goes (λ around. ap (λ (o : Option ℕ). alloc_refused o None bytes (scene_in a around)) none) acted
         (still_keeps a b store space shelf keeps) (still_moves a b store space shelf keeps) (grown 1 takes a b P rises acted (omega (arith, count_behind a b counted)))
         (λ around. subst (λ (o : Option ℕ). Asks a.store.tree.account (option_map_or (λ c. chunks.asked c (left_in a.store a.space) bytes (contexts_in a.store a.space)) o 0) a.space b.space) (sym none) (ap (λ (s : Space). s.taken) space))
       where

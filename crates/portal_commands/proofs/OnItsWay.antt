@@ -1,49 +1,8 @@
 -- The steps by which a portal is made lead from a session that stands to one that stands, and the portal is so far made.
-use Rattle.std.proofs.Common.{◌≡◌, ◌≢◌, ℕ, Bool, true, false, Option, Some, None, List, [], ◌∷◌, IsSome, length, refl, sym, ap, ◌∙◌, subst, inl, arith}
-use Rattle.std.specs.Prelude.{codes, is_some}
-use Rattle.std.specs.Option.{option_and_then, option_map}
-use Rattle.std.proofs.lemmas.Bool.{eq-eqb}
-use Rattle.addr_space.specs.Space.{Space}
-use Rattle.forest.specs.Forest.{has, size}
-use Rattle.owner_kinds.specs.KindShelf.{table_of}
-use Rattle.owner_kinds.specs.KindTable.{KindTable}
-use Rattle.pgs_step.specs.declared.ids.CtxId.{CtxId}
-use Rattle.pgs_step.specs.declared.ids.KindId.{KindId}
-use Rattle.pgs_step.specs.declared.ids.OwnerId.{OwnerId}
-use Rattle.pgs_step.specs.declared.lock_modes.Mode.{Mode}
-use Rattle.any_ctx.specs.declared.any.CtxKind.TheVariants as kind
-use Rattle.exec_core.specs.Turn.{new_scan}
-use Rattle.pgs_step.specs.declared.errors.Error.{Error}
-use Rattle.pgs_step.specs.declared.events.What.{What}
-use Rattle.pgs_command.proofs.ValueLemmas.{is_text-same}
-use Rattle.portal_store.specs.declared.portal.Portal.{Portal}
-use Rattle.portal_store.specs.declared.portal.PortalState.TheVariants as portal
+use Rattle.portal_commands.proofs.Base.{◌≡◌, ◌≢◌, ℕ, Bool, true, false, Option, Some, None, List, [], ◌∷◌, IsSome, length, refl, sym, ap, ◌∙◌, subst, inl, arith, codes, is_some, option_and_then, option_map, eq-eqb}
+use Rattle.portal_commands.proofs.Words.{Space, has, size, table_of, KindTable, CtxId, KindId, OwnerId, Mode, CtxKind, new_scan, Error, What, is_text-same, Portal, PortalState, IsReference, owners_of, LevelState, OpenPortal, SessionState, first_of, level_owner, owner_of, Around, Moment, Scene, in_order, portal_becomes, where_there, Element, InPortal, OfPortal, PortalContext, RowContext, Text, does, does_all, portal_named, context_made, new_context_made, new_owner_made, portal_made, IsItem, IsWorking, Stands, NoOne, ThePlans, keeper_of, takes, is_there, context_portal, made_portal, named_changed, named_in, owner_portal, row_portal, Beside, owner_named, portal_allocates, portal_enlarges, portal_locks, portal_takes, below_limit, Leads, fallible_leads, leads_nowhere, leads_on, no_value_of, StoreState, levels_of, portal_state, portals_of, session_of, IsOwnerOf, at_calls, IsBetweenSteps, Now, Performed, scene_in, empty_around, known_behind, stands_behind, IsMaking, IsOnItsWay}
 use Rattle.portal_store.specs.Portals as list
-use Rattle.session_owners.specs.Counted.{IsReference}
-use Rattle.session_owners.specs.ResourceState.{owners_of}
-use Rattle.session_rules.specs.State.{LevelState, OpenPortal, SessionState, first_of, level_owner, owner_of}
-use Rattle.session_rules.specs.World.{Around, Moment, Scene}
-use Rattle.session_rules.specs.Acts.{in_order, portal_becomes, where_there}
-use Rattle.session_rules.specs.Elements as element
-use Rattle.session_rules.specs.Elements.{Element, InPortal, OfPortal, PortalContext, RowContext, Text}
-use Rattle.session_rules.specs.Does.{does, does_all}
-use Rattle.session_rules.specs.Lookup.{portal_named}
-use Rattle.session_rules.specs.Making.{context_made, new_context_made, new_owner_made, portal_made}
-use Rattle.session_rules.specs.Standing.{IsItem, IsWorking, Stands}
-use Rattle.session_rules.specs.Releases.{NoOne, ThePlans, keeper_of}
-use Rattle.session_rules.specs.Works.{takes}
-use Rattle.session_rules.proofs.LevelsKept.{is_there}
-use Rattle.session_rules.proofs.PortalsStand.{context_portal, made_portal, named_changed, named_in, owner_portal, row_portal}
-use Rattle.session_rules.proofs.PortalWorks.{Beside, owner_named, portal_allocates, portal_enlarges, portal_locks, portal_takes}
-use Rattle.session_rules.proofs.StepsStand.{below_limit}
-use Rattle.session_rules.proofs.TurnStands.{Leads, fallible_leads, leads_nowhere, leads_on, no_value_of}
-use Rattle.session_store.specs.State.{StoreState, levels_of, portal_state, portals_of, session_of}
-use Rattle.session_commands.specs.Deepest.{IsOwnerOf}
-use Rattle.session_commands.specs.Answers.{at_calls}
-use Rattle.session_commands.specs.Performed.{IsBetweenSteps, Now, Performed, scene_in}
-use Rattle.session_commands.proofs.Standing.{empty_around, known_behind, stands_behind}
 use Rattle.portal_commands.proofs.Listed.{named_as}
-use Rattle.portal_commands.specs.Making.{IsMaking, IsOnItsWay}
 
 -- a session that stands, with these levels, which has a portal of this name on its way
 pub record Goes (name : Text) (levels : List LevelState) (has_context has_owner has_row : Bool) (s : Scene) : Type 0 where
@@ -60,7 +19,7 @@ module _ (w : Option ℕ) (name : Text) (levels : List LevelState) (active : IsW
   one_leads Q x m so first = leads_on w Q Q x [] m first (λ n q. leads_nowhere w Q n (so n.scene q) q)
 
   pub created_leads : (object rows : ℕ) (bad : Option ℕ) (m : Moment) → Stands m.scene → m.scene.session.levels ≡ levels → portal_named name m.scene.session.portals ≡ None
-      → Leads (Goes name levels false false false) (does w (element.MakePortal name object rows bad) m)
+      → Leads (Goes name levels false false false) (does w (Element.MakePortal name object rows bad) m)
   unfolding does
   created_leads object rows bad m stands are free =
       fallible_leads (Goes name levels false false false) w m _ (portal_made name object rows bad) stands (λ z q. q.stands)
@@ -68,7 +27,7 @@ module _ (w : Option ℕ) (name : Text) (levels : List LevelState) (active : IsW
         stands = made_portal m.scene name object rows bad stands (working m.scene are) free;
         are = are;
         way = record {
-          portal = record { name = name; context = None; expr = None; owner = None; scan = new_scan object rows bad; created = length m.scene.session.levels; active = length m.scene.session.levels; state = portal.New };
+          portal = record { name = name; context = None; expr = None; owner = None; scan = new_scan object rows bad; created = length m.scene.session.levels; active = length m.scene.session.levels; state = PortalState.New };
           named = rw (is_text-same name) refl;
           context = refl;
           owner = refl;
@@ -77,7 +36,7 @@ module _ (w : Option ℕ) (name : Text) (levels : List LevelState) (active : IsW
         };
       })
 
-  pub context_leads : (o : Bool) (m : Moment) → Goes name levels false o false m.scene → Leads (Goes name levels true o false) (does w (element.MakeContext (PortalContext name)) m)
+  pub context_leads : (o : Bool) (m : Moment) → Goes name levels false o false m.scene → Leads (Goes name levels true o false) (does w (Element.MakeContext (PortalContext name)) m)
   unfolding does
   context_leads o m k =
       fallible_leads (Goes name levels true o false) w m _ (new_context_made (PortalContext name)) k.stands (λ z q. q.stands)
@@ -101,7 +60,7 @@ module _ (w : Option ℕ) (name : Text) (levels : List LevelState) (active : IsW
       go [] a = absurd a
       go (level ∷ ls) a = is_there level.owner a.made.owner
 
-  pub owner_leads : (m : Moment) → Goes name levels true false false m.scene → Leads (Goes name levels true true false) (does w (element.MakeOwner (OfPortal name)) m)
+  pub owner_leads : (m : Moment) → Goes name levels true false false m.scene → Leads (Goes name levels true true false) (does w (Element.MakeOwner (OfPortal name)) m)
   unfolding does
   owner_leads m k =
       let lo = level_owned m k.are in
@@ -138,7 +97,7 @@ module _ (w : Option ℕ) (name : Text) (levels : List LevelState) (active : IsW
     };
   }
 
-  pub row_leads : (o : Bool) (m : Moment) → Goes name levels true o false m.scene → Leads (Goes name levels true o true) (does w (element.MakeContext (RowContext name)) m)
+  pub row_leads : (o : Bool) (m : Moment) → Goes name levels true o false m.scene → Leads (Goes name levels true o true) (does w (Element.MakeContext (RowContext name)) m)
   unfolding does
   row_leads o m k =
       fallible_leads (Goes name levels true o true) w m _ (new_context_made (RowContext name)) k.stands (λ z q. q.stands) (λ _. row_made)
@@ -148,7 +107,7 @@ module _ (w : Option ℕ) (name : Text) (levels : List LevelState) (active : IsW
           let c = is_there k.way.portal.context k.way.context in
           let is : option_and_then (λ (p : OpenPortal). p.context) (portal_named name m.scene.session.portals) ≡ Some c.0 = ap (option_and_then (λ (p : OpenPortal). p.context)) k.way.named ∙ c.1 in
           subst (λ (o2 : Option ℕ).
-          Goes name levels true o true (where_there o2 (λ parent. in_order (context_made parent (codes "ExprContext") true kind.Small ∷ portal_becomes name (λ p. record p { expr = Some m.scene.session.next_context }) ∷ [])) m.scene).scene) (sym is)
+          Goes name levels true o true (where_there o2 (λ parent. in_order (context_made parent (codes "ExprContext") true CtxKind.Small ∷ portal_becomes name (λ p. record p { expr = Some m.scene.session.next_context }) ∷ [])) m.scene).scene) (sym is)
           (record {
             stands = row_portal m.scene k.stands (working m.scene k.are) name k.way.portal (named_in name k.way.portal m.scene.session.portals k.way.named) c.0 c.1 (no_value_of k.way.portal.expr k.way.row);
             are = k.are;
@@ -194,33 +153,33 @@ module _ (name : Text) (c o r : Bool) (k : ℕ) (es : List Element) (a b : Now) 
       making_behind (levels_of a.store.levels) h.working h.between (λ around w. leads w (at_calls (scene_in a) a.calls.count a.calls.fail around) (goes_in name c1 o1 r1 a around h)) none
 
 -- a portal begins
-pub making_begins : (name : Text) (object rows : ℕ) (bad : Option ℕ) (a b : Now) (P : List What → Type 0) (e : Option Error) → Performed 1 (element.MakePortal name object rows bad ∷ []) a b P e
+pub making_begins : (name : Text) (object rows : ℕ) (bad : Option ℕ) (a b : Now) (P : List What → Type 0) (e : Option Error) → Performed 1 (Element.MakePortal name object rows bad ∷ []) a b P e
     → IsBetweenSteps a → IsWorking (levels_of a.store.levels) → portal_named name (portals_of a.store.portals) ≡ None → e ≡ None → IsMaking name false false false b
 unfolding session_of
 making_begins name object rows bad a b P e done between active free none =
-    making_behind name false false false 1 (element.MakePortal name object rows bad ∷ []) a b P e done (levels_of a.store.levels) active between
+    making_behind name false false false 1 (Element.MakePortal name object rows bad ∷ []) a b P e done (levels_of a.store.levels) active between
     (λ around w.
-    one_leads w name (levels_of a.store.levels) active (Goes name (levels_of a.store.levels) false false false) (element.MakePortal name object rows bad) (at_calls (scene_in a) a.calls.count a.calls.fail around) (λ z q. q.stands)
+    one_leads w name (levels_of a.store.levels) active (Goes name (levels_of a.store.levels) false false false) (Element.MakePortal name object rows bad) (at_calls (scene_in a) a.calls.count a.calls.fail around) (λ z q. q.stands)
     (created_leads w name (levels_of a.store.levels) active object rows bad (at_calls (scene_in a) a.calls.count a.calls.fail around) (between.stands around) refl free)) none
 
 -- each of the steps
 module _ (name : Text) (a b : Now) (P : List What → Type 0) (e : Option Error) where
-  pub context_on : Performed 1 (element.MakeContext (PortalContext name) ∷ []) a b P e → IsMaking name false false false a → e ≡ None → IsMaking name true false false b
+  pub context_on : Performed 1 (Element.MakeContext (PortalContext name) ∷ []) a b P e → IsMaking name false false false a → e ≡ None → IsMaking name true false false b
   context_on done h none =
       making_on name true false false 1 _ a b P e done false false false h
-      (λ w m k. one_leads w name (levels_of a.store.levels) h.working (Goes name (levels_of a.store.levels) true false false) (element.MakeContext (PortalContext name)) m (λ z q. q.stands)
+      (λ w m k. one_leads w name (levels_of a.store.levels) h.working (Goes name (levels_of a.store.levels) true false false) (Element.MakeContext (PortalContext name)) m (λ z q. q.stands)
       (context_leads w name (levels_of a.store.levels) h.working false m k)) none
 
-  pub owner_on : Performed 1 (element.MakeOwner (OfPortal name) ∷ []) a b P e → IsMaking name true false false a → e ≡ None → IsMaking name true true false b
+  pub owner_on : Performed 1 (Element.MakeOwner (OfPortal name) ∷ []) a b P e → IsMaking name true false false a → e ≡ None → IsMaking name true true false b
   owner_on done h none =
       making_on name true true false 1 _ a b P e done true false false h
-      (λ w m k. one_leads w name (levels_of a.store.levels) h.working (Goes name (levels_of a.store.levels) true true false) (element.MakeOwner (OfPortal name)) m (λ z q. q.stands)
+      (λ w m k. one_leads w name (levels_of a.store.levels) h.working (Goes name (levels_of a.store.levels) true true false) (Element.MakeOwner (OfPortal name)) m (λ z q. q.stands)
       (owner_leads w name (levels_of a.store.levels) h.working m k)) none
 
-  pub row_on : Performed 1 (element.MakeContext (RowContext name) ∷ []) a b P e → IsMaking name true true false a → e ≡ None → IsMaking name true true true b
+  pub row_on : Performed 1 (Element.MakeContext (RowContext name) ∷ []) a b P e → IsMaking name true true false a → e ≡ None → IsMaking name true true true b
   row_on done h none =
       making_on name true true true 1 _ a b P e done true true false h
-      (λ w m k. one_leads w name (levels_of a.store.levels) h.working (Goes name (levels_of a.store.levels) true true true) (element.MakeContext (RowContext name)) m (λ z q. q.stands)
+      (λ w m k. one_leads w name (levels_of a.store.levels) h.working (Goes name (levels_of a.store.levels) true true true) (Element.MakeContext (RowContext name)) m (λ z q. q.stands)
       (row_leads w name (levels_of a.store.levels) h.working true m k)) none
 
   -- one that leaves the portals as they are
@@ -231,20 +190,20 @@ module _ (name : Text) (a b : Now) (P : List What → Type 0) (e : Option Error)
       (λ w m g. one_leads w name (levels_of a.store.levels) h.working (Goes name (levels_of a.store.levels) true true false) x m (λ z q. q.stands)
       (beside_leads w name (levels_of a.store.levels) h.working true true false x m g (beside w m g.stands (subst IsWorking (sym g.are) h.working)))) none
 
-  pub lock_on : (object : ℕ) (mode : Mode) → Performed 1 (element.TakeLock (OfPortal name) object mode ∷ []) a b P e → IsMaking name true true false a → e ≡ None → IsMaking name true true false b
-  lock_on object mode done h none = besides_on 1 (element.TakeLock (OfPortal name) object mode) done h (λ w m stands working. portal_locks w m stands working name object mode) none
+  pub lock_on : (object : ℕ) (mode : Mode) → Performed 1 (Element.TakeLock (OfPortal name) object mode ∷ []) a b P e → IsMaking name true true false a → e ≡ None → IsMaking name true true false b
+  lock_on object mode done h none = besides_on 1 (Element.TakeLock (OfPortal name) object mode) done h (λ w m stands working. portal_locks w m stands working name object mode) none
 
-  pub memory_on : (bytes : ℕ) → Performed 1 (element.Alloc (InPortal name) None bytes false ∷ []) a b P e → IsMaking name true true false a → e ≡ None → IsMaking name true true false b
-  memory_on bytes done h none = besides_on 1 (element.Alloc (InPortal name) None bytes false) done h (λ w m stands working. portal_allocates w m stands working name None bytes) none
+  pub memory_on : (bytes : ℕ) → Performed 1 (Element.Alloc (InPortal name) None bytes false ∷ []) a b P e → IsMaking name true true false a → e ≡ None → IsMaking name true true false b
+  memory_on bytes done h none = besides_on 1 (Element.Alloc (InPortal name) None bytes false) done h (λ w m stands working. portal_allocates w m stands working name None bytes) none
 
   pub reference_on : (kind : KindId) (key : ℕ) → IsReference kind → Performed 2 (takes (OfPortal name) kind key) a b P e → IsMaking name true true false a → e ≡ None → IsMaking name true true false b
   reference_on kind key is done h none =
       let ls : List LevelState = levels_of a.store.levels in
       making_on name true true false 2 _ a b P e done true true false h
-      (λ w m g. leads_on w (Goes name ls true true false) (Goes name ls true true false) (element.Enlarge (OfPortal name)) (element.Take (OfPortal name) kind key ∷ []) m
-      (beside_leads w name ls h.working true true false (element.Enlarge (OfPortal name)) m g (portal_enlarges w m g.stands (subst IsWorking (sym g.are) h.working) name))
-      (λ n q. one_leads w name ls h.working (Goes name ls true true false) (element.Take (OfPortal name) kind key) n (λ z q. q.stands)
-      (beside_leads w name ls h.working true true false (element.Take (OfPortal name) kind key) n q
+      (λ w m g. leads_on w (Goes name ls true true false) (Goes name ls true true false) (Element.Enlarge (OfPortal name)) (Element.Take (OfPortal name) kind key ∷ []) m
+      (beside_leads w name ls h.working true true false (Element.Enlarge (OfPortal name)) m g (portal_enlarges w m g.stands (subst IsWorking (sym g.are) h.working) name))
+      (λ n q. one_leads w name ls h.working (Goes name ls true true false) (Element.Take (OfPortal name) kind key) n (λ z q. q.stands)
+      (beside_leads w name ls h.working true true false (Element.Take (OfPortal name) kind key) n q
       (portal_takes w n q.stands (subst IsWorking (sym q.are) h.working) name kind key is.unkept (no_plan kind is.unkept) (λ serial. reference_item (table_of n.scene.around.kinds) kind key serial is))))) none
 
 -- whose owner and whose context are there

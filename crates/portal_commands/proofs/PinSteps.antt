@@ -1,35 +1,13 @@
 -- The two calls of a pin that no owner takes.
-use Rattle.std.proofs.Common.{◌≡◌, ℕ, ◌+◌, ◌==◌, true, false, [], ◌∷◌, Option, Some, None, Result, Ok, Err, OnOk, IfErr, refl, ap, arith}
-use Rattle.pgs_step.specs.declared.errors.Error.{Error}
-use Rattle.pgs_step.specs.declared.errors.Error.TheVariants.{Injected}
-use Rattle.session_rules.specs.State.{buffer_pin}
-use Rattle.session_rules.specs.World.{Moment, Scene}
-use Rattle.session_rules.specs.Acts.{Ended, where_there}
-use Rattle.session_rules.specs.Calls.{fallible}
-use Rattle.session_rules.specs.Does.{does}
-use Rattle.session_rules.specs.Elements as element
-use Rattle.session_rules.specs.Elements.{OwnerRole}
-use Rattle.session_rules.specs.Lookup.{owner_in}
-use Rattle.session_rules.specs.Parts.{at_owner}
-use Rattle.session_rules.specs.Releases.{keeper_of}
-use Rattle.session_rules.specs.Taking.{item_taken, take_refused}
-use Rattle.session_rules.specs.Works.{takes}
-use Rattle.session_owners.proofs.Balances.{balances_none}
-use Rattle.session_store.specs.Calls.{Keeps}
-use Rattle.session_store.specs.State.{session_of}
-use Rattle.session_commands.specs.Answers.{refusal_of}
-use Rattle.session_commands.specs.Performed.{Now, Performed, scene_in}
-use Rattle.session_commands.specs.declared.calls.Calls.{Calls}
-use Rattle.session_commands.proofs.HeldItems.{no_room_for, take, taken_in_room}
-use Rattle.session_commands.proofs.Pinning.{enlarge}
-use Rattle.session_commands.proofs.Stepping.{call_done, call_injected}
+use Rattle.portal_commands.proofs.Base.{◌≡◌, ℕ, ◌+◌, ◌==◌, true, false, [], ◌∷◌, Option, Some, None, Result, Ok, Err, OnOk, IfErr, refl, ap, arith}
+use Rattle.portal_commands.proofs.Words.{Error, Injected, buffer_pin, Moment, Scene, Ended, where_there, fallible, does, Element, OwnerRole, owner_in, at_owner, keeper_of, item_taken, take_refused, takes, balances_none, Keeps, session_of, refusal_of, Now, Performed, scene_in, Calls, no_room_for, take, taken_in_room, enlarge, call_done, call_injected}
 
 -- what a call of the run says
 abbrev pub Told : Result (Unit {0}) Error → Calls → Type 0
 Told r calls = OnOk r ((calls.count + 1 == calls.fail) ≡ false) × IfErr r (λ e. (e ≡ Injected (calls.count + 1)) × ((calls.count + 1 == calls.fail) ≡ true))
 
 module _ (role : OwnerRole) (page : ℕ) (a : Now) (keeps : Keeps a.store a.space) (none : owner_in role (session_of a.store a.space) ≡ None) where
-  no_item : (k : Calls) → k ≡ record a.calls { count = a.calls.count + 1 } → (r : Result (Unit {0}) Error) → Told r a.calls → Performed 1 (element.Take role buffer_pin page ∷ []) a (record a { calls = k }) (λ events. events ≡ []) (refusal_of r)
+  no_item : (k : Calls) → k ≡ record a.calls { count = a.calls.count + 1 } → (r : Result (Unit {0}) Error) → Told r a.calls → Performed 1 (Element.Take role buffer_pin page ∷ []) a (record a { calls = k }) (λ events. events ≡ []) (refusal_of r)
   no_item k counted (Err e) told = call_injected (take role buffer_pin page) a (record a { calls = k }) (λ events. events ≡ []) counted refl keeps refl refl refl e told.1
   no_item k counted (Ok u) told =
       call_done (take role buffer_pin page) a (record a { calls = k }) (λ events. events ≡ []) counted refl keeps told.0 (λ around. refl) refl keeps (record {

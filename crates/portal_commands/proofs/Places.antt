@@ -1,24 +1,7 @@
 -- The place of a portal: it stays where no portal comes, goes or gets another name.
-use Rattle.std.proofs.Common.{◌≡◌, ℕ, ◌+◌, Bool, true, false, List, [], ◌∷◌, Option, Some, None, length, map, get_or, refl, sym, ap, ◌∙◌, arith}
-use Rattle.std.specs.Prelude.{cond, if◌then◌else◌, nat_lt, not, position}
-use Rattle.std.specs.List.{position_or_len}
-use Rattle.std.proofs.lemmas.List.{length-map}
-use Rattle.std.proofs.lemmas.Option.{slice_get-get_or}
-use Rattle.pgs_command.specs.Words.{is_text}
-use Rattle.portal_store.specs.declared.portal.Portal.{Portal}
+use Rattle.portal_commands.proofs.Base.{◌≡◌, ℕ, ◌+◌, Bool, true, false, List, [], ◌∷◌, Option, Some, None, length, map, get_or, refl, sym, ap, ◌∙◌, arith, cond, if◌then◌else◌, nat_lt, not, position, position_or_len, length-map, slice_get-get_or}
+use Rattle.portal_commands.proofs.Words.{is_text, Portal, has_name, place_named, named_by_place, place_within, portal_becomes, Text, portal_changed, OpenPortal, Scene, Acted, IsSilent, StoreState, portal_state, portals_of, session_of, Now, scene_in, empty_around, IsAt}
 use Rattle.portal_store.specs.Portals as list
-use Rattle.portal_store.specs.Portals.{has_name, place_named}
-use Rattle.portal_store.proofs.PortalLemmas.{named_by_place, place_within}
-use Rattle.session_rules.specs.Acts.{portal_becomes}
-use Rattle.session_rules.specs.Elements.{Text}
-use Rattle.session_rules.specs.Lookup.{portal_changed}
-use Rattle.session_rules.specs.State.{OpenPortal}
-use Rattle.session_rules.specs.World.{Scene}
-use Rattle.session_store.specs.Calls.{Acted, IsSilent}
-use Rattle.session_store.specs.State.{StoreState, portal_state, portals_of, session_of}
-use Rattle.session_commands.specs.Performed.{Now, scene_in}
-use Rattle.session_commands.proofs.Standing.{empty_around}
-use Rattle.portal_commands.specs.Fetching.{IsAt}
 
 -- where a test that sees no change passes first
 module _ {X Y : Type 0} (p : X → Bool) (q : Y → Bool) (f : X → Y) (same : (x : X) → q (f x) ≡ p x) where

@@ -1,29 +1,7 @@
 -- The elements of a turn: what they do is what they do outside of one, and where one is refused the portal has failed.
-use Rattle.std.proofs.Common.{◌≡◌, ℕ, false, List, [], ◌∷◌, ◌++◌, map, Option, Some, None, refl, sym, ◌∙◌, ap, subst, arith}
-use Rattle.std.specs.List.{flat_map}
-use Rattle.context_tree.specs.State.{Moves, TreeState}
-use Rattle.pgs_step.specs.declared.errors.Error.{Error}
-use Rattle.pgs_step.specs.declared.events.What.{What}
-use Rattle.exec_core.specs.declared.scan.Scan.{Scan}
-use Rattle.exec_core.specs.declared.steps.ScanStep.{ScanStep}
-use Rattle.exec_core.specs.Turn.{turn}
-use Rattle.portal_store.specs.declared.portal.PortalState.TheVariants as portal
-use Rattle.session_rules.specs.World.{Around, Moment, Scene}
-use Rattle.session_rules.specs.Acts.{portal_becomes}
-use Rattle.session_rules.specs.Asked.{asked, asked_all, then_asked}
-use Rattle.session_rules.specs.Calls.{Done}
-use Rattle.session_rules.specs.Does.{does, does_all, done_behind, failing_turn, then_done}
-use Rattle.session_rules.specs.Elements as element
-use Rattle.session_rules.specs.Elements.{Element, Text}
-use Rattle.session_rules.specs.Works.{turn_steps}
-use Rattle.session_owners.specs.ResourceState.{ResourceState}
-use Rattle.session_owners.proofs.Balances.{balances_more}
-use Rattle.session_store.specs.Calls.{Acted, IsSilent, PortalsAlone}
-use Rattle.session_store.specs.State.{StoreState}
-use Rattle.session_commands.specs.Answers.{Fits, at_calls, wants}
-use Rattle.session_commands.specs.Performed.{Now, Performed, Takes, scene_in}
+use Rattle.portal_commands.proofs.Base.{◌≡◌, ℕ, false, List, [], ◌∷◌, ◌++◌, map, Option, Some, None, refl, sym, ◌∙◌, ap, subst, arith, flat_map}
+use Rattle.portal_commands.proofs.Words.{Moves, TreeState, Error, What, Scan, ScanStep, turn, PortalState, Around, Moment, Scene, portal_becomes, asked, asked_all, then_asked, Done, does, does_all, done_behind, failing_turn, then_done, Element, Text, turn_steps, ResourceState, balances_more, Acted, IsSilent, PortalsAlone, StoreState, Fits, at_calls, wants, Now, Performed, Takes, scene_in, step_elements}
 use Rattle.portal_commands.proofs.Listed.{keeps_alone}
-use Rattle.portal_commands.specs.Fetching.{step_elements}
 
 behind_failing : (name : Text) (events : List What) (d : Done) (r : Option Error) → done_behind events (failing_turn name d r) ≡ failing_turn name (done_behind events d) r
 behind_failing name events d None = refl
@@ -43,26 +21,26 @@ one_more name F G all d (Some e) is =
     ap (λ (o : Option Error). then_done (failing_turn name d (Some e)) o G) is
     ∙ ap (failing_turn name d) (sym is)
 
-pub turned_all : (w : Option ℕ) (name : Text) (xs : List Element) (m : Moment) → does_all w (map (element.InTurn name) xs) m ≡ failing_turn name (does_all w xs m) (does_all w xs m).refusal
+pub turned_all : (w : Option ℕ) (name : Text) (xs : List Element) (m : Moment) → does_all w (map (Element.InTurn name) xs) m ≡ failing_turn name (does_all w xs m) (does_all w xs m).refusal
 unfolding does does_all
 turned_all w name [] m = refl
-turned_all w name (x ∷ xs) m = one_more name (does_all w xs) (does_all w (map (element.InTurn name) xs)) (turned_all w name xs) (does w x m) (does w x m).refusal refl
+turned_all w name (x ∷ xs) m = one_more name (does_all w xs) (does_all w (map (Element.InTurn name) xs)) (turned_all w name xs) (does w x m) (does w x m).refusal refl
 
 asked_more : (name : Text) (A B : Moment → ℕ) → ((m : Moment) → B m ≡ A m) → (d : Done) (r : Option Error) → d.refusal ≡ r → then_asked (failing_turn name d r) (failing_turn name d r).refusal B ≡ then_asked d r A
 asked_more name A B all d None is = ap (λ (o : Option Error). then_asked d o B) is ∙ all d.moment
 asked_more name A B all d (Some e) is = ap (λ (o : Option Error). then_asked (failing_turn name d (Some e)) o B) is
 
-pub turned_asked : (w : Option ℕ) (name : Text) (xs : List Element) (m : Moment) → asked_all w (map (element.InTurn name) xs) m ≡ asked_all w xs m
+pub turned_asked : (w : Option ℕ) (name : Text) (xs : List Element) (m : Moment) → asked_all w (map (Element.InTurn name) xs) m ≡ asked_all w xs m
 unfolding does asked asked_all
 turned_asked w name [] m = refl
 turned_asked w name (x ∷ xs) m =
-    let one : asked w (element.InTurn name x) m ≡ asked w x m = rw (refusal_failing name (does w x m) (does w x m).refusal) refl in
-    let rest : then_asked (failing_turn name (does w x m) (does w x m).refusal) (failing_turn name (does w x m) (does w x m).refusal).refusal (asked_all w (map (element.InTurn name) xs)) ≡ then_asked (does w x m) (does w x m).refusal (asked_all w xs) =
-    asked_more name (asked_all w xs) (asked_all w (map (element.InTurn name) xs)) (turned_asked w name xs) (does w x m) (does w x m).refusal refl in
+    let one : asked w (Element.InTurn name x) m ≡ asked w x m = rw (refusal_failing name (does w x m) (does w x m).refusal) refl in
+    let rest : then_asked (failing_turn name (does w x m) (does w x m).refusal) (failing_turn name (does w x m) (does w x m).refusal).refusal (asked_all w (map (Element.InTurn name) xs)) ≡ then_asked (does w x m) (does w x m).refusal (asked_all w xs) =
+    asked_more name (asked_all w xs) (asked_all w (map (Element.InTurn name) xs)) (turned_asked w name xs) (does w x m) (does w x m).refusal refl in
     omega (arith, one, rest)
 
 -- a turn of which nothing was refused
-pub turn_done : (name : Text) (k : ℕ) (xs : List Element) (a b : Now) (P : List What → Type 0) → Performed k xs a b P None → Performed k (map (element.InTurn name) xs) a b P None
+pub turn_done : (name : Text) (k : ℕ) (xs : List Element) (a b : Now) (P : List What → Type 0) → Performed k xs a b P None → Performed k (map (Element.InTurn name) xs) a b P None
 turn_done name k xs a b P x = record {
   answers = record {
     moment = λ around w f. ap (λ (d : Done). d.moment) (same around w f) ∙ x.answers.moment around w f;
@@ -79,20 +57,20 @@ turn_done name k xs a b P x = record {
   grows = x.grows;
 }
   where
-    same : (around : Around) (w : Option ℕ) → Fits false b.calls.count w → does_all w (map (element.InTurn name) xs) (at_calls (scene_in a) a.calls.count a.calls.fail around) ≡ does_all w xs (at_calls (scene_in a) a.calls.count a.calls.fail around)
+    same : (around : Around) (w : Option ℕ) → Fits false b.calls.count w → does_all w (map (Element.InTurn name) xs) (at_calls (scene_in a) a.calls.count a.calls.fail around) ≡ does_all w xs (at_calls (scene_in a) a.calls.count a.calls.fail around)
     same around w f =
         turned_all w name xs (at_calls (scene_in a) a.calls.count a.calls.fail around)
         ∙ ap (failing_turn name (does_all w xs (at_calls (scene_in a) a.calls.count a.calls.fail around))) (x.answers.answer around w f)
 
 -- a turn of which an element was refused: the portal fails
 pub turn_failed : (name : Text) (k : ℕ) (xs : List Element) (a b : Now) (st : StoreState) (P : List What → Type 0) (e : Error) → Performed k xs a b P (Some e)
-    → Acted (portal_becomes name (λ p. record p { state = portal.Failed })) b.store st b.space b.space b.shelf b.shelf b.commons b.commons IsSilent → PortalsAlone b.store st
-    → Performed k (map (element.InTurn name) xs) a (record b { store = st }) P (Some e)
+    → Acted (portal_becomes name (λ p. record p { state = PortalState.Failed })) b.store st b.space b.space b.shelf b.shelf b.commons b.commons IsSilent → PortalsAlone b.store st
+    → Performed k (map (Element.InTurn name) xs) a (record b { store = st }) P (Some e)
 turn_failed name k xs a b st P e x acted alone = record {
   answers = record {
     moment = λ around w f.
         ap (λ (d : Done). d.moment) (same around w f)
-        ∙ ap (λ (m : Moment). record m { scene = (portal_becomes name (λ p. record p { state = portal.Failed }) m.scene).scene }) (x.answers.moment around w f)
+        ∙ ap (λ (m : Moment). record m { scene = (portal_becomes name (λ p. record p { state = PortalState.Failed }) m.scene).scene }) (x.answers.moment around w f)
         ∙ ap (λ (z : Scene). record { scene = z; calls = b.calls.count; fail = a.calls.fail }) (acted.leads around);
     says = λ around w f. subst (λ (d : Done). P d.events) (sym (same around w f)) (x.answers.says around w f);
     answer = λ around w f. ap (λ (d : Done). d.refusal) (same around w f) ∙ x.answers.answer around w f;
@@ -115,7 +93,7 @@ turn_failed name k xs a b st P e x acted alone = record {
 }
   where
     same : (around : Around) (w : Option ℕ) → Fits (wants (Some e)) b.calls.count w
-        → does_all w (map (element.InTurn name) xs) (at_calls (scene_in a) a.calls.count a.calls.fail around) ≡ failing_turn name (does_all w xs (at_calls (scene_in a) a.calls.count a.calls.fail around)) (Some e)
+        → does_all w (map (Element.InTurn name) xs) (at_calls (scene_in a) a.calls.count a.calls.fail around) ≡ failing_turn name (does_all w xs (at_calls (scene_in a) a.calls.count a.calls.fail around)) (Some e)
     same around w f =
         turned_all w name xs (at_calls (scene_in a) a.calls.count a.calls.fail around)
         ∙ ap (failing_turn name (does_all w xs (at_calls (scene_in a) a.calls.count a.calls.fail around))) (x.answers.answer around w f)
@@ -125,11 +103,11 @@ map_both f [] ys = refl
 map_both f (x ∷ xs) ys = ap (λ (zs : List Element). f x ∷ zs) (map_both f xs ys)
 
 -- the elements of steps, each in its turn
-pub turn_is : (name : Text) (ss : List ScanStep) → flat_map (λ s. map (element.InTurn name) (step_elements name s)) ss ≡ map (element.InTurn name) (flat_map (step_elements name) ss)
+pub turn_is : (name : Text) (ss : List ScanStep) → flat_map (λ s. map (Element.InTurn name) (step_elements name s)) ss ≡ map (Element.InTurn name) (flat_map (step_elements name) ss)
 turn_is name [] = refl
 turn_is name (s ∷ ss) =
-    ap (λ (zs : List Element). map (element.InTurn name) (step_elements name s) ++ zs) (turn_is name ss)
-    ∙ sym (map_both (element.InTurn name) (step_elements name s) (flat_map (step_elements name) ss))
+    ap (λ (zs : List Element). map (Element.InTurn name) (step_elements name s) ++ zs) (turn_is name ss)
+    ∙ sym (map_both (Element.InTurn name) (step_elements name s) (flat_map (step_elements name) ss))
 
-pub turn_as : (name : Text) (scan : Scan) (k : ℕ) (a b : Now) (P : List What → Type 0) (r : Option Error) → Performed k (map (element.InTurn name) (flat_map (step_elements name) (turn scan))) a b P r → Performed k (turn_steps name scan) a b P r
+pub turn_as : (name : Text) (scan : Scan) (k : ℕ) (a b : Now) (P : List What → Type 0) (r : Option Error) → Performed k (map (Element.InTurn name) (flat_map (step_elements name) (turn scan))) a b P r → Performed k (turn_steps name scan) a b P r
 turn_as name scan k a b P r h = subst (λ (es : List Element). Performed k es a b P r) (sym (turn_is name (turn scan))) h

@@ -1,17 +1,7 @@
 -- The steps of a turn as a list: which pages they pin, how many calls they make, which step is the last.
-use Rattle.std.proofs.Common.{◌≡◌, ◌≢◌, ℕ, ◌+◌, ◌<◌, ◌≤◌, ◌==◌, Bool, true, false, List, [], ◌∷◌, ◌++◌, Option, Some, None, refl, sym, ◌∙◌, ap, subst, arith}
-use Rattle.std.specs.Prelude.{fold, if◌then◌else◌}
-use Rattle.std.specs.List.{flat_map}
-use Rattle.std.proofs.lemmas.List.{append_assoc}
-use Rattle.exec_core.specs.declared.scan.Scan.{Scan}
-use Rattle.exec_core.specs.declared.scan.Stage.{Stage}
-use Rattle.exec_core.specs.declared.scan.Stage.TheVariants as stage
-use Rattle.exec_core.specs.declared.steps.ScanStep.{ScanStep}
-use Rattle.exec_core.specs.declared.steps.ScanStep.TheVariants as step
-use Rattle.exec_core.specs.Turn.{is_bad, is_tenth, left, left_in, page_of, page_steps, rest, row_step, row_steps, taken, turn, unpinned}
-use Rattle.portal_store.specs.Portal.{coming}
-use Rattle.session_rules.specs.Elements.{Element, Text}
-use Rattle.portal_commands.specs.Fetching.{IsPage, cost_of, step_elements}
+use Rattle.portal_commands.proofs.Base.{◌≡◌, ◌≢◌, ℕ, ◌+◌, ◌<◌, ◌≤◌, ◌==◌, Bool, true, false, List, [], ◌∷◌, ◌++◌, Option, Some, None, refl, sym, ◌∙◌, ap, subst, arith, fold, if◌then◌else◌, flat_map, append_assoc}
+use Rattle.portal_commands.proofs.Words.{Scan, Stage, ScanStep, is_bad, is_tenth, left, page_of, page_steps, rest, row_step, row_steps, taken, turn, unpinned, coming, Element, Text, IsPage, cost_of, step_elements}
+use Rattle.exec_core.specs.Turn.{left_in}
 
 -- each pins one of the buffers
 abbrev pub ArePages : List ScanStep → Type 0
@@ -29,23 +19,23 @@ unpinned_pages (Some page) = (tt, tt)
 page_is : (scan : Scan) → page_of scan < 1024
 page_is scan = omega arith
 
-page_pages : (b : Bool) (scan : Scan) → ArePages (if b then unpinned scan.page ++ (step.Pin (page_of scan) ∷ []) else [])
-page_pages true scan = both_pages (unpinned scan.page) (step.Pin (page_of scan) ∷ []) (unpinned_pages scan.page) (page_is scan, tt)
+page_pages : (b : Bool) (scan : Scan) → ArePages (if b then unpinned scan.page ++ (ScanStep.Pin (page_of scan) ∷ []) else [])
+page_pages true scan = both_pages (unpinned scan.page) (ScanStep.Pin (page_of scan) ∷ []) (unpinned_pages scan.page) (page_is scan, tt)
 page_pages false scan = tt
 
-row_pages : (b : Bool) (scan : Scan) → ArePages (if b then step.Bad scan.at ∷ [] else step.Alloc ∷ (row_step scan ∷ []))
+row_pages : (b : Bool) (scan : Scan) → ArePages (if b then ScanStep.Bad scan.at ∷ [] else ScanStep.Alloc ∷ (row_step scan ∷ []))
 row_pages true scan = (tt, tt)
 row_pages false scan = (tt, (tt, tt))
 
-turn_pages : (b : Bool) (scan : Scan) → ArePages (if b then unpinned scan.page ++ (step.End ∷ []) else step.Reset ∷ (page_steps scan ++ row_steps scan))
-turn_pages true scan = both_pages (unpinned scan.page) (step.End ∷ []) (unpinned_pages scan.page) (tt, tt)
+turn_pages : (b : Bool) (scan : Scan) → ArePages (if b then unpinned scan.page ++ (ScanStep.End ∷ []) else ScanStep.Reset ∷ (page_steps scan ++ row_steps scan))
+turn_pages true scan = both_pages (unpinned scan.page) (ScanStep.End ∷ []) (unpinned_pages scan.page) (tt, tt)
 turn_pages false scan = (tt, both_pages (page_steps scan) (row_steps scan) (page_pages (is_tenth scan) scan) (row_pages (is_bad scan) scan))
 
 left_pages : (in_turn : Stage) (scan : Scan) → ArePages (left_in in_turn scan)
-left_pages stage.AtRest scan = turn_pages (scan.at == scan.rows) scan
-left_pages stage.Reset scan = both_pages (page_steps scan) (row_steps scan) (page_pages (is_tenth scan) scan) (row_pages (is_bad scan) scan)
-left_pages stage.Pinned scan = row_pages (is_bad scan) scan
-left_pages stage.Allocated scan = (tt, tt)
+left_pages Stage.AtRest scan = turn_pages (scan.at == scan.rows) scan
+left_pages Stage.Reset scan = both_pages (page_steps scan) (row_steps scan) (page_pages (is_tenth scan) scan) (row_pages (is_bad scan) scan)
+left_pages Stage.Pinned scan = row_pages (is_bad scan) scan
+left_pages Stage.Allocated scan = (tt, tt)
 
 coming_pages : (begins : Bool) (scan : Scan) → ArePages (coming begins scan)
 coming_pages true scan = turn_pages (scan.at == scan.rows) scan
@@ -67,16 +57,16 @@ unpinned_costs : (page : Option ℕ) → costs (unpinned page) ≡ 0
 unpinned_costs None = refl
 unpinned_costs (Some page) = refl
 
-page_costs : (b : Bool) (scan : Scan) → costs (if b then unpinned scan.page ++ (step.Pin (page_of scan) ∷ []) else []) ≤ 2
-page_costs true scan = omega (arith, costs_both (unpinned scan.page) (step.Pin (page_of scan) ∷ []), unpinned_costs scan.page)
+page_costs : (b : Bool) (scan : Scan) → costs (if b then unpinned scan.page ++ (ScanStep.Pin (page_of scan) ∷ []) else []) ≤ 2
+page_costs true scan = omega (arith, costs_both (unpinned scan.page) (ScanStep.Pin (page_of scan) ∷ []), unpinned_costs scan.page)
 page_costs false scan = omega arith
 
-row_costs : (b : Bool) (scan : Scan) → costs (if b then step.Bad scan.at ∷ [] else step.Alloc ∷ (row_step scan ∷ [])) ≤ 1
+row_costs : (b : Bool) (scan : Scan) → costs (if b then ScanStep.Bad scan.at ∷ [] else ScanStep.Alloc ∷ (row_step scan ∷ [])) ≤ 1
 row_costs true scan = omega arith
 row_costs false scan = omega arith
 
-turn_costs_by : (b : Bool) (scan : Scan) → costs (if b then unpinned scan.page ++ (step.End ∷ []) else step.Reset ∷ (page_steps scan ++ row_steps scan)) ≤ 3
-turn_costs_by true scan = omega (arith, costs_both (unpinned scan.page) (step.End ∷ []), unpinned_costs scan.page)
+turn_costs_by : (b : Bool) (scan : Scan) → costs (if b then unpinned scan.page ++ (ScanStep.End ∷ []) else ScanStep.Reset ∷ (page_steps scan ++ row_steps scan)) ≤ 3
+turn_costs_by true scan = omega (arith, costs_both (unpinned scan.page) (ScanStep.End ∷ []), unpinned_costs scan.page)
 turn_costs_by false scan = omega (arith, costs_both (page_steps scan) (row_steps scan), page_costs (is_tenth scan) scan, row_costs (is_bad scan) scan)
 
 pub turn_costs : (scan : Scan) → costs (turn scan) ≤ 3
@@ -109,8 +99,8 @@ elements_both name (x ∷ xs) ys =
 
 -- whether a step gives a row, ends the scan, or is another one
 abbrev pub closing : ScanStep → ℕ
-closing (step.Row row value) = 1
-closing step.End = 2
+closing (ScanStep.Row row value) = 1
+closing ScanStep.End = 2
 closing other = 0
 
 abbrev last_closing : List ScanStep → ℕ → ℕ
@@ -125,13 +115,13 @@ last_both : (xs ys : List ScanStep) (n : ℕ) → last_closing (xs ++ ys) n ≡ 
 last_both [] ys n = refl
 last_both (x ∷ xs) ys n = last_both xs ys (closing x)
 
-row_last : (b : Bool) (scan : Scan) (n : ℕ) → last_closing (if b then step.Bad scan.at ∷ [] else step.Alloc ∷ (row_step scan ∷ [])) n ≢ 2
+row_last : (b : Bool) (scan : Scan) (n : ℕ) → last_closing (if b then ScanStep.Bad scan.at ∷ [] else ScanStep.Alloc ∷ (row_step scan ∷ [])) n ≢ 2
 row_last true scan n = λ e. omega (arith, e)
 row_last false scan n = λ e. omega (arith, e)
 
-turn_last : (b : Bool) (scan : Scan) (s : ScanStep) (n : ℕ) → last_closing (if b then unpinned scan.page ++ (step.End ∷ []) else step.Reset ∷ (page_steps scan ++ row_steps scan)) n ≡ closing s
+turn_last : (b : Bool) (scan : Scan) (s : ScanStep) (n : ℕ) → last_closing (if b then unpinned scan.page ++ (ScanStep.End ∷ []) else ScanStep.Reset ∷ (page_steps scan ++ row_steps scan)) n ≡ closing s
     → (closing s ≡ 1 → b ≡ false) × (closing s ≡ 2 → b ≡ true)
-turn_last true scan s n e = (λ o. absurd (omega (arith, o, e, last_is (unpinned scan.page) step.End n)), λ _. refl)
+turn_last true scan s n e = (λ o. absurd (omega (arith, o, e, last_is (unpinned scan.page) ScanStep.End n)), λ _. refl)
 turn_last false scan s n e = (λ _. refl, λ t. absurd (row_last (is_bad scan) scan (last_closing (page_steps scan) 0) (sym (last_both (page_steps scan) (row_steps scan) 0) ∙ e ∙ t)))
 
 -- a turn whose last step gives a row isn't behind the last row, and one whose last step ends the scan is
@@ -143,34 +133,34 @@ gives_end scan xs s e = (turn_last (scan.at == scan.rows) scan s 0 (ap (λ (ss :
 
 -- what comes behind a step: nothing where it is the turn's last one
 pub rest_last : (s : ScanStep) (scan : Scan) → closing s ≢ 0 → rest s scan ≡ []
-rest_last (step.Row row value) scan h = refl
-rest_last step.End scan h = refl
-rest_last (step.Bad row) scan h = refl
-rest_last step.Reset scan h = absurd (h refl)
-rest_last (step.Unpin page) scan h = absurd (h refl)
-rest_last (step.Pin page) scan h = absurd (h refl)
-rest_last step.Alloc scan h = absurd (h refl)
+rest_last (ScanStep.Row row value) scan h = refl
+rest_last ScanStep.End scan h = refl
+rest_last (ScanStep.Bad row) scan h = refl
+rest_last ScanStep.Reset scan h = absurd (h refl)
+rest_last (ScanStep.Unpin page) scan h = absurd (h refl)
+rest_last (ScanStep.Pin page) scan h = absurd (h refl)
+rest_last ScanStep.Alloc scan h = absurd (h refl)
 
 -- whether a step can't be served
 abbrev pub is_bad_step : ScanStep → Bool
-is_bad_step (step.Bad row) = true
+is_bad_step (ScanStep.Bad row) = true
 is_bad_step other = false
 
 pub rest_left : (s : ScanStep) (scan : Scan) → closing s ≡ 0 → is_bad_step s ≡ false → rest s scan ≡ left scan
-rest_left (step.Row row value) scan h n = absurd (omega (arith, h))
-rest_left step.End scan h n = absurd (omega (arith, h))
-rest_left (step.Bad row) scan h n = absurd (cc n)
-rest_left step.Reset scan h n = refl
-rest_left (step.Unpin page) scan h n = refl
-rest_left (step.Pin page) scan h n = refl
-rest_left step.Alloc scan h n = refl
+rest_left (ScanStep.Row row value) scan h n = absurd (omega (arith, h))
+rest_left ScanStep.End scan h n = absurd (omega (arith, h))
+rest_left (ScanStep.Bad row) scan h n = absurd (cc n)
+rest_left ScanStep.Reset scan h n = refl
+rest_left (ScanStep.Unpin page) scan h n = refl
+rest_left (ScanStep.Pin page) scan h n = refl
+rest_left ScanStep.Alloc scan h n = refl
 
 -- the steps after which a turn goes on
-pub unclosed : (s : ScanStep) → ((row value : ℕ) → s ≡ step.Row row value → ⊥) → (s ≡ step.End → ⊥) → closing s ≡ 0
-unclosed (step.Row row value) r e = absurd (r row value refl)
-unclosed step.End r e = absurd (e refl)
-unclosed (step.Bad row) r e = refl
-unclosed step.Reset r e = refl
-unclosed (step.Unpin page) r e = refl
-unclosed (step.Pin page) r e = refl
-unclosed step.Alloc r e = refl
+pub unclosed : (s : ScanStep) → ((row value : ℕ) → s ≡ ScanStep.Row row value → ⊥) → (s ≡ ScanStep.End → ⊥) → closing s ≡ 0
+unclosed (ScanStep.Row row value) r e = absurd (r row value refl)
+unclosed ScanStep.End r e = absurd (e refl)
+unclosed (ScanStep.Bad row) r e = refl
+unclosed ScanStep.Reset r e = refl
+unclosed (ScanStep.Unpin page) r e = refl
+unclosed (ScanStep.Pin page) r e = refl
+unclosed ScanStep.Alloc r e = refl

@@ -1,25 +1,6 @@
 -- The loops of a turn and of a fetch: what is done and what remains is what is to be done in all.
-use Rattle.std.proofs.Common.{◌≡◌, ◌≢◌, ℕ, suc, ◌+◌, ◌-◌, ◌*◌, ◌<◌, ◌≤◌, ◌==◌, Bool, true, false, List, [], ◌∷◌, ◌++◌, Option, Some, None, length, refl, sym, ◌∙◌, ap, subst, arith}
-use Rattle.std.specs.Prelude.{not}
-use Rattle.std.specs.List.{flat_map}
-use Rattle.std.specs.Option.{option_map_or}
-use Rattle.std.proofs.lemmas.List.{append_assoc}
-use Rattle.exec_core.specs.declared.scan.Scan.{Scan}
-use Rattle.exec_core.specs.declared.steps.ScanStep.{ScanStep}
-use Rattle.exec_core.specs.Turn.{left, rest, taken, turn}
-use Rattle.pgs_step.specs.declared.errors.Error.{Error}
-use Rattle.pgs_step.specs.declared.events.What.{What}
-use Rattle.pgs_step.specs.declared.events.What.TheVariants as what
-use Rattle.portal_store.specs.Portal.{coming}
-use Rattle.session_rules.specs.State.{OpenPortal}
-use Rattle.session_rules.specs.Elements as element
-use Rattle.session_rules.specs.Elements.{Element, Text}
-use Rattle.session_rules.specs.Lookup.{portal_named}
-use Rattle.session_rules.specs.Works.{after_turn, fallible_part, fetch_steps, turn_steps}
-use Rattle.session_store.specs.State.{StoreState, portals_of}
-use Rattle.session_commands.specs.Performed.{HasRoom, Now, Performed}
-use Rattle.session_commands.proofs.Performing.{performed_both, performed_more, performed_none, performed_stop}
-use Rattle.portal_commands.specs.Fetching.{IsFetching, cost_of, step_elements}
+use Rattle.portal_commands.proofs.Base.{◌≡◌, ◌≢◌, ℕ, suc, ◌+◌, ◌-◌, ◌*◌, ◌<◌, ◌≤◌, ◌==◌, Bool, true, false, List, [], ◌∷◌, ◌++◌, Option, Some, None, length, refl, sym, ◌∙◌, ap, subst, arith, not, flat_map, option_map_or, append_assoc}
+use Rattle.portal_commands.proofs.Words.{Scan, ScanStep, left, rest, taken, turn, Error, What, coming, OpenPortal, Element, Text, portal_named, after_turn, fallible_part, fetch_steps, turn_steps, StoreState, portals_of, HasRoom, Now, Performed, performed_both, performed_more, performed_none, performed_stop, IsFetching, cost_of, step_elements}
 use Rattle.portal_commands.proofs.FetchSteps.{found}
 use Rattle.portal_commands.proofs.TurnLists.{after, after_more, closing, costs, costs_both, elements_both, elements_more, gives_end, gives_row, is_bad_step, rest_last, rest_left, turn_costs}
 
@@ -45,7 +26,7 @@ left_is begins name scan n h =
     ap (λ (o : Option OpenPortal). option_map_or (λ (q : OpenPortal). length (coming begins q.scan)) o 0) p.1 ∙ ap (λ (c : Scan). length (coming begins c)) p.2
 
 module _ (name : Text) (first : Scan) (begins : Bool) (a b c : Now) (P Q : List What → Type 0) (t : IsTurning name first begins a b P) (s : ScanStep) (is : coming begins t.scan ≡ s ∷ rest s (taken s t.scan))
-    (scans : Performed 0 (element.Scans name s ∷ []) b c Q None) where
+    (scans : Performed 0 (Element.Scans name s ∷ []) b c Q None) where
   whole : t.done ++ (s ∷ rest s (taken s t.scan)) ≡ turn first
   whole = ap (λ (ss : List ScanStep). t.done ++ ss) (sym is) ∙ t.all
 
@@ -66,7 +47,7 @@ module _ (name : Text) (first : Scan) (begins : Bool) (a b c : Now) (P Q : List 
     stepped =
         subst (λ (es : List Element). Performed (costs t.done + cost_of s) es a d T r) (sym (elements_more name t.done s))
         (performed_both (costs t.done) (cost_of s) (flat_map (step_elements name) t.done) (step_elements name s) a b d P S T r t.performed
-        (performed_more (0 + cost_of s) (cost_of s) (step_elements name s) b d S r (omega arith) (performed_both 0 (cost_of s) (element.Scans name s ∷ []) (fallible_part name s) b c d Q R S r scans served near)) far)
+        (performed_more (0 + cost_of s) (cost_of s) (step_elements name s) b d S r (omega arith) (performed_both 0 (cost_of s) (Element.Scans name s ∷ []) (fallible_part name s) b c d Q R S r scans served near)) far)
 
     -- where it was refused, so was the turn
     pub turning_refused : (e : Error) → r ≡ Some e → Performed 3 (flat_map (step_elements name) (turn first)) a d T (Some e)
@@ -134,9 +115,9 @@ running_start name count first a P h silent = record {
 }
 
 by_row : (name : Text) (n rows : ℕ) (scan : Scan) (b : Bool) → (scan.at == scan.rows) ≡ b
-    → fetch_steps name (suc n) scan rows ≡ turn_steps name scan ++ (elim b as (λ _. List Element) [ true ↦ element.Says (what.Fetched name rows) ∷ [] | false ↦ fetch_steps name n (after_turn scan) (rows + 1) ])
+    → fetch_steps name (suc n) scan rows ≡ turn_steps name scan ++ (elim b as (λ _. List Element) [ true ↦ Element.Says (What.Fetched name rows) ∷ [] | false ↦ fetch_steps name n (after_turn scan) (rows + 1) ])
 by_row name n rows scan b e =
-    ap (λ (c : Bool). turn_steps name scan ++ (elim c as (λ _. List Element) [ true ↦ element.Says (what.Fetched name rows) ∷ [] | false ↦ fetch_steps name n (after_turn scan) (rows + 1) ])) e
+    ap (λ (c : Bool). turn_steps name scan ++ (elim c as (λ _. List Element) [ true ↦ Element.Says (What.Fetched name rows) ∷ [] | false ↦ fetch_steps name n (after_turn scan) (rows + 1) ])) e
 
 negated : (b c : Bool) → c ≡ not b → b ≡ not c
 negated true c e = ap not (sym e)
@@ -158,11 +139,11 @@ module _ (name : Text) (count rows : ℕ) (first : Scan) (a b c : Now) (P Q R : 
   turned r x = performed_both (3 * rows) 3 t.done (turn_steps name t.scan) a b c P Q R r t.performed x joins
 
   split : (e : Bool) → (t.scan.at == t.scan.rows) ≡ e → t.done ++ fetch_steps name (count - rows) t.scan rows
-      ≡ (t.done ++ turn_steps name t.scan) ++ (elim e as (λ _. List Element) [ true ↦ element.Says (what.Fetched name rows) ∷ [] | false ↦ fetch_steps name (count - (rows + 1)) (after_turn t.scan) (rows + 1) ])
+      ≡ (t.done ++ turn_steps name t.scan) ++ (elim e as (λ _. List Element) [ true ↦ Element.Says (What.Fetched name rows) ∷ [] | false ↦ fetch_steps name (count - (rows + 1)) (after_turn t.scan) (rows + 1) ])
   split e is =
       ap (λ (n : ℕ). t.done ++ fetch_steps name n t.scan rows) less
       ∙ ap (λ (es : List Element). t.done ++ es) (by_row name (count - (rows + 1)) rows t.scan e is)
-      ∙ sym (append_assoc t.done (turn_steps name t.scan) (elim e as (λ _. List Element) [ true ↦ element.Says (what.Fetched name rows) ∷ [] | false ↦ fetch_steps name (count - (rows + 1)) (after_turn t.scan) (rows + 1) ]))
+      ∙ sym (append_assoc t.done (turn_steps name t.scan) (elim e as (λ _. List Element) [ true ↦ Element.Says (What.Fetched name rows) ∷ [] | false ↦ fetch_steps name (count - (rows + 1)) (after_turn t.scan) (rows + 1) ]))
 
   -- a row was given
   pub running_on : Performed 3 (turn_steps name t.scan) b c Q None → true ≡ not (t.scan.at == t.scan.rows) → IsFetching name (after_turn t.scan) c → IsRunning name count (rows + 1) first a c R
@@ -177,7 +158,7 @@ module _ (name : Text) (count rows : ℕ) (first : Scan) (a b c : Now) (P Q R : 
 
   -- the scan was at its end
   pub running_ended : Performed 3 (turn_steps name t.scan) b c Q None → false ≡ not (t.scan.at == t.scan.rows)
-      → (done : List Element) × (fetch_steps name count first 0 ≡ done ++ (element.Says (what.Fetched name rows) ∷ [])) × Performed (3 * count) done a c R None
+      → (done : List Element) × (fetch_steps name count first 0 ≡ done ++ (Element.Says (What.Fetched name rows) ∷ [])) × Performed (3 * count) done a c R None
   running_ended x row = (
     t.done ++ turn_steps name t.scan,
     sym t.all ∙ split true (negated (t.scan.at == t.scan.rows) false row),
@@ -193,7 +174,7 @@ module _ (name : Text) (count rows : ℕ) (first : Scan) (a b c : Now) (P Q R : 
 
 -- all rows that were asked for were given
 pub running_done : (name : Text) (count rows : ℕ) (first : Scan) (a b : Now) (P : List What → Type 0) → IsRunning name count rows first a b P → count ≤ rows
-    → (done : List Element) × (fetch_steps name count first 0 ≡ done ++ (element.Says (what.Fetched name rows) ∷ [])) × Performed (3 * count) done a b P None
+    → (done : List Element) × (fetch_steps name count first 0 ≡ done ++ (Element.Says (What.Fetched name rows) ∷ [])) × Performed (3 * count) done a b P None
 running_done name count rows first a b P t enough = (
   t.done,
   let none : count - rows ≡ 0 = omega (arith, enough) in sym t.all ∙ ap (λ (n : ℕ). t.done ++ fetch_steps name n t.scan rows) none,

@@ -1,17 +1,6 @@
 -- Portals stay kept, and a place is that of a name.
-use Rattle.std.proofs.Common.{◌≡◌, ◌≢◌, ℕ, suc, ◌<◌, ◌≤◌, Bool, true, false, List, [], ◌∷◌, length, slice_index_or, slice_set, remove, Option, Some, None, All, refl, sym, ap, subst, ◌∙◌, arith}
-use Rattle.std.specs.Prelude.{map, not, if◌then◌else◌, nat_lt, is_some, IsSome, IfSome, OnSome}
-use Rattle.std.specs.List.{position_or_len}
-use Rattle.std.specs.Cmp.Lexicographic.{other_text}
-use Rattle.std.proofs.lemmas.Bool.Decides.{nat_tests}
-use Rattle.std.proofs.lemmas.List.{length-map, get_or-map}
-use Rattle.std.proofs.lemmas.List.Elements.{All-cons, All-head, All-nil, All-tail, All-weaker}
-use Rattle.std.proofs.lemmas.List.Sums.{prefix_len_is}
-use Rattle.std.proofs.Math.Seq.{map-set_same}
-use Rattle.portal_store.specs.declared.portal.Portal.{Portal}
-use Rattle.portal_store.specs.Portal.{to_parent}
-use Rattle.portal_store.specs.Portals.{HasDistinctNames, has_name, names, place_named, portal_named, without}
-use Rattle.portal_store.specs.Kept.{IsKept, IsRaised, IsReach}
+use Rattle.portal_store.proofs.Base.{◌≡◌, ◌≢◌, ℕ, suc, ◌<◌, ◌≤◌, Bool, true, false, List, [], ◌∷◌, length, slice_index_or, slice_set, remove, Option, Some, None, All, refl, sym, ap, subst, ◌∙◌, arith, map, not, if◌then◌else◌, nat_lt, is_some, IsSome, IfSome, OnSome, position_or_len, other_text, nat_tests, length-map, get_or-map, All-cons, All-head, All-nil, All-tail, All-weaker, prefix_len_is, map-set_same}
+use Rattle.portal_store.proofs.Words.{Portal, to_parent, HasDistinctNames, has_name, names, place_named, portal_named, without, IsKept, IsRaised, IsReach}
 use Rattle.portal_store.proofs.ReachLemmas.{IsReach_active, IsReach_entered, IsReach_raised, IsReach_removed, IsReach_set, IsReach_to_parent}
 use Rattle.portal_store.proofs.PortalLemmas.{IsPlaceOf, IsPortals_created, IsPortals_remove, IsPortals_renamed, name_is, named_here, names_to_parent, place_of, place_within, without_remove}
 

@@ -1,20 +1,6 @@
 -- The portal of a name, by its place in the list.
-use Rattle.std.proofs.Common.{◌≡◌, ◌≢◌, ℕ, zero, suc, ◌<◌, ◌≤◌, Bool, true, false, List, [], ◌∷◌, length, map, slice_get, slice_index_or, slice_set, remove, Option, Some, None, position, AllPairs, All, refl, sym, ap, subst, ◌∙◌, arith}
-use Rattle.std.specs.Cmp.Lexicographic.{same_text, other_text}
-use Rattle.std.specs.Prelude.{◌-◌, ◌==◌, if◌then◌else◌, nat_lt, is_some, IsSome, IfSome, option_and_then}
-use Rattle.std.specs.List.{position_or_len}
-use Rattle.std.proofs.lemmas.Bool.Decides.{nat_tests}
-use Rattle.std.proofs.lemmas.List.{length-map, map-append, take-map, drop-map}
-use Rattle.std.proofs.lemmas.List.Edits.{length-remove}
-use Rattle.std.proofs.lemmas.List.Folds.{find_at}
-use Rattle.std.proofs.lemmas.Option.{slice_get_past, slice_get_read}
-use Rattle.std.proofs.lemmas.List.Elements.{All-cons, All-nil}
-use Rattle.std.proofs.lemmas.List.Kept.{AllPairs-cons}
-use Rattle.std.proofs.lemmas.List.Quantifiers.{position-Some, all_pairs_remove}
-use Rattle.portal_store.specs.declared.portal.Portal.{Portal}
-use Rattle.portal_store.specs.declared.portal.PortalState.TheVariants.{Failed}
-use Rattle.portal_store.specs.Portal.{to_parent, is_outer, kept_owner, sub_aborted, moved_owner}
-use Rattle.portal_store.specs.Portals.{has_name, place_named, portal_named, changed, without, names, IsPortals}
+use Rattle.portal_store.proofs.Base.{◌≡◌, ◌≢◌, ℕ, zero, suc, ◌<◌, ◌≤◌, Bool, true, false, List, [], ◌∷◌, length, map, slice_get, slice_index_or, slice_set, remove, Option, Some, None, position, AllPairs, All, refl, sym, ap, subst, ◌∙◌, arith, same_text, other_text, ◌-◌, ◌==◌, if◌then◌else◌, nat_lt, is_some, IsSome, IfSome, option_and_then, position_or_len, nat_tests, length-map, map-append, take-map, drop-map, length-remove, find_at, slice_get_past, slice_get_read, All-cons, All-nil, AllPairs-cons, position-Some, all_pairs_remove}
+use Rattle.portal_store.proofs.Words.{Portal, Failed, to_parent, is_outer, kept_owner, sub_aborted, moved_owner, has_name, place_named, portal_named, changed, without, names, IsPortals}
 
 -- i is the place of the first portal of this name, x
 pub record IsPlaceOf (name : List ℕ) (portals : List Portal) (i : ℕ) (x : Portal) : Type 0 where

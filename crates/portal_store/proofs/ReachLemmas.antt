@@ -1,11 +1,6 @@
 -- How deep portals reach, as they come, change and go.
-use Rattle.std.proofs.Common.{inl, inr, ◌≡◌, ℕ, zero, suc, ◌<◌, ◌≤◌, ◌+◌, List, ◌∷◌, length, map, drop, slice_index_or, slice_set, remove, All, sym, subst, ◌∙◌, arith}
-use Rattle.std.proofs.lemmas.Bool.{cases_eq, cases_lt}
-use Rattle.std.proofs.lemmas.List.{get_or-drop, get_or-map, get_or-set_other, get_or-set_same, get_or_default, get_or_read, length-drop, length-map, length-set}
-use Rattle.std.proofs.lemmas.List.Edits.{get_or-remove_above, get_or-remove_below, length-remove}
-use Rattle.portal_store.specs.declared.portal.Portal.{Portal}
-use Rattle.portal_store.specs.Portal.{lowered, to_parent}
-use Rattle.portal_store.specs.Kept.{FallFrom, IsAtMost, IsRaised, IsReach}
+use Rattle.portal_store.proofs.Base.{inl, inr, ◌≡◌, ℕ, zero, suc, ◌<◌, ◌≤◌, ◌+◌, List, ◌∷◌, length, map, drop, slice_index_or, slice_set, remove, All, sym, subst, ◌∙◌, arith, cases_eq, cases_lt, get_or-drop, get_or-map, get_or-set_other, get_or-set_same, get_or_default, get_or_read, length-drop, length-map, length-set, get_or-remove_above, get_or-remove_below, length-remove}
+use Rattle.portal_store.proofs.Words.{Portal, lowered, to_parent, FallFrom, IsAtMost, IsRaised, IsReach}
 
 lower : (m n : ℕ) (p q : Portal) → m ≤ n → q.created ≤ p.created → q.active ≤ p.active → IsAtMost m p → IsAtMost n q
 lower m n p q less created active most = record { created = omega (arith, less, created, most.created); active = omega (arith, less, active, most.active) }

@@ -1,5 +1,5 @@
-use Rattle.std.proofs.Common.{sym, ap, ◌∙◌, Some}
-use Rattle.lock_shared.proofs.HoldingLemmas.{lesser_at, least_at}
+use Rattle.lock_shared.proofs.Base.{sym, ap, ◌∙◌, Some}
+use Rattle.lock_shared.proofs.Lemmas.{lesser_at, least_at}
 use Rattle.lock_shared.proofs.holders.least_blocking.Goals as goal
 use Rattle.lock_shared.proofs.holders.least_blocking.Goals.{then-blocks, else-blocks}
 

@@ -1,5 +1,5 @@
-use Rattle.std.proofs.Common.{take}
-use Rattle.lock_shared.specs.Blocking.{IsLeastOf}
+use Rattle.lock_shared.proofs.Base.{take}
+use Rattle.lock_shared.proofs.Words.{IsLeastOf}
 use Rattle.lock_shared.proofs.holders.least_blocking.Given as goal
 
 abbrev pub invariant-loop-held : goal.invariant-loop-held

@@ -1,6 +1,5 @@
-use Rattle.std.proofs.Common.{not, rules}
-use Rattle.arrayvec.proofs.ArrayVecLemmas.{filter-from_retain}
-use Rattle.lock_shared.specs.Holdings.{is_holding}
+use Rattle.lock_shared.proofs.Base.{not, rules}
+use Rattle.lock_shared.proofs.Words.{filter-from_retain, is_holding}
 use Rattle.lock_shared.proofs.holders.take_off.Goals as goal
 
 pub returns : goal.returns

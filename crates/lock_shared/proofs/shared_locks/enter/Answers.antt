@@ -1,7 +1,6 @@
-use Rattle.std.proofs.Common.{List, ◌++◌, ◌∷◌, [], ap, sym, subst, ◌∙◌, Some}
-use Rattle.lock_shared.specs.declared.shared_locks.Holding.{Holding}
-use Rattle.lock_shared.specs.Objects.{IsKept}
-use Rattle.lock_shared.proofs.ObjectLemmas.{kept_one, kept_with}
+use Rattle.lock_shared.proofs.Base.{List, ◌++◌, ◌∷◌, [], ap, sym, subst, ◌∙◌, Some}
+use Rattle.lock_shared.proofs.Words.{Holding, IsKept}
+use Rattle.lock_shared.proofs.Lemmas.{kept_one, kept_with}
 use Rattle.lock_shared.proofs.shared_locks.enter.Goals as goal
 
 pub returns-clause-kept : goal.returns-clause-kept

@@ -1,6 +1,5 @@
-use Rattle.std.proofs.Common.{ap, sym, ◌∙◌, ◌==◌, Some, is_some}
-use Rattle.std.proofs.lemmas.Map.Steps.{set_value_same}
-use Rattle.lock_shared.proofs.ObjectLemmas.{kept_added, kept_at, kept_with, OnErr-map, held_at}
+use Rattle.lock_shared.proofs.Base.{ap, sym, ◌∙◌, ◌==◌, Some, is_some, set_value_same}
+use Rattle.lock_shared.proofs.Lemmas.{kept_added, kept_at, kept_with, OnErr-map, held_at}
 use Rattle.lock_shared.proofs.shared_locks.put.Goals as goal
 
 pub returns-in-Some-clause-kept : goal.returns-in-Some-clause-kept

@@ -1,9 +1,6 @@
-use Rattle.std.proofs.Common.{List, ap, sym, subst, ◌∙◌, nat_eq, not, Some, None, is_some, length, ◌<◌, ◌≡◌, ℕ, false, arith}
-use Rattle.std.proofs.lemmas.Bool.Decides.{nat_tests}
-use Rattle.lock_shared.specs.declared.shared_locks.Holding.{Holding}
-use Rattle.lock_shared.specs.Holdings.{is_holding}
-use Rattle.lock_shared.specs.Objects.{IsKept}
-use Rattle.lock_shared.proofs.ObjectLemmas.{kept_less, kept_at, kept_with, without_entry}
+use Rattle.lock_shared.proofs.Base.{List, ap, sym, subst, ◌∙◌, nat_eq, not, Some, None, is_some, length, ◌<◌, ◌≡◌, ℕ, false, arith, nat_tests}
+use Rattle.lock_shared.proofs.Words.{Holding, is_holding, IsKept}
+use Rattle.lock_shared.proofs.Lemmas.{kept_less, kept_at, kept_with, without_entry}
 use Rattle.lock_shared.proofs.shared_locks.strike.Goals as goal
 
 not_none : (n : ℕ) → nat_eq n 0 ≡ false → 0 < n

@@ -1,6 +1,6 @@
-use Rattle.std.proofs.Common.{refl, sym, arith}
-use Rattle.session_commands.specs.Performed.{now}
-use Rattle.portal_commands.proofs.OnCommands.{end_of_none, portal_ends}
+use Rattle.portal_commands.proofs.Base.{refl, sym, arith}
+use Rattle.portal_commands.proofs.Words.{now}
+use Rattle.portal_commands.proofs.Lemmas.{end_of_none, portal_ends}
 use Rattle.portal_commands.proofs.ending.end_portal.Goals as goal
 
 pub returns-in-None : goal.returns-in-None

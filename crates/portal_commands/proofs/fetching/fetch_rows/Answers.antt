@@ -1,7 +1,6 @@
-use Rattle.std.proofs.Common.{refl, sym, ◌∙◌, List}
-use Rattle.pgs_step.specs.declared.events.What.{What}
-use Rattle.session_commands.specs.Performed.{now}
-use Rattle.portal_commands.proofs.Turning.{running_done, running_ended, running_on, running_refused, running_start, turn_room}
+use Rattle.portal_commands.proofs.Base.{refl, sym, ◌∙◌, List}
+use Rattle.portal_commands.proofs.Words.{What, now}
+use Rattle.portal_commands.proofs.Lemmas.{running_done, running_ended, running_on, running_refused, running_start, turn_room}
 use Rattle.portal_commands.proofs.fetching.fetch_rows.Goals as goal
 
 pub loop-rows-init : goal.loop-rows-init

@@ -1,8 +1,6 @@
-use Rattle.std.proofs.Common.{◌-◌}
-use Rattle.exec_core.specs.declared.scan.Scan.{Scan}
-use Rattle.session_commands.specs.Performed.{now}
-use Rattle.portal_commands.specs.Fetching.{IsAt, IsFetching}
-use Rattle.portal_commands.proofs.Turning.{IsRunning}
+use Rattle.portal_commands.proofs.Base.{◌-◌}
+use Rattle.portal_commands.proofs.Words.{Scan, now, IsAt, IsFetching}
+use Rattle.portal_commands.proofs.Lemmas.{IsRunning}
 use Rattle.portal_commands.proofs.fetching.fetch_rows.Given as goal
 
 -- the portal is at its place, and the rows so far and those that remain are all

@@ -1,8 +1,5 @@
-use Rattle.std.proofs.Common.{refl, arith}
-use Rattle.session_commands.specs.Performed.{now}
-use Rattle.session_commands.proofs.Performing.{performed_both}
-use Rattle.session_commands.proofs.Chains.{less_room, silent_stops, silent_then, stops, room_left}
-use Rattle.session_commands.proofs.Refusing.{handed}
+use Rattle.portal_commands.proofs.Base.{refl, arith}
+use Rattle.portal_commands.proofs.Words.{now, performed_both, less_room, silent_stops, silent_then, stops, room_left, handed}
 use Rattle.portal_commands.proofs.making.begin.Goals as goal
 
 pub returns-in_err-new_portal-clause-performed : goal.returns-in_err-new_portal-clause-performed

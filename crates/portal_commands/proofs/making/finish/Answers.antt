@@ -1,14 +1,6 @@
-use Rattle.std.proofs.Common.{true, refl, arith}
-use Rattle.portal_store.specs.declared.portal.PortalState.TheVariants.{Ready}
-use Rattle.session_rules.specs.Acts.{portal_becomes}
-use Rattle.session_rules.specs.Elements as element
-use Rattle.session_commands.specs.Performed.{now}
-use Rattle.session_commands.proofs.Performing.{performed_both}
-use Rattle.session_commands.proofs.Chains.{stops, then_silent}
-use Rattle.portal_commands.proofs.Chains.{alone_done}
-use Rattle.portal_commands.proofs.OnCommands.{does_ready}
-use Rattle.portal_commands.proofs.OnItsWay.{has_name}
-use Rattle.session_commands.proofs.Refusing.{handed}
+use Rattle.portal_commands.proofs.Base.{true, refl, arith}
+use Rattle.portal_commands.proofs.Words.{Ready, portal_becomes, Element, now, performed_both, stops, then_silent, handed}
+use Rattle.portal_commands.proofs.Lemmas.{alone_done, does_ready, has_name}
 use Rattle.portal_commands.proofs.making.finish.Goals as goal
 
 pub returns-in_err-take_memory : goal.returns-in_err-take_memory
@@ -30,7 +22,7 @@ returns g c = record {
   performed =
       performed_both 1 1 _ _ _ _ _ _ _ _ _ c.in_ok-take_memory.ensures.performed
       (then_silent 1 0 _ _ _ _ _ _ _ c.in_ok-make_row.ensures.performed
-      (alone_done (element.PortalReady c.args.name.now) (portal_becomes c.args.name.now (λ p. record p { state = Ready })) (now c.make_row.new.store c.make_row.new.shared) c.portal_ready.new.store (does_ready c.args.name.now) (λ s. refl) (λ s. refl)
+      (alone_done (Element.PortalReady c.args.name.now) (portal_becomes c.args.name.now (λ p. record p { state = Ready })) (now c.make_row.new.store c.make_row.new.shared) c.portal_ready.new.store (does_ready c.args.name.now) (λ s. refl) (λ s. refl)
       (c.portal_ready.ensures.acted c.make_row.new.shared.space.now c.make_row.new.shared.shelf.now c.make_row.new.shared.commons.now) c.portal_ready.ensures.alone c.in_ok-make_row.ensures.making.between.keeps))
       (λ us vs first second. g.met.E.Emit.emits_more _ _ _ _ _ _ first second refl);
 }

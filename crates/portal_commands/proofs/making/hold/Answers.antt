@@ -1,7 +1,5 @@
-use Rattle.std.proofs.Common.{refl, arith}
-use Rattle.session_commands.proofs.Performing.{performed_both}
-use Rattle.session_commands.proofs.Chains.{stops}
-use Rattle.session_commands.proofs.Refusing.{handed}
+use Rattle.portal_commands.proofs.Base.{refl, arith}
+use Rattle.portal_commands.proofs.Words.{performed_both, stops, handed}
 use Rattle.portal_commands.proofs.making.hold.Goals as goal
 
 pub returns-in_err-take_lock-clause-performed : goal.returns-in_err-take_lock-clause-performed

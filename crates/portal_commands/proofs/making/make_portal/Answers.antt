@@ -1,9 +1,6 @@
-use Rattle.std.proofs.Common.{is_some, refl, sym, ap, ◌∙◌, arith}
-use Rattle.session_commands.specs.Performed.{now}
-use Rattle.session_commands.proofs.Performing.{performed_both}
-use Rattle.session_commands.proofs.Chains.{less_room, stops}
-use Rattle.portal_commands.proofs.OnCommands.{copied_some, none_of, portal_opened, portal_taken, some_of}
-use Rattle.session_commands.proofs.Refusing.{handed}
+use Rattle.portal_commands.proofs.Base.{is_some, refl, sym, ap, ◌∙◌, arith}
+use Rattle.portal_commands.proofs.Words.{now, performed_both, less_room, stops, handed}
+use Rattle.portal_commands.proofs.Lemmas.{copied_some, none_of, portal_opened, portal_taken, some_of}
 use Rattle.portal_commands.proofs.making.make_portal.Goals as goal
 
 pub returns-then-is_some : goal.returns-then-is_some

@@ -1,10 +1,6 @@
-use Rattle.std.proofs.Common.{None, Err, true, false, refl, ap, ◌∙◌}
-use Rattle.session_commands.proofs.Stepping.{call_done, call_injected, call_refused, call_wants, said_nothing}
-use Rattle.session_commands.specs.Performed.{now}
-use Rattle.session_rules.specs.Elements.{OfPortal}
-use Rattle.session_commands.proofs.Making.{few_owners, make_owner, many_owners}
-use Rattle.portal_commands.proofs.OnItsWay.{has_name, owner_on}
-use Rattle.session_commands.proofs.Refusing.{handed}
+use Rattle.portal_commands.proofs.Base.{None, Err, true, false, refl, ap, ◌∙◌}
+use Rattle.portal_commands.proofs.Words.{call_done, call_injected, call_refused, call_wants, said_nothing, now, OfPortal, few_owners, make_owner, many_owners, handed}
+use Rattle.portal_commands.proofs.Lemmas.{has_name, owner_on}
 use Rattle.portal_commands.proofs.steps.make_owner.Goals as goal
 
 pub returns-in_err-next-clause-performed : goal.returns-in_err-next-clause-performed

@@ -1,10 +1,6 @@
-use Rattle.std.proofs.Common.{None, Err, refl, ap, ◌∙◌}
-use Rattle.session_commands.specs.Performed.{now}
-use Rattle.session_commands.proofs.Stepping.{call_done, call_injected, call_refused, call_wants}
-use Rattle.portal_commands.proofs.Listed.{keeps_alone, none_named}
-use Rattle.portal_commands.proofs.MakingSteps.{few_portals, make_portal, many_portals}
-use Rattle.portal_commands.proofs.OnItsWay.{making_begins}
-use Rattle.session_commands.proofs.Refusing.{handed}
+use Rattle.portal_commands.proofs.Base.{None, Err, refl, ap, ◌∙◌}
+use Rattle.portal_commands.proofs.Words.{now, call_done, call_injected, call_refused, call_wants, handed}
+use Rattle.portal_commands.proofs.Lemmas.{keeps_alone, none_named, few_portals, make_portal, many_portals, making_begins}
 use Rattle.portal_commands.proofs.steps.new_portal.Goals as goal
 
 pub returns-in_err-next-clause-performed : goal.returns-in_err-next-clause-performed

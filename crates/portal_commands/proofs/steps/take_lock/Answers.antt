@@ -1,9 +1,6 @@
-use Rattle.std.proofs.Common.{true, false}
-use Rattle.pgs_step.specs.declared.lock_modes.Mode.TheVariants.{AccessShareLock}
-use Rattle.session_rules.specs.Elements.{OfPortal}
-use Rattle.session_commands.specs.Performed.{now}
-use Rattle.session_commands.proofs.Standing.{where_done}
-use Rattle.portal_commands.proofs.OnItsWay.{has_owner, lock_on}
+use Rattle.portal_commands.proofs.Base.{true, false}
+use Rattle.portal_commands.proofs.Words.{AccessShareLock, OfPortal, now, where_done}
+use Rattle.portal_commands.proofs.Lemmas.{has_owner, lock_on}
 use Rattle.portal_commands.proofs.steps.take_lock.Goals as goal
 
 pub returns-clause-performed : goal.returns-clause-performed

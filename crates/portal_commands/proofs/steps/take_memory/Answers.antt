@@ -1,9 +1,6 @@
-use Rattle.std.proofs.Common.{None, true, false, refl}
-use Rattle.session_rules.specs.Elements.{InPortal}
-use Rattle.session_commands.specs.Performed.{now}
-use Rattle.portal_commands.proofs.MemorySteps.{memory_done, memory_injected, memory_refused}
-use Rattle.portal_commands.proofs.OnItsWay.{has_context, memory_on}
-use Rattle.session_commands.proofs.Refusing.{handed}
+use Rattle.portal_commands.proofs.Base.{None, true, false, refl}
+use Rattle.portal_commands.proofs.Words.{InPortal, now, handed}
+use Rattle.portal_commands.proofs.Lemmas.{memory_done, memory_injected, memory_refused, has_context, memory_on}
 use Rattle.portal_commands.proofs.steps.take_memory.Goals as goal
 
 pub returns-in_err-next-clause-performed : goal.returns-in_err-next-clause-performed

@@ -1,9 +1,6 @@
-use Rattle.std.proofs.Common.{true, false}
-use Rattle.session_rules.specs.Elements.{OfPortal}
-use Rattle.session_commands.specs.Performed.{now}
-use Rattle.session_commands.proofs.Pinning.{owner_unbegun}
-use Rattle.session_commands.proofs.Standing.{where_done}
-use Rattle.portal_commands.proofs.OnItsWay.{has_owner, portals_owner, reference_on}
+use Rattle.portal_commands.proofs.Base.{true, false}
+use Rattle.portal_commands.proofs.Words.{OfPortal, now, owner_unbegun, where_done}
+use Rattle.portal_commands.proofs.Lemmas.{has_owner, portals_owner, reference_on}
 use Rattle.portal_commands.proofs.steps.take_reference.Goals as goal
 
 pub returns-clause-performed : goal.returns-clause-performed

@@ -1,6 +1,5 @@
-use Rattle.session_commands.specs.Performed.{now}
-use Rattle.portal_commands.proofs.PinSteps.{no_pin, no_room}
-use Rattle.session_commands.proofs.Refusing.{handed}
+use Rattle.portal_commands.proofs.Words.{now, handed}
+use Rattle.portal_commands.proofs.Lemmas.{no_pin, no_room}
 use Rattle.portal_commands.proofs.turns.count_pin.Goals as goal
 
 pub returns-in_err-next : goal.returns-in_err-next

@@ -1,10 +1,6 @@
-use Rattle.std.proofs.Common.{◌≡◌, sym, subst, [], List}
-use Rattle.pgs_step.specs.declared.events.What.{What}
-use Rattle.session_rules.specs.Elements.{OfPortal}
-use Rattle.session_commands.specs.Performed.{now}
-use Rattle.session_commands.proofs.Pinning.{owner_unbegun}
-use Rattle.session_commands.proofs.Performing.{performed_said}
-use Rattle.portal_commands.proofs.FetchSteps.{fetched_owner}
+use Rattle.portal_commands.proofs.Base.{◌≡◌, sym, subst, [], List}
+use Rattle.portal_commands.proofs.Words.{What, OfPortal, now, owner_unbegun, performed_said}
+use Rattle.portal_commands.proofs.Lemmas.{fetched_owner}
 use Rattle.portal_commands.proofs.turns.pin_page.Goals as goal
 
 pub hold_pin-requires-clause-there : goal.hold_pin-requires-clause-there

@@ -1,6 +1,6 @@
-use Rattle.std.proofs.Common.{refl}
-use Rattle.session_commands.specs.Performed.{now}
-use Rattle.portal_commands.proofs.FetchSteps.{follows_nothing, no_row, row_reset}
+use Rattle.portal_commands.proofs.Base.{refl}
+use Rattle.portal_commands.proofs.Words.{now}
+use Rattle.portal_commands.proofs.Lemmas.{follows_nothing, no_row, row_reset}
 use Rattle.portal_commands.proofs.turns.reset_row.Goals as goal
 
 pub returns-in-Some : goal.returns-in-Some

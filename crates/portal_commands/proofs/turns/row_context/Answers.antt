@@ -1,6 +1,5 @@
-use Rattle.std.proofs.Common.{ap, sym}
-use Rattle.std.specs.Option.{option_and_then}
-use Rattle.session_rules.specs.State.{OpenPortal}
+use Rattle.portal_commands.proofs.Base.{ap, sym, option_and_then}
+use Rattle.portal_commands.proofs.Words.{OpenPortal}
 use Rattle.portal_commands.proofs.turns.row_context.Goals as goal
 
 pub returns-in-Some-clause-context : goal.returns-in-Some-clause-context

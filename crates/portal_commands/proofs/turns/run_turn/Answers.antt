@@ -1,10 +1,6 @@
-use Rattle.std.proofs.Common.{refl, ap, arith, List}
-use Rattle.exec_core.specs.Turn.{taken}
-use Rattle.pgs_step.specs.declared.events.What.{What}
-use Rattle.session_commands.specs.Performed.{now}
-use Rattle.portal_commands.proofs.FetchSteps.{served_good, there_scan}
-use Rattle.portal_commands.proofs.TurnLists.{closing, next_page, unclosed}
-use Rattle.portal_commands.proofs.Turning.{ended_end, ended_row, ended_scan, fewer_left, step_room, turning_ended, turning_on, turning_refused, turning_start}
+use Rattle.portal_commands.proofs.Base.{refl, ap, arith, List}
+use Rattle.portal_commands.proofs.Words.{taken, What, now}
+use Rattle.portal_commands.proofs.Lemmas.{served_good, there_scan, closing, next_page, unclosed, ended_end, ended_row, ended_scan, fewer_left, step_room, turning_ended, turning_on, turning_refused, turning_start}
 use Rattle.portal_commands.proofs.turns.run_turn.Goals as goal
 
 pub loop-error-init : goal.loop-error-init

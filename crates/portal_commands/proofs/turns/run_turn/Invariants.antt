@@ -1,7 +1,5 @@
-use Rattle.exec_core.specs.declared.scan.Scan.{Scan}
-use Rattle.session_commands.specs.Performed.{now}
-use Rattle.portal_commands.specs.Fetching.{IsAt, IsFetching}
-use Rattle.portal_commands.proofs.Turning.{IsTurning, steps_left}
+use Rattle.portal_commands.proofs.Words.{Scan, now, IsAt, IsFetching}
+use Rattle.portal_commands.proofs.Lemmas.{IsTurning, steps_left}
 use Rattle.portal_commands.proofs.turns.run_turn.Given as goal
 
 -- the portal is at its place, and what is done of the turn and what remains is all of it

@@ -1,7 +1,6 @@
-use Rattle.std.proofs.Common.{refl}
-use Rattle.session_rules.specs.Elements.{InRow}
-use Rattle.portal_commands.proofs.MemorySteps.{memory_done, memory_injected, memory_nowhere, memory_refused}
-use Rattle.session_commands.proofs.Refusing.{handed}
+use Rattle.portal_commands.proofs.Base.{refl}
+use Rattle.portal_commands.proofs.Words.{InRow, handed}
+use Rattle.portal_commands.proofs.Lemmas.{memory_done, memory_injected, memory_nowhere, memory_refused}
 use Rattle.portal_commands.proofs.turns.take_row.Goals as goal
 
 pub returns-in_err-next : goal.returns-in_err-next

@@ -1,9 +1,6 @@
-use Rattle.std.proofs.Common.{refl}
-use Rattle.exec_core.specs.Turn.{taken}
-use Rattle.session_rules.specs.State.{OpenPortal}
-use Rattle.session_commands.specs.Performed.{now}
-use Rattle.portal_commands.proofs.FetchSteps.{at_follows, fetching_follows, fetching_step, scan_done, step_named}
-use Rattle.portal_commands.proofs.Places.{at_becomes}
+use Rattle.portal_commands.proofs.Base.{refl}
+use Rattle.portal_commands.proofs.Words.{taken, OpenPortal, now}
+use Rattle.portal_commands.proofs.Lemmas.{at_follows, fetching_follows, fetching_step, scan_done, step_named, at_becomes}
 use Rattle.portal_commands.proofs.turns.take_step.Goals as goal
 
 pub step_at-step-requires : goal.step_at-step-requires

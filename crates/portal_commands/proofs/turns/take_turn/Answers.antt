@@ -1,5 +1,5 @@
-use Rattle.session_commands.specs.Performed.{now}
-use Rattle.portal_commands.proofs.TurnElements.{turn_as, turn_done, turn_failed}
+use Rattle.portal_commands.proofs.Words.{now}
+use Rattle.portal_commands.proofs.Lemmas.{turn_as, turn_done, turn_failed}
 use Rattle.portal_commands.proofs.turns.take_turn.Goals as goal
 
 pub returns-in-Ok-clause-performed : goal.returns-in-Ok-clause-performed

@@ -1,9 +1,6 @@
-use Rattle.std.proofs.Common.{refl}
-use Rattle.session_commands.specs.Performed.{now}
-use Rattle.session_commands.proofs.HeldItems.{missing_item}
-use Rattle.session_commands.proofs.Pinning.{owner_unbegun}
-use Rattle.session_commands.proofs.Stepping.{said_nothing}
-use Rattle.portal_commands.proofs.FetchSteps.{follows_nothing, no_owner, page_not_held, page_unpinned}
+use Rattle.portal_commands.proofs.Base.{refl}
+use Rattle.portal_commands.proofs.Words.{now, missing_item, owner_unbegun, said_nothing}
+use Rattle.portal_commands.proofs.Lemmas.{follows_nothing, no_owner, page_not_held, page_unpinned}
 use Rattle.portal_commands.proofs.turns.unpin_page.Goals as goal
 
 pub returns-in_default : goal.returns-in_default

@@ -1,7 +1,4 @@
-use Rattle.pgs_command.specs.declared.commands.PortalCommand.{PortalCommand}
-use Rattle.session_rules.specs.Works.{portal_row}
-use Rattle.session_store.specs.State.{portals_of}
-use Rattle.session_commands.proofs.Commands.{as_row}
+use Rattle.portal_commands.proofs.Words.{PortalCommand, portal_row, portals_of, as_row}
 use Rattle.portal_commands.proofs.works.work_on_portals.Goals as goal
 
 pub returns-in-Open : goal.returns-in-Open

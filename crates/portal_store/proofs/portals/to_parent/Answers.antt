@@ -1,6 +1,5 @@
-use Rattle.std.proofs.Common.{◌∙◌, ap, sym, slice_set}
-use Rattle.std.proofs.lemmas.List.Edits.{map_over_more}
-use Rattle.portal_store.specs.Portal.{to_parent}
+use Rattle.portal_store.proofs.Base.{◌∙◌, ap, sym, slice_set, map_over_more}
+use Rattle.portal_store.proofs.Words.{to_parent}
 use Rattle.portal_store.proofs.portals.to_parent.Goals as goal
 
 pub loop-portal-preserved : goal.loop-portal-preserved

@@ -1,5 +1,5 @@
-use Rattle.std.proofs.Common.{◌≡◌, ◌++◌, map, take, drop}
-use Rattle.portal_store.specs.Portal.{to_parent}
+use Rattle.portal_store.proofs.Base.{◌≡◌, ◌++◌, map, take, drop}
+use Rattle.portal_store.proofs.Words.{to_parent}
 use Rattle.portal_store.proofs.portals.to_parent.Given as goal
 
 abbrev pub invariant-loop-portal : goal.invariant-loop-portal

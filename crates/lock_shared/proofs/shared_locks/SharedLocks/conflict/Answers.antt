@@ -1,9 +1,6 @@
-use Rattle.std.proofs.Common.{List, subst}
-use Rattle.lock_shared.specs.Blocking.{IsLeastOf}
-use Rattle.lock_shared.specs.Objects.{held_on}
-use Rattle.lock_shared.specs.declared.shared_locks.Holding.{Holding}
-use Rattle.lock_shared.proofs.ObjectLemmas.{none_found, free_found, conflict_found}
-use Rattle.lock_shared.proofs.BesideLemmas.{found_is_beside}
+use Rattle.lock_shared.proofs.Base.{List, subst}
+use Rattle.lock_shared.proofs.Words.{IsLeastOf, held_on, Holding}
+use Rattle.lock_shared.proofs.Lemmas.{none_found, free_found, conflict_found, found_is_beside}
 use Rattle.lock_shared.proofs.shared_locks.SharedLocks.conflict.Goals as goal
 
 pub returns : goal.returns

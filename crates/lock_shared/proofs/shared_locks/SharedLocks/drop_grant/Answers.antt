@@ -1,4 +1,4 @@
-use Rattle.lock_shared.proofs.ObjectLemmas.{sets_struck}
+use Rattle.lock_shared.proofs.Lemmas.{sets_struck}
 use Rattle.lock_shared.proofs.shared_locks.SharedLocks.drop_grant.Goals as goal
 
 pub returns : goal.returns

@@ -1,6 +1,6 @@
-use Rattle.std.proofs.Common.{ap, sym, ◌∙◌}
-use Rattle.lock_shared.specs.Objects.{holdings_of}
-use Rattle.lock_shared.proofs.ObjectLemmas.{are_once, held_there, sets_put, OnOk-map}
+use Rattle.lock_shared.proofs.Base.{ap, sym, ◌∙◌}
+use Rattle.lock_shared.proofs.Words.{holdings_of}
+use Rattle.lock_shared.proofs.Lemmas.{are_once, held_there, sets_put, OnOk-map}
 use Rattle.lock_shared.proofs.shared_locks.SharedLocks.grant.Goals as goal
 
 pub returns-clause-ok : goal.returns-clause-ok

@@ -1,8 +1,6 @@
-use Rattle.std.proofs.Common.{List, ℕ, slice_index_or, ap, ◌∙◌, arith}
-use Rattle.std.specs.Prelude.{is_some, IsSome}
-use Rattle.std.specs.HashMap.{get}
-use Rattle.portal_store.specs.Kept.{same}
-use Rattle.portal_store.proofs.KeptLemmas.{all_names}
+use Rattle.portal_store.proofs.Base.{List, ℕ, slice_index_or, ap, ◌∙◌, arith, is_some, IsSome, get}
+use Rattle.portal_store.proofs.Words.{same}
+use Rattle.portal_store.proofs.Lemmas.{all_names}
 use Rattle.portal_store.proofs.places.Places.begin.Goals as goal
 
 pub returns-clause-names : goal.returns-clause-names

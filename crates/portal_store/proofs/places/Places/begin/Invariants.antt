@@ -1,8 +1,5 @@
-use Rattle.std.proofs.Common.{◌≡◌, ℕ, ◌<◌, ◌≤◌, false, length, slice_index_or}
-use Rattle.std.specs.Prelude.{IsSome}
-use Rattle.std.specs.HashMap.{get}
-use Rattle.portal_store.specs.declared.portal.Portal.{Portal}
-use Rattle.portal_store.specs.Kept.{same}
+use Rattle.portal_store.proofs.Base.{◌≡◌, ℕ, ◌<◌, ◌≤◌, false, length, slice_index_or, IsSome, get}
+use Rattle.portal_store.proofs.Words.{Portal, same}
 use Rattle.portal_store.proofs.places.Places.begin.Given as goal
 
 abbrev pub invariant-loop-left : goal.invariant-loop-left

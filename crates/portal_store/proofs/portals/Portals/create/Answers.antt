@@ -1,9 +1,6 @@
-use Rattle.std.proofs.Common.{List, ap, refl, sym, subst, ◌∙◌}
-use Rattle.std.specs.Prelude.{is_some, not}
-use Rattle.portal_store.specs.declared.portal.Portal.{Portal}
-use Rattle.portal_store.specs.Kept.{IsKept, knows}
-use Rattle.portal_store.specs.Portals.{new_portal, portal_named}
-use Rattle.portal_store.proofs.KeptLemmas.{IsKept_created, IsKept_same, in_front, not_in_front}
+use Rattle.portal_store.proofs.Base.{List, ap, refl, sym, subst, ◌∙◌, is_some, not}
+use Rattle.portal_store.proofs.Words.{Portal, IsKept, knows, new_portal, portal_named}
+use Rattle.portal_store.proofs.Lemmas.{IsKept_created, IsKept_same, in_front, not_in_front}
 use Rattle.portal_store.proofs.portals.Portals.create.Goals as goal
 
 pub invariant_of-self : goal.invariant_of-self

@@ -1,7 +1,6 @@
-use Rattle.std.proofs.Common.{sym, ap, ◌∙◌}
-use Rattle.portal_store.specs.Kept.{knows}
-use Rattle.portal_store.specs.Portals.{place_named}
-use Rattle.portal_store.proofs.KeptLemmas.{place_unknown}
+use Rattle.portal_store.proofs.Base.{sym, ap, ◌∙◌}
+use Rattle.portal_store.proofs.Words.{knows, place_named}
+use Rattle.portal_store.proofs.Lemmas.{place_unknown}
 use Rattle.portal_store.proofs.portals.Portals.find.Goals as goal
 
 pub returns-in-None : goal.returns-in-None

@@ -1,5 +1,5 @@
-use Rattle.std.proofs.Common.{sym, ◌∙◌}
-use Rattle.portal_store.proofs.PortalLemmas.{named_by_place, named_nowhere}
+use Rattle.portal_store.proofs.Base.{sym, ◌∙◌}
+use Rattle.portal_store.proofs.Lemmas.{named_by_place, named_nowhere}
 use Rattle.portal_store.proofs.portals.Portals.get.Goals as goal
 
 pub returns-in-Some : goal.returns-in-Some

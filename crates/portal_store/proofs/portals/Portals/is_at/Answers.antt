@@ -1,6 +1,6 @@
-use Rattle.std.proofs.Common.{◌<◌, length, sym, ap, subst, ◌∙◌, refl}
-use Rattle.portal_store.specs.Portals.{place_named}
-use Rattle.portal_store.proofs.KeptLemmas.{place_here}
+use Rattle.portal_store.proofs.Base.{◌<◌, length, sym, ap, subst, ◌∙◌, refl}
+use Rattle.portal_store.proofs.Words.{place_named}
+use Rattle.portal_store.proofs.Lemmas.{place_here}
 use Rattle.portal_store.proofs.portals.Portals.is_at.Goals as goal
 
 pub returns-in-Some : goal.returns-in-Some

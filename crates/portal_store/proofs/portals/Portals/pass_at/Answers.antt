@@ -1,8 +1,6 @@
-use Rattle.std.proofs.Common.{ap}
-use Rattle.portal_store.specs.declared.portal.Portal.{Portal}
-use Rattle.portal_store.specs.Kept.{knows}
-use Rattle.portal_store.proofs.PortalLemmas.{passed_at}
-use Rattle.portal_store.proofs.KeptLemmas.{IsKept_set}
+use Rattle.portal_store.proofs.Base.{ap}
+use Rattle.portal_store.proofs.Words.{Portal, knows}
+use Rattle.portal_store.proofs.Lemmas.{passed_at, IsKept_set}
 use Rattle.portal_store.proofs.portals.Portals.pass_at.Goals as goal
 
 pub invariant_of-self : goal.invariant_of-self

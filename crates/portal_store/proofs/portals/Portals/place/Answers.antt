@@ -1,5 +1,5 @@
-use Rattle.std.proofs.Common.{sym, ◌∙◌}
-use Rattle.portal_store.proofs.PortalLemmas.{not_nowhere}
+use Rattle.portal_store.proofs.Base.{sym, ◌∙◌}
+use Rattle.portal_store.proofs.Lemmas.{not_nowhere}
 use Rattle.portal_store.proofs.portals.Portals.place.Goals as goal
 
 pub unreachable-requires : goal.unreachable-requires

@@ -1,9 +1,6 @@
-use Rattle.std.proofs.Common.{ap, sym, ◌∙◌}
-use Rattle.portal_store.specs.declared.portal.Portal.{Portal}
-use Rattle.portal_store.specs.Kept.{knows}
-use Rattle.portal_store.specs.Portals.{place_named}
-use Rattle.portal_store.proofs.PortalLemmas.{changed_at, name_at, place_within}
-use Rattle.portal_store.proofs.KeptLemmas.{IsKept_raised}
+use Rattle.portal_store.proofs.Base.{ap, sym, ◌∙◌}
+use Rattle.portal_store.proofs.Words.{Portal, knows, place_named}
+use Rattle.portal_store.proofs.Lemmas.{changed_at, name_at, place_within, IsKept_raised}
 use Rattle.portal_store.proofs.portals.Portals.put.Goals as goal
 
 pub invariant_of-self : goal.invariant_of-self

@@ -1,8 +1,6 @@
-use Rattle.std.proofs.Common.{refl, arith}
-use Rattle.portal_store.specs.declared.portal.Portal.{Portal}
-use Rattle.portal_store.specs.Kept.{knows}
-use Rattle.portal_store.proofs.PortalLemmas.{changed_at}
-use Rattle.portal_store.proofs.KeptLemmas.{IsKept_set}
+use Rattle.portal_store.proofs.Base.{refl, arith}
+use Rattle.portal_store.proofs.Words.{Portal, knows}
+use Rattle.portal_store.proofs.Lemmas.{changed_at, IsKept_set}
 use Rattle.portal_store.proofs.portals.Portals.set_state.Goals as goal
 
 pub invariant_of-self : goal.invariant_of-self

@@ -1,10 +1,6 @@
-use Rattle.std.proofs.Common.{◌≡◌, ◌∷◌, ap, ◌∙◌, slice_set, arith}
-use Rattle.exec_core.specs.Turn.{IsScan, rest, taken}
-use Rattle.portal_store.specs.declared.portal.Portal.{Portal}
-use Rattle.portal_store.specs.Portal.{coming}
-use Rattle.portal_store.specs.Kept.{knows}
-use Rattle.portal_store.proofs.PortalLemmas.{asked_there, changed_at, told_there}
-use Rattle.portal_store.proofs.KeptLemmas.{IsKept_set}
+use Rattle.portal_store.proofs.Base.{◌≡◌, ◌∷◌, ap, ◌∙◌, slice_set, arith}
+use Rattle.portal_store.proofs.Words.{IsScan, rest, taken, Portal, coming, knows}
+use Rattle.portal_store.proofs.Lemmas.{asked_there, changed_at, told_there, IsKept_set}
 use Rattle.portal_store.proofs.portals.Portals.step_at.Goals as goal
 
 pub step-requires : goal.step-requires

@@ -1,9 +1,6 @@
-use Rattle.std.proofs.Common.{◌≡◌, ◌<◌, Some, sym, subst, ◌∙◌}
-use Rattle.std.specs.Prelude.{IsSome}
-use Rattle.portal_store.specs.Kept.{knows}
-use Rattle.portal_store.specs.Portals.{place_named}
-use Rattle.portal_store.proofs.PortalLemmas.{named_nowhere, place_within, without_nowhere}
-use Rattle.portal_store.proofs.KeptLemmas.{IsKept_taken, taken_out}
+use Rattle.portal_store.proofs.Base.{◌≡◌, ◌<◌, Some, sym, subst, ◌∙◌, IsSome}
+use Rattle.portal_store.proofs.Words.{knows, place_named}
+use Rattle.portal_store.proofs.Lemmas.{named_nowhere, place_within, without_nowhere, IsKept_taken, taken_out}
 use Rattle.portal_store.proofs.portals.Portals.take_out.Goals as goal
 
 some : (c : goal.After-remove_at) → IsSome c.remove_at.result

@@ -1,9 +1,6 @@
-use Rattle.std.proofs.Common.{◌≡◌, List, length, map, sym, subst, ap, ◌∙◌}
-use Rattle.std.proofs.lemmas.List.{length-map}
-use Rattle.portal_store.specs.declared.portal.Portal.{Portal}
-use Rattle.portal_store.specs.Kept.{IsKept, knows}
-use Rattle.portal_store.specs.Portal.{to_parent}
-use Rattle.portal_store.proofs.KeptLemmas.{IsKept_to_parent}
+use Rattle.portal_store.proofs.Base.{◌≡◌, List, length, map, sym, subst, ap, ◌∙◌, length-map}
+use Rattle.portal_store.proofs.Words.{Portal, IsKept, knows, to_parent}
+use Rattle.portal_store.proofs.Lemmas.{IsKept_to_parent}
 use Rattle.portal_store.proofs.portals.Portals.to_parent.Goals as goal
 
 pub invariant_of-self : goal.invariant_of-self

@@ -1,6 +1,6 @@
-use Rattle.std.proofs.Common.{◌<◌, List, All, drop, subst}
-use Rattle.portal_store.specs.declared.portal.Portal.{Portal}
-use Rattle.portal_store.proofs.ReachLemmas.{all_below}
+use Rattle.portal_store.proofs.Base.{◌<◌, List, All, drop, subst}
+use Rattle.portal_store.proofs.Words.{Portal}
+use Rattle.portal_store.proofs.Lemmas.{all_below}
 use Rattle.portal_store.proofs.portals.Portals.touched.Goals as goal
 
 pub returns-clause-others : goal.returns-clause-others

@@ -1,4 +1,4 @@
-use Rattle.std.proofs.Common.{◌≡◌, ℕ, ◌+◌, ◌<◌, ◌≤◌, length, slice_index_or}
+use Rattle.portal_store.proofs.Base.{◌≡◌, ℕ, ◌+◌, ◌<◌, ◌≤◌, length, slice_index_or}
 use Rattle.portal_store.proofs.reach.Reach.raise.Given as goal
 
 abbrev pub invariant-loop-left : goal.invariant-loop-left

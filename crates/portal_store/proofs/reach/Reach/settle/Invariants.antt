@@ -1,6 +1,5 @@
-use Rattle.std.proofs.Common.{◌≡◌, ℕ, ◌<◌, ◌≤◌, length, slice_index_or}
-use Rattle.portal_store.specs.declared.portal.Portal.{Portal}
-use Rattle.portal_store.specs.Kept.{FallFrom, IsAtMost}
+use Rattle.portal_store.proofs.Base.{◌≡◌, ℕ, ◌<◌, ◌≤◌, length, slice_index_or}
+use Rattle.portal_store.proofs.Words.{Portal, FallFrom, IsAtMost}
 use Rattle.portal_store.proofs.reach.Reach.settle.Given as goal
 
 abbrev pub invariant-loop-left : goal.invariant-loop-left

@@ -1,4 +1,4 @@
-use Rattle.std.proofs.Common.{◌≤◌, ◌-◌, length}
+use Rattle.portal_store.proofs.Base.{◌≤◌, ◌-◌, length}
 use Rattle.portal_store.proofs.reach.Reach.touched.Given as goal
 
 abbrev pub invariant-loop-count : goal.invariant-loop-count
