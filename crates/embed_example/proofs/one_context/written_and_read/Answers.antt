@@ -21,6 +21,13 @@ moves : (c : After-echo) → Moves (footprint c.alloc.new.self) (footprint c.all
 moves c =
     c.framing.ensures.write (footprint c.alloc.new.self) c.alloc.new.space c.echo.new.space c.in_ok-at.at c.in_ok-at.at (length c.args.bytes.now) c.args.bytes.now c.alloc.ensures.moves.agrees (writes c)
 
+-- the chunk is live, so its bytes are inside the space
+pub echo-requires-clause-inside : goal.echo-requires-clause-inside
+echo-requires-clause-inside c =
+    let puts = c.in_ok-at.ensures.live c.in_ok-at.at in
+    c.framing.ensures.inside (footprint c.alloc.new.self) c.alloc.new.space c.in_ok-at.at c.in_ok-at.at (length c.args.bytes.now) (length c.args.bytes.now) c.alloc.ensures.moves.agrees
+    (grind (arith, nat_tests)) refl (omega arith)
+
 pub free-requires-clause-agrees : goal.free-requires-clause-agrees
 free-requires-clause-agrees c = (moves (goal.at.free-requires-clause-agrees c).After-echo).agrees
 
