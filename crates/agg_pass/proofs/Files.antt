@@ -1,5 +1,5 @@
 -- Lemmas on the files that a call leaves.
-use Rattle.std.proofs.Common.{◌≡◌, ◌≢◌, ◌↔◌, ℕ, List, [], Option, Some, None, sym, ap, ◌∙◌}
+use Rattle.std.proofs.Common.{◌≡◌, ◌≢◌, ℕ, List, Option, Some, None, sym, ap, ◌∙◌}
 use Rattle.temp_store.specs.Temp.{Temp, Changes, file_at}
 use Rattle.agg_pass.specs.Spilled.{IsOf, KeepsFiles}
 

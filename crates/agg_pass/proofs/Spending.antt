@@ -1,23 +1,22 @@
 -- What a pass spends of its account and of the store, row by row.
-use Rattle.std.proofs.Common.{◌≡◌, ℕ, ◌+◌, ◌-◌, ◌*◌, ◌^◌, ◌<◌, ◌≤◌, Bool, true, false, cond, nat_eq, nat_lt, min, List, [], ◌∷◌, ◌++◌, length, Option, Result, Ok, Err, OnOk, OnErr, refl, sym, ap, ◌∙◌, subst, arith, zero, suc}
+use Rattle.std.proofs.Common.{◌≡◌, ℕ, ◌+◌, ◌-◌, ◌<◌, ◌≤◌, Bool, true, false, cond, nat_eq, nat_lt, List, [], ◌∷◌, ◌++◌, length, Result, Ok, Err, OnOk, OnErr, refl, sym, ap, ◌∙◌, subst, arith, zero, suc}
 use Rattle.std.specs.List.{list_any}
 use Rattle.std.proofs.lemmas.Bool.{lt-ltb, le-ltb, le-leb}
 use Rattle.std.proofs.lemmas.Bool.Decides.{nat_tests}
 use Rattle.addr_space.specs.Space.{Space, Asks, held, raised, risen}
 use Rattle.addr_space.specs.Footprint.{Moves, counted}
 use Rattle.addr_space.proofs.Asked.{Asks-more}
-use Rattle.bump_ctx.specs.Ledger.{BumpLedger, take, reset}
+use Rattle.bump_ctx.specs.Ledger.{BumpLedger, reset}
 use Rattle.bump_ctx.specs.State.{BumpState, footprint as footprint_of}
 use Rattle.temp_store.specs.Temp.{Temp, held as stored, risen as risen_by}
 use Rattle.agg_rules.specs.declared.Row.{Row}
-use Rattle.agg_rules.specs.declared.NodeError.{NodeError}
 use Rattle.agg_rules.specs.declared.NodeError.TheVariants.{Full}
 use Rattle.agg_rules.specs.Passes.{kept_groups}
-use Rattle.agg_rules.specs.Steps.{Pass, holds_more, spills_more, meets}
+use Rattle.agg_rules.specs.Steps.{Pass, holds_more, meets}
 use Rattle.agg_rules.proofs.More.{kept_groups-more}
 use Rattle.held_groups.specs.Held.{Held, footprint, Grows}
 use Rattle.agg_pass.specs.PassState.{PassState, Spends, way_of, anew}
-use Rattle.agg_pass.proofs.Going.{meets-there, meets-new, meets-over}
+use Rattle.agg_pass.proofs.Going.{meets-new, meets-over}
 
 -- a place on the way, from its four parts
 pub same_way : (a b : Pass) → a.kept ≡ b.kept → a.ledger ≡ b.ledger → a.left ≡ b.left → a.room ≡ b.room → a ≡ b

@@ -1,10 +1,9 @@
-use Rattle.std.proofs.Common.{◌≡◌, ◌<◌, ◌≤◌, Bool, true, false, nat_eq, length, refl, sym, ap, ◌∙◌, Ok, subst, arith}
+use Rattle.std.proofs.Common.{◌≡◌, ◌<◌, ◌≤◌, true, false, nat_eq, length, refl, sym, ap, ◌∙◌, Ok, subst, arith}
 use Rattle.std.specs.List.{list_any}
 use Rattle.addr_space.specs.Space.{Space}
 use Rattle.agg_rules.specs.Passes.{kept_groups}
 use Rattle.agg_pass.specs.PassState.{PassState, way_of}
 use Rattle.agg_pass.proofs.Going.{meets-there}
-use Rattle.agg_pass.proofs.Files.{KeepsFiles-same}
 use Rattle.agg_pass.proofs.Spending.{on_ok_both, on_ok_three, on_ok_four, on_err_both, on_err_three, either_way, Spends-none, Spends-held, Spends-spilled, way-joined, way-held, way-spilled, way-refused}
 use Rattle.held_groups.specs.Held.{HasTotals}
 use Rattle.agg_pass.proofs.pass.AggPass.meet.Goals as goal
