@@ -1,7 +1,8 @@
 -- What a contract sees of a pass of an aggregate.
-use Rattle.std.specs.Prelude.{◌≡◌, ℕ, ◌-◌, ◌≤◌, nat_eq, List, [], length, filter, Option, Some, None}
+use Rattle.std.specs.Prelude.{◌≡◌, ℕ, ◌+◌, ◌-◌, ◌≤◌, nat_eq, List, [], length, filter, Option, Some, None}
 use Rattle.std.specs.List.{list_any}
-use Rattle.addr_space.specs.Space.{Space, held}
+use Rattle.addr_space.specs.Space.{Space, held, Asks, risen}
+use Rattle.bump_ctx.specs.Ledger.{reset}
 use Rattle.temp_store.specs.Temp.{Temp, held as stored}
 use Rattle.agg_rules.specs.declared.Row.{Row}
 use Rattle.agg_rules.specs.Passes.{kept_groups, spilled_rows}
@@ -40,3 +41,20 @@ way_of p s temp = record {
   left = s.limit - held s p.groups.state.layout.account;
   room = temp.limit - stored temp;
 }
+
+-- where it is once its context was reset
+abbrev pub anew : PassState → Space → Temp → Pass
+anew p s temp = record {
+  kept = [];
+  ledger = reset p.groups.state.ledger;
+  left = s.limit - (held s p.groups.state.layout.account + (reset p.groups.state.ledger).total - p.groups.state.ledger.total);
+  room = temp.limit - stored temp;
+}
+
+-- a pass went on its way from one place to another: its account took what it lost of the bytes that were left, and what
+-- it lost of the store's room was written
+pub record Spends (account : ℕ) (before after : Pass) (s t : Space) (temp temps : Temp) : Type 0 where
+  pub less : after.left ≤ before.left
+  pub fewer : after.room ≤ before.room
+  pub asked : Asks account (before.left - after.left) s t
+  pub written : temps.written ≡ risen temp.written (before.room - after.room)

@@ -1,5 +1,5 @@
 -- The rows of a pass that lie in its file.
-use Rattle.std.specs.Prelude.{◌≡◌, ◌≢◌, ℕ, List, [], Option, Some, None}
+use Rattle.std.specs.Prelude.{◌≡◌, ◌↔◌, ℕ, List, [], Option, Some, None}
 use Rattle.temp_store.specs.Temp.{Temp, file_at}
 use Rattle.agg_rules.specs.declared.Row.{Row}
 use Rattle.row_files.specs.RowBytes.{HasRows}
@@ -9,6 +9,11 @@ pub record Spilled (temp : Temp) (file : Option ℕ) (rows : List Row) : Type 0 
   pub rows_in_file : (number : ℕ) → file ≡ Some number → HasRows temp number rows
   pub none : file ≡ None → rows ≡ []
 
--- every other file is as it was, and none of them is the file that there is now
-abbrev pub SparesOthers : Temp → Option ℕ → Temp → Option ℕ → Type 0
-SparesOthers s was t now = (other : ℕ) (bytes : List ℕ) → file_at s other ≡ Some bytes → was ≢ Some other → (file_at t other ≡ Some bytes) × (now ≢ Some other)
+-- a file is the one that there is
+abbrev pub IsOf : Option ℕ → ℕ → Type 0
+IsOf file number = file ≡ Some number
+
+-- a store went from one value to another, and what is a node's own in it from some files to others: every other file is
+-- as it was, and there is no other one
+abbrev pub KeepsFiles : (ℕ → Type 0) → Temp → (ℕ → Type 0) → Temp → Type 0
+KeepsFiles own s owns t = (number : ℕ) (bytes : List ℕ) → ((file_at s number ≡ Some bytes) × (own number → ⊥)) ↔ ((file_at t number ≡ Some bytes) × (owns number → ⊥))

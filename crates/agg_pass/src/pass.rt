@@ -1,9 +1,9 @@
 //! A pass.
-ghost use Rattle.std.specs.Prelude.{◌≡◌, ◌+◌, ◌-◌, ◌<◌, ◌≤◌, ◌↔◌, ◌⊎◌, [], ◌∷◌, ◌++◌, length, true, false, nat_eq, IsOk, IfOk, IfErr, OnOk, OnErr, Ok, Err, Some, None, slice_get};
-ghost use Rattle.addr_space.specs.Space.{accounts, held, Asks};
-ghost use Rattle.addr_space.specs.Footprint.{nothing, Agrees, Moves};
+ghost use Rattle.std.specs.Prelude.{◌≡◌, ◌+◌, ◌-◌, ◌<◌, ◌≤◌, ◌↔◌, ◌⊎◌, [], ◌∷◌, ◌++◌, length, true, false, nat_eq, IfOk, IfErr, OnOk, OnErr, Ok, Err, Some, None, slice_get};
+ghost use Rattle.addr_space.specs.Space.{Space, accounts, held, Asks};
+ghost use Rattle.addr_space.specs.Footprint.{nothing, Agrees, Moves, Keeps};
 ghost use Rattle.bump_ctx.specs.Ledger.{created, reset, take};
-ghost use Rattle.temp_store.specs.Temp.{Temp, held as stored};
+ghost use Rattle.temp_store.specs.Temp.{Temp, held as stored, risen};
 ghost use Rattle.std.specs.List.{list_any};
 ghost use Rattle.agg_rules.specs.declared.TheConstants.{GROUP_BYTES, ROW_BYTES};
 ghost use Rattle.chunk_header.specs.declared.CtxError.{CtxError};
@@ -12,8 +12,8 @@ ghost use Rattle.agg_rules.specs.Passes.{kept_groups, pass_results};
 ghost use Rattle.agg_rules.specs.Steps.{meets};
 ghost use Rattle.held_groups.specs.declared.held.TheConstants.{FIRST_BLOCK};
 ghost use Rattle.held_groups.specs.Held.{footprint, HasTotals, Grows};
-ghost use Rattle.agg_pass.specs.PassState.{HasSpilled, way_of};
-ghost use Rattle.agg_pass.specs.Spilled.{SparesOthers};
+ghost use Rattle.agg_pass.specs.PassState.{HasSpilled, Spends, way_of, anew};
+ghost use Rattle.agg_pass.specs.Spilled.{IsOf, KeepsFiles};
 
 use crate::spilling::{of_context, spill_row};
 use addr_space::Space;
@@ -105,6 +105,13 @@ impl AggPass {
         self.groups.result_at(space, place)
     }
 
+    /// The totals stay where nothing but other contexts changed. A caller cites the clause.
+    pub fn kept(&self)
+        ensures { (s t : Space) → Keeps (footprint self.now.groups) (footprint self.now.groups) s t → HasTotals self.now.groups s → HasTotals self.now.groups t }
+    {
+        self.groups.kept();
+    }
+
     /// The file of the rows that were spilled, if there is one.
     pub fn file(&self) -> Option<u32>
         ensures { result ≡ self.now.file }
@@ -119,6 +126,8 @@ impl AggPass {
         requires few { length self.old.rows < MOST_ROWS }
         requires there { list_any (nat_eq row.group) (kept_groups self.old.budget self.old.rows) ≡ true }
         ensures rows { self.new.rows ≡ self.old.rows ++ row ∷ [] }
+        ensures state { self.new.groups.state ≡ self.old.groups.state }
+        ensures taken { space.new.taken ≡ space.old.taken }
         ensures budget { self.new.budget ≡ self.old.budget }
         ensures file { self.new.file ≡ self.old.file }
         ensures totals { HasTotals self.new.groups space.new }
@@ -166,11 +175,14 @@ impl AggPass {
         ensures budget { self.new.budget ≡ self.old.budget }
         ensures groups { self.new.groups ≡ self.old.groups }
         ensures spilled { HasSpilled self.new temp.new }
-        ensures others { SparesOthers temp.old self.old.file temp.new self.new.file }
+        ensures others { KeepsFiles (IsOf self.old.file) temp.old (IsOf self.new.file) temp.new }
         ensures room { OnOk result (stored temp.old + ROW_BYTES ≤ temp.old.limit) }
         ensures no_room { (result ≡ Err NodeError.Full) → temp.old.limit < stored temp.old + ROW_BYTES }
         ensures no_other { IfErr result (λ e. (e ≡ NodeError.Full) ⊎ (e ≡ NodeError.Memory)) }
         ensures held { OnOk result (stored temp.new ≡ stored temp.old + ROW_BYTES) }
+        ensures written { OnOk result (temp.new.written ≡ risen temp.old.written ROW_BYTES) }
+        ensures err_held { OnErr result (stored temp.new ≡ stored temp.old) }
+        ensures err_written { OnErr result (temp.new.written ≡ temp.old.written) }
         ensures limit { temp.new.limit ≡ temp.old.limit }
     {
         if let Err(refused) = spill_row(&mut self.file, temp, row) {
@@ -201,13 +213,17 @@ impl AggPass {
         ensures moves { Moves (footprint self.old.groups) (footprint self.new.groups) space.old space.new }
         ensures limit { temp.new.limit ≡ temp.old.limit }
 
-        // Every file but its own is as it was.
-        ensures others { SparesOthers temp.old self.old.file temp.new self.new.file }
+        // Every file but its own is as it was, and there is no other one.
+        ensures others { KeepsFiles (IsOf self.old.file) temp.old (IsOf self.new.file) temp.new }
 
-        // It isn't refused where the rules let it go on, and what refuses it is what they say, but for want of memory.
-        ensures went { OnOk result (IsOk (meets self.old.budget (way_of self.old space.old temp.old) row.group)) }
+        // It goes on as the rules say, and what refuses it is what they say, but for want of memory. Its account takes what
+        // the ledger asks, and the eight bytes of a spilled row are written.
+        ensures went { OnOk result (meets self.old.budget (way_of self.old space.old temp.old) row.group ≡ Ok (way_of self.new space.new temp.new)) }
         ensures refused { IfErr result (λ e. (e ≡ NodeError.Memory) ⊎ (meets self.old.budget (way_of self.old space.old temp.old) row.group ≡ Err e)) }
 
+        ensures spends { Spends self.old.groups.state.layout.account (way_of self.old space.old temp.old) (way_of self.new space.new temp.new) space.old space.new temp.old temp.new }
+
+        ensures err_way { OnErr result (way_of self.new space.new temp.new ≡ way_of self.old space.old temp.old) }
         ensures err_rows { OnErr result (self.new.rows ≡ self.old.rows) }
         ensures err_groups { OnErr result (self.new.groups ≡ self.old.groups) }
         ensures err_space { OnErr result (space.new ≡ space.old) }
@@ -248,6 +264,7 @@ impl AggPass {
         ensures file { self.new.file ≡ None }
         ensures budget { self.new.budget ≡ self.old.budget }
         ensures ledger { self.new.groups.state.ledger ≡ reset self.old.groups.state.ledger }
+        ensures way { (temp : Temp) → way_of self.new space.new temp ≡ anew self.old space.old temp }
         ensures totals { HasTotals self.new.groups space.new }
         ensures moves { Moves (footprint self.old.groups) (footprint self.new.groups) space.old space.new }
         ensures asked { Asks self.old.groups.state.layout.account 0 space.old space.new }

@@ -3,3 +3,4 @@ pub mod TotalLemmas
 pub mod Sums
 pub mod Chunks
 pub mod Joining
+pub mod Asked

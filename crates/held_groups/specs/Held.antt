@@ -1,8 +1,8 @@
 -- What a contract sees of the groups that a pass holds.
-use Rattle.std.specs.Prelude.{◌≡◌, ℕ, ◌^◌, ◌<◌, ◌≤◌, nat_eq, List, length, Some, All, Ok}
+use Rattle.std.specs.Prelude.{◌≡◌, ℕ, ◌+◌, ◌^◌, ◌<◌, ◌≤◌, nat_eq, List, length, Some, All, Ok}
 use Rattle.std.specs.Map.{lookup, keys_of}
 use Rattle.addr_space.specs.declared.Addr.{Addr}
-use Rattle.addr_space.specs.Space.{Space, HasBytes, Asks}
+use Rattle.addr_space.specs.Space.{Space, HasBytes, held, Asks}
 use Rattle.addr_space.specs.Footprint.{Footprint}
 use Rattle.bump_ctx.specs.State.{BumpState, footprint as footprint_of}
 use Rattle.bump_ctx.specs.Ledger.{BumpTaken, take}
@@ -40,9 +40,11 @@ pub record IsHeld (h : Held) : Type 0 where
   pub few : length h.rows ≤ MOST_ROWS
 
 -- the context's ledger gave a chunk for a group where so much was left of the account, and the account took what the
--- ledger asked
+-- ledger asked, and holds so much more
 pub record Grows (a b : BumpState) (left : ℕ) (s t : Space) : Type 0 where
   pub answer : BumpTaken
   pub is : take a.ledger left GROUP_BYTES ≡ Ok answer
   pub ledger : b.ledger ≡ answer.ledger
   pub asked : Asks a.layout.account answer.asked s t
+  pub within : answer.asked ≤ left
+  pub rose : held t a.layout.account ≡ held s a.layout.account + answer.asked

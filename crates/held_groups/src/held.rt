@@ -130,7 +130,9 @@ impl HeldGroups {
         let Ok(()) = self.places.reserve(1) else {
             return Err(CtxError::Memory);
         };
+        self.context.counted();
         let at = self.context.alloc(space, u64::from(GROUP_BYTES))?;
+        self.context.counted();
         put_total(space, at, (row.group, 1, u64::from(row.value)));
         note(&mut self.places, row.group, at);
         self.rows = more_rows(&self.rows, row);
@@ -164,8 +166,11 @@ impl HeldGroups {
         ensures totals { HasTotals self.new space.new }
         ensures moves { Moves (footprint self.old) (footprint self.new) space.old space.new }
         ensures asked { Asks self.old.state.layout.account 0 space.old space.new }
+        ensures held { held space.new self.old.state.layout.account + self.old.state.ledger.total ≡ held space.old self.old.state.layout.account + self.new.state.ledger.total }
     {
+        self.context.counted();
         self.context.reset(space);
+        self.context.counted();
         self.places.clear();
         self.rows = Told::none();
     }

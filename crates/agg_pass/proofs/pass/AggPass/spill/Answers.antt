@@ -2,6 +2,7 @@ use Rattle.std.proofs.Common.{◌≡◌, ◌<◌, ◌≤◌, nat_eq, false, leng
 use Rattle.std.specs.List.{list_any}
 use Rattle.agg_rules.specs.Passes.{kept_groups, spilled_rows}
 use Rattle.agg_pass.specs.PassState.{PassState, HasSpilled}
+use Rattle.agg_pass.specs.Spilled.{IsOf, KeepsFiles}
 use Rattle.agg_pass.proofs.Going.{in-over, IsPass-over, HasSpilled-over, Spilled-pass, IsPass-file}
 use Rattle.agg_pass.proofs.pass.AggPass.spill.Goals as goal
 
@@ -29,3 +30,11 @@ pub returns-clause-spilled : goal.returns-clause-spilled
 returns-clause-spilled c =
     let p : PassState = record { budget = c.self.inside.budget; rows = c.self.inside.rows.entries; file = c.self.inside.file; groups = c.self.inside.groups } in
     rw c.more_rows-self-inside.ensures (HasSpilled-over p c.args.row c.spill_row.new.file c.spill_row.new.temp (c.in_default.ensures.rows (spilled_rows p.budget p.rows) (Spilled-pass p c.args.temp.now c.self.invariant (subst (λ (p : PassState). HasSpilled p c.args.temp.now) (sym c.self.view_is) c.requires.spilled))) (in-over p.budget p.rows c.args.row (subst (λ (p : PassState). list_any (nat_eq c.args.row.group) (kept_groups p.budget p.rows) ≡ false) (sym c.self.view_is) c.requires.fresh) (subst (λ (p : PassState). p.budget ≤ length (kept_groups p.budget p.rows)) (sym c.self.view_is) c.requires.full)))
+
+pub returns-in-Err-clause-others : goal.returns-in-Err-clause-others
+returns-in-Err-clause-others c =
+    subst (λ (p : PassState). KeepsFiles (IsOf p.file) c.args.temp.now (IsOf c.spill_row.new.file) c.spill_row.new.temp) c.self.view_is c.spill_row.ensures.others
+
+pub returns-clause-others : goal.returns-clause-others
+returns-clause-others c =
+    subst (λ (p : PassState). KeepsFiles (IsOf p.file) c.args.temp.now (IsOf c.spill_row.new.file) c.spill_row.new.temp) c.self.view_is c.spill_row.ensures.others

@@ -1,13 +1,15 @@
-use Rattle.std.proofs.Common.{◌≡◌, ℕ, ◌<◌, ◌++◌, false, nat_eq, [], ◌∷◌, length, map, Some, sym, ap, ◌∙◌, subst, rules}
+use Rattle.std.proofs.Common.{◌≡◌, ℕ, ◌-◌, ◌<◌, ◌++◌, false, nat_eq, [], ◌∷◌, length, map, Some, Ok, sym, ap, ◌∙◌, subst, rules, arith}
 use Rattle.std.specs.List.{list_any}
-use Rattle.addr_space.specs.Space.{Changes, region_at, overwritten}
+use Rattle.addr_space.specs.Space.{Changes, region_at, overwritten, held}
 use Rattle.addr_space.specs.Footprint.{Moves}
 use Rattle.addr_space.specs.Live.{PutsLive}
 use Rattle.addr_space.proofs.Steps.{Moves-more}
 use Rattle.bump_ctx.specs.State.{footprint as footprint_of}
 use Rattle.agg_rules.specs.Rows.{groups_of, result_of}
 use Rattle.held_groups.specs.Totals.{total_bytes}
-use Rattle.held_groups.specs.Held.{Held, footprint, HasTotals, IsRow}
+use Rattle.bump_ctx.specs.Ledger.{take}
+use Rattle.held_groups.specs.Held.{Held, footprint, HasTotals, IsRow, Grows}
+use Rattle.held_groups.proofs.Asked.{asked_of, held_by, total_of}
 use Rattle.held_groups.proofs.TotalLemmas.{length-total_bytes}
 use Rattle.held_groups.proofs.Sums.{result_of-first}
 use Rattle.held_groups.proofs.Chunks.{Moves-chunk}
@@ -58,3 +60,24 @@ returns-clause-moves c =
     subst (λ (x : Held). Moves (footprint x) (footprint_of c.alloc.new.self) c.args.space.now t) c.self.view_is
     (Moves-more (footprint h) (footprint_of c.alloc.new.self) (footprint_of c.alloc.new.self) c.args.space.now m t moves
     (Moves-chunk (footprint_of c.alloc.new.self) m t at (total_bytes total) moves.agrees live (length-total_bytes total) c.put_total.ensures.changes))
+
+pub returns-clause-grows : goal.returns-clause-grows
+returns-clause-grows c =
+    let old = c.self.inside.context in
+    let new = c.alloc.new.self in
+    let s = c.args.space.now in
+    let t = c.put_total.new.space in
+    let left = s.limit - held s old.layout.account in
+    let taken = c.in_ok-at.ensures.taken in
+    let is : take old.ledger left 24 ≡ Ok taken.answer = subst (λ n. take old.ledger left n ≡ Ok taken.answer) c.from.ensures taken.is in
+    let asked = asked_of old.ledger left taken.answer is in
+    let moves = subst (λ (x : Held). Moves (footprint x) (footprint_of new) s t) (sym c.self.view_is) (returns-clause-moves c) in
+    let grows : Grows old new left s t = record {
+      answer = taken.answer;
+      is = is;
+      ledger = taken.ledger;
+      asked = c.put_total.ensures.taken ∙ taken.asked;
+      within = asked.0;
+      rose = omega (arith, held_by (footprint_of old) (footprint_of new) s t moves, c.counted.ensures ∙ total_of old.ledger, c.counted-2.ensures ∙ total_of new.ledger, asked.1, ap (λ l. l.total) taken.ledger);
+    } in
+    subst (λ (h : Held). Grows h.state new (s.limit - held s h.state.layout.account) s t) c.self.view_is grows
