@@ -8,7 +8,7 @@ ghost use Rattle.std.specs.List.{list_any};
 ghost use Rattle.agg_rules.specs.declared.TheConstants.{GROUP_BYTES, ROW_BYTES};
 ghost use Rattle.chunk_header.specs.declared.CtxError.{CtxError};
 ghost use Rattle.chunk_header.specs.declared.TheConstants.{LARGEST_BLOCK};
-ghost use Rattle.agg_rules.specs.Passes.{kept_groups, pass_results};
+ghost use Rattle.agg_rules.specs.Passes.{kept_groups, pass_results, spilled_rows};
 ghost use Rattle.agg_rules.specs.Steps.{meets};
 ghost use Rattle.held_groups.specs.declared.held.TheConstants.{FIRST_BLOCK};
 ghost use Rattle.held_groups.specs.Held.{footprint, HasTotals, Grows};
@@ -112,9 +112,10 @@ impl AggPass {
         self.groups.kept();
     }
 
-    /// The file of the rows that were spilled, if there is one.
+    /// The file of the rows that were spilled, if there is one. Where there is none, no row was spilled.
     pub fn file(&self) -> Option<u32>
-        ensures { result ≡ self.now.file }
+        ensures file { result ≡ self.now.file }
+        ensures none { result ≡ None → spilled_rows self.now.budget self.now.rows ≡ [] }
     {
         self.file
     }

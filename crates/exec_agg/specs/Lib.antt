@@ -1,0 +1,2 @@
+-- What contracts cite of a node of an aggregate.
+pub mod Nodes
