@@ -1,12 +1,5 @@
 -- The address of each live chunk is a multiple of 8.
-use Rattle.std.proofs.Common.{◌≡◌, ℕ, ◌%◌, Some, arith}
-use Rattle.addr_space.specs.declared.Addr.{Addr}
-use Rattle.addr_space.specs.Live.{PutsLive, MovesLive}
-use Rattle.addr_space.proofs.Addresses.{same_addr-cases}
-use Rattle.addr_space.proofs.Options.{from_then}
-use Rattle.alloc_set.specs.State.{SetState, chunk_at, footprint, live_size}
-use Rattle.alloc_set.specs.Kept.{IsSettled}
-use Rattle.std.proofs.lemmas.Bool.Decides.{nat_tests}
+use Rattle.alloc_set.proofs.Base.{Addr, arith, chunk_at, footprint, from_then, IsSettled, live_size, MovesLive, nat_tests, PutsLive, same_addr-cases, SetState, Some, ℕ, ◌%◌, ◌≡◌}
 
 module _ (s : SetState) (active bytes : ℕ) (settled : IsSettled s active bytes) where
   pub live_whole : (at : Addr) (size : ℕ) → (footprint s).live at ≡ Some size → at.offset % 8 ≡ 0

@@ -1,19 +1,6 @@
 -- Lemmas on a step that puts one chunk at most, and gives other lengths to no regions but fresh ones.
-use Rattle.std.proofs.Common.{◌≡◌, ◌≢◌, ℕ, ◌+◌, ◌-◌, ◌^◌, ◌<◌, ◌≤◌, ◌⊎◌, List, Option, Some, None, IfSome, refl, sym, ap, ◌∙◌, arith, inl, inr}
-use Rattle.std.proofs.lemmas.Bool.{cases_eq}
-use Rattle.addr_space.specs.declared.Addr.{Addr}
-use Rattle.addr_space.specs.Space.{Space}
-use Rattle.addr_space.specs.Footprint.{IsSound, Agrees, Moves}
-use Rattle.addr_space.proofs.Addresses.{put_at-cases}
-use Rattle.addr_space.proofs.Steps.{Moves-still}
-use Rattle.chunk_header.specs.Header.{header_bytes, block_bytes}
-use Rattle.alloc_set.specs.State.{SetState, chunk_at, region_of, start_of, capacity_of, header_of, link_of, mark_of, footprint}
-use Rattle.alloc_set.specs.Kept.{IsSettled, IsPlaced, IsAlone}
-use Rattle.alloc_set.specs.Steps.{PutsChunk, SameBlocks}
-use Rattle.alloc_set.specs.declared.chunk.Chunk.{Chunk}
-use Rattle.alloc_set.specs.declared.chunk.Chunk.TheVariants.{Live, Free, Own}
+use Rattle.alloc_set.proofs.Base.{Addr, Agrees, ap, arith, block_bytes, capacity_of, cases_eq, Chunk, chunk_at, footprint, Free, header_bytes, header_of, IfSome, inl, inr, IsAlone, IsPlaced, IsSettled, IsSound, link_of, List, Live, mark_of, Moves, Moves-still, nat_tests, None, Option, Own, put_at-cases, PutsChunk, refl, region_of, SameBlocks, SetState, Some, Space, start_of, sym, ℕ, ◌+◌, ◌-◌, ◌<◌, ◌^◌, ◌∙◌, ◌≡◌, ◌≢◌, ◌≤◌, ◌⊎◌}
 use Rattle.alloc_set.proofs.Settled.{block, header, link, behind, mark_cases, mark_from_block, mark_from_chunk, mark_from_link}
-use Rattle.std.proofs.lemmas.Bool.Decides.{nat_tests}
 
 -- what stands at an address after one chunk was put
 pub put_cases : (s t : SetState) (at : Addr) (chunk : Option Chunk) → PutsChunk s t at chunk → (other : Addr) → ((other ≡ at) × (chunk_at t other ≡ chunk)) ⊎ ((other ≢ at) × (chunk_at t other ≡ chunk_at s other))

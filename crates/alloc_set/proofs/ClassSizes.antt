@@ -1,12 +1,5 @@
 -- Lemmas on the classes of chunks.
-use Rattle.std.proofs.Common.{◌≡◌, ℕ, zero, suc, ◌-◌, ◌/◌, ◌^◌, ◌<◌, ◌≤◌, refl, sym, ap, ◌∙◌, arith, inl, inr}
-use Rattle.std.proofs.Math.Nat.{pow-succ'}
-use Rattle.std.proofs.Math.Pow.{pow_mono}
-use Rattle.std.proofs.lemmas.Nat.{leading_top}
-use Rattle.std.specs.Int.Count.{count_leading_zeros}
-use Rattle.std.proofs.lemmas.Bool.{cases_lt}
-use Rattle.std.proofs.lemmas.Bool.Decides.{nat_tests}
-use Rattle.alloc_set.specs.Ledger.{class_size, class_bytes, class_up_to, limit_class, chunk_limit}
+use Rattle.alloc_set.proofs.Base.{ap, arith, cases_lt, chunk_limit, class_bytes, class_size, class_up_to, count_leading_zeros, inl, inr, leading_top, limit_class, nat_tests, pow-succ', pow_mono, refl, suc, sym, zero, ℕ, ◌-◌, ◌/◌, ◌<◌, ◌^◌, ◌∙◌, ◌≡◌, ◌≤◌}
 
 -- a greater class has greater chunks
 pub class_size-mono : (a b : ℕ) → a ≤ b → class_size a ≤ class_size b

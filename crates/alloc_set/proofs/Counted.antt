@@ -1,10 +1,5 @@
 -- Lemmas on the numbers of the books after a step.
-use Rattle.std.proofs.Common.{◌≡◌, ◌+◌, ◌-◌, ◌%◌, ◌^◌, ◌≤◌, ◌==◌, None, min, sum, sum_by, refl, sym, subst, arith}
-use Rattle.std.specs.Map.{lookup, values_of}
-use Rattle.alloc_set.specs.Kept.{state_of, taken_bytes, IsCounted}
-use Rattle.alloc_set.specs.Steps.{SameBlocks}
-use Rattle.alloc_set.specs.declared.books.Books.{Books}
-use Rattle.std.proofs.lemmas.Bool.Decides.{nat_tests}
+use Rattle.alloc_set.proofs.Base.{arith, Books, IsCounted, lookup, min, nat_tests, None, refl, SameBlocks, state_of, subst, sum, sum_by, sym, taken_bytes, values_of, ◌%◌, ◌+◌, ◌-◌, ◌==◌, ◌^◌, ◌≡◌, ◌≤◌}
 
 -- blocks and chunks come and go
 pub IsCounted-blocks : (b n : Books) → IsCounted b → n ≡ record b { active = n.active; blocks = n.blocks; chunks = n.chunks; shelves = n.shelves; total = n.total; count = n.count }

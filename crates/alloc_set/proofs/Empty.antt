@@ -1,13 +1,7 @@
 -- Lemmas on a context without chunks.
-use Rattle.std.proofs.Common.{◌≡◌, ℕ, ◌+◌, ◌^◌, ◌<◌, ◌≤◌, [], replicate, Some, None, refl, arith}
-use Rattle.std.proofs.lemmas.List.{get_or-replicate}
-use Rattle.addr_space.specs.declared.Addr.{Addr}
-use Rattle.alloc_set.specs.State.{SetState, chunk_at, region_of, start_of}
-use Rattle.chunk_header.specs.Shelves.{no_shelf}
-use Rattle.alloc_set.specs.Kept.{IsSettled, IsShelved}
+use Rattle.alloc_set.proofs.Base.{[], Addr, arith, chunk_at, get_or-replicate, IsSettled, IsShelved, nat_tests, no_shelf, None, refl, region_of, replicate, SetState, Some, start_of, ℕ, ◌+◌, ◌<◌, ◌^◌, ◌≡◌, ◌≤◌}
 use Rattle.alloc_set.proofs.Listed.{IsUnique-none}
 use Rattle.alloc_set.proofs.Regions.{keeper_owned, keeper_start}
-use Rattle.std.proofs.lemmas.Bool.Decides.{nat_tests}
 
 module _ (s : SetState) (chunks : s.chunks ≡ []) where
   pub no_chunk : (at : Addr) → chunk_at s at ≡ None

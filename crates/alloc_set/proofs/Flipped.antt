@@ -1,16 +1,7 @@
 -- Lemmas on a chunk that becomes free or live where it is, or gets another size in the room that it has.
-use Rattle.std.proofs.Common.{◌≡◌, ◌≢◌, ℕ, ◌+◌, ◌-◌, ◌≤◌, ◌⊎◌, List, length, map, Some, None, option_and_then, refl, sym, ap, ◌∙◌, arith, inl, inr}
-use Rattle.addr_space.specs.declared.Addr.{Addr}
-use Rattle.addr_space.specs.Space.{Space, region_at, overwritten, Changes}
-use Rattle.addr_space.specs.Footprint.{Agrees, Moves, Keeps}
-use Rattle.chunk_header.proofs.Wrote.{Moves-written, Keeps-written}
-use Rattle.alloc_set.specs.State.{SetState, chunk_at, start_of, capacity_of, live_size, header_of, link_of, mark_of, footprint}
-use Rattle.alloc_set.specs.Kept.{IsSettled, IsPlaced, IsSized, IsAlone}
-use Rattle.alloc_set.specs.Steps.{PutsChunk, SameBlocks}
-use Rattle.alloc_set.specs.declared.chunk.Chunk.{Chunk}
+use Rattle.alloc_set.proofs.Base.{Addr, Agrees, ap, arith, capacity_of, Changes, Chunk, chunk_at, footprint, header_of, inl, inr, IsAlone, IsPlaced, IsSettled, IsSized, Keeps, Keeps-written, length, link_of, List, live_size, map, mark_of, Moves, Moves-written, nat_tests, None, option_and_then, overwritten, PutsChunk, refl, region_at, SameBlocks, SetState, Some, Space, start_of, sym, ℕ, ◌+◌, ◌-◌, ◌∙◌, ◌≡◌, ◌≢◌, ◌≤◌, ◌⊎◌}
 use Rattle.alloc_set.proofs.Settled.{chunks_apart, linked, live_is, live_there, mark_apart, mark_from_chunk, IsSound-settled}
 use Rattle.alloc_set.proofs.Altered.{Puts-chunk, NewMark, old, new_block, new_header, new_link, put_cases, region_same, IsSettled-altered, Moves-altered, new_marks}
-use Rattle.std.proofs.lemmas.Bool.Decides.{nat_tests}
 
 module _ (s t : SetState) (active size : ℕ) (at : Addr) (before now : Chunk) (settled : IsSettled s active size) (same : SameBlocks s t) (room : t.ledger.room ≡ s.ledger.room) (was : chunk_at s at ≡ Some before) (puts : PutsChunk s t at (Some now))
     (capacity_same : capacity_of now ≡ capacity_of before) (sized : IsSized now) (alone : IsAlone t active at now) (heads : (dist : ℕ) → header_of now dist ≡ header_of before dist) where

@@ -1,17 +1,5 @@
 -- Lemmas on a chunk without a link that is put where nothing stood, with its header before it.
-use Rattle.std.proofs.Common.{◌≡◌, ℕ, ◌+◌, ◌-◌, ◌≤◌, ◌⊎◌, length, map, Some, None, option_and_then, refl, sym, ap, ◌∙◌, arith, inl, inr}
-use Rattle.addr_space.specs.declared.Addr.{Addr}
-use Rattle.addr_space.specs.Space.{Space, region_at, overwritten, Changes}
-use Rattle.addr_space.specs.Footprint.{Agrees, Moves, Keeps}
-use Rattle.addr_space.proofs.Options.{option_cases}
-use Rattle.addr_space.proofs.Addresses.{same_addr_from}
-use Rattle.chunk_header.specs.Header.{header_bytes}
-use Rattle.chunk_header.proofs.Words.{length-header_bytes}
-use Rattle.chunk_header.proofs.Wrote.{Moves-written, Keeps-written}
-use Rattle.alloc_set.specs.State.{SetState, chunk_at, start_of, capacity_of, header_of, link_of, footprint}
-use Rattle.alloc_set.specs.Kept.{IsSettled, IsPlaced}
-use Rattle.alloc_set.specs.Steps.{PutsChunk, SameBlocks}
-use Rattle.alloc_set.specs.declared.chunk.Chunk.{Chunk}
+use Rattle.alloc_set.proofs.Base.{Addr, Agrees, ap, arith, capacity_of, Changes, Chunk, chunk_at, footprint, header_bytes, header_of, inl, inr, IsPlaced, IsSettled, Keeps, Keeps-written, length, length-header_bytes, link_of, map, Moves, Moves-written, None, option_and_then, option_cases, overwritten, PutsChunk, refl, region_at, same_addr_from, SameBlocks, SetState, Some, Space, start_of, sym, ℕ, ◌+◌, ◌-◌, ◌∙◌, ◌≡◌, ◌≤◌, ◌⊎◌}
 use Rattle.alloc_set.proofs.Settled.{mark_apart, live_there, IsSound-settled}
 use Rattle.alloc_set.proofs.Altered.{Puts-chunk, region_same, IsSettled-altered, start_same, new_marks, old, new_block, new_header, new_link}
 

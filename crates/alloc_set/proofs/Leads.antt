@@ -1,17 +1,5 @@
 -- Lemmas on the headers by which live chunks lead to their context.
-use Rattle.std.proofs.Common.{◌≡◌, ℕ, ◌+◌, ◌-◌, ◌%◌, ◌^◌, ◌<◌, refl, ap, ◌∙◌, arith, Some}
-use Rattle.std.proofs.lemmas.Bool.Decides.{nat_tests}
-use Rattle.std.specs.Map.{lookup}
-use Rattle.addr_space.specs.declared.Addr.{Addr}
-use Rattle.addr_space.specs.Live.{same_addr}
-use Rattle.addr_space.proofs.Options.{one_value}
-use Rattle.chunk_header.specs.declared.Kind.TheVariants.{AllocSet}
-use Rattle.chunk_header.specs.Header.{IsPackable, IsLeading, IsHeaded, space_of, TakesSpace}
-use Rattle.alloc_set.specs.Ledger.{SetPlace, Class, chunk_bytes}
-use Rattle.alloc_set.specs.State.{SetState, start_of, live_place, header_of, footprint, chunk_at, region_of}
-use Rattle.alloc_set.specs.Kept.{IsSettled, IsSized, IsAlone}
-use Rattle.alloc_set.specs.declared.chunk.Chunk.{Chunk}
-use Rattle.alloc_set.specs.declared.chunk.Chunk.TheVariants.{Live, Free, Own}
+use Rattle.alloc_set.proofs.Base.{Addr, AllocSet, ap, arith, Chunk, chunk_at, chunk_bytes, Class, footprint, Free, header_of, IsAlone, IsHeaded, IsLeading, IsPackable, IsSettled, IsSized, Live, live_place, lookup, nat_tests, one_value, Own, refl, region_of, same_addr, SetPlace, SetState, Some, space_of, start_of, TakesSpace, ℕ, ◌%◌, ◌+◌, ◌-◌, ◌<◌, ◌^◌, ◌∙◌, ◌≡◌}
 use Rattle.alloc_set.proofs.Settled.{mark_from_block, mark_from_chunk}
 
 -- a chunk's header can be packed, and leads to a context

@@ -13,3 +13,5 @@ pub mod Leads
 pub mod Places
 pub mod Aligned
 mod Rows
+pub mod Base
+pub mod Lemmas

@@ -1,18 +1,5 @@
 -- Lemmas on the list of the chunks that stand at addresses.
-use Rattle.std.proofs.Common.{◌≡◌, if◌then◌else◌, List, [], ◌∷◌, Some, None, false, arith, inl, inr}
-use Rattle.std.specs.Cmp.{IsEquivalence}
-use Rattle.std.specs.List.{AllByRecursion, IsDistinct}
-use Rattle.std.specs.Map.{lookup, keys_of}
-use Rattle.std.proofs.lemmas.Bool.Decides.{nat_tests}
-use Rattle.std.proofs.lemmas.List.Sums.{sum_by-cons}
-use Rattle.std.proofs.lemmas.Map.{lookup-none, lookup-remove_entry, none_passes_from_lookup}
-use Rattle.std.proofs.lemmas.Map.Entries.{none_past_head, sum_by-remove_entry}
-use Rattle.addr_space.specs.declared.Addr.{Addr}
-use Rattle.addr_space.specs.Live.{same_addr}
-use Rattle.addr_space.proofs.Addresses.{same_addr-cases}
-use Rattle.chunk_header.proofs.Sums.{sum_by-insert}
-use Rattle.alloc_set.specs.declared.chunk.Chunk.{Chunk}
-use Rattle.alloc_set.specs.Listed.{with_chunk, without_chunk, IsUnique}
+use Rattle.alloc_set.proofs.Base.{[], Addr, AllByRecursion, arith, Chunk, false, if◌then◌else◌, inl, inr, IsDistinct, IsEquivalence, IsUnique, keys_of, List, lookup, lookup-none, lookup-remove_entry, nat_tests, None, none_passes_from_lookup, none_past_head, same_addr, same_addr-cases, Some, sum_by-cons, sum_by-insert, sum_by-remove_entry, with_chunk, without_chunk, ◌∷◌, ◌≡◌}
 
 addr_laws : IsEquivalence same_addr
 addr_laws = grind (arith, nat_tests)

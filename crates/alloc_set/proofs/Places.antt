@@ -1,27 +1,6 @@
 -- Lemmas on live chunks and their places: which a step puts, and which stay.
-use Rattle.std.proofs.Common.{◌≡◌, ℕ, ◌≤◌, if◌then◌else◌, Bool, true, false, Option, Some, None, Result, refl, ap, ◌∙◌, arith, option_and_then}
-use Rattle.std.specs.Map.{lookup}
-use Rattle.addr_space.specs.declared.Addr.{Addr}
-use Rattle.addr_space.specs.Space.{Space}
-use Rattle.addr_space.specs.Footprint.{Moves, Keeps}
-use Rattle.addr_space.specs.Live.{same_addr, PutsAt, PutsLive}
-use Rattle.addr_space.proofs.Addresses.{same_addr-cases}
-use Rattle.addr_space.proofs.Options.{option_cases}
-use Rattle.chunk_header.specs.declared.CtxError.{CtxError}
-use Rattle.chunk_header.specs.Answers.{Resized}
-use Rattle.chunk_header.proofs.Put.{put-here, MovesAt-same}
-use Rattle.alloc_set.specs.Ledger.{SetLedger, SetPlace}
-use Rattle.alloc_set.specs.State.{SetState, chunk_at, place_at, live_size, live_place, footprint}
-use Rattle.alloc_set.specs.Kept.{state_of, IsKept}
-use Rattle.alloc_set.specs.Steps.{PutsChunk}
-use Rattle.alloc_set.specs.Live.{LeavesLive}
-use Rattle.alloc_set.specs.Calls.{Refits}
-use Rattle.alloc_set.specs.Resize.{Reallocates}
-use Rattle.alloc_set.specs.declared.books.Books.{Books}
-use Rattle.alloc_set.specs.declared.chunk.Chunk.{Chunk}
-use Rattle.alloc_set.specs.declared.chunk.Chunk.TheVariants.{Live, Free, Own}
+use Rattle.alloc_set.proofs.Base.{Addr, ap, arith, Books, Bool, Chunk, chunk_at, CtxError, false, footprint, Free, if◌then◌else◌, IsKept, Keeps, LeavesLive, Live, live_place, live_size, lookup, Moves, MovesAt-same, nat_tests, None, Option, option_and_then, option_cases, Own, place_at, put-here, PutsAt, PutsChunk, PutsLive, Reallocates, Refits, refl, Resized, Result, same_addr, same_addr-cases, SetLedger, SetPlace, SetState, Some, Space, state_of, true, ℕ, ◌∙◌, ◌≡◌, ◌≤◌}
 use Rattle.alloc_set.proofs.Altered.{put_cases}
-use Rattle.std.proofs.lemmas.Bool.Decides.{nat_tests}
 
 -- what is said of one of two options
 either : {X Y : Type 0} (f : X → Option Y) (b : Bool) (x y : Option X) → option_and_then f (if b then x else y) ≡ (if b then option_and_then f x else option_and_then f y)

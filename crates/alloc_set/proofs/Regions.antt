@@ -1,9 +1,5 @@
 -- Lemmas on the regions of a context: the keeper's, and those whose sizes the books note.
-use Rattle.std.proofs.Common.{◌≡◌, ◌≢◌, ℕ, ◌≤◌, ◌==◌, if◌then◌else◌, List, Option, Some, None, sum, sym, ap, ◌∙◌, arith}
-use Rattle.std.specs.Map.{lookup, values_of}
-use Rattle.std.proofs.lemmas.Map.Steps.{lookup-le-sum}
-use Rattle.std.proofs.lemmas.Bool.Decides.{nat_tests}
-use Rattle.alloc_set.specs.State.{SetState, region_of, start_of}
+use Rattle.alloc_set.proofs.Base.{ap, arith, if◌then◌else◌, List, lookup, lookup-le-sum, nat_tests, None, Option, region_of, SetState, Some, start_of, sum, sym, values_of, ℕ, ◌==◌, ◌∙◌, ◌≡◌, ◌≢◌, ◌≤◌}
 
 module _ (s : SetState) where
   pub keeper_start : start_of s s.keeper ≡ 200

@@ -1,11 +1,6 @@
 -- The ledger, run on rows whose numbers are known.
-use Rattle.std.proofs.Common.{◌≡◌, ℕ, Result, Ok, Err, Bool, true, false, refl}
-use Rattle.chunk_header.specs.Answers.{Taken, Resized}
-use Rattle.chunk_header.specs.declared.CtxError.{CtxError}
-use Rattle.chunk_header.specs.declared.CtxError.TheVariants.{TooBig, NoSpace}
-use Rattle.chunk_header.specs.declared.Stats.{Stats}
-use Rattle.chunk_header.specs.Growth.{up8, grown, doubled}
-use Rattle.alloc_set.specs.Ledger.{SetLedger, SetPlace, Class, Own, created, take, take_class, take_own, from_new, reused, cut_off, renewed, with_own, without_own, block_size, halved, halved_by, cut_up, cut_rest, chunk_limit, limit_class, class_of, class_up_to, give, resize, resize_class, resize_block, stats}
+use Rattle.alloc_set.proofs.Base.{block_size, Bool, chunk_limit, Class, class_of, class_up_to, created, CtxError, cut_off, cut_rest, cut_up, doubled, Err, false, from_new, give, grown, halved, halved_by, limit_class, NoSpace, Ok, refl, renewed, resize, resize_block, resize_class, Resized, Result, reused, SetLedger, SetPlace, Stats, stats, take, take_class, take_own, Taken, TooBig, true, up8, with_own, without_own, ℕ, ◌≡◌}
+use Rattle.alloc_set.specs.Ledger.{Own}
 
 -- the contexts of the rows
 abbrev great : SetLedger

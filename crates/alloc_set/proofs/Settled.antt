@@ -1,20 +1,5 @@
 -- Lemmas on where the blocks and chunks of an AllocSet are.
-use Rattle.std.proofs.Common.{◌≡◌, ◌≢◌, ℕ, ◌+◌, ◌-◌, ◌≤◌, ◌⊎◌, ◌==◌, if◌then◌else◌, List, length, Option, Some, None, option_map, option_and_then, refl, sym, ap, ◌∙◌, arith, inl, inr, is_some}
-use Rattle.std.specs.Option.{option_or}
-use Rattle.std.specs.Map.{lookup}
-use Rattle.std.proofs.lemmas.Bool.{cases_eq, cases_lt}
-use Rattle.std.proofs.lemmas.Bool.Decides.{nat_tests}
-use Rattle.addr_space.specs.declared.Addr.{Addr}
-use Rattle.addr_space.specs.Space.{IsApart}
-use Rattle.addr_space.specs.Footprint.{IsSound, IsWithin}
-use Rattle.addr_space.proofs.Options.{from_then, from_map, one_value, option_cases}
-use Rattle.addr_space.proofs.Addresses.{same_addr_from}
-use Rattle.chunk_header.specs.Header.{header_bytes, block_bytes}
-use Rattle.chunk_header.proofs.Words.{length-header_bytes, length-block_bytes}
-use Rattle.alloc_set.specs.State.{SetState, chunk_at, region_of, start_of, capacity_of, live_size, free_size, header_of, link_of, link_bytes, mark_of, footprint, front_of}
-use Rattle.alloc_set.specs.Kept.{IsSettled, IsSized}
-use Rattle.alloc_set.specs.declared.chunk.Chunk.{Chunk}
-use Rattle.alloc_set.specs.declared.chunk.Chunk.TheVariants.{Live, Free, Own}
+use Rattle.alloc_set.proofs.Base.{Addr, ap, arith, block_bytes, capacity_of, cases_eq, cases_lt, Chunk, chunk_at, footprint, Free, free_size, from_map, from_then, front_of, header_bytes, header_of, if◌then◌else◌, inl, inr, is_some, IsApart, IsSettled, IsSized, IsSound, IsWithin, length, length-block_bytes, length-header_bytes, link_bytes, link_of, List, Live, live_size, lookup, mark_of, nat_tests, None, one_value, Option, option_and_then, option_cases, option_map, option_or, Own, refl, region_of, same_addr_from, SetState, Some, start_of, sym, ℕ, ◌+◌, ◌-◌, ◌==◌, ◌∙◌, ◌≡◌, ◌≢◌, ◌≤◌, ◌⊎◌}
 use Rattle.alloc_set.proofs.ClassSizes.{class_size-least}
 use Rattle.alloc_set.proofs.Regions.{noted}
 

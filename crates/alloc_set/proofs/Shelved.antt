@@ -1,23 +1,5 @@
 -- Lemmas on the free chunks of each class.
-use Rattle.std.proofs.Common.{◌≡◌, ◌≢◌, ℕ, zero, suc, ◌+◌, ◌*◌, ◌^◌, ◌<◌, ◌≤◌, List, [], ◌∷◌, Option, Some, None, refl, sym, ap, ◌∙◌, subst, arith, inl, inr, sum, sum_by, min, set, get_or}
-use Rattle.std.proofs.Math.Nat.{mul-le-mul_left}
-use Rattle.std.proofs.lemmas.Bool.{cases_eq}
-use Rattle.std.proofs.lemmas.Bool.Decides.{nat_tests}
-use Rattle.std.proofs.lemmas.List.{get_or-map, length-set, get_or-set_same, get_or-set_other}
-use Rattle.std.proofs.lemmas.List.Sums.{sum_by-cons, sum_by-le-sum_by}
-use Rattle.std.specs.Map.{values_of}
-use Rattle.addr_space.specs.declared.Addr.{Addr}
-use Rattle.alloc_set.specs.State.{SetState, chunk_at}
-use Rattle.alloc_set.specs.Ledger.{class_size, class_bytes}
-use Rattle.alloc_set.specs.Listed.{IsUnique}
-use Rattle.chunk_header.specs.Shelves.{no_shelf}
-use Rattle.alloc_set.specs.Kept.{state_of, IsChain, IsSettled, IsShelved, IsCounted, IsKept, is_free, taken_bytes, shelf_at}
-use Rattle.alloc_set.specs.Links.{IsLinkable}
-use Rattle.alloc_set.specs.declared.books.Books.{Books}
-use Rattle.alloc_set.specs.Steps.{PutsChunk}
-use Rattle.alloc_set.specs.declared.chunk.Chunk.{Chunk}
-use Rattle.alloc_set.specs.declared.chunk.Chunk.TheVariants.{Live, Free, Own}
-use Rattle.chunk_header.specs.declared.shelves.Shelf.{Shelf}
+use Rattle.alloc_set.proofs.Base.{[], Addr, ap, arith, Books, cases_eq, Chunk, chunk_at, class_bytes, class_size, Free, get_or, get_or-map, get_or-set_other, get_or-set_same, inl, inr, is_free, IsChain, IsCounted, IsKept, IsLinkable, IsSettled, IsShelved, IsUnique, length-set, List, Live, min, mul-le-mul_left, nat_tests, no_shelf, None, Option, Own, PutsChunk, refl, set, SetState, Shelf, shelf_at, Some, state_of, subst, suc, sum, sum_by, sum_by-cons, sum_by-le-sum_by, sym, taken_bytes, values_of, zero, ℕ, ◌*◌, ◌+◌, ◌<◌, ◌^◌, ◌∙◌, ◌∷◌, ◌≡◌, ◌≢◌, ◌≤◌}
 use Rattle.alloc_set.proofs.Altered.{put_cases}
 
 -- a chain stays while its chunks do

@@ -1,19 +1,5 @@
 -- Lemmas on the ledger's step for a request.
-use Rattle.std.proofs.Common.{◌≡◌, ℕ, ◌<◌, ◌≤◌, Some, None, Result, Ok, arith}
-use Rattle.std.proofs.lemmas.Bool.Decides.{nat_tests}
-use Rattle.addr_space.specs.declared.Addr.{Addr}
-use Rattle.addr_space.specs.Space.{Space, Asks}
-use Rattle.addr_space.specs.Footprint.{Moves, Keeps}
-use Rattle.addr_space.specs.Live.{PutsLive, SameLive}
-use Rattle.addr_space.proofs.Steps.{Moves-more, Keeps-more, same_stays}
-use Rattle.chunk_header.specs.Answers.{Taken}
-use Rattle.chunk_header.specs.declared.CtxError.{CtxError}
-use Rattle.alloc_set.specs.Ledger.{SetLedger, SetPlace, class_of, chunk_limit, own_size, take, take_class, take_own, of_own}
-use Rattle.alloc_set.specs.State.{SetState, place_at, footprint}
-use Rattle.alloc_set.specs.Kept.{state_of, IsKept}
-use Rattle.alloc_set.specs.Live.{LeavesLive}
-use Rattle.alloc_set.specs.Cut.{Allocates}
-use Rattle.alloc_set.specs.declared.books.Books.{Books}
+use Rattle.alloc_set.proofs.Base.{Addr, Allocates, arith, Asks, Books, chunk_limit, class_of, CtxError, footprint, IsKept, Keeps, Keeps-more, LeavesLive, Moves, Moves-more, nat_tests, None, of_own, Ok, own_size, place_at, PutsLive, Result, same_stays, SameLive, SetLedger, SetPlace, SetState, Some, Space, state_of, take, take_class, take_own, Taken, ℕ, ◌<◌, ◌≡◌, ◌≤◌}
 use Rattle.alloc_set.proofs.Places.{PutsPlace-live, LeavesLive-more}
 
 -- a live chunk is put by a step of the ledger

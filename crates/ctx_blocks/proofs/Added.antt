@@ -1,23 +1,9 @@
 -- Lemmas on a block that is added.
-use Rattle.std.proofs.Common.{◌≡◌, ◌≢◌, ℕ, ◌+◌, ◌-◌, ◌%◌, ◌^◌, ◌≤◌, ◌⊎◌, ◌==◌, if◌then◌else◌, List, map, Some, None, refl, sym, ◌∙◌, arith, inl, inr}
-use Rattle.std.proofs.lemmas.Bool.{cases_eq}
-use Rattle.addr_space.specs.declared.Addr.{Addr}
-use Rattle.addr_space.specs.Space.{Space, region_at, overwritten, unwritten, Changes, held}
-use Rattle.addr_space.specs.Footprint.{Agrees, Moves}
-use Rattle.addr_space.proofs.Addresses.{same_addr_from}
-use Rattle.chunk_header.specs.Header.{block_bytes}
-use Rattle.ctx_blocks.specs.Layout.{Layout, block_at, start_of, total, mark_of, footprint}
-use Rattle.ctx_blocks.specs.Kept.{IsLaid, IsFirst}
-use Rattle.ctx_blocks.specs.Steps.{SameContext}
-use Rattle.ctx_blocks.specs.declared.parts.Block.{Block}
-use Rattle.addr_space.proofs.Options.{option_cases}
-use Rattle.chunk_header.proofs.Words.{length-block_bytes}
-use Rattle.chunk_header.proofs.Wrote.{Moves-taken}
+use Rattle.ctx_blocks.proofs.Base.{Addr, Agrees, arith, Block, block_at, block_bytes, cases_eq, Changes, footprint, held, if◌then◌else◌, inl, inr, IsFirst, IsLaid, Layout, length-block_bytes, List, map, mark_of, Moves, Moves-taken, nat_tests, None, option_cases, overwritten, refl, region_at, same_addr_from, SameContext, Some, Space, start_of, sym, total, unwritten, ℕ, ◌%◌, ◌+◌, ◌-◌, ◌==◌, ◌^◌, ◌∙◌, ◌≡◌, ◌≢◌, ◌≤◌, ◌⊎◌}
 use Rattle.ctx_blocks.proofs.Laid.{mark_cases, region_is, behind, IsSound-laid}
 use Rattle.ctx_blocks.proofs.Cleared.{first_only}
 use Rattle.ctx_blocks.proofs.Put.{block_was}
 use Rattle.ctx_blocks.proofs.Lessened.{start_same, placed_again, mark_same}
-use Rattle.std.proofs.lemmas.Bool.Decides.{nat_tests}
 
 -- a region that is not live is no block of the context
 pub unowned : (l : Layout) (sp : Space) (number : ℕ) → Agrees (footprint l) sp → region_at sp number ≡ None → block_at l number ≡ None

@@ -1,12 +1,5 @@
 -- The address of each live chunk is a multiple of 8.
-use Rattle.std.proofs.Common.{◌≡◌, ℕ, ◌%◌, Option, Some, refl, inl, inr}
-use Rattle.addr_space.specs.declared.Addr.{Addr}
-use Rattle.addr_space.specs.Live.{PutsAt, MovesAt, PutsLive}
-use Rattle.addr_space.proofs.Addresses.{same_addr-cases}
-use Rattle.ctx_blocks.specs.Layout.{Layout, chunk_at, footprint}
-use Rattle.ctx_blocks.specs.Kept.{IsPlaced}
-use Rattle.ctx_blocks.specs.Steps.{PutsChunk}
-use Rattle.ctx_blocks.specs.declared.parts.Chunk.{Chunk}
+use Rattle.ctx_blocks.proofs.Base.{Addr, Chunk, chunk_at, footprint, inl, inr, IsPlaced, Layout, MovesAt, Option, PutsAt, PutsChunk, PutsLive, refl, same_addr-cases, Some, ℕ, ◌%◌, ◌≡◌}
 use Rattle.ctx_blocks.proofs.Laid.{from_live}
 
 -- what was put at an address, or moved there, stands there

@@ -1,12 +1,5 @@
 -- Blocks that are among those of another layout, and numbers that stay.
-use Rattle.std.proofs.Common.{◌≡◌, Some, None, refl, arith, ℕ}
-use Rattle.std.proofs.lemmas.Bool.{cases_eq}
-use Rattle.addr_space.proofs.Options.{one_value}
-use Rattle.ctx_blocks.specs.Layout.{Layout, block_at}
-use Rattle.ctx_blocks.specs.Numbered.{AreAmong, KeepsNumbers}
-use Rattle.ctx_blocks.specs.Steps.{PutsBlock, DropsBlock}
-use Rattle.ctx_blocks.specs.declared.parts.Block.{Block}
-use Rattle.std.proofs.lemmas.Bool.Decides.{nat_tests}
+use Rattle.ctx_blocks.proofs.Base.{AreAmong, arith, Block, block_at, cases_eq, DropsBlock, KeepsNumbers, Layout, nat_tests, None, one_value, PutsBlock, refl, Some, ℕ, ◌≡◌}
 
 -- the same blocks
 pub among_same : (l m : Layout) → m.blocks ≡ l.blocks → AreAmong m l

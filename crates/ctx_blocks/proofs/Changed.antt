@@ -1,14 +1,5 @@
 -- Lemmas on layouts in which one block or one chunk is another one, or is there no more.
-use Rattle.std.proofs.Common.{◌≡◌, ◌≢◌, ℕ, List, Option, Some, None, option_map, refl, ap, ◌∙◌, arith}
-use Rattle.std.proofs.lemmas.Bool.{cases_eq}
-use Rattle.addr_space.specs.declared.Addr.{Addr}
-use Rattle.addr_space.specs.Live.{SameLive, StaysLive, PutsLive}
-use Rattle.ctx_blocks.specs.Layout.{Layout, block_at, chunk_at, keeper_alone, footprint}
-use Rattle.ctx_blocks.specs.Kept.{HasSize}
-use Rattle.ctx_blocks.specs.Steps.{PutsBlock, DropsBlock, PutsChunk}
-use Rattle.ctx_blocks.specs.declared.parts.Block.{Block}
-use Rattle.ctx_blocks.specs.declared.parts.Chunk.{Chunk}
-use Rattle.std.proofs.lemmas.Bool.Decides.{nat_tests}
+use Rattle.ctx_blocks.proofs.Base.{Addr, ap, arith, Block, block_at, cases_eq, Chunk, chunk_at, DropsBlock, footprint, HasSize, keeper_alone, Layout, List, nat_tests, None, Option, option_map, PutsBlock, PutsChunk, PutsLive, refl, SameLive, Some, StaysLive, ℕ, ◌∙◌, ◌≡◌, ◌≢◌}
 
 module _ (l m : Layout) (number : ℕ) (block : Block) (puts : PutsBlock l m number block) where
   -- the block that was put is there

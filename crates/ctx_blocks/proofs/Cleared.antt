@@ -1,16 +1,6 @@
 -- Lemmas on a context whose chunks are forgotten and whose last blocks go.
-use Rattle.std.proofs.Common.{◌≡◌, ℕ, ◌+◌, ◌-◌, ◌==◌, List, [], ◌∷◌, length, take, Some, refl, ap, arith}
-use Rattle.std.specs.Map.{lookup}
-use Rattle.std.proofs.lemmas.List.{take-take}
-use Rattle.ctx_blocks.specs.Layout.{Layout, footprint}
-use Rattle.ctx_blocks.specs.Kept.{IsLaid, IsFirst}
-use Rattle.ctx_blocks.specs.Steps.{SameContext}
-use Rattle.ctx_blocks.specs.declared.parts.Block.{Block}
-use Rattle.addr_space.specs.Space.{Space}
-use Rattle.addr_space.specs.Footprint.{Agrees, Moves, nothing}
-use Rattle.addr_space.proofs.Steps.{Moves-still, Agrees-nothing}
+use Rattle.ctx_blocks.proofs.Base.{[], Agrees, Agrees-nothing, ap, arith, Block, footprint, IsFirst, IsLaid, Layout, length, List, lookup, Moves, Moves-still, nat_tests, nothing, refl, SameContext, Some, Space, take, take-take, ℕ, ◌+◌, ◌-◌, ◌==◌, ◌∷◌, ◌≡◌}
 use Rattle.ctx_blocks.proofs.Lessened.{Lessens}
-use Rattle.std.proofs.lemmas.Bool.Decides.{nat_tests}
 
 pub Lessens-cleared : (l m : Layout) → IsLaid l → SameContext l m → m.blocks ≡ l.blocks → m.chunks ≡ [] → Lessens l m
 Lessens-cleared l m laid same blocks chunks =

@@ -1,18 +1,5 @@
 -- Lemmas on the counts of live chunks.
-use Rattle.std.proofs.Common.{◌≡◌, ℕ, ◌+◌, ◌≤◌, ◌==◌, if◌then◌else◌, List, [], ◌∷◌, Some, None, is_some, arith, inl, inr, sum_by}
-use Rattle.std.specs.Map.{lookup}
-use Rattle.std.proofs.lemmas.Bool.{cases_eq}
-use Rattle.std.proofs.lemmas.List.Sums.{sum_by-cons}
-use Rattle.indexmap.specs.IndexMap.{insert_entry}
-use Rattle.addr_space.specs.declared.Addr.{Addr}
-use Rattle.addr_space.specs.Live.{same_addr}
-use Rattle.ctx_blocks.specs.Layout.{Layout, chunk_at, block_at, is_in, count_in}
-use Rattle.ctx_blocks.specs.Kept.{IsLaid, IsCounted}
-use Rattle.ctx_blocks.specs.declared.parts.Block.{Block}
-use Rattle.ctx_blocks.specs.declared.parts.Chunk.{Chunk}
-use Rattle.addr_space.proofs.Options.{option_cases}
-use Rattle.addr_space.proofs.Addresses.{same_addr-cases}
-use Rattle.std.proofs.lemmas.Bool.Decides.{nat_tests}
+use Rattle.ctx_blocks.proofs.Base.{[], Addr, arith, Block, block_at, cases_eq, Chunk, chunk_at, count_in, if◌then◌else◌, inl, inr, insert_entry, is_in, is_some, IsCounted, IsLaid, Layout, List, lookup, nat_tests, None, option_cases, same_addr, same_addr-cases, Some, sum_by, sum_by-cons, ℕ, ◌+◌, ◌==◌, ◌∷◌, ◌≡◌, ◌≤◌}
 
 -- one or none by whether a region is another one
 abbrev pub one_in : ℕ → ℕ → ℕ

@@ -1,17 +1,7 @@
 -- Lemmas on a block that goes.
-use Rattle.std.proofs.Common.{◌≡◌, ◌≢◌, ℕ, ◌+◌, ◌==◌, if◌then◌else◌, List, [], ◌∷◌, ◌++◌, Bool, true, Some, None, refl, ◌∙◌, arith}
-use Rattle.std.specs.Map.{lookup}
-use Rattle.addr_space.specs.declared.Addr.{Addr}
-use Rattle.addr_space.specs.Space.{Space, IsRegion, Changes, region_at, share, held}
-use Rattle.addr_space.specs.Footprint.{Agrees, Moves, Keeps}
-use Rattle.ctx_blocks.specs.Layout.{Layout, block_at, chunk_at, total, footprint}
-use Rattle.ctx_blocks.specs.Kept.{IsLaid}
-use Rattle.ctx_blocks.specs.Steps.{SameContext}
-use Rattle.ctx_blocks.specs.declared.parts.Block.{Block}
-use Rattle.chunk_header.proofs.Wrote.{Moves-gone, Keeps-give}
+use Rattle.ctx_blocks.proofs.Base.{[], Addr, Agrees, arith, Block, block_at, Bool, Changes, chunk_at, footprint, held, if◌then◌else◌, IsLaid, IsRegion, Keeps, Keeps-give, Layout, List, lookup, Moves, Moves-gone, nat_tests, None, refl, region_at, SameContext, share, Some, Space, total, true, ℕ, ◌++◌, ◌+◌, ◌==◌, ◌∙◌, ◌∷◌, ◌≡◌, ◌≢◌}
 use Rattle.ctx_blocks.proofs.Laid.{region_is, IsSound-laid}
 use Rattle.ctx_blocks.proofs.Lessened.{Lessens, IsLaid-lessened, mark-lessened}
-use Rattle.std.proofs.lemmas.Bool.Decides.{nat_tests}
 
 -- a block's region is live in the space, and counts for the account
 pub IsRegion-owned : (l : Layout) (s : Space) (number : ℕ) (block : Block) → Agrees (footprint l) s → block_at l number ≡ Some block → IsRegion s (record { region = number; offset = 0 })

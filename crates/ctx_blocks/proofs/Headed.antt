@@ -1,15 +1,6 @@
 -- Lemmas on the headers by which live chunks lead to their context.
-use Rattle.std.proofs.Common.{◌≡◌, ℕ, ◌+◌, ◌-◌, ◌%◌, ◌^◌, ◌<◌, ◌⊎◌, true, false, refl, ap, ◌∙◌, arith, inl, inr, Some}
-use Rattle.addr_space.specs.declared.Addr.{Addr}
-use Rattle.chunk_header.specs.declared.Kind.{Kind}
-use Rattle.chunk_header.specs.declared.Kind.TheVariants.{Slab, Generation}
-use Rattle.chunk_header.specs.Header.{IsPackable, IsLeading, IsHeaded, AllHeaded, AllOfKind, space_of, TakesSpace}
-use Rattle.ctx_blocks.specs.Layout.{Layout, start_of, gap_of, header_room, header_of, footprint, chunk_at, block_at}
-use Rattle.ctx_blocks.specs.Kept.{IsLaid, IsSized}
-use Rattle.ctx_blocks.specs.declared.parts.Chunk.{Chunk}
+use Rattle.ctx_blocks.proofs.Base.{Addr, AllHeaded, AllOfKind, ap, arith, Block, block_at, Chunk, chunk_at, false, footprint, gap_of, Generation, header_of, header_room, inl, inr, IsHeaded, IsLaid, IsLeading, IsPackable, IsSized, Kind, Layout, one_value, refl, Slab, Some, space_of, start_of, TakesSpace, true, ℕ, ◌%◌, ◌+◌, ◌-◌, ◌<◌, ◌^◌, ◌∙◌, ◌≡◌, ◌⊎◌}
 use Rattle.ctx_blocks.proofs.Laid.{from_live, mark_from_block, mark_from_chunk}
-use Rattle.ctx_blocks.specs.declared.parts.Block.{Block}
-use Rattle.addr_space.proofs.Options.{one_value}
 
 pub start_whole : (l : Layout) (number : ℕ) → start_of l number % 8 ≡ 0
 start_whole l number = grind arith

@@ -1,25 +1,8 @@
 -- Lemmas on a chunk that is noted in a block.
-use Rattle.std.proofs.Common.{◌≡◌, ℕ, ◌+◌, ◌-◌, ◌≤◌, ◌⊎◌, ◌==◌, if◌then◌else◌, List, length, Some, None, refl, sym, ap, arith, inl, inr, map}
-use Rattle.std.proofs.lemmas.Bool.{cases_eq}
-use Rattle.addr_space.specs.declared.Addr.{Addr}
-use Rattle.addr_space.specs.Space.{Space, region_at, overwritten, Changes}
-use Rattle.addr_space.specs.Footprint.{Agrees, Moves, Keeps}
-use Rattle.addr_space.proofs.Addresses.{same_addr_from, same_addr-cases}
-use Rattle.addr_space.proofs.Steps.{Moves-still}
-use Rattle.chunk_header.specs.Header.{header_bytes}
-use Rattle.ctx_blocks.specs.Layout.{Layout, block_at, chunk_at, start_of, header_room, header_of, total, mark_of, footprint}
-use Rattle.ctx_blocks.specs.Kept.{IsLaid, IsPlaced}
-use Rattle.ctx_blocks.specs.Steps.{SameContext, PutsChunk}
-use Rattle.ctx_blocks.specs.Held.{Holds, IsWritten}
-use Rattle.ctx_blocks.specs.declared.parts.Block.{Block}
-use Rattle.ctx_blocks.specs.declared.parts.Chunk.{Chunk}
-use Rattle.addr_space.proofs.Options.{option_cases, one_value}
-use Rattle.chunk_header.proofs.Words.{length-header_bytes}
-use Rattle.chunk_header.proofs.Wrote.{Moves-written, Keeps-written}
+use Rattle.ctx_blocks.proofs.Base.{Addr, Agrees, ap, arith, Block, block_at, cases_eq, Changes, Chunk, chunk_at, footprint, header_bytes, header_of, header_room, Holds, if◌then◌else◌, inl, inr, IsLaid, IsPlaced, IsWritten, Keeps, Keeps-written, Layout, length, length-header_bytes, List, map, mark_of, Moves, Moves-still, Moves-written, nat_tests, None, one_value, option_cases, overwritten, PutsChunk, refl, region_at, same_addr-cases, same_addr_from, SameContext, Some, Space, start_of, sym, total, ℕ, ◌+◌, ◌-◌, ◌==◌, ◌≡◌, ◌≤◌, ◌⊎◌}
 use Rattle.ctx_blocks.proofs.Laid.{mark_cases, mark_within, from_live, region_is, behind, IsSound-laid}
 use Rattle.ctx_blocks.proofs.Put.{block_was, chunk_was, regions-put, sizes-put}
 use Rattle.ctx_blocks.proofs.Lessened.{start_same, gap_same, placed_again, mark_same}
-use Rattle.std.proofs.lemmas.Bool.Decides.{nat_tests}
 
 -- no chunk is where one can be noted
 pub place_free : (l : Layout) (at : Addr) (chunk : Chunk) (block : Block) → IsLaid l → Holds l at chunk block → chunk_at l at ≡ None

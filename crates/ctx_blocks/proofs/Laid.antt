@@ -1,19 +1,5 @@
 -- Lemmas on where blocks and chunks are.
-use Rattle.std.proofs.Common.{◌≡◌, ◌≢◌, ℕ, ◌+◌, ◌-◌, ◌≤◌, ◌⊎◌, List, length, Option, Some, None, refl, sym, ap, ◌∙◌, arith, inl, inr, option_map}
-use Rattle.std.proofs.lemmas.Bool.{cases_eq}
-use Rattle.addr_space.specs.declared.Addr.{Addr}
-use Rattle.addr_space.specs.Footprint.{IsSound}
-use Rattle.chunk_header.specs.declared.Kind.{Kind}
-use Rattle.chunk_header.specs.declared.Kind.TheVariants.{Bump}
-use Rattle.chunk_header.specs.Header.{header_bytes, block_bytes}
-use Rattle.ctx_blocks.specs.Layout.{Layout, block_at, chunk_at, start_of, gap_of, header_room, header_of, chunk_word, block_word, mark_of, front_of, footprint}
-use Rattle.ctx_blocks.specs.Kept.{IsLaid, IsClear}
-use Rattle.ctx_blocks.specs.declared.parts.Block.{Block}
-use Rattle.ctx_blocks.specs.declared.parts.Chunk.{Chunk}
-use Rattle.addr_space.proofs.Options.{from_then, from_map}
-use Rattle.addr_space.proofs.Addresses.{same_addr_from}
-use Rattle.chunk_header.proofs.Words.{length-header_bytes, length-block_bytes}
-use Rattle.std.proofs.lemmas.Bool.Decides.{nat_tests}
+use Rattle.ctx_blocks.proofs.Base.{Addr, ap, arith, Block, block_at, block_bytes, block_word, Bump, cases_eq, Chunk, chunk_at, chunk_word, footprint, from_map, from_then, front_of, gap_of, header_bytes, header_of, header_room, inl, inr, IsClear, IsLaid, IsSound, Kind, Layout, length, length-block_bytes, length-header_bytes, List, mark_of, nat_tests, None, Option, option_map, refl, same_addr_from, Some, start_of, sym, ℕ, ◌+◌, ◌-◌, ◌∙◌, ◌≡◌, ◌≢◌, ◌≤◌, ◌⊎◌}
 
 -- the length of a region of the context
 pub region_is : (l : Layout) (number : ℕ) (block : Block) → block_at l number ≡ Some block → (footprint l).region number ≡ Some block.size

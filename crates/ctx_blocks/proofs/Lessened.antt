@@ -1,19 +1,9 @@
 -- Lemmas on steps after which a context has no more chunks and blocks than before; so it is where a block becomes another
 -- one of its size, while chunks stay or are forgotten, and where a chunk has another size.
-use Rattle.std.proofs.Common.{◌≡◌, ℕ, ◌-◌, ◌≤◌, ◌==◌, if◌then◌else◌, List, Some, refl, sym, ap, arith, inl, inr}
-use Rattle.std.proofs.lemmas.Bool.{cases_eq}
-use Rattle.addr_space.specs.declared.Addr.{Addr}
-use Rattle.addr_space.proofs.Options.{one_value}
-use Rattle.addr_space.proofs.Steps.{Moves-still}
-use Rattle.ctx_blocks.specs.Layout.{Layout, block_at, chunk_at, start_of, gap_of, header_room, whole_of, total, mark_of, footprint}
-use Rattle.ctx_blocks.specs.Kept.{IsFilled, IsLaid, IsPlaced}
-use Rattle.ctx_blocks.specs.Steps.{SameContext, PutsChunk, MovesStill}
-use Rattle.ctx_blocks.specs.declared.parts.Block.{Block}
-use Rattle.ctx_blocks.specs.declared.parts.Chunk.{Chunk}
+use Rattle.ctx_blocks.proofs.Base.{Addr, ap, arith, Block, block_at, cases_eq, Chunk, chunk_at, footprint, gap_of, header_room, if◌then◌else◌, inl, inr, IsFilled, IsLaid, IsPlaced, Layout, List, mark_of, Moves-still, MovesStill, nat_tests, one_value, PutsChunk, refl, SameContext, Some, start_of, sym, total, whole_of, ℕ, ◌-◌, ◌==◌, ◌≡◌, ◌≤◌}
 use Rattle.ctx_blocks.proofs.Put.{block_was, chunk_was}
 use Rattle.ctx_blocks.proofs.Headed.{start_whole}
 use Rattle.ctx_blocks.proofs.Laid.{mark_cases, mark_from_block, mark_from_chunk, behind, IsSound-laid}
-use Rattle.std.proofs.lemmas.Bool.Decides.{nat_tests}
 
 -- each chunk and each block was there, with the same bytes; a block in which chunks are has no more room
 pub record Lessens (l m : Layout) : Type 0 where

@@ -19,3 +19,5 @@ pub mod Among
 pub mod Places
 pub mod Put
 pub mod Rows
+pub mod Base
+pub mod Lemmas

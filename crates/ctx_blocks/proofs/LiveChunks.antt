@@ -1,12 +1,5 @@
 -- Lemmas on lists of live chunks, in which no two are at one address.
-use Rattle.std.proofs.Common.{◌≡◌, ℕ, ◌+◌, if◌then◌else◌, List, [], ◌∷◌, Option, Some, None, arith, sum_by}
-use Rattle.std.specs.Map.{lookup}
-use Rattle.std.proofs.lemmas.List.Sums.{sum_by-cons}
-use Rattle.addr_space.specs.declared.Addr.{Addr}
-use Rattle.addr_space.specs.Live.{same_addr}
-use Rattle.ctx_blocks.specs.Layout.{is_in}
-use Rattle.ctx_blocks.specs.Steps.{with_chunk, without_chunk, AreUnique}
-use Rattle.ctx_blocks.specs.declared.parts.Chunk.{Chunk}
+use Rattle.ctx_blocks.proofs.Base.{[], Addr, AreUnique, arith, Chunk, if◌then◌else◌, is_in, List, lookup, None, Option, same_addr, Some, sum_by, sum_by-cons, with_chunk, without_chunk, ℕ, ◌+◌, ◌∷◌, ◌≡◌}
 use Rattle.ctx_blocks.proofs.Counts.{one_in, count-put}
 
 abbrev Entries : Type 0

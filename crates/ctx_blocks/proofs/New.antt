@@ -1,23 +1,6 @@
 -- Lemmas on the blocks of a context with the keeper alone.
-use Rattle.std.proofs.Common.{◌≡◌, ◌≢◌, ℕ, ◌+◌, ◌-◌, ◌<◌, ◌≤◌, ◌==◌, List, [], ◌∷◌, map, Some, None, refl, ap, ◌∙◌, arith, inl, inr, if◌then◌else◌}
-use Rattle.std.proofs.lemmas.List.{length-replicate}
-use Rattle.std.proofs.lemmas.List.Sums.{sum_by-cons}
-use Rattle.addr_space.specs.declared.Addr.{Addr}
-use Rattle.addr_space.specs.Space.{Space, region_at, overwritten, unwritten, Changes, accounts, held}
-use Rattle.addr_space.specs.Footprint.{Moves, nothing, counted}
-use Rattle.addr_space.proofs.Addresses.{same_addr_from}
-use Rattle.addr_space.proofs.Steps.{Moves-one, Agrees-nothing}
-use Rattle.chunk_header.specs.Header.{block_bytes}
-use Rattle.chunk_header.proofs.Words.{length-block_bytes}
-use Rattle.chunk_header.proofs.Wrote.{Moves-taken}
-use Rattle.ctx_blocks.specs.Layout.{Layout, block_at, start_of, total, footprint}
-use Rattle.std.specs.List.{IsDistinct}
-use Rattle.ctx_blocks.specs.Order.{in_order}
-use Rattle.ctx_blocks.specs.Kept.{layout_of, IsFilled, IsLaid, IsKept}
-use Rattle.ctx_blocks.specs.declared.parts.Block.{Block}
-use Rattle.ctx_blocks.specs.declared.books.Books.{Books}
+use Rattle.ctx_blocks.proofs.Base.{[], accounts, Addr, Agrees-nothing, ap, arith, Block, block_at, block_bytes, Books, Changes, counted, footprint, held, if◌then◌else◌, in_order, inl, inr, IsDistinct, IsFilled, IsKept, IsLaid, Layout, layout_of, length-block_bytes, length-replicate, List, map, Moves, Moves-one, Moves-taken, nat_tests, None, nothing, overwritten, refl, region_at, same_addr_from, Some, Space, start_of, sum_by-cons, total, unwritten, ℕ, ◌+◌, ◌-◌, ◌<◌, ◌==◌, ◌∙◌, ◌∷◌, ◌≡◌, ◌≢◌, ◌≤◌}
 use Rattle.ctx_blocks.proofs.Laid.{mark_cases, region_is, IsSound-laid}
-use Rattle.std.proofs.lemmas.Bool.Decides.{nat_tests}
 
 -- the region of the keeper has 200 bytes before its block
 pub keeper_start : (l : Layout) → start_of l l.keeper ≡ 200

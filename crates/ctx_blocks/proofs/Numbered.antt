@@ -1,11 +1,5 @@
 -- Lemmas on blocks by their numbers: what is done to a block by its region is done to it by its number.
-use Rattle.std.proofs.Common.{◌≡◌, ℕ, ◌+◌, ◌<◌, ◌≤◌, ◌==◌, List, [], ◌∷◌, ◌++◌, map, filter, Option, Some, None, refl, arith}
-use Rattle.std.specs.List.{find}
-use Rattle.std.specs.Map.{lookup, values_of}
-use Rattle.ctx_blocks.specs.Numbered.{put_at, is_other}
-use Rattle.ctx_blocks.specs.Kept.{AreRising, IsFirst}
-use Rattle.ctx_blocks.specs.Steps.{with_block, without_block}
-use Rattle.ctx_blocks.specs.declared.parts.Block.{Block}
+use Rattle.ctx_blocks.proofs.Base.{[], AreRising, arith, Block, filter, find, is_other, IsFirst, List, lookup, map, None, Option, put_at, refl, Some, values_of, with_block, without_block, ℕ, ◌++◌, ◌+◌, ◌<◌, ◌==◌, ◌∷◌, ◌≡◌, ◌≤◌}
 
 abbrev pub Entries : Type 0
 Entries = List (ℕ × Block)

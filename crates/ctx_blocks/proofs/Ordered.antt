@@ -1,19 +1,7 @@
 -- Lemmas on blocks in the order of their numbers, where no two are in one region: that list is the only one that rises
 -- and has the same block in each region.
-use Rattle.std.proofs.Common.{◌≡◌, ◌≢◌, ℕ, ◌+◌, ◌==◌, if◌then◌else◌, [], ◌∷◌, length, Some, None, false, refl, ◌∙◌, arith, sum_by, nat_eq, position}
-use Rattle.std.specs.List.{IsDistinct, AllByRecursion}
-use Rattle.std.specs.Map.{keys_of, values_of}
-use Rattle.std.proofs.lemmas.Bool.{cases_eq}
-use Rattle.std.proofs.lemmas.List.Sums.{sum_by-cons}
-use Rattle.std.proofs.Math.Numerals.{sub-one}
-use Rattle.std.proofs.lemmas.List.Quantifiers.{position-Some}
-use Rattle.indexmap.specs.IndexMap.{swap_remove_entry}
-use Rattle.ctx_blocks.specs.Kept.{AreRising, IsFirst}
-use Rattle.ctx_blocks.specs.Order.{put_in, in_order}
-use Rattle.ctx_blocks.specs.Steps.{with_block, without_block}
-use Rattle.ctx_blocks.specs.declared.parts.Block.{Block}
+use Rattle.ctx_blocks.proofs.Base.{[], AllByRecursion, AreRising, arith, Block, cases_eq, false, if◌then◌else◌, in_order, IsDistinct, IsFirst, keys_of, length, nat_eq, nat_tests, None, position, position-Some, put_in, refl, Some, sub-one, sum_by, sum_by-cons, swap_remove_entry, values_of, with_block, without_block, ℕ, ◌+◌, ◌==◌, ◌∙◌, ◌∷◌, ◌≡◌, ◌≢◌}
 use Rattle.ctx_blocks.proofs.Numbered.{Entries, at_region, rising_above, rising_drop}
-use Rattle.std.proofs.lemmas.Bool.Decides.{nat_tests}
 
 -- no two blocks are in one region
 abbrev pub AreApart : Entries → Type 0

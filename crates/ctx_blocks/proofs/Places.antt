@@ -1,18 +1,6 @@
 -- Numbers of blocks and places of live chunks, once a block or a chunk is another one.
-use Rattle.std.proofs.Common.{◌≡◌, ℕ, Option, Some, unwrap_or, option_map, ap, arith}
-use Rattle.addr_space.specs.declared.Addr.{Addr}
-use Rattle.addr_space.specs.Space.{Space}
-use Rattle.addr_space.specs.Footprint.{Agrees}
-use Rattle.addr_space.specs.Live.{PutsAt}
-use Rattle.addr_space.proofs.Options.{one_value, option_cases}
-use Rattle.addr_space.proofs.Addresses.{same_addr-cases}
-use Rattle.ctx_blocks.specs.Layout.{Layout, block_at, chunk_at, footprint}
-use Rattle.ctx_blocks.specs.Numbered.{no_block, number_of, AreAmong, KeepsNumbers}
-use Rattle.ctx_blocks.specs.Steps.{PutsBlock, PutsChunk}
-use Rattle.ctx_blocks.specs.declared.parts.Block.{Block}
-use Rattle.ctx_blocks.specs.declared.parts.Chunk.{Chunk}
+use Rattle.ctx_blocks.proofs.Base.{Addr, Agrees, ap, AreAmong, arith, Block, block_at, Chunk, chunk_at, footprint, KeepsNumbers, Layout, nat_tests, no_block, number_of, one_value, Option, option_cases, option_map, PutsAt, PutsBlock, PutsChunk, same_addr-cases, Some, Space, unwrap_or, ℕ, ◌≡◌}
 use Rattle.ctx_blocks.proofs.Laid.{live_is, from_region}
-use Rattle.std.proofs.lemmas.Bool.Decides.{nat_tests}
 
 -- the number of a block that is there
 pub number_is : (l : Layout) (region : ℕ) (block : Block) → block_at l region ≡ Some block → number_of l region ≡ block.number

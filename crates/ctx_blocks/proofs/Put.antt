@@ -1,15 +1,5 @@
 -- Lemmas on one block or one chunk that is put: what stands there then, and the counts of the blocks.
-use Rattle.std.proofs.Common.{Option, ◌≡◌, ◌≢◌, ℕ, ◌==◌, if◌then◌else◌, Some, arith, ◌⊎◌}
-use Rattle.std.proofs.lemmas.Bool.{cases_eq}
-use Rattle.addr_space.specs.declared.Addr.{Addr}
-use Rattle.addr_space.proofs.Addresses.{put_at-cases}
-use Rattle.addr_space.proofs.Options.{one_value}
-use Rattle.ctx_blocks.specs.Layout.{Layout, block_at, chunk_at, count_in, footprint}
-use Rattle.ctx_blocks.specs.Kept.{IsCounted}
-use Rattle.ctx_blocks.specs.Steps.{PutsChunk}
-use Rattle.ctx_blocks.specs.declared.parts.Block.{Block}
-use Rattle.ctx_blocks.specs.declared.parts.Chunk.{Chunk}
-use Rattle.std.proofs.lemmas.Bool.Decides.{nat_tests}
+use Rattle.ctx_blocks.proofs.Base.{Addr, arith, Block, block_at, cases_eq, Chunk, chunk_at, count_in, footprint, if◌then◌else◌, IsCounted, Layout, nat_tests, one_value, Option, put_at-cases, PutsChunk, Some, ℕ, ◌==◌, ◌≡◌, ◌≢◌, ◌⊎◌}
 
 -- a chunk is where it was put
 pub chunk_here : (l m : Layout) (at : Addr) (new : Option Chunk) → PutsChunk l m at new → chunk_at m at ≡ new

@@ -1,7 +1,5 @@
 -- Worked rows: what the definitions of specs/ come to at given values.
-use Rattle.std.proofs.Common.{◌≡◌, [], ◌∷◌, refl}
-use Rattle.ctx_blocks.specs.Layout.{whole_block}
-use Rattle.ctx_blocks.specs.Order.{in_order}
+use Rattle.ctx_blocks.proofs.Base.{[], in_order, refl, whole_block, ◌∷◌, ◌≡◌}
 
 -- no blocks, and three that are kept in the order of the numbers 2, 3, 1
 order-none : in_order [] ≡ []

@@ -1,11 +1,5 @@
 -- Lemmas on sums over the blocks that are added up one by one.
-use Rattle.std.proofs.Common.{◌≡◌, ℕ, ◌+◌, ◌≤◌, List, length, drop, slice_get, Some, arith, sum_by}
-use Rattle.std.specs.Map.{values_of}
-use Rattle.std.proofs.lemmas.List.{drop_more, drop_all}
-use Rattle.std.proofs.lemmas.List.Sums.{sum_by-cons}
-use Rattle.std.proofs.lemmas.Option.{get_or_from_slice_get, slice_get_within}
-use Rattle.ctx_blocks.specs.declared.parts.Block.{Block}
-use Rattle.std.proofs.lemmas.Bool.Decides.{nat_tests}
+use Rattle.ctx_blocks.proofs.Base.{arith, Block, drop, drop_all, drop_more, get_or_from_slice_get, length, List, nat_tests, slice_get, slice_get_within, Some, sum_by, sum_by-cons, values_of, ℕ, ◌+◌, ◌≡◌, ◌≤◌}
 
 -- what is left of a sum from an index on
 abbrev pub rest_of : (Block → ℕ) → List (ℕ × Block) → ℕ → ℕ

@@ -1,13 +1,5 @@
 -- Lemmas on the bytes of all blocks.
-use Rattle.std.proofs.Common.{◌≡◌, ℕ, ◌+◌, ◌==◌, List, [], ◌∷◌, Some, None, arith, sum_by, if◌then◌else◌, ◌≤◌, length, is_some, refl, Bool}
-use Rattle.std.specs.Map.{lookup, values_of}
-use Rattle.std.proofs.lemmas.List.Sums.{sum_by-cons}
-use Rattle.std.proofs.lemmas.Map.Entries.{sum_by-remove_entry}
-use Rattle.ctx_blocks.specs.Layout.{Layout, block_at, total, rooms}
-use Rattle.ctx_blocks.specs.Kept.{IsFirst}
-use Rattle.ctx_blocks.specs.Steps.{with_block, without_block, PutsBlock}
-use Rattle.ctx_blocks.specs.declared.parts.Block.{Block}
-use Rattle.chunk_header.proofs.Sums.{sum_by-insert}
+use Rattle.ctx_blocks.proofs.Base.{[], arith, Block, block_at, Bool, if◌then◌else◌, is_some, IsFirst, Layout, length, List, lookup, None, PutsBlock, refl, rooms, Some, sum_by, sum_by-cons, sum_by-insert, sum_by-remove_entry, total, values_of, with_block, without_block, ℕ, ◌+◌, ◌==◌, ◌∷◌, ◌≡◌, ◌≤◌}
 
 -- what a sum over the blocks becomes where a block is put in the place of another one, is new, or goes
 module _ (f : Block → ℕ) (blocks : List (ℕ × Block)) (number : ℕ) where

@@ -1,18 +1,8 @@
 -- Lemmas on what a layout shows of the blocks as they are kept, and on what is kept once a block is another one.
-use Rattle.std.proofs.Common.{◌≡◌, ℕ, ◌+◌, ◌==◌, if◌then◌else◌, ◌++◌, [], ◌∷◌, Option, Some, None, ap, sym, ◌∙◌, arith, nat_eq}
-use Rattle.std.proofs.lemmas.List.{map-append}
-use Rattle.std.proofs.lemmas.List.Sums.{sum_by-append, sum_by-cons}
-use Rattle.indexmap.specs.IndexMap.{IsUnique}
-use Rattle.ctx_blocks.specs.Layout.{block_at, total}
-use Rattle.ctx_blocks.specs.Kept.{layout_of, IsLaid, IsCounted, IsFirst, AreRising, IsKept}
-use Rattle.ctx_blocks.specs.Steps.{AreUnique, SameContext, PutsBlock, DropsBlock, with_block, without_block}
-use Rattle.ctx_blocks.specs.declared.parts.Block.{Block}
-use Rattle.ctx_blocks.specs.declared.books.Books.{Books}
-use Rattle.addr_space.proofs.Options.{one_value}
+use Rattle.ctx_blocks.proofs.Base.{[], ap, AreRising, AreUnique, arith, Block, block_at, Books, DropsBlock, if◌then◌else◌, IsCounted, IsFirst, IsKept, IsLaid, IsUnique, layout_of, map-append, nat_eq, nat_tests, None, one_value, Option, PutsBlock, SameContext, Some, sum_by-append, sum_by-cons, sym, total, with_block, without_block, ℕ, ◌++◌, ◌+◌, ◌==◌, ◌∙◌, ◌∷◌, ◌≡◌}
 use Rattle.ctx_blocks.proofs.Totals.{total-put, IsFirst-put}
 use Rattle.ctx_blocks.proofs.Numbered.{Entries, at_region, rising_put}
 use Rattle.ctx_blocks.proofs.Ordered.{AreApart, AreApart-distinct, apart-in_order, lookup-in_order, sum-in_order, in_order-is, lookup-with, apart-with, lookup-without, apart-without, first-in_order}
-use Rattle.std.proofs.lemmas.Bool.Decides.{nat_tests}
 
 -- the block of a region
 pub block_view : (b : Books) → IsUnique nat_eq b.blocks → (number : ℕ) → block_at (layout_of b) number ≡ at_region number b.blocks.entries

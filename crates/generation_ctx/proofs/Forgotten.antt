@@ -1,21 +1,5 @@
 -- A chunk is forgotten.
-use Rattle.std.proofs.Common.{◌≡◌, ℕ, ◌+◌, ◌-◌, ◌≤◌, ◌==◌, if◌then◌else◌, Some, None, refl, arith, ap, sym, ◌∙◌, subst}
-use Rattle.addr_space.specs.declared.Addr.{Addr}
-use Rattle.addr_space.specs.Space.{Space}
-use Rattle.addr_space.specs.Footprint.{Agrees}
-use Rattle.ctx_blocks.specs.Layout.{Layout, block_at, chunk_at, footprint}
-use Rattle.ctx_blocks.specs.Steps.{PutsBlock, PutsChunk, SameContext, MovesStill}
-use Rattle.ctx_blocks.specs.declared.parts.Block.{Block}
-use Rattle.ctx_blocks.specs.declared.parts.Chunk.{Chunk}
-use Rattle.generation_ctx.specs.Ledger.{GenerationLedger, put, given, emptied, lessened, freed_shared}
-use Rattle.generation_ctx.specs.State.{number_of}
-use Rattle.generation_ctx.specs.Kept.{ledger_of, IsKept}
-use Rattle.generation_ctx.specs.Steps.{Frees, Lessens}
-use Rattle.generation_ctx.specs.declared.books.Books.{Books}
-use Rattle.addr_space.proofs.Options.{one_value}
-use Rattle.ctx_blocks.proofs.Among.{among_put}
-use Rattle.ctx_blocks.proofs.Changed.{put_here}
-use Rattle.ctx_blocks.proofs.Places.{number_is, number_put}
+use Rattle.generation_ctx.proofs.Words.{◌≡◌, ℕ, ◌+◌, ◌-◌, ◌≤◌, ◌==◌, if◌then◌else◌, Some, None, refl, arith, ap, sym, ◌∙◌, subst, Addr, Space, Agrees, Layout, block_at, chunk_at, footprint, PutsBlock, PutsChunk, SameContext, MovesStill, Block, Chunk, GenerationLedger, put, given, emptied, lessened, freed_shared, number_of, ledger_of, IsKept, Frees, Lessens, Books, one_value, among_put, put_here, number_is, number_put}
 use Rattle.generation_ctx.proofs.Kept.{AllWere, spare_live, kept_put}
 use Rattle.generation_ctx.proofs.Numbers.{found_number, block_is, numbered_put, ledger_put}
 use Rattle.generation_ctx.proofs.Refilled.{given_less, emptied_less}

@@ -1,22 +1,5 @@
 -- What the code keeps, from step to step.
-use Rattle.std.proofs.Common.{◌≡◌, ◌≢◌, ℕ, ◌<◌, ◌==◌, Option, Some, None, true, false, if◌then◌else◌, refl, ◌∙◌, sym, subst, arith, ◌⊎◌, inl, inr, ◌+◌, ap, unwrap_or}
-use Rattle.std.proofs.lemmas.Bool.{cases_eq}
-use Rattle.addr_space.specs.declared.Addr.{Addr}
-use Rattle.ctx_blocks.specs.Layout.{Layout, block_at, chunk_at}
-use Rattle.ctx_blocks.specs.Steps.{PutsBlock, PutsChunk, SameContext}
-use Rattle.ctx_blocks.specs.declared.parts.Block.{Block}
-use Rattle.ctx_blocks.specs.declared.parts.Chunk.{Chunk}
-use Rattle.generation_ctx.specs.Ledger.{is_spare, no_block, added}
-use Rattle.chunk_header.specs.Growth.{AreSizes}
-use Rattle.ctx_blocks.specs.Kept.{HasSize}
-use Rattle.generation_ctx.specs.Kept.{AreNumbered, IsSpare, IsIdle, IsAlone, AllAlone, IsKept, ledger_of}
-use Rattle.generation_ctx.specs.declared.books.Books.{Books}
-use Rattle.ctx_blocks.proofs.Changed.{put_other, size_put, put_here}
-use Rattle.ctx_blocks.proofs.Put.{chunk_was}
-use Rattle.addr_space.proofs.Options.{one_value}
-use Rattle.std.specs.Map.{values_of}
-use Rattle.ctx_blocks.proofs.Numbered.{add_by_number, rising_add}
-use Rattle.generation_ctx.specs.State.{number_of}
+use Rattle.generation_ctx.proofs.Words.{◌≡◌, ◌≢◌, ℕ, ◌<◌, ◌==◌, Option, Some, None, true, false, if◌then◌else◌, refl, ◌∙◌, sym, subst, arith, ◌⊎◌, inl, inr, ◌+◌, ap, unwrap_or, cases_eq, Addr, Layout, block_at, chunk_at, PutsBlock, PutsChunk, SameContext, Block, Chunk, is_spare, no_block, added, AreSizes, HasSize, AreNumbered, IsSpare, IsIdle, IsAlone, AllAlone, IsKept, ledger_of, Books, put_other, size_put, put_here, chunk_was, one_value, values_of, add_by_number, rising_add, number_of}
 use Rattle.generation_ctx.proofs.Numbers.{numbered_by, spare_numbers}
 
 -- the spare stays where its block does

@@ -1,3 +1,4 @@
+pub mod Words
 pub mod Numbers
 pub mod Steps
 pub mod Kept
@@ -6,3 +7,4 @@ pub mod Refilled
 pub mod Forgotten
 pub mod Places
 pub mod Rows
+pub mod Lemmas

@@ -1,23 +1,5 @@
 -- The numbers of blocks, and the ledger by them, once a block was put, added or given back.
-use Rattle.std.proofs.Common.{◌≡◌, ◌≢◌, ℕ, ◌≤◌, ◌==◌, Bool, if◌then◌else◌, filter, Option, Some, None, unwrap_or, option_map, refl, ap, sym, ◌∙◌, arith, inl, inr}
-use Rattle.std.specs.List.{find}
-use Rattle.std.specs.Map.{values_of}
-use Rattle.addr_space.specs.declared.Addr.{Addr}
-use Rattle.addr_space.proofs.Options.{one_value}
-use Rattle.std.proofs.lemmas.Bool.{cases_eq}
-use Rattle.ctx_blocks.specs.Layout.{Layout, block_at, chunk_at}
-use Rattle.ctx_blocks.specs.declared.parts.Chunk.{Chunk}
-use Rattle.ctx_blocks.specs.Kept.{AreRising}
-use Rattle.ctx_blocks.specs.Numbered.{is_other}
-use Rattle.ctx_blocks.specs.Steps.{PutsBlock, DropsBlock, SameContext}
-use Rattle.ctx_blocks.specs.declared.parts.Block.{Block}
-use Rattle.ctx_blocks.proofs.Changed.{drop_other}
-use Rattle.ctx_blocks.proofs.Places.{number_is, number_put}
-use Rattle.ctx_blocks.proofs.Numbered.{found_by_number, put_by_number, drop_by_number, rising_put, rising_drop, region_by_number}
-use Rattle.generation_ctx.specs.Ledger.{no_block, block_in, put, given, is_spare}
-use Rattle.generation_ctx.specs.State.{number_of}
-use Rattle.generation_ctx.specs.Kept.{ledger_of, AreNumbered, IsSpare, IsKept}
-use Rattle.generation_ctx.specs.declared.books.Books.{Books}
+use Rattle.generation_ctx.proofs.Words.{◌≡◌, ◌≢◌, ℕ, ◌≤◌, ◌==◌, Bool, if◌then◌else◌, filter, Option, Some, None, unwrap_or, option_map, refl, ap, sym, ◌∙◌, arith, inl, inr, find, values_of, Addr, one_value, cases_eq, Layout, block_at, chunk_at, Chunk, AreRising, is_other, PutsBlock, DropsBlock, SameContext, Block, drop_other, number_is, number_put, found_by_number, put_by_number, drop_by_number, rising_put, rising_drop, region_by_number, no_block, block_in, put, given, is_spare, number_of, ledger_of, AreNumbered, IsSpare, IsKept, Books}
 
 -- a block that is there, by the ledger
 pub found_number : (b : Books) (region : ℕ) (block : Block) → AreNumbered b.blocks → block_at b.blocks region ≡ Some block → find (λ x. x.number == block.number) (ledger_of b).blocks ≡ Some block

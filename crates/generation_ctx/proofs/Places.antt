@@ -1,17 +1,7 @@
 -- The places of live chunks, once one was put, taken away or moved.
-use Rattle.std.proofs.Common.{◌≡◌, ◌≤◌, ℕ, Option, Some, None, IsSome, IfSome, option_map, refl, ap, inl, inr, ◌∙◌}
-use Rattle.addr_space.specs.declared.Addr.{Addr}
-use Rattle.addr_space.specs.Space.{Space}
-use Rattle.addr_space.specs.Footprint.{Agrees}
+use Rattle.generation_ctx.proofs.Words.{◌≡◌, ◌≤◌, ℕ, Option, Some, None, IsSome, IfSome, option_map, refl, ap, inl, inr, ◌∙◌, Addr, Space, Agrees, option_cases, Layout, chunk_at, footprint, KeepsNumbers, Chunk, number_stays, GenerationPlace, place_in}
 use Rattle.addr_space.specs.Live.{MovesAt}
 use Rattle.addr_space.proofs.Addresses.{same_addr-cases}
-use Rattle.addr_space.proofs.Options.{option_cases}
-use Rattle.ctx_blocks.specs.Layout.{Layout, chunk_at, footprint}
-use Rattle.ctx_blocks.specs.Numbered.{KeepsNumbers}
-use Rattle.ctx_blocks.specs.declared.parts.Chunk.{Chunk}
-use Rattle.ctx_blocks.proofs.Places.{number_stays}
-use Rattle.generation_ctx.specs.Ledger.{GenerationPlace}
-use Rattle.generation_ctx.specs.State.{place_in}
 
 -- the place of a chunk, by the number of its block
 abbrev pub place : ℕ → Chunk → GenerationPlace

@@ -1,20 +1,6 @@
 -- A shared block without live chunks gets its whole room, or goes back.
-use Rattle.std.proofs.Common.{◌≡◌, ◌≢◌, ℕ, ◌+◌, ◌-◌, ◌==◌, if◌then◌else◌, false, List, Option, Some, None, unwrap_or, refl, arith, ◌∙◌, sym, ap}
-use Rattle.std.specs.List.{find}
-use Rattle.ctx_blocks.specs.Layout.{Layout, block_at, start_of as start_in, whole_block, footprint}
-use Rattle.addr_space.specs.Space.{Space}
-use Rattle.addr_space.specs.Footprint.{Agrees, Moves, Keeps}
-use Rattle.ctx_blocks.specs.Steps.{PutsBlock, DropsBlock, SameContext, MovesStill}
-use Rattle.generation_ctx.specs.Steps.{Rearranges}
-use Rattle.ctx_blocks.specs.declared.parts.Block.{Block}
-use Rattle.ctx_blocks.proofs.Changed.{drop_other, size_drop}
-use Rattle.ctx_blocks.proofs.Numbered.{put_twice, put_away, put_found}
-use Rattle.generation_ctx.specs.Ledger.{GenerationLedger, block_in, no_block, is_spare, put, filled, given, emptied, emptied_other, lessened}
-use Rattle.generation_ctx.specs.State.{number_of}
-use Rattle.generation_ctx.specs.Kept.{ledger_of, IsKept}
-use Rattle.generation_ctx.specs.declared.books.Books.{Books}
-use Rattle.addr_space.proofs.Options.{one_value}
-use Rattle.ctx_blocks.proofs.Places.{number_is}
+use Rattle.generation_ctx.proofs.Words.{◌≡◌, ◌≢◌, ℕ, ◌+◌, ◌-◌, ◌==◌, if◌then◌else◌, false, List, Option, Some, None, unwrap_or, refl, arith, ◌∙◌, sym, ap, find, Layout, block_at, whole_block, footprint, Space, Agrees, Moves, Keeps, PutsBlock, DropsBlock, SameContext, MovesStill, Rearranges, Block, drop_other, size_drop, put_twice, put_away, put_found, GenerationLedger, block_in, no_block, is_spare, put, filled, given, emptied, emptied_other, lessened, number_of, ledger_of, IsKept, Books, one_value, number_is}
+use Rattle.ctx_blocks.specs.Layout.{start_of as start_in}
 use Rattle.generation_ctx.proofs.Numbers.{block_is, numbered_put, numbered_drop, ledger_put, ledger_drop, same_test, keeper_test}
 use Rattle.generation_ctx.proofs.Kept.{apart_spare, kept_but, kept_put, were_still}
 

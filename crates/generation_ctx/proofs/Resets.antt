@@ -1,12 +1,6 @@
 -- The books of a context with the keeper alone.
-use Rattle.std.proofs.Common.{◌≡◌, [], Some, None, refl, arith}
+use Rattle.generation_ctx.proofs.Words.{◌≡◌, [], Some, None, refl, arith, block_at, whole_block, keeper_alone, created, number_is, AreSizes, ledger_of, IsKept, Books}
 use Rattle.chunk_header.specs.declared.Kind.TheVariants.{Generation}
-use Rattle.ctx_blocks.specs.Layout.{block_at, whole_block, keeper_alone}
-use Rattle.generation_ctx.specs.Ledger.{created}
-use Rattle.ctx_blocks.proofs.Places.{number_is}
-use Rattle.chunk_header.specs.Growth.{AreSizes}
-use Rattle.generation_ctx.specs.Kept.{ledger_of, IsKept}
-use Rattle.generation_ctx.specs.declared.books.Books.{Books}
 
 module _ (n : Books) (kind : n.blocks.kind ≡ Generation) (one : n.blocks.first_number ≡ 1) (last : n.blocks.last_number ≡ 1) (sized : AreSizes n.sizes.init n.sizes.max n.next) (only : n.blocks.blocks ≡ keeper_alone n.blocks.keeper 1 n.sizes.init) (first : n.current ≡ n.blocks.keeper) (spare : n.spare ≡ None) where
   there : block_at n.blocks n.blocks.keeper ≡ Some (whole_block 1 200 n.sizes.init)

@@ -1,9 +1,5 @@
 -- The ledger, run: what `stats` answers after some calls.
-use Rattle.std.specs.Prelude.{◌≡◌, ℕ, List, [], ◌∷◌, true, false, Result, Ok, Err, refl}
-use Rattle.chunk_header.specs.declared.CtxError.{CtxError}
-use Rattle.chunk_header.specs.declared.CtxError.TheVariants.{TooBig, NoSpace}
-use Rattle.chunk_header.specs.Growth.{up8, granted, grown, doubled}
-use Rattle.generation_ctx.specs.Ledger.{GenerationLedger, GenerationPlace, GenerationTaken, GenerationResized, created, take, give, resize, stats, stopped, turned, with_new, cut_off, cut, chosen, block_size, take_new, take_from, take_cut, owned, take_own, emptied, lessened, freed_shared}
+use Rattle.generation_ctx.proofs.Words.{◌≡◌, ℕ, List, [], ◌∷◌, true, false, Result, Ok, Err, refl, CtxError, TooBig, NoSpace, up8, granted, grown, doubled, GenerationLedger, GenerationPlace, GenerationTaken, GenerationResized, created, take, give, resize, stats, stopped, turned, with_new, cut_off, cut, chosen, block_size, take_new, take_from, take_cut, owned, take_own, emptied, lessened, freed_shared}
 
 -- what is done: a request, a chunk freed, another size
 data Call : Type 0 where

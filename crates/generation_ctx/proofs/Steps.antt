@@ -1,17 +1,5 @@
 -- Steps, one after another.
-use Rattle.std.proofs.Common.{◌≡◌, ℕ, refl, sym, ◌∙◌}
-use Rattle.addr_space.specs.declared.Addr.{Addr}
-use Rattle.addr_space.specs.Space.{Space, Asks}
-use Rattle.addr_space.specs.Footprint.{Agrees}
-use Rattle.addr_space.proofs.Steps.{Moves-none, Moves-more, Keeps-more, Keeps-then}
-use Rattle.ctx_blocks.specs.Layout.{footprint}
-use Rattle.generation_ctx.specs.Ledger.{GenerationLedger, GenerationTaken}
-use Rattle.generation_ctx.specs.Kept.{ledger_of, IsKept}
-use Rattle.generation_ctx.specs.Steps.{Rearranges, Allocates, Frees}
-use Rattle.generation_ctx.specs.declared.books.Books.{Books}
-use Rattle.ctx_blocks.specs.Numbered.{AreAmong, KeepsNumbers}
-use Rattle.ctx_blocks.proofs.Changed.{stays_live}
-use Rattle.ctx_blocks.proofs.Among.{among_more}
+use Rattle.generation_ctx.proofs.Words.{◌≡◌, ℕ, refl, sym, ◌∙◌, Addr, Space, Asks, Agrees, Moves-none, Moves-more, Keeps-more, Keeps-then, footprint, GenerationLedger, GenerationTaken, ledger_of, IsKept, Rearranges, Allocates, Frees, Books, AreAmong, KeepsNumbers, stays_live, among_more}
 
 -- nothing happens
 pub rearranges_none : (b : Books) (s : Space) (ledger : GenerationLedger) → IsKept b → Agrees (footprint b.blocks) s → ledger_of b ≡ ledger → Rearranges b b s s ledger

@@ -1,11 +1,5 @@
 -- Lemmas on how many free chunks there may be.
-use Rattle.std.proofs.Common.{◌≡◌, ℕ, ◌*◌, ◌^◌, ◌≤◌, List, [], ◌∷◌, length, sum_by, arith}
-use Rattle.std.proofs.lemmas.List.Sums.{sum_by-cons}
-use Rattle.std.proofs.Math.Nat.{mul-le-mul_right}
-use Rattle.slab_ctx.specs.Lives.{is_empty, free_in, free_chunks, per_block, stride}
-use Rattle.slab_ctx.specs.State.{lives_of}
-use Rattle.slab_ctx.specs.Kept.{IsKeptBut}
-use Rattle.slab_ctx.specs.declared.books.Books.{Books}
+use Rattle.slab_ctx.proofs.Words.{◌≡◌, ℕ, ◌*◌, ◌^◌, ◌≤◌, List, [], ◌∷◌, length, sum_by, arith, sum_by-cons, mul-le-mul_right, is_empty, free_in, free_chunks, per_block, stride, lives_of, IsKeptBut, Books}
 use Rattle.slab_ctx.proofs.Numbers.{per_block-is, per_block-few}
 
 -- a sum of so many at most each

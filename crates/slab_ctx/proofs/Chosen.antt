@@ -1,20 +1,5 @@
 -- Lemmas on the block that serves a request.
-use Rattle.std.proofs.Common.{◌≡◌, ◌≢◌, ℕ, ◌+◌, ◌<◌, ◌≤◌, ◌⊎◌, nat_lt, if◌then◌else◌, [], ◌∷◌, map, Option, Some, None, refl, sym, ap, ◌∙◌, inl, inr, arith, option_map}
-use Rattle.std.proofs.lemmas.Bool.{cases_eq}
-use Rattle.addr_space.proofs.Options.{from_map}
-use Rattle.ctx_blocks.specs.Kept.{AreRising}
-use Rattle.ctx_blocks.specs.Layout.{Layout, block_at}
-use Rattle.ctx_blocks.specs.declared.parts.Block.{Block}
-use Rattle.ctx_blocks.proofs.Numbered.{rising_above}
-use Rattle.slab_ctx.specs.declared.tree.Rank.{Rank}
-use Rattle.slab_ctx.specs.declared.tree.Entry.{Entry}
-use Rattle.slab_ctx.specs.declared.ranks.Ranks.{Ranks}
-use Rattle.slab_ctx.specs.Tree.{Leads}
-use Rattle.slab_ctx.specs.Ranks.{rank_at, entry_of}
-use Rattle.slab_ctx.specs.Order.{rank_of, own_at, IsOrdered}
-use Rattle.slab_ctx.specs.Ledger.{SlabBlock, serving, fuller}
-use Rattle.slab_ctx.specs.State.{others, numbered_of, blocks_of, serving_block}
-use Rattle.slab_ctx.specs.Kept.{AreApart, IsListed}
+use Rattle.slab_ctx.proofs.Words.{◌≡◌, ◌≢◌, ℕ, ◌+◌, ◌<◌, ◌≤◌, ◌⊎◌, nat_lt, if◌then◌else◌, [], ◌∷◌, map, Option, Some, None, refl, sym, ap, ◌∙◌, inl, inr, arith, option_map, cases_eq, from_map, AreRising, Layout, block_at, Block, rising_above, Rank, Entry, Ranks, Leads, rank_at, entry_of, rank_of, own_at, IsOrdered, SlabBlock, serving, fuller, others, numbered_of, blocks_of, serving_block, AreApart, IsListed}
 use Rattle.slab_ctx.specs.Steps.{IsChosen}
 use Rattle.slab_ctx.proofs.Lives.{Entries, find}
 use Rattle.slab_ctx.proofs.Listed.{find-other}
@@ -80,15 +65,11 @@ module _ (per : ℕ) (block : Block) (free : block.live < per) where
 module _ (r : Ranks) (l : Layout) (per : ℕ) (ordered : IsOrdered r l per) (listed : IsListed l) where
   -- a block that stands in the list has its rank
   rank-found : (region : ℕ) (block : Block) → find region (others l.blocks) ≡ Some block → rank_at r.entries.entries region ≡ Some (rank_of per block)
-  rank-found region block found =
-      let differs : region ≢ l.keeper = λ same. (let none = listed.alone in let clash = rw same at found in absurd (cc)) in
-      grind (arith, ordered.at region, find-other l listed region differs)
+  rank-found region block found = grind (arith, ordered.at region, find-other l listed region)
 
   -- a key with a rank is a block
   ranked_is : (region : ℕ) (rank : Rank) → rank_at r.entries.entries region ≡ Some rank → (block : Block) × (block_at l region ≡ Some block) × (region ≢ l.keeper) × (rank_of per block ≡ rank)
-  ranked_is region rank is =
-      let it = from_map (rank_of per) (own_at l region) rank (sym (ordered.at region) ∙ is) in
-      (it.0, grind (arith, it.1), (λ e. grind (arith, it.1, e)), it.2)
+  ranked_is region rank is = grind (arith, from_map (rank_of per) (own_at l region) rank (sym (ordered.at region) ∙ is), ordered.at region)
 
   -- the least rank
   module _ (e : Entry) (there : rank_at r.entries.entries e.key ≡ Some e.rank) (least : (key : ℕ) (rank : Rank) → rank_at r.entries.entries key ≡ Some rank → Leads (Some e) (Some (entry_of (key, rank)))) where

@@ -1,22 +1,9 @@
 -- Lemmas on what a Slab has in a space with its free chunks.
-use Rattle.std.proofs.Common.{◌≡◌, ◌≢◌, ℕ, ◌+◌, ◌-◌, ◌/◌, ◌%◌, ◌≤◌, true, List, Option, Some, None, sym, ap, ◌∙◌, inl, inr, arith}
-use Rattle.std.specs.Global.{Vec}
-use Rattle.std.proofs.Math.Nat.{mod-eq-sub-div-mul, div-mul-le_self}
-use Rattle.addr_space.specs.declared.Addr.{Addr}
-use Rattle.addr_space.specs.Space.{Space, IsApart}
+use Rattle.slab_ctx.proofs.Words.{◌≡◌, ◌≢◌, ℕ, ◌+◌, ◌-◌, ◌/◌, ◌%◌, ◌≤◌, true, List, Option, Some, None, sym, ap, ◌∙◌, inl, inr, arith, Vec, mod-eq-sub-div-mul, div-mul-le_self, Addr, Space, IsApart, IsHeaded, AllHeaded, AllOfKind, TakesSpace, Layout, block_at, chunk_at, front_of, start_of, Block, Chunk, stride, is_slot, free_at, IsSlot, IsSlotted, none_or_some, option_cases, same_addr_from, region_is, from_live}
 use Rattle.addr_space.specs.Footprint.{Footprint, IsWithin, Agrees, Moves, nothing, counted}
-use Rattle.chunk_header.specs.Header.{IsHeaded, AllHeaded, AllOfKind, TakesSpace}
 use Rattle.chunk_header.specs.declared.Kind.{Kind}
-use Rattle.ctx_blocks.specs.Layout.{Layout, block_at, chunk_at, front_of, start_of, footprint as footprint_of}
-use Rattle.ctx_blocks.specs.declared.parts.Block.{Block}
-use Rattle.ctx_blocks.specs.declared.parts.Chunk.{Chunk}
-use Rattle.slab_ctx.specs.Lives.{stride}
-use Rattle.slab_ctx.specs.State.{is_slot, free_at}
-use Rattle.slab_ctx.specs.Slots.{IsSlot, IsSlotted}
+use Rattle.ctx_blocks.specs.Layout.{footprint as footprint_of}
 use Rattle.slab_ctx.proofs.Numbers.{stride_least, stride-some, slots_apart}
-use Rattle.addr_space.proofs.Options.{none_or_some, option_cases}
-use Rattle.addr_space.proofs.Addresses.{same_addr_from}
-use Rattle.ctx_blocks.proofs.Laid.{region_is, from_live}
 use Rattle.slab_ctx.proofs.Places.{start-is}
 
 -- what the context has in a space: what the blocks have, and the free chunks
@@ -25,13 +12,7 @@ full size l = record (footprint_of l) { free = free_at size l }
 
 -- the test of a slot
 slot-from : (size offset : ℕ) → 1 ≤ size → is_slot size offset ≡ true → IsSlot size offset × (offset + (stride size - 8) ≤ 8192)
-slot-from size offset some test =
-    let f = stride size in
-    let wide : 16 ≤ f = stride-some size some in
-    let first : 48 ≤ offset = grind arith in
-    let whole : (offset - 48) % f ≡ 0 = grind arith in
-    let last : offset + (f - 8) ≤ 8192 = grind arith in
-    (record { slot = (offset - 48) / f; at_slot = omega (arith, whole, first, mod-eq-sub-div-mul (offset - 48) f, div-mul-le_self (offset - 48) f) }, last)
+slot-from size offset some test = grind (arith, stride-some, mod-eq-sub-div-mul, div-mul-le_self)
 
 -- what a free chunk is
 record IsFreeAt (l : Layout) (size : ℕ) (at : Addr) (n : ℕ) : Type 0 where
@@ -43,13 +24,7 @@ record IsFreeAt (l : Layout) (size : ℕ) (at : Addr) (n : ℕ) : Type 0 where
   is : n ≡ size
 
 from_free : (l : Layout) (size : ℕ) (at : Addr) (n : ℕ) → free_at size l at ≡ Some n → IsFreeAt l size at n
-from_free l size at n is = elim (option_cases (block_at l at.region)) [
-  | inl none ↦ absurd (grind (arith, is, none))
-  | inr block ↦ elim (option_cases (chunk_at l at)) [
-    | inl none ↦ record { not_keeper = λ e. grind (arith, is, e); block = block.0; found = block.1; none = none; slot = grind (arith, is, block.1, none); is = grind (arith, is, block.1, none) }
-    | inr chunk ↦ absurd (grind (arith, is, block.1, chunk.1))
-  ]
-]
+from_free l size at n is = grind (arith, option_cases)
 
 -- a context with other free chunks, where these lie in its regions, apart from live chunks and behind the fronts
 Agrees-free : (f : Footprint) (free : Addr → Option ℕ) (sp : Space) → Agrees f sp → ((at : Addr) (n : ℕ) → free at ≡ Some n → IsWithin f at n)
@@ -59,28 +34,13 @@ Agrees-free f free sp agrees inside apart behind = assumption
 -- free chunks lie in their blocks, apart from live ones and behind the headers
 module _ (l : Layout) (size : ℕ) (s : List (ℕ × Vec ℕ)) (slotted : IsSlotted l size s) where
   free_inside : (at : Addr) (n : ℕ) → free_at size l at ≡ Some n → IsWithin (footprint_of l) at n
-  free_inside at n free =
-      let it = from_free l size at n free in
-      let slot = slot-from size at.offset slotted.least it.slot in
-      let filled = slotted.filled at.region it.block it.not_keeper it.found in
-      (it.block.size, region_is l at.region it.block it.found, omega (arith, slot.1, it.is, filled.bytes, stride_least size))
+  free_inside at n free = grind (arith, from_free l size at n free, slot-from size at.offset slotted.least (from_free l size at n free).slot, slotted.filled at.region (from_free l size at n free).block (from_free l size at n free).not_keeper (from_free l size at n free).found, region_is l at.region (from_free l size at n free).block (from_free l size at n free).found, stride_least size)
 
   free_apart : (a b : Addr) (m n : ℕ) → (footprint_of l).live a ≡ Some m → free_at size l b ≡ Some n → IsApart a m b n
-  free_apart a b m n live free region =
-      let it = from_free l size b n free in
-      let had = from_live l a m live in
-      let slot = slot-from size b.offset slotted.least it.slot in
-      let is : m ≡ size = sym had.2 ∙ ap (λ (c : Chunk). c.size) (slotted.chunk a had.0 had.1) in
-      let differs : a.offset ≢ b.offset = λ e. none_or_some (chunk_at l b) had.0 it.none (ap (chunk_at l) (sym (same_addr_from a b region e)) ∙ had.1) in
-      let apart = slots_apart size a.offset b.offset (slotted.slot a had.0 had.1) slot.0 differs in
-      grind (arith, stride_least size, is, it.is)
+  free_apart a b m n live free region = grind (arith, from_free l size b n free, from_live l a m live, slot-from size b.offset slotted.least (from_free l size b n free).slot, slotted.chunk a (from_live l a m live).0 (from_live l a m live).1, same_addr_from a b region, slots_apart size a.offset b.offset (slotted.slot a (from_live l a m live).0 (from_live l a m live).1) (slot-from size b.offset slotted.least (from_free l size b n free).slot).0, slotted.slot a (from_live l a m live).0 (from_live l a m live).1, stride_least size)
 
   free_behind : (at : Addr) (n : ℕ) → free_at size l at ≡ Some n → (footprint_of l).front at.region ≤ at.offset
-  free_behind at n free =
-      let it = from_free l size at n free in
-      let slot = slot-from size at.offset slotted.least it.slot in
-      let front : front_of (start_of l at.region) (block_at l at.region) ≤ start_of l at.region + 40 = rw it.found (omega arith) in
-      omega (arith, front, start-is l size s slotted at.region it.not_keeper, slot.0.at_slot)
+  free_behind at n free = grind (arith, from_free, slot-from, start-is)
 
   pub Agrees-full : (sp : Space) → Agrees (footprint_of l) sp → Agrees (full size l) sp
   Agrees-full sp agrees = Agrees-free (footprint_of l) (free_at size l) sp agrees free_inside free_apart free_behind

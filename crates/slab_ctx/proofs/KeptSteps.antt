@@ -1,23 +1,6 @@
 -- What the code keeps, after a step.
-use Rattle.std.proofs.Common.{◌≡◌, ◌≢◌, ℕ, ◌==◌, if◌then◌else◌, Option, Some, None, option_map, arith, ◌+◌, ◌-◌, ◌^◌, ◌≤◌, ◌++◌, List, [], ◌∷◌, length, map, sum_by, refl, sym, ap, ◌∙◌}
-use Rattle.ctx_blocks.specs.Layout.{Layout, block_at, total}
-use Rattle.ctx_blocks.specs.declared.parts.Block.{Block}
-use Rattle.slab_ctx.specs.declared.tree.Rank.{Rank}
-use Rattle.slab_ctx.specs.declared.ranks.Ranks.{Ranks}
-use Rattle.slab_ctx.specs.Ranks.{rank_at, IsRanked}
-use Rattle.slab_ctx.specs.Order.{rank_of, IsOrdered}
-use Rattle.std.proofs.lemmas.List.{length-append}
-use Rattle.std.proofs.lemmas.List.Sums.{sum_by-append, sum_by-cons}
-use Rattle.ctx_blocks.specs.Steps.{with_block, PutsBlock, DropsBlock, SameContext}
+use Rattle.slab_ctx.proofs.Words.{◌≡◌, ◌≢◌, ℕ, ◌==◌, if◌then◌else◌, Option, Some, None, option_map, arith, ◌+◌, ◌-◌, ◌^◌, ◌≤◌, ◌++◌, List, [], ◌∷◌, length, map, sum_by, refl, sym, ap, ◌∙◌, Layout, block_at, total, Block, Rank, Ranks, rank_at, IsRanked, rank_of, IsOrdered, length-append, sum_by-append, sum_by-cons, with_block, PutsBlock, DropsBlock, SameContext, rising_put, rising_add, is_empty, free_in, free_chunks, per_block, SlabBlock, with_live, others, live_of, lives_of, numbered_of, blocks_of, HasSlots, first_region, Counts, inner_of, ledger_of, IsKeptBut, IsKept, Books}
 use Rattle.ctx_blocks.proofs.Totals.{total-put}
-use Rattle.ctx_blocks.proofs.Numbered.{rising_put, rising_add}
-use Rattle.slab_ctx.specs.Lives.{is_empty, free_in, free_chunks, per_block}
-use Rattle.slab_ctx.specs.Ledger.{SlabBlock, with_live}
-use Rattle.slab_ctx.specs.State.{others, live_of, lives_of, numbered_of, blocks_of}
-use Rattle.slab_ctx.specs.Slots.{HasSlots, first_region}
-use Rattle.slab_ctx.specs.Counts.{Counts}
-use Rattle.slab_ctx.specs.Kept.{inner_of, ledger_of, IsKeptBut, IsKept}
-use Rattle.slab_ctx.specs.declared.books.Books.{Books}
 use Rattle.slab_ctx.proofs.Lives.{numbered_put, find, ones, lives-put, lives-drop}
 use Rattle.slab_ctx.proofs.Bounds.{free-is}
 use Rattle.slab_ctx.proofs.Listed.{find-other, others-put, others-drop, IsListed-none, IsListed-put, map-added, IsListed-drop}
@@ -37,15 +20,7 @@ free_from n is = is
 
 -- a context without blocks
 pub kept-none : (n : Books) → HasSlots n.slots → n.slots.blocks.blocks ≡ (n.slots.blocks.keeper, first_region) ∷ [] → n.empty ≡ 0 → n.free ≡ 0 → IsRanked n.ranks → n.ranks.entries.entries ≡ [] → IsKept n
-kept-none n slots blocks empty free ranked none = record {
-  slots = slots;
-  listed = IsListed-none n.slots.blocks blocks;
-  empty = rw (empty, blocks) refl;
-  free = free_from n (rw (free, blocks) refl);
-  bytes = rw blocks refl;
-  most = rw blocks (omega arith);
-  order = record { ranked = ranked; at = λ number. rw (none, blocks) (grind arith) };
-}
+kept-none n slots blocks empty free ranked none = grind (arith, IsListed-none, free_from)
 
 module _ (b n : Books) (few number : ℕ) (kept : IsKeptBut b few) (slots : HasSlots n.slots) (size : n.slots.size ≡ b.slots.size) (same : SameContext b.slots.blocks n.slots.blocks) (differs : number ≢ b.slots.blocks.keeper) where
   -- a block is new, has another number of live chunks, or is given back
@@ -108,21 +83,7 @@ module _ (b n : Books) (few number : ℕ) (kept : IsKeptBut b few) (slots : HasS
 
     -- an empty block is given back, which the books don't count
     pub kept-dropped : block.live ≡ 0 → few ≡ 1 → DropsBlock b.slots.blocks n.slots.blocks number → n.slots.blocks.last_number ≡ b.slots.blocks.last_number → total n.slots.blocks + 8192 ≡ total b.slots.blocks → n.empty ≡ b.empty → n.free ≡ b.free - per_block b.slots.size → IsRanked n.ranks → PutsRank b.ranks n.ranks number None → IsKept n
-    kept-dropped live one drops last less empty free ranked ranks =
-        let l = b.slots.blocks in
-        let m = n.slots.blocks in
-        let per = per_block b.slots.size in
-        let gone = others-drop l kept.listed number differs m same drops in
-        let sums : (f : ℕ → ℕ) → sum_by f (lives_of m) + f 0 ≡ sum_by f (lives_of l) = λ f. (let it = lives-drop f number block (others l.blocks) there in rw gone (rw live at it)) in
-        record {
-          slots = slots;
-          listed = IsListed-drop l kept.listed number differs m same drops last;
-          empty = omega (arith, empty, one, kept.empty, sums is_empty);
-          free = free_from n (omega (arith, free, free-is b few kept, per_same (lives_of m), sums (free_in per)));
-          bytes = omega (arith, less, kept.bytes, sums (λ x. 1), ones (lives_of l), ones (lives_of m));
-          most = omega (arith, less, kept.most);
-          order = order-now None ranked drops.at ranks;
-        }
+    kept-dropped live one drops last less empty free ranked ranks = grind (arith, others-drop b.slots.blocks kept.listed number differs n.slots.blocks same drops, IsListed-drop b.slots.blocks kept.listed number differs n.slots.blocks same drops last, free_from n, free-is b few kept, per_same (lives_of n.slots.blocks), ones (lives_of b.slots.blocks), ones (lives_of n.slots.blocks), order-now None ranked drops.at ranks, lives-drop)
 
 -- a block counts among the empty ones and with its free chunks
 module _ (b : Books) (few number : ℕ) (kept : IsKeptBut b few) (differs : number ≢ b.slots.blocks.keeper) (block : Block) (found : block_at b.slots.blocks number ≡ Some block) where

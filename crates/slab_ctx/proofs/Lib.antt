@@ -1,3 +1,4 @@
+pub mod Words
 pub mod Numbers
 pub mod Slotted
 pub mod Taken
@@ -13,3 +14,4 @@ pub mod Served
 pub mod Lives
 pub mod Public
 pub mod Rows
+pub mod Lemmas

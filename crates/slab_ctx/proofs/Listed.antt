@@ -1,16 +1,6 @@
 -- Lemmas on the list of a Slab's blocks.
-use Rattle.std.proofs.Common.{◌≡◌, ◌≢◌, ℕ, ◌++◌, List, [], ◌∷◌, map, Some, None, refl, ap, ◌∙◌, arith}
-use Rattle.std.proofs.lemmas.List.{map-append}
-use Rattle.ctx_blocks.specs.Layout.{Layout, block_at}
-use Rattle.ctx_blocks.specs.Steps.{with_block, without_block, PutsBlock, DropsBlock, SameContext}
-use Rattle.ctx_blocks.specs.declared.parts.Block.{Block}
-use Rattle.ctx_blocks.specs.Kept.{AreRising}
-use Rattle.ctx_blocks.proofs.Numbered.{with_last, rising_drop}
-use Rattle.slab_ctx.specs.Ledger.{without_number}
-use Rattle.slab_ctx.specs.State.{others, numbered_of, blocks_of}
+use Rattle.slab_ctx.proofs.Words.{◌≡◌, ◌≢◌, ℕ, ◌++◌, List, [], ◌∷◌, map, Some, None, refl, ap, ◌∙◌, arith, map-append, Layout, block_at, with_block, without_block, PutsBlock, DropsBlock, SameContext, Block, AreRising, with_last, rising_drop, without_number, others, numbered_of, blocks_of, first_region, IsListed, AreApart}
 use Rattle.slab_ctx.proofs.Lives.{numbered_drop, find, alone-put, alone-drop}
-use Rattle.slab_ctx.specs.Slots.{first_region}
-use Rattle.slab_ctx.specs.Kept.{IsListed, AreApart}
 
 -- blocks stay in different regions
 apart-put : (number : ℕ) (now : Block) (es : List (ℕ × Block)) → AreApart es → AreApart (with_block es number now)

@@ -1,9 +1,5 @@
 -- Lemmas on the bytes of a chunk with its header, and on how many a block has.
-use Rattle.std.proofs.Common.{◌≡◌, ◌≢◌, ℕ, ◌+◌, ◌*◌, ◌%◌, ◌<◌, ◌≤◌, ◌⊎◌, ◌↔◌, arith}
-use Rattle.std.proofs.Math.Nat.{le-div_iff_mul-le, mul-le-mul_right}
-use Rattle.chunk_header.specs.Growth.{up8}
-use Rattle.slab_ctx.specs.Lives.{stride, per_block}
-use Rattle.slab_ctx.specs.Slots.{IsSlot}
+use Rattle.slab_ctx.proofs.Words.{◌≡◌, ◌≢◌, ℕ, ◌+◌, ◌*◌, ◌%◌, ◌<◌, ◌≤◌, ◌⊎◌, ◌↔◌, arith, le-div_iff_mul-le, mul-le-mul_right, up8, stride, per_block, IsSlot}
 
 pub stride_least : (size : ℕ) → size + 8 ≤ stride size
 unfolding stride up8
@@ -22,8 +18,7 @@ unfolding per_block
 per_block-is size n = le-div_iff_mul-le (omega (arith, stride_least size))
 
 pub per_block-few : (size : ℕ) → 1 ≤ size → per_block size ≤ 509
-per_block-few size some =
-    omega (arith, (per_block-is size (per_block size)).0 (omega arith), mul-le-mul_right (per_block size) (stride-some size some))
+per_block-few size some = grind (arith, per_block-is size (per_block size), mul-le-mul_right (per_block size) (stride-some size some), stride-some size some)
 
 pub per_block_some : (size : ℕ) → size ≤ 1024 → 1 ≤ per_block size
 unfolding stride up8
@@ -35,5 +30,4 @@ slot-before f a b before = let more = mul-le-mul_right f before in omega arith
 
 -- two slots have no byte in common, with their headers
 pub slots_apart : (size a b : ℕ) → IsSlot size a → IsSlot size b → a ≢ b → (a + stride size ≤ b) ⊎ (b + stride size ≤ a)
-slots_apart size a b first second differs =
-    grind (arith, first.at_slot, second.at_slot, slot-before (stride size) first.slot second.slot, slot-before (stride size) second.slot first.slot)
+slots_apart size a b first second differs = grind (arith, slot-before (stride size) first.slot second.slot, slot-before (stride size) second.slot first.slot)

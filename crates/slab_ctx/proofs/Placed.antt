@@ -1,30 +1,14 @@
 -- Lemmas on entries at their places.
-use Rattle.std.proofs.Common.{◌≡◌, ℕ, zero, suc, ◌+◌, ◌-◌, ◌<◌, ◌≤◌, ◌==◌, nat_eq, is_some, IfSome, if◌then◌else◌, Bool, Option, Some, None, List, [], ◌∷◌, slice_get, get_or, set, length, sym, ap, ◌∙◌, inl, inr, arith, option_map}
-use Rattle.std.specs.Prelude.{position}
-use Rattle.std.specs.Map.{keys_of}
+use Rattle.slab_ctx.proofs.Words.{◌≡◌, ℕ, zero, suc, ◌+◌, ◌-◌, ◌<◌, ◌≤◌, ◌==◌, nat_eq, is_some, IfSome, if◌then◌else◌, Bool, Option, Some, None, List, [], ◌∷◌, slice_get, get_or, set, length, sym, ap, ◌∙◌, inl, inr, arith, option_map, position, keys_of, nat_eq_equiv, get_or-set_same, get_or-set_other, get_or-take, slice_get_past, slice_get-get_or, slice_get_within, cases_eq, cases_lt, keys-with_value_at, index_map_len-with_value_at, swap_remove_entry-found, from_map, Rank, Entry, Ranks, Leads, IsLesser, leaf, rank_at, entry_of, entry_in, current_in, leaf_in, IsRanked}
 use Rattle.std.specs.List.{position_or_len}
 use Rattle.indexmap.specs.Layout.{set_value_at}
-use Rattle.std.specs.Cmp.{nat_eq_equiv}
-use Rattle.std.proofs.lemmas.List.{get_or-set_same, get_or-set_other, get_or-take}
-use Rattle.std.proofs.lemmas.Option.{slice_get_past, slice_get-get_or, slice_get_within}
 use Rattle.std.proofs.lemmas.Map.Entries.{place_from_lookup, lookup_from_place}
-use Rattle.std.proofs.lemmas.Bool.{cases_eq, cases_lt}
 use Rattle.indexmap.specs.IndexMap.{insert_entry, swap_remove_entry}
-use Rattle.indexmap.proofs.CallerLemmas.{keys-with_value_at, index_map_len-with_value_at}
-use Rattle.indexmap.proofs.MapLemmas.{swap_remove_entry-found}
-use Rattle.addr_space.proofs.Options.{from_map}
-use Rattle.slab_ctx.specs.declared.tree.Rank.{Rank}
-use Rattle.slab_ctx.specs.declared.tree.Entry.{Entry}
-use Rattle.slab_ctx.specs.declared.ranks.Ranks.{Ranks}
-use Rattle.slab_ctx.specs.Tree.{Leads, IsLesser, leaf}
-use Rattle.slab_ctx.specs.Ranks.{rank_at, entry_of, entry_in, current_in, leaf_in, IsRanked}
 use Rattle.slab_ctx.proofs.Trees.{Leads-trans, some_with}
 
 -- an entry of a key is the key with its rank
 pub pair-at : (es : List (ℕ × Rank)) (place key : ℕ) → (it : (e : Entry) × (entry_in es place ≡ Some e) × (e.key ≡ key)) → slice_get es place ≡ Some (key, it.0.rank)
-pair-at es place key it =
-    let found = from_map entry_of (slice_get es place) it.0 it.1 in
-    found.1 ∙ ap (λ k. Some (k, found.0.1)) (ap (λ e. e.key) found.2 ∙ it.2) ∙ ap (λ r. Some (key, r)) (ap (λ e. e.rank) found.2)
+pair-at es place key it = grind (arith, from_map entry_of (slice_get es place) it.0 it.1)
 
 -- a key has another rank
 value-set : (es : List (ℕ × Rank)) (place p : ℕ) (key : ℕ) (old rank : Rank) → slice_get es place ≡ Some (key, old) → slice_get (set_value_at es place rank) p ≡ (if place == p then Some (key, rank) else slice_get es p)
@@ -65,10 +49,7 @@ module _ (es fs : List (ℕ × Rank)) (test : ℕ → Bool) (place : ℕ) (found
   pub entry-removed : (p : ℕ) → (if length fs == p then None else (if place == p then entry_in es (length fs) else entry_in es p)) ≡ entry_in fs p
   unfolding last
   entry-removed p = elim (cases_lt p (length fs)) [
-    | inl less ↦
-        let back : length es - 1 ≡ length fs = omega (arith, long) in
-        let other = get_or-set_other es place p last none in
-        grind (arith, low p less, get_or-set_same es place last none (omega arith), slice_get-get_or es (length fs) none (omega arith), slice_get-get_or es p none (omega arith))
+    | inl less ↦ grind (arith, get_or-set_other, low, get_or-set_same, slice_get-get_or)
     | inr more ↦ grind (arith, slice_get_past fs p more, slice_get_past es p)
   ]
 
@@ -89,10 +70,7 @@ current-some (Some c) es e at = (c, at)
 
 leads-all : (o : Option ℕ) (es : List (ℕ × Rank)) (best result x y : Option Entry) (p : ℕ) → IsLesser (current_in o es) best result → x ≡ leaf_in o es p → Leads best x → entry_in es p ≡ y → Leads result y
 leads-all None es best result x y p lesser at leads is = Leads-trans result best y lesser.right (rw (← is, ← at) leads)
-leads-all (Some c) es best result x y p lesser at leads is = elim (cases_eq c p) [
-  | inl same ↦ rw (← is, ← same) lesser.left
-  | inr differs ↦ let e : x ≡ y = grind (arith, at, is, differs) in Leads-trans result best y lesser.right (rw (← e) leads)
-]
+leads-all (Some c) es best result x y p lesser at leads is = grind (arith, cases_eq, Leads-trans)
 
 -- where the tree has what its entries are, and leads to what is least of them and the current one
 module _ (r : Ranks) (ranked : IsRanked r) (best result : Option Entry) (lesser : IsLesser (current_in r.current r.entries.entries) best result) where
@@ -105,17 +83,10 @@ module _ (r : Ranks) (ranked : IsRanked r) (best result : Option Entry) (lesser 
       leads-all r.current r.entries.entries best result (leaf r.tree it.0) (Some (entry_of (key, rank))) it.0 lesser (ranked.leaf it.0 inside) (leads it.0 inside) (ap (option_map entry_of) it.2 ∙ ap (λ k. Some (entry_of (k, rank))) same)
 
   entry-own : (e : Entry) (p : ℕ) → entry_in r.entries.entries p ≡ Some e → rank_at r.entries.entries e.key ≡ Some e.rank
-  entry-own e p at =
-      let it = from_map entry_of (slice_get r.entries.entries p) e at in
-      rw (← it.2) (lookup_from_place nat_eq_equiv r.entries.entries p it.0.0 it.0.1 ranked.distinct it.1)
+  entry-own e p at = grind (arith, from_map entry_of (slice_get r.entries.entries p) e at, from_map entry_of (slice_get r.entries.entries p) e, lookup_from_place nat_eq_equiv r.entries.entries p (from_map entry_of (slice_get r.entries.entries p) e at).0.0 (from_map entry_of (slice_get r.entries.entries p) e at).0.1 ranked.distinct (from_map entry_of (slice_get r.entries.entries p) e at).1)
 
   pub least-own : IfSome best (λ e. (p : ℕ) × (p < r.tree.places) × (leaf r.tree p ≡ Some e)) → IfSome result (λ e. rank_at r.entries.entries e.key ≡ Some e.rank)
-  least-own it = some_with result (λ e is. elim lesser.one [
-    | inl own ↦ let at = current-some r.current r.entries.entries e (sym own ∙ is) in entry-own e at.0 at.1
-    | inr other ↦
-        let there : (p : ℕ) × (p < r.tree.places) × (leaf r.tree p ≡ Some e) = rw (sym other ∙ is) at it in
-        entry-own e there.0 (leaf-some r.current r.entries.entries there.0 e (sym (ranked.leaf there.0 there.1) ∙ there.2))
-  ])
+  least-own it = grind (arith, some_with, current-some, leaf-some, entry-own, ranked.leaf)
 
 -- how many keys there are
 pub few-put : (places : ℕ) (o : Option Rank) (n m : ℕ) → n ≡ m + (if is_some o then 0 else 1) → (o ≡ None → m < places) → m ≤ places → n ≤ places

@@ -1,18 +1,7 @@
 -- Lemmas on what callers of a Slab see.
-use Rattle.std.proofs.Common.{◌≡◌, ℕ, ◌≤◌, Option, Some, None, IsSome, IfOk, OnOk, Result, Ok, Err, true, length, refl, sym, ◌∙◌, inl, inr, arith}
-use Rattle.std.proofs.lemmas.List.{length-map}
-use Rattle.addr_space.specs.declared.Addr.{Addr}
-use Rattle.addr_space.specs.Space.{Space}
+use Rattle.slab_ctx.proofs.Words.{◌≡◌, ℕ, ◌≤◌, Option, Some, None, IsSome, IfOk, OnOk, Result, Ok, Err, true, length, refl, sym, ◌∙◌, inl, inr, arith, length-map, Addr, Space, same_addr-cases, Layout, from_live, others, live_of, numbered_of, lives_of, blocks_of, place_at, footprint, HasSlots, state_of, Books, resize}
 use Rattle.addr_space.specs.Live.{MovesAt, MovesLive}
-use Rattle.addr_space.proofs.Addresses.{same_addr-cases}
-use Rattle.ctx_blocks.specs.Layout.{Layout}
-use Rattle.ctx_blocks.proofs.Laid.{from_live}
-use Rattle.slab_ctx.specs.State.{others, live_of, numbered_of, lives_of, blocks_of, place_at, footprint}
-use Rattle.slab_ctx.specs.Slots.{HasSlots}
 use Rattle.slab_ctx.specs.Calls.{Resizes}
-use Rattle.slab_ctx.specs.Kept.{state_of}
-use Rattle.slab_ctx.specs.declared.books.Books.{Books}
-use Rattle.slab_ctx.specs.Ledger.{resize}
 
 -- a value that there is
 pub some_is : {A : Type 0} (o : Option A) → IsSome o → (a : A) × (o ≡ Some a)
@@ -21,10 +10,7 @@ some_is (Some a) some = (a, refl)
 
 -- what is moved to where it is stays there
 moves_stay : {A : Type 0} (f : Addr → Option A) (from to : Addr) (a : A) → to ≡ from → f from ≡ Some a → MovesAt f f from to a
-moves_stay f from to a same is other = rw same (elim (same_addr-cases from other) [
-  | inl here ↦ rw (here.1, ← here.0) is
-  | inr there ↦ rw there.1 refl
-])
+moves_stay f from to a same is other = grind (arith, same_addr-cases)
 
 -- a chunk that has its size stays
 pub resizes_same : (b : Books) (s : Space) (from to : Addr) (place size : ℕ) → to ≡ from → size ≡ b.slots.size → size ≤ 1073741823 → place_at (state_of b) from ≡ Some place → Resizes (state_of b) (state_of b) place size from to s s
@@ -49,7 +35,4 @@ both_ok (Err e) all p q = p
 
 -- a live chunk has the size of all of them
 pub live_stays : (b : Books) (from to : Addr) (size : ℕ) → to ≡ from → size ≡ b.slots.size → HasSlots b.slots → IsSome ((footprint (state_of b)).live from) → MovesLive (footprint (state_of b)) (footprint (state_of b)) from to size
-live_stays b from to size same is slots live =
-    let some = some_is ((footprint (state_of b)).live from) live in
-    let had = from_live b.slots.blocks from some.0 some.1 in
-    moves_stay (footprint (state_of b)).live from to size same (rw (had.1, slots.chunk from had.0 had.1, is) refl)
+live_stays b from to size same is slots live = grind (arith, some_is, from_live, moves_stay, slots.chunk)

@@ -1,8 +1,7 @@
 -- The ledger, run: what calls make of a Slab whose blocks have seven chunks each.
-use Rattle.std.specs.Prelude.{◌≡◌, ℕ, List, [], ◌∷◌, Ok, Err, refl}
+use Rattle.slab_ctx.proofs.Words.{◌≡◌, ℕ, List, [], ◌∷◌, Ok, Err, refl, up8, SlabBlock, SlabLedger, created, serve, take, give, reset, stats}
 use Rattle.chunk_header.specs.declared.CtxError.TheVariants.{TooBig, NoSpace, WrongSize}
-use Rattle.chunk_header.specs.Growth.{up8}
-use Rattle.slab_ctx.specs.Ledger.{SlabBlock, SlabLedger, stride, per_block, created, serve, take, give, reset, free_chunks, stats}
+use Rattle.slab_ctx.specs.Ledger.{stride, per_block, free_chunks}
 
 abbrev block : ℕ → ℕ → SlabBlock
 block number live = record { number = number; live = live }

@@ -1,9 +1,5 @@
 -- Lemmas on the steps of the ledger: a request that is served, and a chunk that is freed.
-use Rattle.std.proofs.Common.{◌≡◌, ℕ, ◌+◌, ◌<◌, ◌++◌, List, [], ◌∷◌, map, arith, ◌-◌, ◌≤◌, ◌==◌, ◌&&◌, nat_le, if◌then◌else◌, refl}
-use Rattle.ctx_blocks.specs.Kept.{AreRising}
-use Rattle.ctx_blocks.specs.declared.parts.Block.{Block}
-use Rattle.slab_ctx.specs.Ledger.{SlabLedger, SlabBlock, with_live, empties, without_number, live_in, give}
-use Rattle.slab_ctx.specs.State.{numbered_of}
+use Rattle.slab_ctx.proofs.Words.{◌≡◌, ℕ, ◌+◌, ◌<◌, ◌++◌, List, [], ◌∷◌, map, arith, ◌-◌, ◌≤◌, ◌==◌, ◌&&◌, nat_le, if◌then◌else◌, refl, AreRising, Block, SlabLedger, SlabBlock, with_live, empties, without_number, live_in, give, numbered_of}
 
 -- the last block has one live chunk
 pub live-last : (least most number : ℕ) (es : List (ℕ × Block)) → most < number → AreRising least most es → with_live (map numbered_of es ++ record { number = number; live = 0 } ∷ []) number 1 ≡ map numbered_of es ++ record { number = number; live = 1 } ∷ []
@@ -19,6 +15,4 @@ without-set number live (b ∷ xs) = grind (arith, without-set number live xs)
 pub freed-is : (l : SlabLedger) (number other live now empty : ℕ) (mid after : List SlabBlock) → live_in l.blocks number ≡ live → 1 ≤ live → now ≡ live - 1 → mid ≡ with_live l.blocks number (live - 1) → other ≡ number → empty ≡ empties l.blocks
     → after ≡ (if (now == 0) && nat_le 10 empty then without_number mid other else mid) → record { size = l.size; count = l.count; blocks = after } ≡ give l number
 unfolding give
-freed-is l number other live now empty mid after index some is middle same count after_is =
-    let gone = without-set number (live - 1) l.blocks in
-    rw (after_is, index, same, middle, is, count) (grind arith)
+freed-is l number other live now empty mid after index some is middle same count after_is = grind (arith, without-set number (live - 1) l.blocks)

@@ -1,27 +1,12 @@
 -- Lemmas on the slots of a Slab's blocks: what holds of them stays when one block changes.
-use Rattle.std.proofs.Common.{◌≡◌, ◌+◌, ◌≢◌, ℕ, ◌≤◌, ◌==◌, if◌then◌else◌, List, [], ◌∷◌, length, Some, None, slice_index, refl, sym, ◌∙◌, inl, inr, arith}
-use Rattle.std.specs.Global.{Vec}
-use Rattle.std.proofs.lemmas.Bool.{cases_eq}
-use Rattle.addr_space.specs.declared.Addr.{Addr}
-use Rattle.chunk_header.specs.declared.Kind.TheVariants.{Slab}
-use Rattle.ctx_blocks.specs.Layout.{Layout, block_at, chunk_at}
-use Rattle.ctx_blocks.specs.Steps.{PutsBlock, DropsBlock, SameContext}
-use Rattle.ctx_blocks.specs.declared.parts.Block.{Block}
-use Rattle.ctx_blocks.specs.declared.parts.Chunk.{Chunk}
-use Rattle.slab_ctx.specs.Lives.{per_block}
-use Rattle.slab_ctx.specs.Slots.{IsSlot, IsFilled, IsSlotted, stack_at, at_offset, chunk_of, first_region}
-use Rattle.addr_space.proofs.Options.{one_value}
+use Rattle.slab_ctx.proofs.Words.{◌≡◌, ◌+◌, ◌≢◌, ℕ, ◌≤◌, ◌==◌, if◌then◌else◌, List, [], ◌∷◌, length, Some, None, slice_index, refl, sym, ◌∙◌, inl, inr, arith, Vec, cases_eq, Addr, Slab, Layout, block_at, chunk_at, PutsBlock, DropsBlock, SameContext, Block, Chunk, per_block, IsSlot, IsFilled, IsSlotted, stack_at, at_offset, chunk_of, first_region, one_value}
 
 module _ (l m : Layout) (size : ℕ) (s t : List (ℕ × Vec ℕ)) (number : ℕ) (slotted : IsSlotted l size s) (same : SameContext l m) (differs : number ≢ l.keeper)
     (chunks : (at : Addr) → at.region ≢ number → chunk_at m at ≡ chunk_at l at)
     (stacks : (other : ℕ) → other ≢ number → stack_at t other ≡ stack_at s other)
     (placed : (at : Addr) (chunk : Chunk) → at.region ≡ number → chunk_at m at ≡ Some chunk → (chunk ≡ chunk_of size) × IsSlot size at.offset) where
   chunk_now : (at : Addr) (chunk : Chunk) → chunk_at m at ≡ Some chunk → (chunk ≡ chunk_of size) × IsSlot size at.offset × (at.region ≢ l.keeper)
-  chunk_now at chunk found =
-      elim (cases_eq at.region number) [
-        | inl here ↦ let it = placed at chunk here found in (it.0, it.1, rw here differs)
-        | inr there ↦ let was = sym (chunks at there) ∙ found in (slotted.chunk at chunk was, slotted.slot at chunk was, slotted.owned at chunk was)
-      ]
+  chunk_now at chunk found = grind (arith, cases_eq, slotted.chunk, slotted.slot, slotted.owned)
 
   step : ((other : ℕ) → other ≢ number → block_at m other ≡ block_at l other) → ((block : Block) → block_at m number ≡ Some block → IsFilled m size number block (stack_at t number)) → IsSlotted m size t
   step others here = record {
@@ -32,17 +17,7 @@ module _ (l m : Layout) (size : ℕ) (s t : List (ℕ × Vec ℕ)) (number : ℕ
     keeper = rw same.keeper (others l.keeper (λ e. differs (sym e)) ∙ slotted.keeper);
     filled = λ other block not_keeper found. elim (cases_eq other number) [
       | inl is ↦ rw is (here block (rw is at found))
-      | inr there ↦
-          let was = slotted.filled other block (λ e. not_keeper (e ∙ sym same.keeper)) (sym (others other there) ∙ found) in
-          rw (stacks other there) (record {
-            bytes = was.bytes;
-            rest = was.rest;
-            long = was.long;
-            free = λ k below.
-                let free = was.free k below in
-                record { slot = free.slot; last = free.last; free = chunks (at_offset other (slice_index (stack_at s other) k)) there ∙ free.free };
-            distinct = was.distinct;
-          })
+      | inr there ↦ grind (arith, slotted.filled other block (λ e. not_keeper (e ∙ sym same.keeper)) (sym (others other there) ∙ found))
     ];
     chunk = λ at chunk found. (chunk_now at chunk found).0;
     slot = λ at chunk found. (chunk_now at chunk found).1;
@@ -71,14 +46,4 @@ IsSlotted-added l m size s t number stack slotted same fresh put chunks stacks l
 
 -- a context without blocks
 pub IsSlotted_none : (l : Layout) (size : ℕ) (s : List (ℕ × Vec ℕ)) → l.kind ≡ Slab → l.first_number ≡ 0 → 1 ≤ size → size ≤ 1024 → l.blocks ≡ (l.keeper, first_region) ∷ [] → l.chunks ≡ [] → IsSlotted l size s
-IsSlotted_none l size s kind one least most blocks chunks = record {
-  kind = kind;
-  first = one;
-  least = least;
-  most = most;
-  keeper = rw blocks (grind arith);
-  filled = λ number block differs found. let none = rw blocks at found in absurd (grind arith);
-  chunk = λ at chunk found. let none = rw chunks at found in absurd (cc);
-  slot = λ at chunk found. let none = rw chunks at found in absurd (cc);
-  owned = λ at chunk found. let none = rw chunks at found in absurd (cc);
-}
+IsSlotted_none l size s kind one least most blocks chunks = grind arith

@@ -1,21 +1,8 @@
 -- Lemmas on a chunk that is taken or freed.
-use Rattle.std.proofs.Common.{◌≡◌, ◌≢◌, ℕ, ◌+◌, ◌-◌, ◌*◌, ◌<◌, ◌≤◌, List, Some, None, slice_index, slice_set, refl, ap, ◌∙◌, inl, inr, arith}
-use Rattle.std.specs.Global.{Vec}
-use Rattle.std.proofs.lemmas.Bool.{cases_eq}
-use Rattle.std.proofs.lemmas.List.{length-set, get_or-set_same, get_or-set_other}
-use Rattle.addr_space.specs.declared.Addr.{Addr}
-use Rattle.ctx_blocks.specs.Layout.{Layout, block_at, chunk_at}
-use Rattle.ctx_blocks.specs.Steps.{PutsBlock, PutsChunk, SameContext}
-use Rattle.ctx_blocks.specs.declared.parts.Block.{Block}
-use Rattle.ctx_blocks.specs.declared.parts.Chunk.{Chunk}
-use Rattle.slab_ctx.specs.Lives.{stride}
-use Rattle.slab_ctx.specs.Counts.{Counts}
-use Rattle.addr_space.proofs.Options.{one_value}
-use Rattle.slab_ctx.specs.Slots.{IsSlot, IsFree, IsFilled, IsSlotted, stack_at, at_offset, chunk_of}
+use Rattle.slab_ctx.proofs.Words.{◌≡◌, ◌≢◌, ℕ, ◌+◌, ◌-◌, ◌*◌, ◌<◌, ◌≤◌, List, Some, None, slice_index, slice_set, refl, ap, ◌∙◌, inl, inr, arith, Vec, cases_eq, length-set, get_or-set_same, get_or-set_other, Addr, Layout, block_at, chunk_at, PutsBlock, PutsChunk, SameContext, Block, Chunk, stride, Counts, one_value, IsSlot, IsFree, IsFilled, IsSlotted, stack_at, at_offset, chunk_of, chunk_apart}
 use Rattle.slab_ctx.proofs.Numbers.{stride-some}
 use Rattle.slab_ctx.proofs.Places.{one-more}
 use Rattle.ctx_blocks.proofs.Put.{chunk_was, chunk_here}
-use Rattle.ctx_blocks.proofs.Changed.{chunk_apart}
 use Rattle.slab_ctx.proofs.Slotted.{IsSlotted-put}
 
 -- a block of a Slab with another number of live chunks
@@ -76,19 +63,10 @@ module _ (l m : Layout) (size : ℕ) (s : List (ℕ × Vec ℕ)) (at : Addr) (sl
     freed_other k below = rw stack (get_or-set_other (stack_at s at.region) b.freed k at.offset 0 (omega arith))
 
     free_now : (now : Block) → now.size ≡ b.size → now.room ≡ b.room → (k : ℕ) → k < b.freed + 1 → IsFree m size at.region now (slice_index (stack_at t at.region) k)
-    free_now now bytes room k below =
-        elim (cases_eq k b.freed) [
-          | inl here ↦
-              rw (here, freed_last) (record { slot = slotted.slot at chunk has; last = omega (arith, last, ap (λ (c : Chunk). c.room) (slotted.chunk at chunk has)); free = chunk_here l m at None puts })
-          | inr there ↦
-              let free = was.free k (omega arith) in
-              rw (freed_other k (omega arith)) (record { slot = free.slot; last = omega (arith, free.last); free = grind (arith, puts (at_offset at.region (slice_index (stack_at s at.region) k)), free.free) })
-        ]
+    free_now now bytes room k below = grind (arith, cases_eq, slotted.slot, slotted.chunk, chunk_here, was.free, freed_other, freed_last)
 
     distinct_now : (j k : ℕ) → j < k → k < b.freed + 1 → slice_index (stack_at t at.region) j ≢ slice_index (stack_at t at.region) k
-    distinct_now j k less below e =
-        let here : chunk_at l (at_offset at.region at.offset) ≡ Some chunk = has in
-        grind (arith, freed_last, freed_other j (omega arith), freed_other k, was.distinct j k less, (was.free j (omega arith)).free)
+    distinct_now j k less below e = grind (arith, freed_other j (omega arith), freed_other k, was.distinct j k less, was.free j (omega arith), freed_last)
 
     pub IsSlotted-removed : (now : Block) → now.size ≡ b.size → now.room ≡ b.room → now.live ≡ b.live - 1 → now.freed ≡ b.freed + 1 → PutsBlock l m at.region now → IsSlotted m size t
     IsSlotted-removed now bytes room live freed put =

@@ -1,10 +1,5 @@
 -- Lemmas on trees of entries.
-use Rattle.std.proofs.Common.{◌≡◌, ◌≢◌, ℕ, zero, suc, ◌+◌, ◌-◌, ◌*◌, ◌/◌, ◌%◌, ◌<◌, ◌≤◌, Option, Some, None, IfSome, get_or, set, length, refl, ap, ◌∙◌, inl, inr, arith}
-use Rattle.std.proofs.lemmas.List.{get_or-set_same, get_or-set_other}
-use Rattle.std.proofs.lemmas.Bool.{cases_eq, cases_lt}
-use Rattle.slab_ctx.specs.declared.tree.Entry.{Entry}
-use Rattle.slab_ctx.specs.declared.tree.Tree.{Tree}
-use Rattle.slab_ctx.specs.Tree.{Leads, IsLesser, node, leaf, IsTree, IsTreeBut}
+use Rattle.slab_ctx.proofs.Words.{◌≡◌, ◌≢◌, ℕ, zero, suc, ◌+◌, ◌-◌, ◌*◌, ◌/◌, ◌%◌, ◌<◌, ◌≤◌, Option, Some, None, IfSome, get_or, set, length, refl, ap, ◌∙◌, inl, inr, arith, get_or-set_same, get_or-set_other, cases_eq, cases_lt, Entry, Tree, Leads, IsLesser, node, leaf, IsTree, IsTreeBut}
 
 -- what follows at a value that there may be
 pub some_with : {A : Type 0} {P : A → Type 0} (o : Option A) → ((a : A) → o ≡ Some a → P a) → IfSome o P
@@ -31,36 +26,18 @@ module _ (t u : Tree) (j : ℕ) (best : Option Entry) (items : u.nodes.items ≡
   node-other k differs = ap (λ xs. get_or xs k None) items ∙ get_or-set_other t.nodes.items j k best None differs
 
   pub raised : (i : ℕ) → IsTreeBut t i → length u.nodes.items ≡ length t.nodes.items → u.places ≡ t.places → 2 * j ≤ i → i < 2 * j + 2 → 1 ≤ j → j < t.places → IsLesser (node t (2 * j)) (node t (2 * j + 1)) best → IsTreeBut u j
-  raised i tree long places low high some within lesser = record {
-    long = omega (arith, long, places, tree.long);
-    lesser = λ jj least most left right. rw (node-other (2 * jj) left, node-other (2 * jj + 1) right) (elim (cases_eq jj j) [
-      | inl same ↦ rw (same, items, get_or-set_same t.nodes.items j best None (omega (arith, tree.long))) lesser
-      | inr differs ↦ rw (node-other jj differs) (tree.lesser jj least (omega (arith, places)) (λ e. differs (omega arith)) (λ e. differs (omega arith)))
-    ]);
-  }
+  raised i tree long places low high some within lesser = grind (arith, get_or-set_same, node-other, cases_eq, tree.lesser)
 
 -- a node stays what it was, so those above it do
 pub settled : (t : Tree) (i j : ℕ) → IsTreeBut t i → 2 * j ≤ i → i < 2 * j + 2 → IsLesser (node t (2 * j)) (node t (2 * j + 1)) (node t j) → IsTree t
-settled t i j tree low high lesser = record {
-  long = tree.long;
-  lesser = λ jj least most. elim (cases_eq jj j) [
-    | inl same ↦ rw same lesser
-    | inr differs ↦ tree.lesser jj least most (λ e. differs (omega arith)) (λ e. differs (omega arith))
-  ];
-}
+settled t i j tree low high lesser = grind (arith, cases_eq, tree.lesser)
 
 -- the first node leads all
 under : (t : Tree) → IsTree t → (n k : ℕ) → k ≤ n → 1 ≤ k → k < 2 * t.places → Leads (node t 1) (node t k)
 under t tree zero k few some within = absurd (omega arith)
 under t tree (suc n) k few some within = elim (cases_eq k 1) [
   | inl first ↦ rw first (Leads-refl (node t 1))
-  | inr more ↦
-      let lesser = tree.lesser (k / 2) (omega arith) (omega arith) in
-      let up = under t tree n (k / 2) (omega arith) (omega arith) (omega arith) in
-      elim (cases_eq (k % 2) 0) [
-        | inl even ↦ let is : k ≡ 2 * (k / 2) = omega arith in rw is (Leads-trans (node t 1) (node t (k / 2)) (node t (2 * (k / 2))) up lesser.left)
-        | inr odd ↦ let is : k ≡ 2 * (k / 2) + 1 = omega arith in rw is (Leads-trans (node t 1) (node t (k / 2)) (node t (2 * (k / 2) + 1)) up lesser.right)
-      ]
+  | inr more ↦ grind (arith, tree.lesser (k / 2) (omega arith) (omega arith), under t tree n (k / 2) (omega arith) (omega arith) (omega arith), cases_eq (k % 2) 0, Leads-trans (node t 1) (node t (k / 2)) (node t (2 * (k / 2))) (under t tree n (k / 2) (omega arith) (omega arith) (omega arith)) (tree.lesser (k / 2) (omega arith) (omega arith)).left, Leads-trans (node t 1) (node t (k / 2)) (node t (2 * (k / 2) + 1)) (under t tree n (k / 2) (omega arith) (omega arith) (omega arith)) (tree.lesser (k / 2) (omega arith) (omega arith)).right)
 ]
 
 pub first_leads : (t : Tree) → IsTree t → (p : ℕ) → p < t.places → Leads (node t 1) (leaf t p)
@@ -70,10 +47,7 @@ first_leads t tree p within = under t tree (t.places + p) (t.places + p) (omega 
 as_leaf : (t : Tree) → IsTree t → (n k : ℕ) → 1 ≤ k → k < 2 * t.places → 2 * t.places ≤ k + n → (p : ℕ) × (p < t.places) × (leaf t p ≡ node t k)
 as_leaf t tree zero k some within many = absurd (omega arith)
 as_leaf t tree (suc n) k some within many = elim (cases_lt k t.places) [
-  | inl inner ↦ elim (tree.lesser k some inner).one [
-    | inl left ↦ rw left (as_leaf t tree n (2 * k) (omega arith) (omega arith) (omega arith))
-    | inr right ↦ rw right (as_leaf t tree n (2 * k + 1) (omega arith) (omega arith) (omega arith))
-  ]
+  | inl inner ↦ grind (arith, tree.lesser k some inner, as_leaf t tree n (2 * k) (omega arith) (omega arith) (omega arith), as_leaf t tree n (2 * k + 1) (omega arith) (omega arith) (omega arith))
   | inr outer ↦ let e : t.places + (k - t.places) ≡ k = omega arith in (k - t.places, omega arith, ap (node t) e)
 ]
 

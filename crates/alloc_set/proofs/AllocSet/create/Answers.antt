@@ -1,19 +1,5 @@
-use Rattle.std.proofs.Common.{◌≡◌, ◌≢◌, ℕ, min, sum, refl, ap, ◌∙◌, arith, Some, None, sym, inl}
-use Rattle.std.proofs.lemmas.Bool.Decides.{nat_tests}
-use Rattle.addr_space.specs.declared.Addr.{Addr}
-use Rattle.addr_space.specs.Footprint.{Moves, nothing}
-use Rattle.addr_space.proofs.Addresses.{same_addr_from}
-use Rattle.addr_space.proofs.Steps.{Agrees-nothing}
-use Rattle.chunk_header.specs.Header.{block_bytes}
-use Rattle.chunk_header.proofs.Words.{length-block_bytes}
-use Rattle.chunk_header.proofs.Wrote.{Moves-taken}
-use Rattle.alloc_set.specs.Ledger.{created}
-use Rattle.alloc_set.specs.Kept.{new_books, state_of, IsSettled}
-use Rattle.alloc_set.specs.declared.books.Books.{Books}
-use Rattle.alloc_set.specs.State.{region_of, start_of, footprint}
-use Rattle.alloc_set.proofs.Empty.{no_chunk, IsShelved-none, IsSettled-empty}
-use Rattle.alloc_set.proofs.Regions.{keeper_owned, keeper_start}
-use Rattle.alloc_set.proofs.Settled.{block, header, link, behind, mark_cases, IsSound-settled}
+use Rattle.alloc_set.proofs.Base.{Addr, Agrees-nothing, ap, arith, block_bytes, Books, created, footprint, inl, IsSettled, length-block_bytes, min, Moves, Moves-taken, nat_tests, new_books, None, nothing, refl, region_of, same_addr_from, Some, start_of, state_of, sum, sym, ℕ, ◌∙◌, ◌≡◌, ◌≢◌}
+use Rattle.alloc_set.proofs.Lemmas.{behind, block, header, IsSettled-empty, IsShelved-none, IsSound-settled, keeper_owned, keeper_start, link, mark_cases, no_chunk}
 use Rattle.alloc_set.proofs.AllocSet.create.Goals as goal
 use Rattle.alloc_set.proofs.AllocSet.create.Goals.{After-deref_mut-2}
 

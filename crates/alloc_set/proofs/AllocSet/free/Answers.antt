@@ -1,5 +1,4 @@
-use Rattle.std.proofs.Common.{ap, ◌∙◌}
-use Rattle.alloc_set.specs.Kept.{state_of}
+use Rattle.alloc_set.proofs.Base.{ap, state_of, ◌∙◌}
 use Rattle.alloc_set.proofs.AllocSet.free.Goals as goal
 
 pub returns-clause-keeps : goal.returns-clause-keeps

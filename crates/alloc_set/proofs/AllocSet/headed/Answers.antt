@@ -1,8 +1,5 @@
-use Rattle.std.proofs.Common.{◌-◌}
-use Rattle.addr_space.proofs.Options.{from_then}
-use Rattle.alloc_set.specs.State.{chunk_at, start_of, live_size, live_place}
-use Rattle.alloc_set.specs.Kept.{state_of}
-use Rattle.alloc_set.proofs.Leads.{headed_by, header_is, takes_by}
+use Rattle.alloc_set.proofs.Base.{chunk_at, from_then, live_place, live_size, start_of, state_of, ◌-◌}
+use Rattle.alloc_set.proofs.Lemmas.{headed_by, header_is, takes_by}
 use Rattle.alloc_set.proofs.AllocSet.headed.Goals as goal
 
 pub returns : goal.returns

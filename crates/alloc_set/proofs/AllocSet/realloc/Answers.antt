@@ -1,9 +1,5 @@
-use Rattle.std.proofs.Common.{ap, ◌∙◌, arith}
-use Rattle.addr_space.proofs.Options.{if_ok, on_ok, on_err, both_err, either_way}
-use Rattle.addr_space.proofs.Steps.{Moves-same, KeepsBut-same}
-use Rattle.alloc_set.specs.State.{footprint}
-use Rattle.alloc_set.specs.Kept.{state_of}
-use Rattle.alloc_set.proofs.Aligned.{move_whole}
+use Rattle.alloc_set.proofs.Base.{ap, arith, both_err, either_way, footprint, if_ok, KeepsBut-same, Moves-same, on_err, on_ok, state_of, ◌∙◌}
+use Rattle.alloc_set.proofs.Lemmas.{move_whole}
 use Rattle.alloc_set.proofs.AllocSet.realloc.Goals as goal
 
 pub returns-clause-moves : goal.returns-clause-moves

@@ -1,6 +1,5 @@
-use Rattle.std.proofs.Common.{arith}
-use Rattle.alloc_set.specs.Ledger.{class_size, chunk_limit}
-use Rattle.alloc_set.proofs.ClassSizes.{limit_class-pass, limit_class-stop}
+use Rattle.alloc_set.proofs.Base.{arith, chunk_limit, class_size}
+use Rattle.alloc_set.proofs.Lemmas.{limit_class-pass, limit_class-stop}
 use Rattle.alloc_set.proofs.classes.chunk_limit.Goals as goal
 
 pub loop-class-preserved : goal.loop-class-preserved

@@ -1,5 +1,4 @@
-use Rattle.std.proofs.Common.{◌≡◌, ◌≤◌}
-use Rattle.alloc_set.specs.Ledger.{limit_class}
+use Rattle.alloc_set.proofs.Base.{limit_class, ◌≡◌, ◌≤◌}
 use Rattle.alloc_set.proofs.classes.chunk_limit.Given as goal
 
 abbrev pub invariant-loop-class : goal.invariant-loop-class

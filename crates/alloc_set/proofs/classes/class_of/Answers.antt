@@ -1,7 +1,5 @@
-use Rattle.std.proofs.Common.{◌-◌, refl, sym, arith}
-use Rattle.std.specs.Int.Count.{count_leading_zeros}
-use Rattle.alloc_set.specs.Ledger.{class_of}
-use Rattle.alloc_set.proofs.ClassSizes.{class_up_to-is, class-bits}
+use Rattle.alloc_set.proofs.Base.{arith, class_of, count_leading_zeros, refl, sym, ◌-◌}
+use Rattle.alloc_set.proofs.Lemmas.{class-bits, class_up_to-is}
 use Rattle.alloc_set.proofs.classes.class_of.Goals as goal
 
 pub returns-then-size-le8-clause-value : goal.returns-then-size-le8-clause-value

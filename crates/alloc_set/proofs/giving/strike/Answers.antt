@@ -1,10 +1,4 @@
-use Rattle.std.proofs.Common.{◌≡◌, ℕ, ◌+◌, ◌==◌, List, [], ◌∷◌, Bool, Some, unwrap_or, option_map, sum_by, get_or, position, refl, ap, ◌∙◌, arith, inl, inr}
-use Rattle.std.proofs.lemmas.List.Sums.{sum_by-cons, sum_by-swap_remove}
-use Rattle.std.proofs.lemmas.Option.{slice_get-map, slice_get-get_or}
-use Rattle.std.specs.Map.{lookup, keys_of, values_of}
-use Rattle.indexmap.specs.IndexMap.{swap_remove_entry}
-use Rattle.indexmap.proofs.MapLemmas.{Found-position, Missing-position, swap_remove_entry-found, swap_remove_entry-missing}
-use Rattle.addr_space.proofs.Options.{option_cases}
+use Rattle.alloc_set.proofs.Base.{[], ap, arith, Bool, Found-position, get_or, inl, inr, keys_of, List, lookup, Missing-position, option_cases, option_map, position, refl, slice_get-get_or, slice_get-map, Some, sum_by, sum_by-cons, sum_by-swap_remove, swap_remove_entry, swap_remove_entry-found, swap_remove_entry-missing, unwrap_or, values_of, ℕ, ◌+◌, ◌==◌, ◌∙◌, ◌∷◌, ◌≡◌}
 use Rattle.alloc_set.proofs.giving.strike.Goals as goal
 
 -- a sum over the values, as one over the entries

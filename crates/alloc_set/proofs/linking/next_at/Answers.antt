@@ -1,12 +1,5 @@
-use Rattle.std.proofs.Common.{◌≡◌, ℕ, ◌<◌, List, [], ◌∷◌, slice_index, Option, Some, None, refl, sym, ap, ◌∙◌, arith}
-use Rattle.std.specs.Int.{from_le_bytes, w32}
-use Rattle.std.proofs.lemmas.Nat.{from_le_bytes-to_le_bytes_4}
-use Rattle.addr_space.specs.declared.Addr.{Addr}
-use Rattle.addr_space.proofs.Addresses.{same_addr_from}
-use Rattle.chunk_header.specs.Header.{block_bytes}
-use Rattle.alloc_set.specs.Links.{IsLinkable}
-use Rattle.alloc_set.specs.State.{link_bytes}
-use Rattle.alloc_set.proofs.Settled.{length-link_bytes}
+use Rattle.alloc_set.proofs.Base.{[], Addr, ap, arith, block_bytes, from_le_bytes, from_le_bytes-to_le_bytes_4, IsLinkable, link_bytes, List, None, Option, refl, same_addr_from, slice_index, Some, sym, w32, ℕ, ◌<◌, ◌∙◌, ◌∷◌, ◌≡◌}
+use Rattle.alloc_set.proofs.Lemmas.{length-link_bytes}
 use Rattle.alloc_set.proofs.linking.next_at.Goals as goal
 
 -- the two numbers of a link

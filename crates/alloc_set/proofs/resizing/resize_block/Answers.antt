@@ -1,12 +1,5 @@
-use Rattle.std.proofs.Common.{◌≡◌, ℕ, ◌+◌, ◌-◌, ◌<◌, ◌≤◌, List, ◌++◌, length, map, get_or, take, replicate, Option, Some, None, refl, sym, ap, ◌∙◌, arith, rules, inr}
-use Rattle.std.proofs.lemmas.List.{length-append, length-take, length-replicate, get_or_append_left, get_or-take}
-use Rattle.addr_space.specs.declared.Addr.{Addr}
-use Rattle.addr_space.specs.Space.{Region, Changes, share, bytes_of, region_at, overwritten, resized}
-use Rattle.addr_space.proofs.Copied.{some_region}
-use Rattle.addr_space.proofs.Written.{HasRegion-written, HasBytes-written, byte_at-apart, held-written}
-use Rattle.chunk_header.specs.Header.{block_bytes}
-use Rattle.chunk_header.proofs.Words.{length-block_bytes}
-use Rattle.chunk_header.proofs.Wrote.{share-owned}
+use Rattle.alloc_set.proofs.Base.{Addr, ap, arith, block_bytes, byte_at-apart, bytes_of, Changes, get_or, get_or-take, get_or_append_left, HasBytes-written, HasRegion-written, held-written, inr, length, length-append, length-block_bytes, length-replicate, length-take, List, map, None, Option, overwritten, refl, Region, region_at, replicate, resized, rules, share, share-owned, Some, some_region, sym, ℕ, ◌++◌, ◌+◌, ◌-◌, ◌<◌, ◌∙◌, ◌≡◌, ◌≤◌}
+use Rattle.std.proofs.Common.{take}
 use Rattle.alloc_set.proofs.resizing.resize_block.Goals as goal
 
 pub returns : goal.returns

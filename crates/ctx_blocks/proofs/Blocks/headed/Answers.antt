@@ -1,5 +1,5 @@
-use Rattle.ctx_blocks.specs.Kept.{layout_of}
-use Rattle.ctx_blocks.proofs.Headed.{AllHeaded-laid, AllOfKind-laid, takes-shared, takes-own}
+use Rattle.ctx_blocks.proofs.Base.{layout_of}
+use Rattle.ctx_blocks.proofs.Lemmas.{AllHeaded-laid, AllOfKind-laid, takes-own, takes-shared}
 use Rattle.ctx_blocks.proofs.Blocks.headed.Goals as goal
 
 pub returns : goal.returns

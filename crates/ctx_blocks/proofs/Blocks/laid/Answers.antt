@@ -1,9 +1,5 @@
-use Rattle.ctx_blocks.proofs.Laid.{chunks_clear}
-use Rattle.ctx_blocks.proofs.Counts.{none_in, some_in}
-use Rattle.ctx_blocks.specs.Kept.{layout_of}
-use Rattle.ctx_blocks.specs.declared.books.Books.{Books}
-use Rattle.ctx_blocks.proofs.Numbered.{region_by_number}
-use Rattle.ctx_blocks.proofs.Viewed.{first_view}
+use Rattle.ctx_blocks.proofs.Base.{Books, layout_of}
+use Rattle.ctx_blocks.proofs.Lemmas.{chunks_clear, first_view, none_in, region_by_number, some_in}
 use Rattle.ctx_blocks.proofs.Blocks.laid.Goals as goal
 
 pub returns : goal.returns

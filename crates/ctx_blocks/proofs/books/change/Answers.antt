@@ -1,8 +1,4 @@
-use Rattle.std.proofs.Common.{ℕ, ◌==◌, sym}
-use Rattle.std.proofs.lemmas.Cmp.{nat_eq_equiv}
-use Rattle.indexmap.proofs.CallerLemmas.{keys-with_value_at, updates-with_value_at}
-use Rattle.indexmap.proofs.MapLemmas.{insert_entry-first}
-use Rattle.indexmap.proofs.RemoveLemmas.{own_first}
+use Rattle.ctx_blocks.proofs.Base.{insert_entry-first, keys-with_value_at, nat_eq_equiv, own_first, sym, updates-with_value_at, ℕ, ◌==◌}
 use Rattle.ctx_blocks.proofs.books.change.Goals as goal
 
 pub returns : goal.returns

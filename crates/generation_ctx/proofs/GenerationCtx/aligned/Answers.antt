@@ -1,6 +1,4 @@
-use Rattle.std.proofs.Common.{ap, ◌∙◌}
-use Rattle.generation_ctx.specs.Kept.{state_of}
-use Rattle.ctx_blocks.proofs.Aligned.{live_whole}
+use Rattle.generation_ctx.proofs.Words.{ap, ◌∙◌, state_of, live_whole}
 use Rattle.generation_ctx.proofs.GenerationCtx.aligned.Goals as goal
 
 pub returns : goal.returns

@@ -1,13 +1,7 @@
-use Rattle.std.proofs.Common.{◌∙◌, ℕ, Some, ap}
-use Rattle.addr_space.specs.Footprint.{Agrees}
-use Rattle.addr_space.proofs.Options.{if_ok, on_ok, on_err, either_way, both_err}
-use Rattle.addr_space.proofs.Steps.{Moves-same, Keeps-same}
+use Rattle.generation_ctx.proofs.Words.{◌∙◌, ℕ, Some, ap, Agrees, if_ok, on_ok, on_err, either_way, both_err, Moves-same, Keeps-same, state_of, chunk_whole, places_put}
+use Rattle.generation_ctx.proofs.Lemmas.{place}
 use Rattle.ctx_blocks.specs.Layout.{footprint as blocks_footprint}
 use Rattle.generation_ctx.specs.State.{footprint}
-use Rattle.generation_ctx.specs.Kept.{state_of}
-use Rattle.ctx_blocks.proofs.Aligned.{chunk_whole}
-use Rattle.ctx_blocks.proofs.Places.{places_put}
-use Rattle.generation_ctx.proofs.Places.{place}
 use Rattle.generation_ctx.proofs.GenerationCtx.alloc.Goals as goal
 
 pub returns-clause-taken : goal.returns-clause-taken

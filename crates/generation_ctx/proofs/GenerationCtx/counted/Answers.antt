@@ -1,5 +1,4 @@
-use Rattle.std.proofs.Common.{refl}
-use Rattle.generation_ctx.specs.Ledger.{stats}
+use Rattle.generation_ctx.proofs.Words.{refl, stats}
 use Rattle.generation_ctx.proofs.GenerationCtx.counted.Goals as goal
 
 pub returns : goal.returns

@@ -1,9 +1,6 @@
-use Rattle.std.proofs.Common.{None, refl, ap, ◌∙◌}
-use Rattle.addr_space.specs.Footprint.{Agrees}
-use Rattle.ctx_blocks.specs.Layout.{chunk_at, footprint as blocks_footprint}
-use Rattle.ctx_blocks.proofs.Places.{places_put, numbers_among}
-use Rattle.generation_ctx.proofs.Places.{chunk_there, place}
-use Rattle.generation_ctx.specs.Kept.{state_of}
+use Rattle.generation_ctx.proofs.Words.{None, refl, ap, ◌∙◌, Agrees, chunk_at, places_put, numbers_among, state_of}
+use Rattle.generation_ctx.proofs.Lemmas.{chunk_there, place}
+use Rattle.ctx_blocks.specs.Layout.{footprint as blocks_footprint}
 use Rattle.generation_ctx.proofs.GenerationCtx.free.Goals as goal
 
 pub free-requires-clause-chunk : goal.free-requires-clause-chunk

@@ -1,10 +1,4 @@
-use Rattle.std.proofs.Common.{◌≡◌, ◌+◌, ap, subst, ◌∙◌}
-use Rattle.chunk_header.specs.Header.{TakesSpace}
-use Rattle.ctx_blocks.specs.Layout.{footprint, chunk_at}
-use Rattle.generation_ctx.specs.Ledger.{GenerationPlace}
-use Rattle.addr_space.proofs.Options.{from_map}
-use Rattle.generation_ctx.specs.State.{place_in}
-use Rattle.generation_ctx.specs.Kept.{state_of}
+use Rattle.generation_ctx.proofs.Words.{◌≡◌, ◌+◌, ap, subst, ◌∙◌, TakesSpace, footprint, chunk_at, GenerationPlace, from_map, place_in, state_of}
 use Rattle.generation_ctx.proofs.GenerationCtx.headed.Goals as goal
 
 pub returns-clause-kinds : goal.returns-clause-kinds

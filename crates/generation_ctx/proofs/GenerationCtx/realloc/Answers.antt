@@ -1,12 +1,7 @@
-use Rattle.std.proofs.Common.{◌≡◌, ◌∙◌, ℕ, Some, option_map, ap}
-use Rattle.addr_space.specs.Footprint.{Agrees}
-use Rattle.addr_space.proofs.Options.{if_ok, on_ok, on_err, either_way, both_err}
-use Rattle.addr_space.proofs.Steps.{Moves-same, KeepsBut-same}
-use Rattle.generation_ctx.specs.State.{footprint, place_in}
-use Rattle.generation_ctx.specs.Kept.{state_of}
-use Rattle.ctx_blocks.specs.Layout.{chunk_at, footprint as blocks_footprint}
-use Rattle.ctx_blocks.proofs.Aligned.{move_whole}
-use Rattle.generation_ctx.proofs.Places.{chunk_kept, places, places_move}
+use Rattle.generation_ctx.proofs.Words.{◌≡◌, ◌∙◌, ℕ, Some, option_map, ap, Agrees, if_ok, on_ok, on_err, either_way, both_err, Moves-same, KeepsBut-same, place_in, state_of, chunk_at, move_whole}
+use Rattle.generation_ctx.proofs.Lemmas.{chunk_kept, places, places_move}
+use Rattle.generation_ctx.specs.State.{footprint}
+use Rattle.ctx_blocks.specs.Layout.{footprint as blocks_footprint}
 use Rattle.generation_ctx.proofs.GenerationCtx.realloc.Goals as goal
 
 pub realloc-resized-requires-clause-chunk : goal.realloc-resized-requires-clause-chunk

@@ -1,7 +1,5 @@
-use Rattle.std.proofs.Common.{◌∙◌, sym, ap}
+use Rattle.generation_ctx.proofs.Words.{◌∙◌, sym, ap, stats, state_of}
 use Rattle.chunk_header.specs.declared.Stats.{Stats}
-use Rattle.generation_ctx.specs.Ledger.{stats}
-use Rattle.generation_ctx.specs.Kept.{state_of}
 use Rattle.generation_ctx.proofs.GenerationCtx.stats.Goals as goal
 
 pub returns-clause-total : goal.returns-clause-total

@@ -1,11 +1,5 @@
-use Rattle.std.proofs.Common.{Some, ap, ◌∙◌}
-use Rattle.addr_space.proofs.Options.{if_ok, on_ok, on_err, either_way, both_err}
-use Rattle.addr_space.proofs.Steps.{Moves-same, Keeps-same}
-use Rattle.ctx_blocks.proofs.Aligned.{chunk_whole}
-use Rattle.ctx_blocks.proofs.Places.{places_put}
-use Rattle.slab_ctx.specs.Kept.{state_of}
-use Rattle.slab_ctx.specs.State.{footprint, place}
-use Rattle.slab_ctx.proofs.Full.{Agrees_plain}
+use Rattle.slab_ctx.proofs.Words.{Some, ap, ◌∙◌, if_ok, on_ok, on_err, either_way, both_err, Moves-same, Keeps-same, chunk_whole, places_put, state_of, footprint, place}
+use Rattle.slab_ctx.proofs.Lemmas.{Agrees_plain}
 use Rattle.slab_ctx.proofs.SlabCtx.alloc.Goals as goal
 
 pub returns-clause-taken : goal.returns-clause-taken

@@ -1,8 +1,5 @@
-use Rattle.std.proofs.Common.{None, refl, ap, ◌∙◌}
-use Rattle.ctx_blocks.proofs.Places.{places_put, numbers_among}
-use Rattle.slab_ctx.specs.State.{place}
-use Rattle.slab_ctx.proofs.Full.{Agrees_plain}
-use Rattle.slab_ctx.specs.Kept.{state_of}
+use Rattle.slab_ctx.proofs.Words.{None, refl, ap, ◌∙◌, places_put, numbers_among, place, state_of}
+use Rattle.slab_ctx.proofs.Lemmas.{Agrees_plain}
 use Rattle.slab_ctx.proofs.SlabCtx.free.Goals as goal
 
 pub returns-clause-place : goal.returns-clause-place

@@ -1,5 +1,4 @@
-use Rattle.std.proofs.Common.{ap, ◌∙◌}
-use Rattle.slab_ctx.specs.Kept.{state_of}
+use Rattle.slab_ctx.proofs.Words.{ap, ◌∙◌, state_of}
 use Rattle.slab_ctx.proofs.SlabCtx.headed.Goals as goal
 
 pub returns-clause-kinds : goal.returns-clause-kinds

@@ -1,12 +1,5 @@
-use Rattle.std.proofs.Common.{◌≡◌, ◌%◌, ap, sym, subst, ◌∙◌}
-use Rattle.addr_space.specs.declared.Addr.{Addr}
-use Rattle.addr_space.proofs.Options.{if_ok}
-use Rattle.addr_space.proofs.Steps.{Moves-none}
-use Rattle.slab_ctx.specs.State.{footprint, place_at}
-use Rattle.slab_ctx.specs.Kept.{state_of}
-use Rattle.slab_ctx.specs.declared.books.Books.{Books}
-use Rattle.slab_ctx.proofs.Trees.{some_with}
-use Rattle.slab_ctx.proofs.Public.{some_is, resizes_same, live_stays, both_ok}
+use Rattle.slab_ctx.proofs.Words.{◌≡◌, ◌%◌, ap, sym, subst, ◌∙◌, Addr, if_ok, Moves-none, footprint, place_at, state_of, Books}
+use Rattle.slab_ctx.proofs.Lemmas.{some_with, some_is, resizes_same, live_stays, both_ok}
 use Rattle.slab_ctx.proofs.SlabCtx.realloc.Goals as goal
 
 pub returns-clause-resized : goal.returns-clause-resized

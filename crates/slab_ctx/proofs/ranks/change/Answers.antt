@@ -1,6 +1,5 @@
-use Rattle.std.proofs.lemmas.Cmp.{nat_eq_equiv}
-use Rattle.indexmap.proofs.CallerLemmas.{updates-with_value_at}
-use Rattle.slab_ctx.proofs.Placed.{pair-at, entry-set}
+use Rattle.slab_ctx.proofs.Words.{nat_eq_equiv, updates-with_value_at}
+use Rattle.slab_ctx.proofs.Lemmas.{pair-at, entry-set}
 use Rattle.slab_ctx.proofs.ranks.change.Goals as goal
 
 pub returns-clause-places : goal.returns-clause-places

@@ -1,5 +1,4 @@
-use Rattle.std.proofs.Common.{ap, arith}
-use Rattle.slab_ctx.specs.Slots.{items_of}
+use Rattle.slab_ctx.proofs.Words.{ap, arith, items_of}
 use Rattle.slab_ctx.proofs.slots.close.Goals as goal
 
 pub returns : goal.returns

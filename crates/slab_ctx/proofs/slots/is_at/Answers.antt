@@ -1,5 +1,4 @@
-use Rattle.std.proofs.Common.{◌≡◌, Some, sym, ap, ◌∙◌, arith}
-use Rattle.slab_ctx.specs.Slots.{items_of, stack_at}
+use Rattle.slab_ctx.proofs.Words.{◌≡◌, Some, sym, ap, ◌∙◌, arith, items_of, stack_at}
 use Rattle.slab_ctx.proofs.slots.is_at.Goals as goal
 
 pub returns-in-Some : goal.returns-in-Some

@@ -1,13 +1,4 @@
-use Rattle.std.proofs.Common.{◌∙◌, ap, option_map, ◌≡◌, ℕ, ◌==◌, if◌then◌else◌, List, Some, slice_get, sym, arith}
-use Rattle.std.specs.Vec.{with_item}
-use Rattle.std.proofs.lemmas.Cmp.{nat_eq_equiv}
-use Rattle.indexmap.proofs.CallerLemmas.{updates-with_value_at}
-use Rattle.slab_ctx.specs.Slots.{items_of, stack_at}
-use Rattle.std.specs.Prelude.{slice_set}
-use Rattle.std.specs.Global.{Vec}
-use Rattle.std.specs.Map.{lookup, values_of}
-use Rattle.std.proofs.lemmas.Option.{slice_get-map}
-use Rattle.addr_space.proofs.Options.{one_value}
+use Rattle.slab_ctx.proofs.Words.{◌∙◌, ap, option_map, ◌≡◌, ℕ, ◌==◌, if◌then◌else◌, List, Some, slice_get, sym, arith, with_item, nat_eq_equiv, updates-with_value_at, items_of, stack_at, slice_set, Vec, lookup, values_of, slice_get-map, one_value}
 use Rattle.slab_ctx.proofs.slots.push.Goals as goal
 
 -- an offset is written in the stack at a place

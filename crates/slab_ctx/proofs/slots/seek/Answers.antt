@@ -1,6 +1,5 @@
-use Rattle.std.proofs.Common.{◌≡◌, ◌==◌, Some, sym, ap, ◌∙◌, arith}
+use Rattle.slab_ctx.proofs.Words.{◌≡◌, ◌==◌, Some, sym, ap, ◌∙◌, arith, items_of}
 use Rattle.std.proofs.lemmas.Map.Made.{lookup_key_passes}
-use Rattle.slab_ctx.specs.Slots.{items_of}
 use Rattle.slab_ctx.proofs.slots.seek.Goals as goal
 
 pub returns : goal.returns

@@ -1,7 +1,5 @@
-use Rattle.std.proofs.Common.{◌≢◌, refl, arith}
-use Rattle.alloc_set.specs.Kept.{state_of}
-use Rattle.alloc_set.proofs.Altered.{alone_kept}
-use Rattle.alloc_set.proofs.Regions.{other_start}
+use Rattle.alloc_set.proofs.Base.{arith, refl, state_of, ◌≢◌}
+use Rattle.alloc_set.proofs.Lemmas.{alone_kept, other_start}
 use Rattle.alloc_set.proofs.books.Books.activate.Goals as goal
 
 pub returns-clause-kept : goal.returns-clause-kept

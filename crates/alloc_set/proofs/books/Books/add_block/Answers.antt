@@ -1,22 +1,7 @@
-use Rattle.std.proofs.Common.{◌≡◌, ◌≢◌, ℕ, ◌+◌, ◌^◌, ◌<◌, map, min, Some, None, ap, ◌∙◌, sym, refl, arith, rules, inl, inr}
-use Rattle.addr_space.specs.declared.Addr.{Addr}
-use Rattle.addr_space.specs.Space.{Changes, region_at, overwritten}
-use Rattle.addr_space.proofs.Addresses.{same_addr_from}
-use Rattle.addr_space.proofs.Options.{option_cases, one_value}
-use Rattle.chunk_header.specs.Header.{block_bytes}
-use Rattle.chunk_header.proofs.Words.{length-block_bytes}
-use Rattle.chunk_header.proofs.Wrote.{Moves-taken, Keeps-taken}
-use Rattle.alloc_set.specs.Ledger.{with_own}
-use Rattle.alloc_set.specs.State.{region_of, start_of, footprint}
-use Rattle.alloc_set.specs.Kept.{state_of, IsSettled}
-use Rattle.alloc_set.specs.declared.books.Books.{Books}
-use Rattle.alloc_set.proofs.Altered.{Alters-blocks, old, new_block, new_header, new_link, IsSettled-altered, new_marks}
-use Rattle.alloc_set.proofs.Counted.{IsCounted-blocks}
-use Rattle.alloc_set.proofs.Regions.{noted, apart_keeper, other_start, region_now, regions_else, keeper_else}
-use Rattle.alloc_set.proofs.Settled.{IsSound-settled}
+use Rattle.alloc_set.proofs.Base.{Addr, ap, arith, block_bytes, Books, Changes, footprint, inl, inr, IsSettled, Keeps-taken, length-block_bytes, map, min, Moves-taken, nat_tests, None, one_value, option_cases, overwritten, refl, region_at, region_of, rules, same_addr_from, Some, start_of, state_of, sym, with_own, ℕ, ◌+◌, ◌<◌, ◌^◌, ◌∙◌, ◌≡◌, ◌≢◌}
+use Rattle.alloc_set.proofs.Lemmas.{Alters-blocks, apart_keeper, IsCounted-blocks, IsSettled-altered, IsSound-settled, keeper_else, new_block, new_header, new_link, new_marks, noted, old, other_start, region_now, regions_else}
 use Rattle.alloc_set.proofs.books.Books.add_block.Goals as goal
 use Rattle.alloc_set.proofs.books.Books.add_block.Goals.{In_ok-at}
-use Rattle.std.proofs.lemmas.Bool.Decides.{nat_tests}
 
 -- no region of the context had the number
 none : (c : In_ok-at) → region_of (state_of c.args.self.now) c.in_ok-at.at.region ≡ None

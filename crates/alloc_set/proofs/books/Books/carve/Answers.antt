@@ -1,15 +1,5 @@
-use Rattle.std.proofs.Common.{◌≡◌, ◌+◌, ◌-◌, ◌≤◌, ◌⊎◌, map, Some, refl, arith, rules, false, inl}
-use Rattle.addr_space.specs.declared.Addr.{Addr}
-use Rattle.addr_space.specs.Space.{region_at, overwritten, Changes}
-use Rattle.chunk_header.specs.declared.Kind.TheVariants.{AllocSet as SetKind}
-use Rattle.chunk_header.specs.Header.{header_bytes}
-use Rattle.alloc_set.specs.State.{chunk_at, start_of, capacity_of, header_of}
-use Rattle.alloc_set.specs.Kept.{state_of, IsPlaced}
-use Rattle.alloc_set.specs.declared.books.Books.{Books}
-use Rattle.alloc_set.specs.declared.chunk.Chunk.{Chunk}
-use Rattle.alloc_set.specs.declared.chunk.Chunk.TheVariants.{Live}
-use Rattle.alloc_set.proofs.Counted.{SameBlocks-chunks}
-use Rattle.alloc_set.proofs.Headed.{nothing_there, IsSettled-headed, wrote-headed}
+use Rattle.alloc_set.proofs.Base.{Addr, AllocSet as SetKind, arith, Books, capacity_of, Changes, Chunk, chunk_at, false, header_bytes, header_of, inl, IsPlaced, Live, map, overwritten, refl, region_at, rules, Some, start_of, state_of, ◌+◌, ◌-◌, ◌≡◌, ◌≤◌, ◌⊎◌}
+use Rattle.alloc_set.proofs.Lemmas.{IsSettled-headed, nothing_there, SameBlocks-chunks, wrote-headed}
 use Rattle.alloc_set.proofs.books.Books.carve.Goals as goal
 
 pub returns : goal.returns

@@ -1,16 +1,7 @@
-use Rattle.std.proofs.Common.{◌≡◌, ℕ, Option, Some, true, false, arith}
-use Rattle.addr_space.specs.Space.{HasBytes}
-use Rattle.addr_space.proofs.Options.{from_then, option_cases}
-use Rattle.chunk_header.specs.declared.Header.{Header}
-use Rattle.chunk_header.specs.Header.{IsHeaded, header_place, header_bytes}
-use Rattle.alloc_set.specs.State.{chunk_at, live_size, header_of, footprint}
-use Rattle.alloc_set.specs.Kept.{state_of}
-use Rattle.alloc_set.specs.declared.chunk.Chunk.{Chunk}
-use Rattle.alloc_set.specs.declared.chunk.Chunk.TheVariants.{Live, Free, Own}
-use Rattle.alloc_set.proofs.Leads.{headed_by}
+use Rattle.alloc_set.proofs.Base.{arith, Chunk, chunk_at, false, footprint, Free, from_then, HasBytes, Header, header_bytes, header_of, header_place, IsHeaded, Live, live_size, nat_tests, Option, option_cases, Own, Some, state_of, true, ℕ, ◌≡◌}
+use Rattle.alloc_set.proofs.Lemmas.{headed_by}
 use Rattle.alloc_set.proofs.books.Books.class.Goals as goal
 use Rattle.alloc_set.proofs.books.Books.class.Goals.{Start}
-use Rattle.std.proofs.lemmas.Bool.Decides.{nat_tests}
 
 -- a header says whether the chunk is of a class, and of which, or has its block for itself
 told : (o : Option Chunk) (chunk : Chunk) (n dist : ℕ) (header : Header) → o ≡ Some chunk → live_size chunk ≡ Some n → header ≡ header_of chunk dist

@@ -1,11 +1,5 @@
-use Rattle.std.proofs.Common.{◌-◌, None, sum_by, refl, ap, subst, sym, arith, rules, inr}
-use Rattle.std.specs.Map.{values_of}
-use Rattle.addr_space.specs.declared.Addr.{Addr}
-use Rattle.alloc_set.specs.Kept.{state_of, taken_bytes, IsKept, IsSettled, IsShelved}
-use Rattle.alloc_set.specs.declared.books.Books.{Books}
-use Rattle.alloc_set.proofs.Altered.{old_or_fresh, Moves-altered}
-use Rattle.alloc_set.proofs.Empty.{no_chunk, IsShelved-none, IsSettled-empty}
-use Rattle.alloc_set.proofs.Settled.{IsSound-settled}
+use Rattle.alloc_set.proofs.Base.{Addr, ap, arith, Books, inr, IsKept, IsSettled, IsShelved, None, refl, rules, state_of, subst, sum_by, sym, taken_bytes, values_of, ◌-◌}
+use Rattle.alloc_set.proofs.Lemmas.{IsSettled-empty, IsShelved-none, IsSound-settled, Moves-altered, no_chunk, old_or_fresh}
 use Rattle.alloc_set.proofs.books.Books.clear.Goals as goal
 
 pub returns : goal.returns

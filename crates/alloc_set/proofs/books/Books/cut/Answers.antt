@@ -1,14 +1,5 @@
-use Rattle.std.proofs.Common.{◌≡◌, ◌-◌, ap, ◌∙◌, sym, subst, arith, Some, option_and_then}
-use Rattle.alloc_set.specs.Ledger.{cut_off, class_bytes}
-use Rattle.alloc_set.specs.State.{live_size}
-use Rattle.alloc_set.specs.Kept.{state_of, taken_bytes, is_free, IsSettled, IsShelved}
-use Rattle.alloc_set.specs.declared.books.Books.{Books}
-use Rattle.alloc_set.specs.declared.books.Block.{Block}
-use Rattle.alloc_set.specs.declared.chunk.Chunk.{Chunk}
-use Rattle.alloc_set.specs.declared.chunk.Chunk.TheVariants.{Live}
-use Rattle.alloc_set.proofs.Counted.{IsCounted-chunks}
-use Rattle.alloc_set.proofs.Places.{place-put, PutsLive-chunk, LeavesLive-put}
-use Rattle.alloc_set.proofs.Shelved.{IsShelved-taken}
+use Rattle.alloc_set.proofs.Base.{ap, arith, Block, Books, Chunk, class_bytes, cut_off, is_free, IsSettled, IsShelved, Live, live_size, option_and_then, Some, state_of, subst, sym, taken_bytes, ◌-◌, ◌∙◌, ◌≡◌}
+use Rattle.alloc_set.proofs.Lemmas.{IsCounted-chunks, IsShelved-taken, LeavesLive-put, place-put, PutsLive-chunk}
 use Rattle.alloc_set.proofs.books.Books.cut.Goals as goal
 
 pub returns : goal.returns

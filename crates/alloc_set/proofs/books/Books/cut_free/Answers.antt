@@ -1,9 +1,4 @@
-use Rattle.std.proofs.Common.{Some, sym, ap, ◌∙◌, inl, inr}
-use Rattle.addr_space.specs.Live.{StaysLive}
-use Rattle.addr_space.proofs.Addresses.{put_at-cases}
-use Rattle.addr_space.proofs.Steps.{Moves-more, Keeps-more}
-use Rattle.alloc_set.specs.State.{footprint}
-use Rattle.alloc_set.specs.Kept.{state_of}
+use Rattle.alloc_set.proofs.Base.{ap, footprint, inl, inr, Keeps-more, Moves-more, put_at-cases, Some, state_of, StaysLive, sym, ◌∙◌}
 use Rattle.alloc_set.proofs.books.Books.cut_free.Goals as goal
 
 pub returns-clause-moves : goal.returns-clause-moves

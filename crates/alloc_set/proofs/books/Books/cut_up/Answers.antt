@@ -1,15 +1,6 @@
-use Rattle.std.proofs.Common.{◌≡◌, ℕ, suc, ◌+◌, ◌-◌, ◌*◌, ◌<◌, ◌≤◌, List, ap, ◌∙◌, sym, subst, arith, get_or}
-use Rattle.std.proofs.Math.Nat.{add-zero, pow-succ', mod-eq_of_lt, div-eq_of_lt, div-eq_of_lt-le, mod-eq-sub-mod}
-use Rattle.std.proofs.lemmas.List.{set-get_or}
-use Rattle.addr_space.proofs.Steps.{Moves-more, Keeps-more, same_stays}
-use Rattle.alloc_set.specs.Ledger.{SetLedger, class_bytes, cut_rest, cut_up, with_free}
-use Rattle.alloc_set.specs.State.{footprint}
-use Rattle.alloc_set.specs.Kept.{state_of}
-use Rattle.alloc_set.specs.declared.books.Books.{Books}
-use Rattle.alloc_set.specs.declared.books.Block.{Block}
-use Rattle.alloc_set.proofs.Places.{LeavesLive-more}
+use Rattle.alloc_set.proofs.Base.{add-zero, ap, arith, Block, Books, class_bytes, cut_rest, cut_up, div-eq_of_lt, div-eq_of_lt-le, footprint, get_or, Keeps-more, List, mod-eq-sub-mod, mod-eq_of_lt, Moves-more, nat_tests, pow-succ', same_stays, set-get_or, SetLedger, state_of, subst, suc, sym, with_free, ℕ, ◌*◌, ◌+◌, ◌-◌, ◌<◌, ◌∙◌, ◌≡◌, ◌≤◌}
+use Rattle.alloc_set.proofs.Lemmas.{LeavesLive-more}
 use Rattle.alloc_set.proofs.books.Books.cut_up.Goals as goal
-use Rattle.std.proofs.lemmas.Bool.Decides.{nat_tests}
 
 class_bytes-suc : (class : ℕ) → class_bytes (suc class) + 8 ≡ 2 * class_bytes class
 class_bytes-suc class = omega (arith, pow-succ' 2 class)

@@ -1,9 +1,4 @@
-use Rattle.std.proofs.Common.{◌≡◌, ◌<◌, ◌≤◌}
-use Rattle.addr_space.specs.Footprint.{Moves, Keeps}
-use Rattle.alloc_set.specs.Ledger.{class_bytes, cut_rest, cut_up}
-use Rattle.alloc_set.specs.State.{footprint}
-use Rattle.alloc_set.specs.Kept.{state_of}
-use Rattle.alloc_set.specs.Cut.{CutsUp}
+use Rattle.alloc_set.proofs.Base.{class_bytes, cut_rest, cut_up, CutsUp, footprint, Keeps, Moves, state_of, ◌<◌, ◌≡◌, ◌≤◌}
 use Rattle.alloc_set.proofs.books.Books.cut_up.Given as goal
 
 abbrev pub invariant-loop-class : goal.invariant-loop-class

@@ -1,15 +1,7 @@
-use Rattle.std.proofs.Common.{◌≡◌, ◌==◌, ℕ, List, [], ◌∷◌, length, sum, refl, sym, ap, ◌∙◌, arith}
-use Rattle.std.specs.Map.{lookup}
-use Rattle.addr_space.specs.Footprint.{Moves, nothing}
-use Rattle.addr_space.proofs.Steps.{Moves-more, Moves-none, Agrees-nothing}
-use Rattle.chunk_header.proofs.Wrote.{Moves-gone}
-use Rattle.alloc_set.specs.Ledger.{created}
-use Rattle.alloc_set.specs.State.{footprint}
-use Rattle.alloc_set.specs.Kept.{state_of}
-use Rattle.alloc_set.proofs.Regions.{keeper_owned, noted}
+use Rattle.alloc_set.proofs.Base.{[], Agrees-nothing, ap, arith, created, footprint, length, List, lookup, Moves, Moves-gone, Moves-more, Moves-none, nat_tests, nothing, refl, state_of, sum, sym, ℕ, ◌==◌, ◌∙◌, ◌∷◌, ◌≡◌}
+use Rattle.alloc_set.proofs.Lemmas.{keeper_owned, noted}
 use Rattle.alloc_set.proofs.books.Books.discard.Goals as goal
 use Rattle.alloc_set.proofs.books.Books.discard.Goals.{Joined-len-ne0}
-use Rattle.std.proofs.lemmas.Bool.Decides.{nat_tests}
 
 no_blocks : (blocks : List (ℕ × ℕ)) → length blocks ≡ 0 → blocks ≡ []
 no_blocks [] h = refl

@@ -1,7 +1,4 @@
-use Rattle.std.proofs.Common.{◌≡◌, ℕ, zero, suc, ◌-◌, ◌/◌, ◌<◌, ◌≤◌, ◌∙◌, sym, arith, Some, None, refl}
-use Rattle.std.proofs.lemmas.Bool.{cases_lt}
-use Rattle.std.proofs.lemmas.Bool.Decides.{nat_tests}
-use Rattle.alloc_set.specs.Ledger.{halved_by, halved}
+use Rattle.alloc_set.proofs.Base.{arith, cases_lt, halved, halved_by, nat_tests, None, refl, Some, suc, sym, zero, ℕ, ◌-◌, ◌/◌, ◌<◌, ◌∙◌, ◌≡◌, ◌≤◌}
 use Rattle.alloc_set.proofs.books.Books.fitted.Goals as goal
 
 -- any number of times that is enough gives the same

@@ -1,7 +1,4 @@
-use Rattle.std.proofs.Common.{◌≡◌, ◌-◌, ◌^◌, ◌≤◌}
-use Rattle.addr_space.specs.Space.{held}
-use Rattle.chunk_header.specs.Growth.{grown}
-use Rattle.alloc_set.specs.Ledger.{halved}
+use Rattle.alloc_set.proofs.Base.{grown, halved, held, ◌-◌, ◌^◌, ◌≡◌, ◌≤◌}
 use Rattle.alloc_set.proofs.books.Books.fitted.Given as goal
 
 abbrev pub invariant-loop-size : goal.invariant-loop-size

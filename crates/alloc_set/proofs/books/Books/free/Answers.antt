@@ -1,4 +1,4 @@
-use Rattle.alloc_set.specs.declared.chunk.Chunk.TheVariants.{Live}
+use Rattle.alloc_set.proofs.Base.{Live}
 use Rattle.alloc_set.proofs.books.Books.free.Goals as goal
 
 pub shelve-requires-clause-class : goal.shelve-requires-clause-class

@@ -1,15 +1,5 @@
-use Rattle.std.proofs.Common.{◌≡◌, ℕ, ◌-◌, ◌==◌, Some, None, min, refl, sym, ap, ◌∙◌, arith, rules}
-use Rattle.std.specs.Map.{lookup}
-use Rattle.addr_space.specs.declared.Addr.{Addr}
-use Rattle.chunk_header.proofs.Wrote.{Moves-gone, Keeps-give}
-use Rattle.alloc_set.specs.Ledger.{without_own}
-use Rattle.alloc_set.specs.State.{region_of, footprint}
-use Rattle.alloc_set.specs.Kept.{state_of, IsSettled}
-use Rattle.alloc_set.specs.declared.books.Books.{Books}
-use Rattle.alloc_set.proofs.Altered.{Alters-blocks, old_or_fresh, IsSettled-altered, new_marks}
-use Rattle.alloc_set.proofs.Counted.{IsCounted-blocks}
-use Rattle.alloc_set.proofs.Regions.{noted, region_now, regions_else, keeper_else}
-use Rattle.alloc_set.proofs.Settled.{IsSound-settled}
+use Rattle.alloc_set.proofs.Base.{Addr, ap, arith, Books, footprint, IsSettled, Keeps-give, lookup, min, Moves-gone, None, refl, region_of, rules, Some, state_of, sym, without_own, ℕ, ◌-◌, ◌==◌, ◌∙◌, ◌≡◌}
+use Rattle.alloc_set.proofs.Lemmas.{Alters-blocks, IsCounted-blocks, IsSettled-altered, IsSound-settled, keeper_else, new_marks, noted, old_or_fresh, region_now, regions_else}
 use Rattle.alloc_set.proofs.books.Books.give_block.Goals as goal
 
 -- the block's size was noted

@@ -1,10 +1,6 @@
-use Rattle.std.proofs.Common.{ap, ◌∙◌, sym, subst, arith}
-use Rattle.addr_space.proofs.Steps.{Moves-more}
-use Rattle.alloc_set.specs.Kept.{IsCleared}
-use Rattle.alloc_set.specs.declared.books.Books.{Books}
-use Rattle.alloc_set.proofs.Regions.{sum-least}
+use Rattle.alloc_set.proofs.Base.{ap, arith, Books, IsCleared, Moves-more, nat_tests, subst, sym, ◌∙◌}
+use Rattle.alloc_set.proofs.Lemmas.{sum-least}
 use Rattle.alloc_set.proofs.books.Books.give_blocks.Goals as goal
-use Rattle.std.proofs.lemmas.Bool.Decides.{nat_tests}
 
 pub give_block-requires-clause-counted : goal.give_block-requires-clause-counted
 give_block-requires-clause-counted c = grind (arith, nat_tests, sum-least c.loop-number.self.blocks.entries c.in-Some.number c.in-Some.size c.in-Some.ensures.some, c.loop-number.invariant.cleared, c.loop-number.invariant.kept.counted.total, c.in-Some.ensures.some, c.loop-number.invariant.cleared.active, c.loop-number.invariant.cleared.chunks, c.loop-number.invariant.cleared.idle, c.loop-number.invariant.kept.counted.sizes.0)

@@ -1,7 +1,4 @@
-use Rattle.std.proofs.Common.{◌≡◌, length}
-use Rattle.addr_space.specs.Footprint.{Moves}
-use Rattle.alloc_set.specs.State.{footprint}
-use Rattle.alloc_set.specs.Kept.{state_of, IsCleared, IsKept}
+use Rattle.alloc_set.proofs.Base.{footprint, IsCleared, IsKept, length, Moves, state_of, ◌≡◌}
 use Rattle.alloc_set.proofs.books.Books.give_blocks.Given as goal
 
 abbrev pub invariant-loop-number : goal.invariant-loop-number

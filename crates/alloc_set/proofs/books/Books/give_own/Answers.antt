@@ -1,9 +1,4 @@
-use Rattle.std.proofs.Common.{◌+◌, ap, ◌∙◌, arith, refl}
-use Rattle.addr_space.proofs.Steps.{Moves-more, Keeps-then, same_was}
-use Rattle.alloc_set.specs.State.{region_of, footprint}
-use Rattle.alloc_set.specs.Kept.{state_of, IsPlaced}
-use Rattle.alloc_set.specs.declared.books.Books.{Books}
-use Rattle.alloc_set.specs.declared.chunk.Chunk.TheVariants.{Own}
+use Rattle.alloc_set.proofs.Base.{ap, arith, Books, footprint, IsPlaced, Keeps-then, Moves-more, Own, refl, region_of, same_was, state_of, ◌+◌, ◌∙◌}
 use Rattle.alloc_set.proofs.books.Books.give_own.Goals as goal
 use Rattle.alloc_set.proofs.books.Books.give_own.Goals.{Start}
 

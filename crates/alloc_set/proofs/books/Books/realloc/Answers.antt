@@ -1,10 +1,6 @@
-use Rattle.std.proofs.Common.{◌≡◌, ℕ, ◌+◌, ◌≤◌, ap, arith, option_and_then}
-use Rattle.std.proofs.lemmas.Bool.Decides.{nat_tests}
-use Rattle.addr_space.specs.Space.{held}
-use Rattle.alloc_set.specs.Ledger.{SetLedger, SetPlace, Own as OwnPlace, resize, resize_at}
-use Rattle.alloc_set.specs.State.{live_size, live_place}
-use Rattle.alloc_set.specs.declared.chunk.Chunk.TheVariants.{Live}
-use Rattle.alloc_set.proofs.Places.{Reallocates-in_place}
+use Rattle.alloc_set.proofs.Base.{ap, arith, held, Live, live_place, live_size, nat_tests, option_and_then, resize, resize_at, SetLedger, SetPlace, ℕ, ◌+◌, ◌≡◌, ◌≤◌}
+use Rattle.alloc_set.specs.Ledger.{Own as OwnPlace}
+use Rattle.alloc_set.proofs.Lemmas.{Reallocates-in_place}
 use Rattle.alloc_set.proofs.books.Books.realloc.Goals as goal
 
 -- the step for a size that is not too big

@@ -1,16 +1,7 @@
-use Rattle.std.proofs.Common.{◌≡◌, ℕ, ◌+◌, ◌-◌, ◌*◌, ap, ◌∙◌, sym, subst, arith, rules, min, sum_by}
-use Rattle.std.specs.Map.{values_of}
-use Rattle.addr_space.specs.Footprint.{Footprint, Keeps}
-use Rattle.addr_space.proofs.Steps.{Moves-more, Keeps-more, same_stays}
-use Rattle.alloc_set.specs.Ledger.{SetLedger, cut_rest, cut_up, with_own, renewed, block_size}
-use Rattle.alloc_set.specs.State.{SetState, footprint}
-use Rattle.alloc_set.specs.Kept.{state_of, taken_bytes}
-use Rattle.alloc_set.specs.declared.books.Books.{Books}
-use Rattle.alloc_set.proofs.Settled.{none_in}
-use Rattle.alloc_set.proofs.Places.{LeavesLive-same, LeavesLive-more}
+use Rattle.alloc_set.proofs.Base.{ap, arith, block_size, Books, cut_rest, cut_up, Footprint, footprint, Keeps, Keeps-more, min, Moves-more, nat_tests, renewed, rules, same_stays, SetLedger, SetState, state_of, subst, sum_by, sym, taken_bytes, values_of, with_own, ℕ, ◌*◌, ◌+◌, ◌-◌, ◌∙◌, ◌≡◌}
+use Rattle.alloc_set.proofs.Lemmas.{LeavesLive-more, LeavesLive-same, none_in}
 use Rattle.alloc_set.proofs.books.Books.renew.Goals as goal
 use Rattle.alloc_set.proofs.books.Books.renew.Goals.{After-cut_up}
-use Rattle.std.proofs.lemmas.Bool.Decides.{nat_tests}
 
 -- the ledger once the block is noted and the rest of the old one cut up
 ledger_cut : (c : After-cut_up) → (state_of c.cut_up.new.self).ledger ≡ record (state_of c.args.self.now).ledger {

@@ -1,14 +1,4 @@
-use Rattle.std.proofs.Common.{◌≡◌, ◌≢◌, ℕ, ◌+◌, ◌-◌, ◌<◌, Some, sym, ap, ◌∙◌, arith, inl, inr, false, option_and_then}
-use Rattle.std.proofs.lemmas.Bool.Decides.{nat_tests}
-use Rattle.addr_space.specs.Space.{held, byte_at, IsInside, IsKnown}
-use Rattle.addr_space.proofs.Addresses.{put_at-cases}
-use Rattle.addr_space.proofs.Carried.{IsInside-live, Moves-carried, KeepsBut-carried, HasBytesOf-carried}
-use Rattle.addr_space.proofs.Steps.{Moves-more}
-use Rattle.chunk_header.proofs.Put.{MovesAt-from, put-here}
-use Rattle.alloc_set.specs.Ledger.{SetLedger, shelved, take, then_shelved, resize_class}
-use Rattle.alloc_set.specs.State.{place_at, live_size, footprint}
-use Rattle.alloc_set.specs.Kept.{state_of}
-use Rattle.alloc_set.specs.Cut.{Allocates}
+use Rattle.alloc_set.proofs.Base.{Allocates, ap, arith, byte_at, false, footprint, HasBytesOf-carried, held, inl, inr, IsInside, IsInside-live, IsKnown, KeepsBut-carried, live_size, Moves-carried, Moves-more, MovesAt-from, nat_tests, option_and_then, place_at, put-here, put_at-cases, resize_class, SetLedger, shelved, Some, state_of, sym, take, then_shelved, ℕ, ◌+◌, ◌-◌, ◌<◌, ◌∙◌, ◌≡◌, ◌≢◌}
 use Rattle.alloc_set.proofs.books.Books.replace.Goals as goal
 use Rattle.alloc_set.proofs.books.Books.replace.Goals.{In_ok-to}
 

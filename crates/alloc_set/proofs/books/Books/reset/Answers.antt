@@ -1,4 +1,4 @@
-use Rattle.addr_space.proofs.Steps.{Moves-more}
+use Rattle.alloc_set.proofs.Base.{Moves-more}
 use Rattle.alloc_set.proofs.books.Books.reset.Goals as goal
 
 pub returns-clause-moves : goal.returns-clause-moves

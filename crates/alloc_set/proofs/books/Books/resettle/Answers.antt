@@ -1,13 +1,5 @@
-use Rattle.std.proofs.Common.{◌≡◌, Some, refl, arith}
-use Rattle.alloc_set.specs.State.{chunk_at}
-use Rattle.alloc_set.specs.Kept.{state_of, taken_bytes, is_free}
-use Rattle.alloc_set.specs.declared.books.Books.{Books}
-use Rattle.alloc_set.specs.declared.chunk.Chunk.{Chunk}
-use Rattle.alloc_set.specs.declared.chunk.Chunk.TheVariants.{Own}
-use Rattle.alloc_set.proofs.Counted.{IsCounted-chunks, SameBlocks-chunks}
-use Rattle.alloc_set.proofs.Flipped.{IsSettled-flipped, Moves-flipped}
-use Rattle.alloc_set.proofs.Places.{PutsPlace-chunk, PutsLive-chunk}
-use Rattle.alloc_set.proofs.Shelved.{IsShelved-taken}
+use Rattle.alloc_set.proofs.Base.{arith, Books, Chunk, chunk_at, is_free, Own, refl, Some, state_of, taken_bytes, ◌≡◌}
+use Rattle.alloc_set.proofs.Lemmas.{IsCounted-chunks, IsSettled-flipped, IsShelved-taken, Moves-flipped, PutsLive-chunk, PutsPlace-chunk, SameBlocks-chunks}
 use Rattle.alloc_set.proofs.books.Books.resettle.Goals as goal
 
 pub returns : goal.returns

@@ -1,20 +1,5 @@
-use Rattle.std.proofs.Common.{◌≡◌, ℕ, suc, ◌-◌, ◌<◌, ap, ◌∙◌, sym, refl, arith, rules, Option, Some, map, set, subst, option_and_then}
-use Rattle.std.proofs.lemmas.List.{map-set}
-use Rattle.addr_space.specs.declared.Addr.{Addr}
-use Rattle.addr_space.specs.Space.{HasBytes}
-use Rattle.alloc_set.specs.Ledger.{reused}
-use Rattle.alloc_set.specs.Links.{IsLinkable}
-use Rattle.alloc_set.specs.State.{chunk_at, link_bytes, live_size}
-use Rattle.alloc_set.specs.Kept.{state_of, shelf_at, is_free, taken_bytes, IsShelved}
-use Rattle.alloc_set.specs.declared.books.Books.{Books}
-use Rattle.alloc_set.specs.declared.chunk.Chunk.{Chunk}
-use Rattle.chunk_header.specs.declared.shelves.Shelf.{Shelf}
-use Rattle.alloc_set.specs.declared.chunk.Chunk.TheVariants.{Live, Free}
-use Rattle.alloc_set.proofs.Settled.{mark_from_link}
-use Rattle.alloc_set.proofs.Counted.{IsCounted-chunks, SameBlocks-chunks}
-use Rattle.alloc_set.proofs.Flipped.{IsSettled-flipped, Moves-flipped}
-use Rattle.alloc_set.proofs.Shelved.{count_is, chain_head, chain_empty, IsLinkable-chain, IsShelved-popped}
-use Rattle.alloc_set.proofs.Places.{place-put, PutsLive-chunk, LeavesLive-put}
+use Rattle.alloc_set.proofs.Base.{Addr, ap, arith, Books, Chunk, chunk_at, Free, HasBytes, is_free, IsLinkable, IsShelved, link_bytes, Live, live_size, map, map-set, Option, option_and_then, refl, reused, rules, set, Shelf, shelf_at, Some, state_of, subst, suc, sym, taken_bytes, ℕ, ◌-◌, ◌<◌, ◌∙◌, ◌≡◌}
+use Rattle.alloc_set.proofs.Lemmas.{chain_empty, chain_head, count_is, IsCounted-chunks, IsLinkable-chain, IsSettled-flipped, IsShelved-popped, LeavesLive-put, mark_from_link, Moves-flipped, place-put, PutsLive-chunk, SameBlocks-chunks}
 use Rattle.alloc_set.proofs.books.Books.reuse.Goals as goal
 use Rattle.alloc_set.proofs.books.Books.reuse.Goals.{In-Some}
 

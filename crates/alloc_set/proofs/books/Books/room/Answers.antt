@@ -1,10 +1,7 @@
-use Rattle.std.proofs.Common.{◌≡◌, ◌+◌, ◌==◌, Some, arith}
-use Rattle.std.specs.Map.{lookup}
-use Rattle.alloc_set.specs.Kept.{state_of}
-use Rattle.alloc_set.proofs.Settled.{noted_own}
+use Rattle.alloc_set.proofs.Base.{arith, lookup, nat_tests, Some, state_of, ◌+◌, ◌==◌, ◌≡◌}
+use Rattle.alloc_set.proofs.Lemmas.{noted_own}
 use Rattle.alloc_set.proofs.books.Books.room.Goals as goal
 use Rattle.alloc_set.proofs.books.Books.room.Goals.{Start}
-use Rattle.std.proofs.lemmas.Bool.Decides.{nat_tests}
 
 -- the size of the block is noted
 was : (c : Start) → lookup (λ n. c.args.at.region == n) c.args.self.now.blocks.entries ≡ Some (c.requires.own.1 + 48)

@@ -1,17 +1,5 @@
-use Rattle.std.proofs.Common.{◌≡◌, ◌+◌, ◌-◌, ◌≤◌, ◌⊎◌, map, Some, None, refl, ap, arith, rules, option_and_then}
-use Rattle.addr_space.specs.declared.Addr.{Addr}
-use Rattle.addr_space.specs.Space.{Changes, region_at, overwritten}
-use Rattle.chunk_header.specs.Header.{header_bytes}
-use Rattle.alloc_set.specs.State.{chunk_at, start_of, capacity_of, live_size, header_of}
-use Rattle.alloc_set.specs.Kept.{state_of, is_free, taken_bytes, IsPlaced}
-use Rattle.alloc_set.specs.declared.books.Books.{Books}
-use Rattle.alloc_set.specs.declared.chunk.Chunk.{Chunk}
-use Rattle.alloc_set.specs.declared.chunk.Chunk.TheVariants.{Own}
-use Rattle.alloc_set.proofs.Counted.{IsCounted-chunks, SameBlocks-chunks}
-use Rattle.alloc_set.proofs.Headed.{IsSettled-headed, wrote-headed}
-use Rattle.alloc_set.proofs.Places.{place-put, PutsLive-chunk, LeavesLive-put}
-use Rattle.alloc_set.proofs.Regions.{other_start}
-use Rattle.alloc_set.proofs.Shelved.{IsShelved-taken}
+use Rattle.alloc_set.proofs.Base.{Addr, ap, arith, Books, capacity_of, Changes, Chunk, chunk_at, header_bytes, header_of, is_free, IsPlaced, live_size, map, None, option_and_then, overwritten, Own, refl, region_at, rules, Some, start_of, state_of, taken_bytes, ◌+◌, ◌-◌, ◌≡◌, ◌≤◌, ◌⊎◌}
+use Rattle.alloc_set.proofs.Lemmas.{IsCounted-chunks, IsSettled-headed, IsShelved-taken, LeavesLive-put, other_start, place-put, PutsLive-chunk, SameBlocks-chunks, wrote-headed}
 use Rattle.alloc_set.proofs.books.Books.settle.Goals as goal
 
 pub returns : goal.returns

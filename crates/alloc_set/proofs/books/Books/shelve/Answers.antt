@@ -1,22 +1,5 @@
-use Rattle.std.proofs.Common.{◌≡◌, ℕ, ◌+◌, ◌≤◌, length, map, Some, set, sum_by, refl, ap, ◌∙◌, subst, sym, arith, rules, inl, inr}
-use Rattle.std.specs.Map.{values_of}
-use Rattle.std.proofs.lemmas.List.{map-set}
-use Rattle.addr_space.specs.Space.{region_at, overwritten, Changes}
-use Rattle.alloc_set.specs.Ledger.{class_size}
-use Rattle.alloc_set.specs.State.{chunk_at, link_bytes}
-use Rattle.alloc_set.specs.Kept.{state_of, taken_bytes, is_free, shelf_at, IsShelved}
-use Rattle.alloc_set.specs.Steps.{PutsChunk}
-use Rattle.alloc_set.specs.declared.books.Books.{Books}
-use Rattle.alloc_set.specs.declared.chunk.Chunk.{Chunk}
-use Rattle.alloc_set.specs.declared.chunk.Chunk.TheVariants.{Live, Free}
-use Rattle.chunk_header.specs.declared.shelves.Shelf.{Shelf}
-use Rattle.alloc_set.proofs.Altered.{put_cases}
-use Rattle.alloc_set.proofs.Counted.{IsCounted-chunks, SameBlocks-chunks}
-use Rattle.alloc_set.proofs.Flipped.{IsSettled-flipped, wrote-flipped}
-use Rattle.alloc_set.proofs.Settled.{length-link_bytes}
-use Rattle.alloc_set.proofs.Places.{PutsPlace-chunk, PutsLive-chunk}
-use Rattle.alloc_set.proofs.Shelved.{count_is, IsShelved-freed}
-use Rattle.alloc_set.proofs.ClassSizes.{class_size-least}
+use Rattle.alloc_set.proofs.Base.{ap, arith, Books, Changes, Chunk, chunk_at, class_size, Free, inl, inr, is_free, IsShelved, length, link_bytes, Live, map, map-set, overwritten, PutsChunk, refl, region_at, rules, set, Shelf, shelf_at, Some, state_of, subst, sum_by, sym, taken_bytes, values_of, ℕ, ◌+◌, ◌∙◌, ◌≡◌, ◌≤◌}
+use Rattle.alloc_set.proofs.Lemmas.{class_size-least, count_is, IsCounted-chunks, IsSettled-flipped, IsShelved-freed, length-link_bytes, put_cases, PutsLive-chunk, PutsPlace-chunk, SameBlocks-chunks, wrote-flipped}
 use Rattle.alloc_set.proofs.books.Books.shelve.Goals as goal
 
 pub write-requires : goal.write-requires

@@ -1,13 +1,6 @@
-use Rattle.std.proofs.Common.{◌≡◌, ℕ, ◌+◌, ◌*◌, ◌<◌, List, length, refl, ◌∙◌, arith, drop, sum, get_or}
-use Rattle.std.proofs.lemmas.List.{drop_more, drop_all, length-map}
-use Rattle.std.proofs.lemmas.List.Sums.{sum_by-cons}
-use Rattle.alloc_set.specs.Ledger.{class_size, class_bytes, free_bytes, stats}
-use Rattle.alloc_set.specs.Kept.{state_of, IsKept}
-use Rattle.chunk_header.specs.declared.shelves.Shelf.{Shelf}
-use Rattle.alloc_set.specs.declared.books.Books.{Books}
-use Rattle.alloc_set.proofs.Shelved.{count_is, count-few, bytes_of}
+use Rattle.alloc_set.proofs.Base.{arith, Books, class_bytes, class_size, drop, drop_all, drop_more, free_bytes, get_or, IsKept, length, length-map, List, nat_tests, refl, Shelf, state_of, stats, sum, sum_by-cons, ℕ, ◌*◌, ◌+◌, ◌<◌, ◌∙◌, ◌≡◌}
+use Rattle.alloc_set.proofs.Lemmas.{bytes_of, count-few, count_is}
 use Rattle.alloc_set.proofs.books.Books.stats.Goals as goal
-use Rattle.std.proofs.lemmas.Bool.Decides.{nat_tests}
 
 -- the ledger counts eleven classes, and what it counts from one on is that class and what it counts from the next on
 eleven : (b : Books) → IsKept b → length (state_of b).ledger.free ≡ 11

@@ -1,6 +1,4 @@
-use Rattle.std.proofs.Common.{◌≡◌, ◌+◌, ◌*◌, ◌^◌, ◌≤◌, sum, drop}
-use Rattle.alloc_set.specs.Ledger.{free_bytes}
-use Rattle.alloc_set.specs.Kept.{state_of}
+use Rattle.alloc_set.proofs.Base.{drop, free_bytes, state_of, sum, ◌*◌, ◌+◌, ◌^◌, ◌≡◌, ◌≤◌}
 use Rattle.alloc_set.proofs.books.Books.stats.Given as goal
 
 abbrev pub invariant-loop-class : goal.invariant-loop-class

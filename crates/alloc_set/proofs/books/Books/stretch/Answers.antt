@@ -1,28 +1,5 @@
-use Rattle.std.proofs.Common.{◌≡◌, ℕ, ◌+◌, ◌-◌, ◌<◌, ◌≤◌, ◌⊎◌, ◌↔◌, ◌==◌, List, length, min, Some, refl, sym, ap, ◌∙◌, arith, rules, inl, inr, None, slice_index, slice_index_or, map}
-use Rattle.std.proofs.lemmas.Result.{err_from_is_err_and}
-use Rattle.std.specs.Map.{lookup}
-use Rattle.std.proofs.lemmas.Bool.{cases_lt, cases_eq}
-use Rattle.std.proofs.lemmas.Bool.Decides.{nat_tests}
-use Rattle.addr_space.specs.Space.{IsOverLimit, held, raised, raised_by, Space, region_at, byte_at, bytes_of, overwritten, resized}
-use Rattle.addr_space.specs.Footprint.{HasRegion, counted}
-use Rattle.addr_space.specs.declared.Addr.{Addr}
-use Rattle.addr_space.proofs.Addresses.{same_addr_from}
-use Rattle.addr_space.proofs.Options.{one_value}
-use Rattle.addr_space.proofs.Steps.{Moves-one}
-use Rattle.chunk_header.specs.Header.{header_bytes, block_bytes}
-use Rattle.chunk_header.proofs.Words.{length-header_bytes}
-use Rattle.chunk_header.proofs.Wrote.{share-owned}
-use Rattle.alloc_set.specs.State.{chunk_at, region_of, start_of, capacity_of, header_of, link_of, mark_of, footprint}
-use Rattle.alloc_set.specs.Kept.{state_of, taken_bytes, is_free, IsPlaced, IsSettled}
-use Rattle.alloc_set.specs.declared.books.Books.{Books}
-use Rattle.alloc_set.specs.declared.chunk.Chunk.TheVariants.{Own}
-use Rattle.alloc_set.specs.declared.chunk.Chunk.{Chunk}
-use Rattle.alloc_set.proofs.Counted.{IsCounted-blocks}
-use Rattle.alloc_set.proofs.Shelved.{IsShelved-taken}
-use Rattle.alloc_set.proofs.Places.{PutsPlace-chunk, PutsLive-chunk}
-use Rattle.alloc_set.proofs.Regions.{sum-least, region_now, regions_else, keeper_else, other_start}
-use Rattle.alloc_set.proofs.Settled.{lonely, noted_own, live_there, mark_from_chunk, IsSound-settled}
-use Rattle.alloc_set.proofs.Altered.{Alters, old, new_block, new_header, new_link, put_cases, IsSettled-altered, new_marks}
+use Rattle.alloc_set.proofs.Base.{Addr, ap, arith, block_bytes, Books, byte_at, bytes_of, capacity_of, cases_eq, cases_lt, Chunk, chunk_at, counted, err_from_is_err_and, footprint, HasRegion, header_bytes, header_of, held, inl, inr, is_free, IsOverLimit, IsPlaced, IsSettled, length, length-header_bytes, link_of, List, lookup, map, mark_of, min, Moves-one, nat_tests, None, one_value, overwritten, Own, raised, raised_by, refl, region_at, region_of, resized, rules, same_addr_from, share-owned, slice_index, slice_index_or, Some, Space, start_of, state_of, sym, taken_bytes, ℕ, ◌+◌, ◌-◌, ◌<◌, ◌==◌, ◌↔◌, ◌∙◌, ◌≡◌, ◌≤◌, ◌⊎◌}
+use Rattle.alloc_set.proofs.Lemmas.{Alters, IsCounted-blocks, IsSettled-altered, IsShelved-taken, IsSound-settled, keeper_else, live_there, lonely, mark_from_chunk, new_block, new_header, new_link, new_marks, noted_own, old, other_start, put_cases, PutsLive-chunk, PutsPlace-chunk, region_now, regions_else, sum-least}
 use Rattle.alloc_set.proofs.books.Books.stretch.Goals as goal
 use Rattle.alloc_set.proofs.books.Books.stretch.Goals.{Start}
 

@@ -1,11 +1,5 @@
-use Rattle.std.proofs.Common.{◌≡◌, ℕ, ◌-◌, ◌<◌, ap, ◌∙◌, subst, arith, slice_index}
-use Rattle.std.proofs.lemmas.Bool.Decides.{nat_tests}
-use Rattle.addr_space.specs.Space.{held}
-use Rattle.alloc_set.specs.Ledger.{SetLedger, class_bytes, take_class, from_new, of_class, cut_off, renewed}
-use Rattle.alloc_set.specs.State.{SetState}
-use Rattle.alloc_set.specs.Kept.{state_of}
-use Rattle.alloc_set.specs.Cut.{Allocates}
-use Rattle.alloc_set.proofs.Taken.{Allocates-put, Allocates-after}
+use Rattle.alloc_set.proofs.Base.{Allocates, ap, arith, class_bytes, cut_off, from_new, held, nat_tests, of_class, renewed, SetLedger, SetState, slice_index, state_of, subst, take_class, ℕ, ◌-◌, ◌<◌, ◌∙◌, ◌≡◌}
+use Rattle.alloc_set.proofs.Lemmas.{Allocates-after, Allocates-put}
 use Rattle.alloc_set.proofs.books.Books.take_class.Goals as goal
 use Rattle.alloc_set.proofs.books.Books.take_class.Goals.{In_ok-make_room}
 

@@ -1,14 +1,5 @@
-use Rattle.std.proofs.Common.{◌≡◌, ℕ, ◌+◌, ◌-◌, ap, ◌∙◌, subst, arith}
-use Rattle.std.proofs.lemmas.Bool.Decides.{nat_tests}
-use Rattle.addr_space.specs.Space.{held}
-use Rattle.alloc_set.specs.Ledger.{take_own, own_size, of_own}
-use Rattle.alloc_set.specs.State.{SetState, footprint}
-use Rattle.alloc_set.specs.Kept.{state_of}
-use Rattle.alloc_set.specs.Cut.{Allocates}
-use Rattle.alloc_set.specs.declared.books.Books.{Books}
-use Rattle.alloc_set.proofs.Settled.{none_in}
-use Rattle.alloc_set.proofs.Places.{LeavesLive-same}
-use Rattle.alloc_set.proofs.Taken.{Allocates-after}
+use Rattle.alloc_set.proofs.Base.{Allocates, ap, arith, Books, footprint, held, nat_tests, of_own, own_size, SetState, state_of, subst, take_own, ℕ, ◌+◌, ◌-◌, ◌∙◌, ◌≡◌}
+use Rattle.alloc_set.proofs.Lemmas.{Allocates-after, LeavesLive-same, none_in}
 use Rattle.alloc_set.proofs.books.Books.take_own.Goals as goal
 
 pub settle-requires-clause-empty : goal.settle-requires-clause-empty

@@ -1,14 +1,5 @@
-use Rattle.std.proofs.Common.{◌≡◌, refl, ◌∙◌, arith, Some, None, inl, inr}
-use Rattle.addr_space.proofs.Options.{option_cases}
-use Rattle.alloc_set.specs.State.{chunk_at}
-use Rattle.alloc_set.specs.Kept.{state_of, taken_bytes, is_free, IsSettled}
-use Rattle.alloc_set.specs.declared.books.Books.{Books}
-use Rattle.alloc_set.specs.declared.chunk.Chunk.TheVariants.{Own}
-use Rattle.alloc_set.proofs.Altered.{Puts-chunk, put_cases, old_or_fresh, IsSettled-altered, Moves-altered}
-use Rattle.alloc_set.proofs.Counted.{IsCounted-chunks, SameBlocks-chunks}
-use Rattle.alloc_set.proofs.Places.{PutsPlace-chunk, PutsLive-chunk}
-use Rattle.alloc_set.proofs.Settled.{lonely, IsSound-settled}
-use Rattle.alloc_set.proofs.Shelved.{IsShelved-taken}
+use Rattle.alloc_set.proofs.Base.{arith, Books, chunk_at, inl, inr, is_free, IsSettled, None, option_cases, Own, refl, Some, state_of, taken_bytes, ◌∙◌, ◌≡◌}
+use Rattle.alloc_set.proofs.Lemmas.{IsCounted-chunks, IsSettled-altered, IsShelved-taken, IsSound-settled, lonely, Moves-altered, old_or_fresh, put_cases, Puts-chunk, PutsLive-chunk, PutsPlace-chunk, SameBlocks-chunks}
 use Rattle.alloc_set.proofs.books.Books.unlist.Goals as goal
 
 pub returns : goal.returns

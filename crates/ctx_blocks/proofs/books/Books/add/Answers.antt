@@ -1,7 +1,4 @@
-use Rattle.std.proofs.Common.{subst}
-use Rattle.addr_space.specs.Footprint.{Keeps}
-use Rattle.ctx_blocks.specs.Layout.{Layout, footprint}
-use Rattle.ctx_blocks.specs.Kept.{layout_of}
+use Rattle.ctx_blocks.proofs.Base.{footprint, Keeps, Layout, layout_of, subst}
 use Rattle.ctx_blocks.proofs.books.Books.add.Goals as goal
 
 pub returns-clause-keeps : goal.returns-clause-keeps

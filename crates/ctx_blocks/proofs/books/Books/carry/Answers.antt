@@ -1,11 +1,7 @@
-use Rattle.std.proofs.Common.{arith}
-use Rattle.addr_space.specs.Space.{IsInside}
-use Rattle.ctx_blocks.specs.Kept.{layout_of}
-use Rattle.ctx_blocks.proofs.Laid.{live_is}
-use Rattle.addr_space.proofs.Carried.{IsInside-live, Moves-carried, KeepsBut-carried, HasBytesOf-carried}
+use Rattle.ctx_blocks.proofs.Base.{arith, HasBytesOf-carried, IsInside, IsInside-live, KeepsBut-carried, layout_of, Moves-carried, nat_tests}
+use Rattle.ctx_blocks.proofs.Lemmas.{live_is}
 use Rattle.ctx_blocks.proofs.books.Books.carry.Goals as goal
 use Rattle.ctx_blocks.proofs.books.Books.carry.Goals.{Start}
-use Rattle.std.proofs.lemmas.Bool.Decides.{nat_tests}
 
 inside : (c : Start) → IsInside c.args.space.now c.args.from c.args.n
 inside c = IsInside-live _ _ _ _ _ c.requires.agrees (live_is (layout_of c.args.self.now) c.args.from _ c.requires.from.1) c.requires.from.2

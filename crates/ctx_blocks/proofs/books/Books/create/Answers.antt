@@ -1,10 +1,5 @@
-use Rattle.std.proofs.Common.{◌≡◌, ◌∷◌, [], ◌-◌, ap, ◌∙◌, refl, arith, rules}
-use Rattle.ctx_blocks.specs.Kept.{layout_of, IsFilled}
-use Rattle.ctx_blocks.specs.Order.{in_order}
-use Rattle.ctx_blocks.specs.Steps.{with_block}
-use Rattle.ctx_blocks.specs.declared.parts.Block.{Block}
-use Rattle.ctx_blocks.specs.declared.books.Books.{Books}
-use Rattle.ctx_blocks.proofs.New.{IsKept-new, Moves-new, Moves-bare}
+use Rattle.ctx_blocks.proofs.Base.{[], ap, arith, Block, Books, in_order, IsFilled, layout_of, refl, rules, with_block, ◌-◌, ◌∙◌, ◌∷◌, ◌≡◌}
+use Rattle.ctx_blocks.proofs.Lemmas.{IsKept-new, Moves-bare, Moves-new}
 use Rattle.ctx_blocks.proofs.books.Books.create.Goals as goal
 use Rattle.ctx_blocks.proofs.books.Books.create.Goals.{then-size-ge-KEEPER_HEADERS, else-size-ge-KEEPER_HEADERS}
 

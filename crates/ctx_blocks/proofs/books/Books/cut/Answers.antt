@@ -1,10 +1,5 @@
-use Rattle.std.proofs.Common.{◌≡◌, ◌+◌, ◌%◌, ◌≤◌, ap, ◌∙◌, refl, inl, inr, arith}
-use Rattle.ctx_blocks.specs.Layout.{block_at, header_room}
-use Rattle.ctx_blocks.specs.Kept.{layout_of}
-use Rattle.ctx_blocks.specs.declared.parts.Block.{Block}
-use Rattle.addr_space.proofs.Options.{one_value}
-use Rattle.ctx_blocks.proofs.Laid.{gap_cases}
-use Rattle.ctx_blocks.proofs.Headed.{start_whole}
+use Rattle.ctx_blocks.proofs.Base.{ap, arith, Block, block_at, header_room, inl, inr, layout_of, one_value, refl, ◌%◌, ◌+◌, ◌∙◌, ◌≡◌, ◌≤◌}
+use Rattle.ctx_blocks.proofs.Lemmas.{gap_cases, start_whole}
 use Rattle.ctx_blocks.proofs.books.Books.cut.Goals as goal
 
 pub overflow_sub-at : goal.overflow_sub-at

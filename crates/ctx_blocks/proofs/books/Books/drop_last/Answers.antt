@@ -1,16 +1,7 @@
-use Rattle.std.proofs.Common.{◌≡◌, ◌-◌, Some, None, refl, arith}
-use Rattle.std.proofs.lemmas.Grind.{common_steps}
-use Rattle.addr_space.specs.declared.Addr.{Addr}
-use Rattle.ctx_blocks.specs.Layout.{Layout, block_at, chunk_at}
-use Rattle.ctx_blocks.specs.Kept.{layout_of}
-use Rattle.ctx_blocks.specs.Steps.{SameContext}
-use Rattle.ctx_blocks.specs.declared.books.Books.{Books}
-use Rattle.ctx_blocks.proofs.Viewed.{block_view, one_view, total_view}
-use Rattle.ctx_blocks.proofs.Lessened.{IsLaid-lessened}
-use Rattle.ctx_blocks.proofs.Dropped.{IsRegion-owned, Lessens-dropped, Moves-dropped, lookup-last}
+use Rattle.ctx_blocks.proofs.Base.{Addr, arith, block_at, Books, chunk_at, common_steps, Layout, layout_of, nat_tests, None, refl, SameContext, Some, ◌-◌, ◌≡◌}
+use Rattle.ctx_blocks.proofs.Lemmas.{block_view, IsLaid-lessened, IsRegion-owned, Lessens-dropped, lookup-last, Moves-dropped, one_view, total_view}
 use Rattle.ctx_blocks.proofs.books.Books.drop_last.Goals as goal
 use Rattle.ctx_blocks.proofs.books.Books.drop_last.Goals.{In-Some}
-use Rattle.std.proofs.lemmas.Bool.Decides.{nat_tests}
 
 -- the last block is the one that was popped
 owned : (c : In-Some) → block_at (layout_of c.args.self.now) c.in-Some.number ≡ Some c.in-Some.block

@@ -1,7 +1,5 @@
-use Rattle.std.proofs.Common.{◌+◌, ◌≤◌, sym, ◌∙◌, arith}
-use Rattle.ctx_blocks.specs.declared.parts.Block.{Block}
-use Rattle.ctx_blocks.proofs.Ordered.{sum-in_order}
-use Rattle.ctx_blocks.proofs.Summed.{Summed, summed-more, summed-all}
+use Rattle.ctx_blocks.proofs.Base.{arith, Block, sym, ◌+◌, ◌∙◌, ◌≤◌}
+use Rattle.ctx_blocks.proofs.Lemmas.{sum-in_order, Summed, summed-all, summed-more}
 use Rattle.ctx_blocks.proofs.books.Books.freed.Goals as goal
 use Rattle.ctx_blocks.proofs.books.Books.freed.Goals.{After-at}
 

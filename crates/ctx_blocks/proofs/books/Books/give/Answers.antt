@@ -1,16 +1,5 @@
-use Rattle.std.proofs.Common.{◌-◌, refl, arith}
-use Rattle.addr_space.specs.declared.Addr.{Addr}
-use Rattle.ctx_blocks.specs.Kept.{layout_of}
-use Rattle.ctx_blocks.specs.Steps.{SameContext}
-use Rattle.ctx_blocks.specs.declared.parts.Block.{Block}
-use Rattle.ctx_blocks.specs.declared.books.Books.{Books}
-use Rattle.ctx_blocks.proofs.Counts.{none_in}
-use Rattle.ctx_blocks.proofs.Totals.{sum-dropped, total-dropped}
-use Rattle.ctx_blocks.proofs.Lessened.{IsLaid-lessened}
-use Rattle.ctx_blocks.proofs.Dropped.{IsRegion-owned, Lessens-dropped, Moves-dropped, Keeps-dropped}
-use Rattle.ctx_blocks.proofs.Numbered.{rising_drop}
-use Rattle.ctx_blocks.proofs.Ordered.{first-swap_remove}
-use Rattle.ctx_blocks.proofs.Viewed.{drops_view}
+use Rattle.ctx_blocks.proofs.Base.{Addr, arith, Block, Books, layout_of, refl, SameContext, ◌-◌}
+use Rattle.ctx_blocks.proofs.Lemmas.{drops_view, first-swap_remove, IsLaid-lessened, IsRegion-owned, Keeps-dropped, Lessens-dropped, Moves-dropped, none_in, rising_drop, sum-dropped, total-dropped}
 use Rattle.ctx_blocks.proofs.books.Books.give.Goals as goal
 
 pub overflow_sub-self : goal.overflow_sub-self

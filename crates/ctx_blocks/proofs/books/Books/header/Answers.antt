@@ -1,6 +1,5 @@
-use Rattle.std.proofs.Common.{arith}
-use Rattle.chunk_header.proofs.Marks.{marked_by}
-use Rattle.ctx_blocks.proofs.Headed.{headed_by}
+use Rattle.ctx_blocks.proofs.Base.{arith, marked_by}
+use Rattle.ctx_blocks.proofs.Lemmas.{headed_by}
 use Rattle.ctx_blocks.proofs.books.Books.header.Goals as goal
 
 pub header_at-requires : goal.header_at-requires

@@ -1,15 +1,6 @@
-use Rattle.std.proofs.Common.{◌≡◌, ℕ, ◌+◌, refl, arith, inl, inr}
-use Rattle.ctx_blocks.specs.Layout.{Layout, count_in}
-use Rattle.ctx_blocks.specs.Kept.{layout_of}
-use Rattle.ctx_blocks.specs.Steps.{SameContext}
-use Rattle.ctx_blocks.specs.declared.books.Books.{Books}
-use Rattle.ctx_blocks.proofs.Laid.{gap_cases}
-use Rattle.ctx_blocks.proofs.Counts.{one_in}
-use Rattle.ctx_blocks.proofs.Held.{place_free, IsWritten-held, IsLaid-held, Moves-held, Moves-bare, Keeps-held}
-use Rattle.ctx_blocks.proofs.Put.{IsCounted-put}
-use Rattle.ctx_blocks.proofs.Totals.{total-put}
-use Rattle.ctx_blocks.proofs.Numbered.{rising_put}
-use Rattle.ctx_blocks.proofs.Viewed.{puts_view, IsKept-put}
+use Rattle.ctx_blocks.proofs.Base.{arith, Books, count_in, inl, inr, Layout, layout_of, refl, SameContext, ℕ, ◌+◌, ◌≡◌}
+use Rattle.ctx_blocks.proofs.Lemmas.{gap_cases, IsCounted-put, IsKept-put, IsLaid-held, IsWritten-held, Keeps-held, Moves-held, one_in, place_free, puts_view, rising_put, total-put}
+use Rattle.ctx_blocks.proofs.Held.{Moves-bare}
 use Rattle.ctx_blocks.proofs.books.Books.hold.Goals as goal
 
 pub head-requires : goal.head-requires

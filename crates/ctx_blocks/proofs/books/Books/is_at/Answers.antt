@@ -1,6 +1,5 @@
-use Rattle.std.proofs.Common.{◌≡◌, ◌==◌, Some, sym, ap, ◌∙◌, arith}
-use Rattle.std.specs.Map.{lookup}
-use Rattle.ctx_blocks.proofs.Viewed.{block_view}
+use Rattle.ctx_blocks.proofs.Base.{ap, arith, lookup, Some, sym, ◌==◌, ◌∙◌, ◌≡◌}
+use Rattle.ctx_blocks.proofs.Lemmas.{block_view}
 use Rattle.ctx_blocks.proofs.books.Books.is_at.Goals as goal
 
 pub returns-in-Some : goal.returns-in-Some

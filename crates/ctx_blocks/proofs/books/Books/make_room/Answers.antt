@@ -1,9 +1,5 @@
-use Rattle.std.proofs.Common.{◌≡◌, ap, arith}
-use Rattle.ctx_blocks.specs.Kept.{layout_of, IsKept}
-use Rattle.ctx_blocks.specs.Order.{in_order}
-use Rattle.ctx_blocks.specs.declared.books.Books.{Books}
+use Rattle.ctx_blocks.proofs.Base.{ap, arith, Books, in_order, IsKept, layout_of, nat_tests, ◌≡◌}
 use Rattle.ctx_blocks.proofs.books.Books.make_room.Goals as goal
-use Rattle.std.proofs.lemmas.Bool.Decides.{nat_tests}
 
 -- what is kept and seen stays while the entries do
 IsKept-spare : (b n : Books) → n.blocks.entries ≡ b.blocks.entries → IsKept b → IsKept (record b { blocks = n.blocks })

@@ -1,8 +1,4 @@
-use Rattle.std.proofs.Common.{◌≡◌, ap, refl, inr, arith}
-use Rattle.ctx_blocks.specs.Layout.{block_at}
-use Rattle.ctx_blocks.specs.Kept.{layout_of}
-use Rattle.ctx_blocks.specs.declared.parts.Block.{Block}
-use Rattle.addr_space.proofs.Options.{one_value}
+use Rattle.ctx_blocks.proofs.Base.{ap, arith, Block, block_at, inr, layout_of, one_value, refl, ◌≡◌}
 use Rattle.ctx_blocks.proofs.books.Books.place.Goals as goal
 
 pub overflow_add-taken : goal.overflow_add-taken

@@ -1,16 +1,5 @@
-use Rattle.std.proofs.Common.{ap, sym, subst, ◌∙◌, refl, arith}
-use Rattle.ctx_blocks.specs.Layout.{Layout, block_at}
-use Rattle.ctx_blocks.specs.Kept.{layout_of}
-use Rattle.ctx_blocks.specs.Steps.{PutsBlock}
-use Rattle.ctx_blocks.specs.declared.parts.Block.{Block}
-use Rattle.ctx_blocks.specs.declared.books.Books.{Books}
-use Rattle.addr_space.proofs.Options.{one_value}
-use Rattle.ctx_blocks.proofs.Counts.{none_in}
-use Rattle.ctx_blocks.proofs.Lessened.{IsLaid-lessened, MovesStill-lessened, IsFilled-whole, Lessens-put}
-use Rattle.ctx_blocks.proofs.Put.{IsCounted-put, regions-put}
-use Rattle.ctx_blocks.proofs.Totals.{total-put}
-use Rattle.ctx_blocks.proofs.Numbered.{rising_put}
-use Rattle.ctx_blocks.proofs.Viewed.{puts_view, IsKept-put}
+use Rattle.ctx_blocks.proofs.Base.{ap, arith, Block, block_at, Books, Layout, layout_of, one_value, PutsBlock, refl, subst, sym, ◌∙◌}
+use Rattle.ctx_blocks.proofs.Lemmas.{IsCounted-put, IsFilled-whole, IsKept-put, IsLaid-lessened, Lessens-put, MovesStill-lessened, none_in, puts_view, regions-put, rising_put, total-put}
 use Rattle.ctx_blocks.proofs.books.Books.refill.Goals as goal
 
 pub returns : goal.returns

@@ -1,15 +1,5 @@
-use Rattle.std.proofs.Common.{◌+◌, ◌-◌, refl, arith}
-use Rattle.ctx_blocks.specs.Layout.{Layout, block_at}
-use Rattle.ctx_blocks.specs.Kept.{layout_of}
-use Rattle.ctx_blocks.specs.declared.parts.Block.{Block}
-use Rattle.ctx_blocks.specs.declared.books.Books.{Books}
-use Rattle.addr_space.proofs.Options.{one_value}
-use Rattle.ctx_blocks.proofs.Counts.{some_in}
-use Rattle.ctx_blocks.proofs.Lessened.{IsLaid-lessened, MovesStill-lessened, Lessens-put}
-use Rattle.ctx_blocks.proofs.Put.{IsCounted-put, regions-put}
-use Rattle.ctx_blocks.proofs.Totals.{total-put}
-use Rattle.ctx_blocks.proofs.Numbered.{rising_put}
-use Rattle.ctx_blocks.proofs.Viewed.{puts_view, IsKept-put}
+use Rattle.ctx_blocks.proofs.Base.{arith, Block, block_at, Books, Layout, layout_of, one_value, refl, ◌+◌, ◌-◌}
+use Rattle.ctx_blocks.proofs.Lemmas.{IsCounted-put, IsKept-put, IsLaid-lessened, Lessens-put, MovesStill-lessened, puts_view, regions-put, rising_put, some_in, total-put}
 use Rattle.ctx_blocks.proofs.books.Books.remove.Goals as goal
 
 pub seek-place-requires-clause-block : goal.seek-place-requires-clause-block

@@ -1,20 +1,7 @@
-use Rattle.std.proofs.Common.{◌≡◌, ◌∷◌, [], Some, ap, sym, ◌∙◌, refl, arith, rules}
-use Rattle.addr_space.proofs.Steps.{Moves-more}
-use Rattle.ctx_blocks.specs.Layout.{Layout, block_at, footprint}
-use Rattle.ctx_blocks.specs.Kept.{layout_of}
-use Rattle.ctx_blocks.specs.Order.{in_order}
-use Rattle.ctx_blocks.proofs.Viewed.{block_view, one_view}
-use Rattle.ctx_blocks.specs.Steps.{with_block}
-use Rattle.ctx_blocks.specs.declared.parts.Block.{Block}
-use Rattle.ctx_blocks.specs.declared.books.Books.{Books}
-use Rattle.addr_space.proofs.Options.{one_value}
-use Rattle.ctx_blocks.proofs.New.{keeper_start, keeper_is, total_one, IsKept-new}
-use Rattle.ctx_blocks.proofs.Lessened.{MovesStill-lessened, IsFilled-whole, Lessens-put}
-use Rattle.ctx_blocks.proofs.Put.{regions-put}
-use Rattle.ctx_blocks.proofs.Cleared.{first_only}
+use Rattle.ctx_blocks.proofs.Base.{[], ap, arith, Block, block_at, Books, footprint, in_order, Layout, layout_of, Moves-more, nat_tests, one_value, refl, rules, Some, sym, with_block, ◌∙◌, ◌∷◌, ◌≡◌}
+use Rattle.ctx_blocks.proofs.Lemmas.{block_view, first_only, IsFilled-whole, IsKept-new, keeper_is, keeper_start, Lessens-put, MovesStill-lessened, one_view, regions-put, total_one}
 use Rattle.ctx_blocks.proofs.books.Books.reset.Goals as goal
 use Rattle.ctx_blocks.proofs.books.Books.reset.Goals.{After-shrink}
-use Rattle.std.proofs.lemmas.Bool.Decides.{nat_tests}
 
 -- the keeper is the one block that is left
 left : (c : After-shrink) → (b : Block) × (c.shrink.new.self.blocks.entries ≡ (c.shrink.new.self.keeper, b) ∷ []) × (block_at (layout_of c.args.self.now) c.args.self.now.keeper ≡ Some b)

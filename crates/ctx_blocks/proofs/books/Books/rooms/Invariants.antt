@@ -1,4 +1,4 @@
-use Rattle.ctx_blocks.proofs.Summed.{Summed}
+use Rattle.ctx_blocks.proofs.Lemmas.{Summed}
 use Rattle.ctx_blocks.proofs.books.Books.rooms.Given as goal
 
 abbrev pub invariant-loop-i : goal.invariant-loop-i

@@ -1,8 +1,5 @@
-use Rattle.std.proofs.Common.{refl, sym, ◌∙◌}
-use Rattle.ctx_blocks.specs.Kept.{layout_of}
-use Rattle.ctx_blocks.specs.declared.parts.Chunk.{Chunk}
-use Rattle.ctx_blocks.specs.declared.books.Books.{Books}
-use Rattle.ctx_blocks.proofs.Lessened.{IsLaid-lessened, MovesStill-lessened, Lessens-sized}
+use Rattle.ctx_blocks.proofs.Base.{Books, Chunk, layout_of, refl, sym, ◌∙◌}
+use Rattle.ctx_blocks.proofs.Lemmas.{IsLaid-lessened, Lessens-sized, MovesStill-lessened}
 use Rattle.ctx_blocks.proofs.books.Books.set_size.Goals as goal
 
 pub returns : goal.returns

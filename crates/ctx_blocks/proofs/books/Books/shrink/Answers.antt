@@ -1,11 +1,5 @@
-use Rattle.std.proofs.Common.{length, length-take, refl, sym, ap, ◌∙◌, arith}
-use Rattle.std.proofs.lemmas.List.{take_all}
-use Rattle.addr_space.proofs.Steps.{Moves-more}
-use Rattle.ctx_blocks.specs.Layout.{footprint}
-use Rattle.ctx_blocks.specs.Kept.{layout_of}
-use Rattle.ctx_blocks.specs.declared.books.Books.{Books}
-use Rattle.ctx_blocks.proofs.Lessened.{IsLaid-lessened, MovesStill-lessened, Lessens}
-use Rattle.ctx_blocks.proofs.Cleared.{Lessens-cleared, first_only, take-less}
+use Rattle.ctx_blocks.proofs.Base.{ap, arith, Books, footprint, layout_of, length, length-take, Moves-more, refl, sym, take_all, ◌∙◌}
+use Rattle.ctx_blocks.proofs.Lemmas.{first_only, IsLaid-lessened, Lessens, Lessens-cleared, MovesStill-lessened, take-less}
 use Rattle.ctx_blocks.proofs.books.Books.shrink.Goals as goal
 
 pub loop-self-init : goal.loop-self-init

@@ -1,8 +1,4 @@
-use Rattle.std.proofs.Common.{◌≡◌, ◌≤◌, length, [], take, nat_eq}
-use Rattle.addr_space.specs.Footprint.{Moves}
-use Rattle.indexmap.specs.IndexMap.{IsUnique}
-use Rattle.ctx_blocks.specs.Layout.{total, footprint}
-use Rattle.ctx_blocks.specs.Kept.{layout_of, IsLaid}
+use Rattle.ctx_blocks.proofs.Base.{[], footprint, IsLaid, IsUnique, layout_of, length, Moves, nat_eq, take, total, ◌≡◌, ◌≤◌}
 use Rattle.ctx_blocks.proofs.books.Books.shrink.Given as goal
 
 abbrev pub invariant-loop-self : goal.invariant-loop-self

@@ -1,15 +1,5 @@
-use Rattle.std.proofs.Common.{◌≡◌, ◌+◌, refl, sym, ◌∙◌, arith, rules}
-use Rattle.ctx_blocks.specs.Layout.{Layout, total}
-use Rattle.ctx_blocks.specs.Kept.{layout_of}
-use Rattle.ctx_blocks.specs.Steps.{SameContext}
-use Rattle.ctx_blocks.specs.declared.parts.Block.{Block}
-use Rattle.ctx_blocks.specs.declared.books.Books.{Books}
-use Rattle.ctx_blocks.proofs.Added.{unowned, IsLaid-added, Moves-added, empty_block}
-use Rattle.ctx_blocks.proofs.Counts.{none_placed}
-use Rattle.ctx_blocks.proofs.Put.{IsCounted-put}
-use Rattle.ctx_blocks.proofs.Totals.{sum-new, IsFirst-put}
-use Rattle.ctx_blocks.proofs.Numbered.{rising_add, first_upto}
-use Rattle.ctx_blocks.proofs.Viewed.{block_view, first_view, puts_view}
+use Rattle.ctx_blocks.proofs.Base.{arith, Block, Books, Layout, layout_of, refl, rules, SameContext, sym, total, ◌+◌, ◌∙◌, ◌≡◌}
+use Rattle.ctx_blocks.proofs.Lemmas.{block_view, empty_block, first_upto, first_view, IsCounted-put, IsFirst-put, IsLaid-added, Moves-added, none_placed, puts_view, rising_add, sum-new, unowned}
 use Rattle.ctx_blocks.proofs.books.Books.take.Goals as goal
 
 pub returns : goal.returns

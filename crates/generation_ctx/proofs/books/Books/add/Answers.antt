@@ -1,8 +1,6 @@
-use Rattle.std.proofs.Common.{ap, ◌∙◌, ◌≡◌, ◌*◌, min, refl, arith}
-use Rattle.generation_ctx.specs.Ledger.{GenerationLedger, with_new, block_size}
-use Rattle.generation_ctx.proofs.Kept.{kept_next, kept_add, ledger_add}
+use Rattle.generation_ctx.proofs.Words.{ap, ◌∙◌, ◌≡◌, ◌*◌, min, refl, arith, GenerationLedger, with_new, block_size, AreSizes-next}
+use Rattle.generation_ctx.proofs.Lemmas.{kept_next, kept_add, ledger_add}
 use Rattle.generation_ctx.proofs.books.Books.add.Goals as goal
-use Rattle.chunk_header.proofs.Doubling.{AreSizes-next}
 
 pub returns-clause-ok : goal.returns-clause-ok
 unfolding with_new block_size

@@ -1,6 +1,5 @@
-use Rattle.std.proofs.Common.{None, refl}
-use Rattle.chunk_header.specs.Growth.{AreSizes}
-use Rattle.generation_ctx.proofs.Resets.{alone}
+use Rattle.generation_ctx.proofs.Words.{None, refl, AreSizes}
+use Rattle.generation_ctx.proofs.Lemmas.{alone}
 use Rattle.generation_ctx.proofs.books.Books.create.Goals as goal
 use Rattle.generation_ctx.proofs.books.Books.create.Goals.{In_ok-blocks}
 

@@ -1,13 +1,5 @@
-use Rattle.std.proofs.Common.{◌≡◌, ◌+◌, ◌∙◌, refl, ap, arith}
-use Rattle.addr_space.proofs.Options.{one_value}
-use Rattle.ctx_blocks.specs.Layout.{block_at, header_room, gap_of}
-use Rattle.ctx_blocks.specs.declared.parts.Block.{Block}
-use Rattle.ctx_blocks.proofs.Among.{among_put}
-use Rattle.ctx_blocks.proofs.Places.{number_put, numbers_among}
-use Rattle.generation_ctx.specs.Ledger.{cut_off, cut}
-use Rattle.generation_ctx.specs.State.{number_of}
-use Rattle.generation_ctx.proofs.Numbers.{block_is, numbered_put, ledger_put}
-use Rattle.generation_ctx.proofs.Kept.{spare_current, kept_put, were_put}
+use Rattle.generation_ctx.proofs.Words.{◌≡◌, ◌+◌, ◌∙◌, refl, ap, arith, one_value, block_at, header_room, gap_of, Block, among_put, number_put, numbers_among, cut_off, cut, number_of}
+use Rattle.generation_ctx.proofs.Lemmas.{block_is, numbered_put, ledger_put, spare_current, kept_put, were_put}
 use Rattle.generation_ctx.proofs.books.Books.cut.Goals as goal
 
 pub returns-clause-allocates : goal.returns-clause-allocates

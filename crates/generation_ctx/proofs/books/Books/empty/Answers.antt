@@ -1,12 +1,5 @@
-use Rattle.std.proofs.Common.{◌∙◌, ℕ, None, Some, refl, ap, arith}
-use Rattle.ctx_blocks.proofs.Changed.{put_here}
-use Rattle.ctx_blocks.proofs.Among.{among_put}
-use Rattle.ctx_blocks.proofs.Places.{number_put}
-use Rattle.generation_ctx.specs.Ledger.{GenerationLedger, emptied_other}
-use Rattle.generation_ctx.specs.State.{number_of}
-use Rattle.generation_ctx.specs.Kept.{ledger_of}
-use Rattle.generation_ctx.proofs.Kept.{kept_spare}
-use Rattle.generation_ctx.proofs.Refilled.{rearranges_refill, rearranges_drop, emptied_is}
+use Rattle.generation_ctx.proofs.Words.{◌∙◌, ℕ, None, Some, refl, ap, arith, put_here, among_put, number_put, GenerationLedger, emptied_other, number_of, ledger_of}
+use Rattle.generation_ctx.proofs.Lemmas.{kept_spare, rearranges_refill, rearranges_drop, emptied_is}
 use Rattle.generation_ctx.proofs.books.Books.empty.Goals as goal
 
 pub returns-then-keeper-number-clause-rearranges : goal.returns-then-keeper-number-clause-rearranges

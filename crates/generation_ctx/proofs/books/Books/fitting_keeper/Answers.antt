@@ -1,9 +1,5 @@
-use Rattle.std.proofs.Common.{◌≡◌, ◌≢◌, ◌∙◌, Some, ap, sym, arith}
-use Rattle.ctx_blocks.specs.Layout.{block_at}
-use Rattle.generation_ctx.specs.Ledger.{block_in}
-use Rattle.generation_ctx.specs.State.{number_of}
-use Rattle.generation_ctx.specs.Kept.{ledger_of}
-use Rattle.generation_ctx.proofs.Numbers.{block_is, one_region}
+use Rattle.generation_ctx.proofs.Words.{◌≡◌, ◌≢◌, ◌∙◌, Some, ap, sym, arith, block_at, block_in, number_of, ledger_of}
+use Rattle.generation_ctx.proofs.Lemmas.{block_is, one_region}
 use Rattle.generation_ctx.proofs.books.Books.fitting_keeper.Goals as goal
 use Rattle.generation_ctx.proofs.books.Books.fitting_keeper.Goals.{After-block-block}
 

@@ -1,5 +1,5 @@
-use Rattle.std.proofs.Common.{arith}
-use Rattle.generation_ctx.proofs.Numbers.{block_is}
+use Rattle.generation_ctx.proofs.Words.{arith}
+use Rattle.generation_ctx.proofs.Lemmas.{block_is}
 use Rattle.generation_ctx.proofs.books.Books.fitting_spare.Goals as goal
 
 pub returns-then-block-bytes-clause-value : goal.returns-then-block-bytes-clause-value

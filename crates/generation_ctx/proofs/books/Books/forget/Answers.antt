@@ -1,7 +1,5 @@
-use Rattle.std.proofs.Common.{◌≤◌}
-use Rattle.ctx_blocks.specs.Kept.{IsPlaced}
-use Rattle.ctx_blocks.proofs.Changed.{put_here}
-use Rattle.generation_ctx.proofs.Forgotten.{frees_less, ledger_less}
+use Rattle.generation_ctx.proofs.Words.{◌≤◌, IsPlaced, put_here}
+use Rattle.generation_ctx.proofs.Lemmas.{frees_less, ledger_less}
 use Rattle.generation_ctx.proofs.books.Books.forget.Goals as goal
 use Rattle.generation_ctx.proofs.books.Books.forget.Goals.{After-laid}
 

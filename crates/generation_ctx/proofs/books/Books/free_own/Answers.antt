@@ -1,14 +1,5 @@
-use Rattle.std.proofs.Common.{◌≡◌, ◌≢◌, ◌∙◌, Some, arith}
-use Rattle.ctx_blocks.specs.Layout.{block_at}
-use Rattle.ctx_blocks.proofs.Changed.{put_here}
-use Rattle.ctx_blocks.proofs.Among.{among_drop}
-use Rattle.generation_ctx.specs.Ledger.{give}
-use Rattle.generation_ctx.specs.Kept.{IsAlone}
-use Rattle.generation_ctx.proofs.Kept.{spare_live}
-use Rattle.generation_ctx.proofs.Numbers.{own_of}
-use Rattle.generation_ctx.proofs.Forgotten.{less_one, frees_less, given_gone}
-use Rattle.generation_ctx.proofs.Refilled.{rearranges_drop}
-use Rattle.generation_ctx.proofs.Steps.{frees_more}
+use Rattle.generation_ctx.proofs.Words.{◌≡◌, ◌≢◌, ◌∙◌, Some, arith, block_at, put_here, among_drop, give, IsAlone}
+use Rattle.generation_ctx.proofs.Lemmas.{spare_live, own_of, less_one, frees_less, given_gone, rearranges_drop, frees_more}
 use Rattle.generation_ctx.proofs.books.Books.free_own.Goals as goal
 use Rattle.generation_ctx.proofs.books.Books.free_own.Goals.{After-laid}
 

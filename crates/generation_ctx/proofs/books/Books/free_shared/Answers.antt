@@ -1,8 +1,5 @@
-use Rattle.std.proofs.Common.{◌∙◌, arith}
-use Rattle.generation_ctx.specs.Ledger.{give}
-use Rattle.generation_ctx.proofs.Numbers.{own_of}
-use Rattle.generation_ctx.proofs.Forgotten.{freed_is}
-use Rattle.generation_ctx.proofs.Steps.{frees_more}
+use Rattle.generation_ctx.proofs.Words.{◌∙◌, arith, give}
+use Rattle.generation_ctx.proofs.Lemmas.{own_of, freed_is, frees_more}
 use Rattle.generation_ctx.proofs.books.Books.free_shared.Goals as goal
 
 pub returns-then-block-eq0-clause-frees : goal.returns-then-block-eq0-clause-frees

@@ -1,7 +1,4 @@
-use Rattle.std.proofs.Common.{◌≡◌, ◌+◌, ◌-◌, subst, arith, inl, inr}
-use Rattle.std.proofs.lemmas.Bool.{cases_Bool}
-use Rattle.chunk_header.specs.Header.{TakesSpace, AllOfKind}
-use Rattle.ctx_blocks.specs.Layout.{footprint}
+use Rattle.generation_ctx.proofs.Words.{◌≡◌, ◌+◌, ◌-◌, subst, arith, inl, inr, cases_Bool, TakesSpace, AllOfKind, footprint}
 use Rattle.generation_ctx.proofs.books.Books.headed.Goals as goal
 
 pub returns-clause-spaces : goal.returns-clause-spaces

@@ -1,5 +1,4 @@
-use Rattle.std.proofs.Common.{ap, inr}
-use Rattle.chunk_header.specs.declared.Header.{Header}
+use Rattle.generation_ctx.proofs.Words.{ap, inr, Header}
 use Rattle.generation_ctx.proofs.books.Books.is_own.Goals as goal
 
 pub header-requires-clause-kind : goal.header-requires-clause-kind

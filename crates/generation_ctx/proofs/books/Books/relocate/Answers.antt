@@ -1,22 +1,5 @@
-use Rattle.std.proofs.Common.{Option, ◌≡◌, ◌≢◌, ℕ, ◌+◌, ◌-◌, ◌<◌, ◌≤◌, false, Some, IsSome, Err, Result, ap, sym, ◌∙◌, arith, subst}
-use Rattle.std.proofs.lemmas.Result.{err_from_is_err_and}
-use Rattle.addr_space.specs.Space.{held, byte_at}
-use Rattle.addr_space.proofs.Steps.{Moves-more}
-use Rattle.chunk_header.proofs.Put.{MovesAt-from}
-use Rattle.chunk_header.specs.declared.CtxError.{CtxError}
-use Rattle.chunk_header.specs.declared.CtxError.TheVariants.{NoSpace}
-use Rattle.ctx_blocks.specs.Layout.{Layout, chunk_at, footprint}
-use Rattle.ctx_blocks.specs.declared.parts.Chunk.{Chunk}
+use Rattle.generation_ctx.proofs.Words.{Option, ◌≡◌, ◌≢◌, ℕ, ◌+◌, ◌-◌, ◌<◌, ◌≤◌, false, Some, IsSome, Err, Result, ap, sym, ◌∙◌, arith, subst, err_from_is_err_and, held, byte_at, Moves-more, MovesAt-from, CtxError, NoSpace, Layout, chunk_at, footprint, Chunk, fresh_put, numbers_left, GenerationLedger, GenerationPlace, GenerationTaken, take, give, moved, resize, number_of, place_in, ledger_of, Addr, PutsChunk, chunk_here, number_stays, numbers_among}
 use Rattle.ctx_blocks.proofs.Laid.{live_is}
-use Rattle.ctx_blocks.proofs.Changed.{fresh_put}
-use Rattle.ctx_blocks.proofs.Among.{numbers_left}
-use Rattle.generation_ctx.specs.Ledger.{GenerationLedger, GenerationPlace, GenerationTaken, take, give, moved, resize}
-use Rattle.generation_ctx.specs.State.{number_of, place_in}
-use Rattle.generation_ctx.specs.Kept.{ledger_of}
-use Rattle.addr_space.specs.declared.Addr.{Addr}
-use Rattle.ctx_blocks.specs.Steps.{PutsChunk}
-use Rattle.ctx_blocks.proofs.Put.{chunk_here}
-use Rattle.ctx_blocks.proofs.Places.{number_stays, numbers_among}
 use Rattle.generation_ctx.proofs.books.Books.relocate.Goals as goal
 use Rattle.generation_ctx.proofs.books.Books.relocate.Goals.{In_ok-to}
 

@@ -1,10 +1,6 @@
-use Rattle.std.proofs.Common.{◌≡◌, ◌∙◌, None, refl}
-use Rattle.generation_ctx.specs.Ledger.{reset}
-use Rattle.generation_ctx.specs.declared.books.Books.{Books}
-use Rattle.ctx_blocks.specs.Layout.{keeper_alone}
-use Rattle.generation_ctx.proofs.Resets.{alone}
+use Rattle.generation_ctx.proofs.Words.{◌≡◌, ◌∙◌, None, refl, reset, Books, keeper_alone, AreSizes-first}
+use Rattle.generation_ctx.proofs.Lemmas.{alone}
 use Rattle.generation_ctx.proofs.books.Books.reset.Goals as goal
-use Rattle.chunk_header.proofs.Doubling.{AreSizes-first}
 
 pub returns : goal.returns
 unfolding reset

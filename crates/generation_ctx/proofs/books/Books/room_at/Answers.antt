@@ -1,6 +1,4 @@
-use Rattle.std.proofs.Common.{◌≡◌, true, ap, sym, ◌∙◌, inr, arith}
-use Rattle.chunk_header.specs.declared.Header.{Header}
-use Rattle.generation_ctx.specs.Kept.{IsAlone}
+use Rattle.generation_ctx.proofs.Words.{◌≡◌, true, ap, sym, ◌∙◌, inr, arith, Header, IsAlone}
 use Rattle.generation_ctx.proofs.books.Books.room_at.Goals as goal
 use Rattle.generation_ctx.proofs.books.Books.room_at.Goals.{Then-header}
 

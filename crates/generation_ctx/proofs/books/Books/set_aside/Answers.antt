@@ -1,5 +1,5 @@
-use Rattle.std.proofs.Common.{refl}
-use Rattle.generation_ctx.proofs.Refilled.{rearranges_drop}
+use Rattle.generation_ctx.proofs.Words.{refl}
+use Rattle.generation_ctx.proofs.Lemmas.{rearranges_drop}
 use Rattle.generation_ctx.proofs.books.Books.set_aside.Goals as goal
 
 pub returns-in-Some-clause-rearranges : goal.returns-in-Some-clause-rearranges

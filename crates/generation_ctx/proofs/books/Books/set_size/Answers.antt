@@ -1,12 +1,5 @@
-use Rattle.std.proofs.Common.{true, refl, arith}
-use Rattle.chunk_header.proofs.Put.{MovesAt-same}
-use Rattle.ctx_blocks.specs.Layout.{chunk_at}
-use Rattle.ctx_blocks.proofs.Among.{among_same}
-use Rattle.ctx_blocks.proofs.Places.{numbers_among}
-use Rattle.generation_ctx.specs.Ledger.{resize}
-use Rattle.generation_ctx.specs.State.{place_in}
-use Rattle.generation_ctx.specs.Kept.{ledger_of}
-use Rattle.generation_ctx.proofs.Kept.{kept_sized}
+use Rattle.generation_ctx.proofs.Words.{true, refl, arith, MovesAt-same, chunk_at, among_same, numbers_among, resize, place_in, ledger_of}
+use Rattle.generation_ctx.proofs.Lemmas.{kept_sized}
 use Rattle.generation_ctx.proofs.books.Books.set_size.Goals as goal
 
 pub returns : goal.returns

@@ -1,12 +1,5 @@
-use Rattle.std.proofs.Common.{◌≡◌, ◌==◌, ℕ, if◌then◌else◌, Some, refl, arith}
-use Rattle.ctx_blocks.specs.Layout.{block_at}
-use Rattle.ctx_blocks.specs.declared.parts.Block.{Block}
-use Rattle.generation_ctx.specs.Ledger.{set_aside, stopped}
-use Rattle.generation_ctx.specs.State.{number_of}
-use Rattle.generation_ctx.specs.Kept.{ledger_of, IsKept}
-use Rattle.generation_ctx.specs.declared.books.Books.{Books}
-use Rattle.generation_ctx.proofs.Numbers.{block_is, keeper_test}
-use Rattle.generation_ctx.proofs.Steps.{rearranges_none}
+use Rattle.generation_ctx.proofs.Words.{◌≡◌, ◌==◌, ℕ, if◌then◌else◌, Some, refl, arith, block_at, Block, set_aside, stopped, number_of, ledger_of, IsKept, Books}
+use Rattle.generation_ctx.proofs.Lemmas.{block_is, keeper_test, rearranges_none}
 use Rattle.generation_ctx.proofs.books.Books.stop.Goals as goal
 
 -- the ledger's step, by what is compared

@@ -1,8 +1,5 @@
-use Rattle.std.proofs.Common.{arith}
-use Rattle.chunk_header.specs.Growth.{granted}
-use Rattle.generation_ctx.specs.Ledger.{cut, take_cut}
-use Rattle.generation_ctx.specs.Kept.{ledger_of}
-use Rattle.generation_ctx.proofs.Numbers.{block_is}
+use Rattle.generation_ctx.proofs.Words.{arith, granted, cut, take_cut, ledger_of}
+use Rattle.generation_ctx.proofs.Lemmas.{block_is}
 use Rattle.generation_ctx.proofs.books.Books.take_cut.Goals as goal
 
 pub returns-then-block-granted-clause-ok : goal.returns-then-block-granted-clause-ok

@@ -1,14 +1,5 @@
-use Rattle.std.proofs.Common.{arith, ◌≡◌, ℕ, ◌+◌, ◌-◌, Option, None, Ok, Err, refl, ap, sym, ◌∙◌}
-use Rattle.std.proofs.lemmas.Result.{err_from_is_err_and}
-use Rattle.addr_space.specs.Space.{held}
-use Rattle.chunk_header.specs.declared.CtxError.TheVariants.{NoSpace}
-use Rattle.chunk_header.specs.Growth.{granted}
-use Rattle.ctx_blocks.proofs.Among.{among_more, numbers_stay}
-use Rattle.ctx_blocks.proofs.Places.{numbers_among}
-use Rattle.generation_ctx.specs.Ledger.{GenerationLedger, block_size, chosen, cut, turned, with_new, take_from, take_new, take_cut}
-use Rattle.generation_ctx.specs.Kept.{ledger_of}
-use Rattle.generation_ctx.proofs.Numbers.{block_is}
-use Rattle.generation_ctx.proofs.Steps.{allocates_more, rearranges_more}
+use Rattle.generation_ctx.proofs.Words.{arith, ◌≡◌, ℕ, ◌+◌, ◌-◌, Option, None, Ok, Err, refl, ap, sym, ◌∙◌, err_from_is_err_and, held, NoSpace, granted, among_more, numbers_stay, numbers_among, GenerationLedger, block_size, chosen, cut, turned, with_new, take_from, take_new, take_cut, ledger_of}
+use Rattle.generation_ctx.proofs.Lemmas.{block_is, allocates_more, rearranges_more}
 use Rattle.generation_ctx.proofs.books.Books.take_other.Goals as goal
 use Rattle.generation_ctx.proofs.books.Books.take_other.Goals.{After-choose}
 

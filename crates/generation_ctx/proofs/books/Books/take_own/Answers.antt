@@ -1,16 +1,5 @@
-use Rattle.std.proofs.Common.{◌≡◌, ◌≢◌, ◌+◌, ◌-◌, Some, refl, ap, ◌∙◌, arith}
-use Rattle.addr_space.proofs.Steps.{Moves-more, Keeps-more}
-use Rattle.ctx_blocks.specs.Layout.{block_at, header_room, gap_of, footprint}
-use Rattle.ctx_blocks.specs.declared.parts.Block.{Block}
-use Rattle.ctx_blocks.proofs.Changed.{put_here, stays_live}
-use Rattle.ctx_blocks.proofs.Among.{among_adding, among_put, numbers_stay}
-use Rattle.generation_ctx.specs.Ledger.{owned, put, take_own}
-use Rattle.generation_ctx.specs.State.{number_of}
-use Rattle.generation_ctx.specs.Kept.{ledger_of}
-use Rattle.generation_ctx.proofs.Kept.{spare_live, kept_own, kept_add, ledger_add}
-use Rattle.generation_ctx.proofs.Numbers.{numbered_put, ledger_put}
-use Rattle.ctx_blocks.proofs.Numbered.{put_behind}
-use Rattle.ctx_blocks.proofs.Places.{number_is, number_put}
+use Rattle.generation_ctx.proofs.Words.{◌≡◌, ◌≢◌, ◌+◌, ◌-◌, Some, refl, ap, ◌∙◌, arith, Moves-more, Keeps-more, block_at, header_room, gap_of, footprint, Block, put_here, stays_live, among_adding, among_put, numbers_stay, owned, put, take_own, number_of, ledger_of, put_behind, number_is, number_put}
+use Rattle.generation_ctx.proofs.Lemmas.{spare_live, kept_own, kept_add, ledger_add, numbered_put, ledger_put}
 use Rattle.generation_ctx.proofs.books.Books.take_own.Goals as goal
 
 pub returns-clause-ok : goal.returns-clause-ok

@@ -1,11 +1,5 @@
-use Rattle.std.proofs.Common.{◌∙◌, subst, sym, refl}
-use Rattle.generation_ctx.specs.Ledger.{turned, stopped}
-use Rattle.generation_ctx.specs.State.{number_of}
-use Rattle.generation_ctx.specs.Kept.{ledger_of, IsKept}
-use Rattle.generation_ctx.specs.Steps.{Rearranges}
-use Rattle.generation_ctx.specs.declared.books.Books.{Books}
-use Rattle.generation_ctx.proofs.Kept.{kept_seated}
-use Rattle.generation_ctx.proofs.Numbers.{seated}
+use Rattle.generation_ctx.proofs.Words.{◌∙◌, subst, sym, refl, turned, stopped, number_of, ledger_of, IsKept, Rearranges, Books}
+use Rattle.generation_ctx.proofs.Lemmas.{kept_seated, seated}
 use Rattle.generation_ctx.proofs.books.Books.turn_to.Goals as goal
 
 pub stop-requires-clause-kept : goal.stop-requires-clause-kept

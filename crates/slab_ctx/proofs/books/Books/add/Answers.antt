@@ -1,14 +1,5 @@
-use Rattle.std.proofs.Common.{◌+◌, ap, ◌∙◌, arith, refl}
-use Rattle.ctx_blocks.specs.Layout.{block_at}
-use Rattle.ctx_blocks.specs.declared.parts.Block.{Block}
-use Rattle.ctx_blocks.proofs.Changed.{put_here}
-use Rattle.addr_space.proofs.Options.{one_value}
-use Rattle.slab_ctx.specs.Lives.{per_block}
-use Rattle.slab_ctx.specs.State.{numbered_of}
-use Rattle.slab_ctx.specs.declared.books.Books.{Books}
-use Rattle.slab_ctx.proofs.Bounds.{free-small, empty-small}
-use Rattle.slab_ctx.proofs.KeptSteps.{kept-added}
-use Rattle.slab_ctx.proofs.Listed.{map-added}
+use Rattle.slab_ctx.proofs.Words.{◌+◌, ap, ◌∙◌, arith, refl, block_at, Block, put_here, one_value, per_block, numbered_of, Books}
+use Rattle.slab_ctx.proofs.Lemmas.{free-small, empty-small, kept-added, map-added}
 use Rattle.slab_ctx.proofs.books.Books.add.Goals as goal
 use Rattle.slab_ctx.proofs.books.Books.add.Goals.{In_ok-number}
 

@@ -1,4 +1,4 @@
-use Rattle.slab_ctx.proofs.Full.{Moves-gone}
+use Rattle.slab_ctx.proofs.Lemmas.{Moves-gone}
 use Rattle.slab_ctx.proofs.books.Books.discard.Goals as goal
 
 pub returns-clause-moves : goal.returns-clause-moves

@@ -1,22 +1,7 @@
-use Rattle.std.proofs.Common.{◌≡◌, ◌+◌, ◌-◌, ap, sym, ◌∙◌, arith, refl}
-use Rattle.addr_space.proofs.Steps.{Moves-more}
-use Rattle.ctx_blocks.specs.Layout.{block_at, footprint as footprint_of}
-use Rattle.ctx_blocks.proofs.Among.{among_put, among_more}
-use Rattle.ctx_blocks.proofs.Places.{number_is}
-use Rattle.slab_ctx.specs.Ledger.{is_empty, empties, give}
-use Rattle.slab_ctx.specs.State.{blocks_of, others}
-use Rattle.slab_ctx.specs.Kept.{ledger_of}
-use Rattle.slab_ctx.specs.declared.books.Books.{Books}
-use Rattle.addr_space.proofs.Options.{one_value}
-use Rattle.slab_ctx.proofs.Bounds.{free-small}
-use Rattle.slab_ctx.proofs.Full.{Agrees_plain, Moves-full}
-use Rattle.slab_ctx.proofs.Served.{freed-is}
-use Rattle.slab_ctx.proofs.Listed.{find-other}
-use Rattle.slab_ctx.proofs.Lives.{live_is, sums_are}
-use Rattle.slab_ctx.proofs.Places.{chunks-few}
-use Rattle.slab_ctx.proofs.KeptSteps.{kept-changed, blocks-counted, ledger-parts}
-use Rattle.addr_space.proofs.Steps.{Keeps-then}
-use Rattle.ctx_blocks.proofs.Changed.{put_here, stays_live}
+use Rattle.slab_ctx.proofs.Words.{◌≡◌, ◌+◌, ◌-◌, ap, sym, ◌∙◌, arith, refl, Moves-more, block_at, among_put, among_more, number_is, empties, give, blocks_of, others, ledger_of, Books, one_value, Keeps-then, put_here, stays_live}
+use Rattle.slab_ctx.proofs.Lemmas.{free-small, Agrees_plain, Moves-full, freed-is, find-other, live_is, sums_are, chunks-few, kept-changed, blocks-counted, ledger-parts}
+use Rattle.ctx_blocks.specs.Layout.{footprint as footprint_of}
+use Rattle.slab_ctx.specs.Ledger.{is_empty}
 use Rattle.slab_ctx.proofs.books.Books.free.Goals as goal
 
 pub overflow_add-self : goal.overflow_add-self

@@ -1,12 +1,6 @@
-use Rattle.std.proofs.Common.{◌≡◌, ◌+◌, ap, subst, arith}
-use Rattle.chunk_header.specs.Header.{AllOfKind}
-use Rattle.chunk_header.specs.declared.Kind.TheVariants.{Slab}
+use Rattle.slab_ctx.proofs.Words.{◌≡◌, ◌+◌, ap, subst, arith, AllOfKind, Slab, Chunk, from_live, stride}
+use Rattle.slab_ctx.proofs.Lemmas.{stride_least, AllOfKind-full, TakesSpace-full}
 use Rattle.ctx_blocks.specs.Layout.{footprint as footprint_of}
-use Rattle.ctx_blocks.specs.declared.parts.Chunk.{Chunk}
-use Rattle.ctx_blocks.proofs.Laid.{from_live}
-use Rattle.slab_ctx.specs.Lives.{stride}
-use Rattle.slab_ctx.proofs.Numbers.{stride_least}
-use Rattle.slab_ctx.proofs.Full.{AllOfKind-full, TakesSpace-full}
 use Rattle.slab_ctx.proofs.books.Books.headed.Goals as goal
 
 pub returns-clause-kinds : goal.returns-clause-kinds

@@ -1,6 +1,5 @@
-use Rattle.std.proofs.Common.{refl}
-use Rattle.slab_ctx.proofs.Full.{Moves-full}
-use Rattle.slab_ctx.proofs.KeptSteps.{kept-none}
+use Rattle.slab_ctx.proofs.Words.{refl}
+use Rattle.slab_ctx.proofs.Lemmas.{Moves-full, kept-none}
 use Rattle.slab_ctx.proofs.books.Books.reset.Goals as goal
 
 pub returns-clause-kept : goal.returns-clause-kept

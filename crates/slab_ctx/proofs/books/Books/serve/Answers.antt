@@ -1,16 +1,7 @@
-use Rattle.std.proofs.Common.{◌≡◌, ◌+◌, ◌++◌, ℕ, [], ◌∷◌, Some, option_map, ap, ◌∙◌, arith, refl}
-use Rattle.addr_space.proofs.Steps.{Moves-more, Keeps-more}
+use Rattle.slab_ctx.proofs.Words.{◌≡◌, ◌+◌, ◌++◌, ℕ, [], ◌∷◌, Some, option_map, ap, ◌∙◌, arith, refl, Moves-more, Keeps-more, Block, number_is, numbers_among, numbers_stay, puts_same, stays_live, SlabLedger, serving, serve, with_live, blocks_of, others, chunk_of}
+use Rattle.slab_ctx.proofs.Lemmas.{Moves-full, ledger-parts, live-last}
 use Rattle.ctx_blocks.specs.Layout.{footprint as footprint_of}
-use Rattle.ctx_blocks.specs.declared.parts.Block.{Block}
-use Rattle.ctx_blocks.proofs.Places.{number_is, numbers_among}
-use Rattle.ctx_blocks.proofs.Among.{numbers_stay}
-use Rattle.ctx_blocks.proofs.Changed.{puts_same, stays_live}
-use Rattle.slab_ctx.specs.Ledger.{SlabLedger, per_block, serving, serve, with_live}
-use Rattle.slab_ctx.specs.State.{blocks_of, others}
-use Rattle.slab_ctx.specs.Slots.{chunk_of}
-use Rattle.slab_ctx.proofs.Full.{Moves-full}
-use Rattle.slab_ctx.proofs.KeptSteps.{ledger-parts}
-use Rattle.slab_ctx.proofs.Served.{live-last}
+use Rattle.slab_ctx.specs.Ledger.{per_block}
 use Rattle.slab_ctx.proofs.books.Books.serve.Goals as goal
 
 pub returns-in-Some-clause-ok : goal.returns-in-Some-clause-ok

@@ -1,8 +1,6 @@
-use Rattle.std.proofs.Common.{◌≡◌, ◌-◌, ap, ◌∙◌, arith, refl}
+use Rattle.slab_ctx.proofs.Words.{◌≡◌, ◌-◌, ap, ◌∙◌, arith, refl, Books}
+use Rattle.slab_ctx.proofs.Lemmas.{free-least, kept-dropped, blocks-dropped}
 use Rattle.slab_ctx.specs.Ledger.{per_block, is_empty}
-use Rattle.slab_ctx.specs.declared.books.Books.{Books}
-use Rattle.slab_ctx.proofs.KeptSteps.{free-least, kept-dropped}
-use Rattle.slab_ctx.proofs.Listed.{blocks-dropped}
 use Rattle.slab_ctx.proofs.books.Books.settle.Goals as goal
 
 pub overflow_sub-self : goal.overflow_sub-self

@@ -1,11 +1,6 @@
-use Rattle.std.proofs.Common.{refl, ◌≡◌, ◌+◌, ◌-◌, ◌*◌, length, ap, sym, ◌∙◌, arith}
-use Rattle.std.proofs.lemmas.List.{length-map}
-use Rattle.slab_ctx.specs.Ledger.{stats, per_block, free_chunks}
-use Rattle.slab_ctx.specs.Lives.{free_in}
-use Rattle.slab_ctx.specs.State.{numbered_of, others, blocks_of}
-use Rattle.slab_ctx.proofs.Lives.{sums_are}
-use Rattle.slab_ctx.proofs.Bounds.{free-is, bytes-small}
-use Rattle.slab_ctx.proofs.Public.{length_blocks}
+use Rattle.slab_ctx.proofs.Words.{refl, ◌≡◌, ◌+◌, ◌-◌, ◌*◌, length, ap, sym, ◌∙◌, arith, length-map, stats, free_in, numbered_of, others, blocks_of}
+use Rattle.slab_ctx.proofs.Lemmas.{sums_are, free-is, bytes-small, length_blocks}
+use Rattle.slab_ctx.specs.Ledger.{per_block, free_chunks}
 use Rattle.slab_ctx.proofs.books.Books.stats.Goals as goal
 
 pub overflow_mul-result : goal.overflow_mul-result

@@ -1,14 +1,6 @@
-use Rattle.std.proofs.Common.{◌≡◌, refl, ◌<◌, ◌+◌, ◌-◌, ap, ◌∙◌, arith}
-use Rattle.ctx_blocks.specs.Layout.{block_at}
-use Rattle.slab_ctx.specs.Lives.{per_block}
-use Rattle.slab_ctx.specs.declared.books.Books.{Books}
-use Rattle.addr_space.proofs.Options.{one_value}
+use Rattle.slab_ctx.proofs.Words.{◌≡◌, refl, ◌<◌, ◌+◌, ◌-◌, ap, ◌∙◌, arith, block_at, per_block, Books, one_value, number_put, among_put, rank_of}
+use Rattle.slab_ctx.proofs.Lemmas.{per_block-few, empty-least, free-least, kept-changed, blocks-counted}
 use Rattle.ctx_blocks.specs.Numbered.{number_of}
-use Rattle.ctx_blocks.proofs.Places.{number_put}
-use Rattle.ctx_blocks.proofs.Among.{among_put}
-use Rattle.slab_ctx.specs.Order.{rank_of}
-use Rattle.slab_ctx.proofs.Numbers.{per_block-few}
-use Rattle.slab_ctx.proofs.KeptSteps.{empty-least, free-least, kept-changed, blocks-counted}
 use Rattle.slab_ctx.proofs.books.Books.take.Goals as goal
 use Rattle.slab_ctx.proofs.books.Books.take.Goals.{After-owned-block}
 

@@ -1,5 +1,4 @@
-use Rattle.std.proofs.Common.{◌≡◌, ℕ, ◌+◌, ◌*◌, nat_lt, None, if◌then◌else◌}
-use Rattle.slab_ctx.specs.Tree.{IsTree, leaf}
+use Rattle.slab_ctx.proofs.Words.{◌≡◌, ℕ, ◌+◌, ◌*◌, nat_lt, None, if◌then◌else◌, IsTree, leaf}
 use Rattle.slab_ctx.proofs.ranks.Ranks.grow.Given as goal
 
 abbrev pub invariant-loop-place : goal.invariant-loop-place

@@ -1,4 +1,4 @@
-use Rattle.slab_ctx.proofs.Placed.{least-own}
+use Rattle.slab_ctx.proofs.Lemmas.{least-own}
 use Rattle.slab_ctx.proofs.ranks.Ranks.least.Goals as goal
 
 pub returns-clause-there : goal.returns-clause-there

@@ -1,7 +1,5 @@
-use Rattle.std.proofs.Common.{◌≤◌, length, ap, refl, sym, ◌∙◌, arith}
-use Rattle.slab_ctx.specs.Ranks.{rank_at, entry_of}
-use Rattle.slab_ctx.specs.Tree.{leaf}
-use Rattle.slab_ctx.proofs.Placed.{entry-inserted, few-put, leaf-put, leaf-changed}
+use Rattle.slab_ctx.proofs.Words.{◌≤◌, length, ap, refl, sym, ◌∙◌, arith, rank_at, entry_of, leaf}
+use Rattle.slab_ctx.proofs.Lemmas.{entry-inserted, few-put, leaf-put, leaf-changed}
 use Rattle.slab_ctx.proofs.ranks.Ranks.put.Goals as goal
 
 pub returns-in-Some-clause-ranked : goal.returns-in-Some-clause-ranked

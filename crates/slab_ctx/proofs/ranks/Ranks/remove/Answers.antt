@@ -1,6 +1,5 @@
-use Rattle.std.proofs.Common.{◌≡◌, ◌+◌, ◌<◌, ◌==◌, length, sym, ◌∙◌, arith}
-use Rattle.indexmap.proofs.MapLemmas.{Found-position}
-use Rattle.slab_ctx.proofs.Placed.{entry-removed}
+use Rattle.slab_ctx.proofs.Words.{◌≡◌, ◌+◌, ◌<◌, ◌==◌, length, sym, ◌∙◌, arith, Found-position}
+use Rattle.slab_ctx.proofs.Lemmas.{entry-removed}
 use Rattle.slab_ctx.proofs.ranks.Ranks.remove.Goals as goal
 
 pub returns-clause-ranked : goal.returns-clause-ranked

@@ -1,6 +1,5 @@
-use Rattle.std.proofs.Common.{◌≡◌, length, sym, ◌∙◌}
-use Rattle.slab_ctx.specs.Lives.{per_block}
-use Rattle.slab_ctx.proofs.Slotted.{IsSlotted-added}
+use Rattle.slab_ctx.proofs.Words.{◌≡◌, length, sym, ◌∙◌, per_block}
+use Rattle.slab_ctx.proofs.Lemmas.{IsSlotted-added}
 use Rattle.slab_ctx.proofs.slots.Slots.add.Goals as goal
 
 pub returns-clause-slots : goal.returns-clause-slots

@@ -1,9 +1,5 @@
-use Rattle.std.proofs.Common.{◌+◌, ◌-◌, sym, ◌∙◌, refl, arith}
-use Rattle.ctx_blocks.specs.declared.parts.Block.{Block}
-use Rattle.ctx_blocks.specs.Layout.{header_room}
-use Rattle.slab_ctx.proofs.Numbers.{stride-whole}
-use Rattle.slab_ctx.proofs.Places.{gap-is}
-use Rattle.slab_ctx.proofs.Taken.{counted, IsSlotted-cut}
+use Rattle.slab_ctx.proofs.Words.{◌+◌, ◌-◌, sym, ◌∙◌, refl, arith, Block, header_room}
+use Rattle.slab_ctx.proofs.Lemmas.{stride-whole, gap-is, counted, IsSlotted-cut}
 use Rattle.slab_ctx.proofs.slots.Slots.cut.Goals as goal
 
 pub cut-requires-clause-whole : goal.cut-requires-clause-whole

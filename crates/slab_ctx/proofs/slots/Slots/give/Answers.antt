@@ -1,5 +1,5 @@
-use Rattle.std.proofs.Common.{refl, arith}
-use Rattle.slab_ctx.proofs.Slotted.{IsSlotted-drop}
+use Rattle.slab_ctx.proofs.Words.{refl, arith}
+use Rattle.slab_ctx.proofs.Lemmas.{IsSlotted-drop}
 use Rattle.slab_ctx.proofs.slots.Slots.give.Goals as goal
 
 pub returns-clause-slots : goal.returns-clause-slots

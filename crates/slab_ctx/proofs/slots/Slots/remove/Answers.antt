@@ -1,9 +1,5 @@
-use Rattle.std.proofs.Common.{◌<◌, length, ◌+◌, ◌-◌, refl, arith}
-use Rattle.ctx_blocks.specs.Layout.{block_at}
-use Rattle.slab_ctx.specs.Slots.{stack_at}
-use Rattle.slab_ctx.proofs.Places.{one-more}
-use Rattle.addr_space.proofs.Options.{one_value}
-use Rattle.slab_ctx.proofs.Taken.{counted, IsSlotted-removed}
+use Rattle.slab_ctx.proofs.Words.{◌<◌, length, ◌+◌, ◌-◌, refl, arith, block_at, stack_at, one_value}
+use Rattle.slab_ctx.proofs.Lemmas.{one-more, counted, IsSlotted-removed}
 use Rattle.slab_ctx.proofs.slots.Slots.remove.Goals as goal
 use Rattle.slab_ctx.proofs.slots.Slots.remove.Goals.{After-remove-block}
 

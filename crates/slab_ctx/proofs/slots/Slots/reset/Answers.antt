@@ -1,6 +1,5 @@
-use Rattle.std.proofs.Common.{◌∙◌, refl}
-use Rattle.slab_ctx.specs.Slots.{first_region}
-use Rattle.slab_ctx.proofs.Slotted.{IsSlotted_none}
+use Rattle.slab_ctx.proofs.Words.{◌∙◌, refl, first_region}
+use Rattle.slab_ctx.proofs.Lemmas.{IsSlotted_none}
 use Rattle.slab_ctx.proofs.slots.Slots.reset.Goals as goal
 
 pub returns-clause-blocks : goal.returns-clause-blocks

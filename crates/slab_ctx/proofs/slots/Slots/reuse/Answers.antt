@@ -1,9 +1,5 @@
-use Rattle.std.proofs.Common.{◌+◌, ◌-◌, ap, ◌∙◌, refl, arith}
-use Rattle.addr_space.specs.declared.Addr.{Addr}
-use Rattle.ctx_blocks.specs.declared.parts.Block.{Block}
-use Rattle.slab_ctx.specs.Slots.{IsFree}
-use Rattle.slab_ctx.proofs.Places.{gap-is, start-is, slot-whole, depth-few, clear-of}
-use Rattle.slab_ctx.proofs.Taken.{counted, IsSlotted-placed}
+use Rattle.slab_ctx.proofs.Words.{◌+◌, ◌-◌, ap, ◌∙◌, refl, arith, Addr, Block, IsFree}
+use Rattle.slab_ctx.proofs.Lemmas.{gap-is, start-is, slot-whole, depth-few, clear-of, counted, IsSlotted-placed}
 use Rattle.slab_ctx.proofs.slots.Slots.reuse.Goals as goal
 
 pub seek-self-requires : goal.seek-self-requires

@@ -1,5 +1,5 @@
-use Rattle.std.proofs.Common.{arith}
-use Rattle.slab_ctx.proofs.Places.{room-left}
+use Rattle.slab_ctx.proofs.Words.{arith}
+use Rattle.slab_ctx.proofs.Lemmas.{room-left}
 use Rattle.slab_ctx.proofs.slots.Slots.take.Goals as goal
 
 pub cut-requires-clause-block : goal.cut-requires-clause-block

@@ -1,6 +1,5 @@
-use Rattle.std.proofs.Common.{◌≤◌, None, arith}
-use Rattle.std.proofs.lemmas.List.{get_or_read}
-use Rattle.slab_ctx.proofs.Trees.{first-there}
+use Rattle.slab_ctx.proofs.Words.{◌≤◌, None, arith, get_or_read}
+use Rattle.slab_ctx.proofs.Lemmas.{first-there}
 use Rattle.slab_ctx.proofs.tree.Tree.least.Goals as goal
 
 pub returns-clause-there : goal.returns-clause-there

@@ -1,8 +1,5 @@
-use Rattle.std.proofs.Common.{◌≡◌, ◌+◌, ◌*◌, ◌<◌, ◌/◌, None, refl, ◌∙◌, arith}
-use Rattle.std.specs.Vec.{with_item}
-use Rattle.std.proofs.lemmas.List.{get_or_read, length-set}
-use Rattle.slab_ctx.specs.declared.tree.Tree.{Tree}
-use Rattle.slab_ctx.proofs.Trees.{raised, settled, node-other, lesser-read}
+use Rattle.slab_ctx.proofs.Words.{◌≡◌, ◌+◌, ◌*◌, ◌<◌, ◌/◌, None, refl, ◌∙◌, arith, with_item, get_or_read, length-set, Tree}
+use Rattle.slab_ctx.proofs.Lemmas.{raised, settled, node-other, lesser-read}
 use Rattle.slab_ctx.proofs.tree.Tree.raise.Goals as goal
 
 pub returns-then-is_same-clause-tree : goal.returns-then-is_same-clause-tree

@@ -1,5 +1,4 @@
-use Rattle.std.proofs.Common.{◌≡◌, ℕ, ◌*◌, ◌<◌, ◌≤◌}
-use Rattle.slab_ctx.specs.Tree.{IsTreeBut, node}
+use Rattle.slab_ctx.proofs.Words.{◌≡◌, ℕ, ◌*◌, ◌<◌, ◌≤◌, IsTreeBut, node}
 use Rattle.slab_ctx.proofs.tree.Tree.raise.Given as goal
 
 abbrev pub invariant-loop-index : goal.invariant-loop-index
