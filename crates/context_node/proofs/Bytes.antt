@@ -1,13 +1,6 @@
 -- Bytes that are known at an address.
-use Rattle.std.proofs.Common.{◌≡◌, ℕ, ◌+◌, ◌<◌, ◌≤◌, List, length, map, get_or, take, drop, Option, Some, None, IsSome, unwrap_or, refl, sym, ap, ◌∙◌, subst, arith}
-use Rattle.std.proofs.lemmas.Grind.{same_number_lists}
-use Rattle.std.proofs.lemmas.List.{length-map, length-take, length-drop, get_or-map, get_or-take, get_or-drop}
-use Rattle.addr_space.specs.declared.Addr.{Addr}
-use Rattle.addr_space.specs.Space.{Space, region_at, bytes_of, byte_at, part, HasBytes, IsKnown}
+use Rattle.context_node.proofs.Words.{◌≡◌, ℕ, ◌+◌, ◌<◌, ◌≤◌, List, length, map, get_or, take, drop, Option, Some, None, IsSome, unwrap_or, refl, sym, ap, ◌∙◌, subst, arith, same_number_lists, length-map, length-take, length-drop, get_or-map, get_or-take, get_or-drop, Addr, Space, region_at, bytes_of, byte_at, part, HasBytes, IsKnown, Footprint, length-part, bytes_at}
 use Rattle.addr_space.specs.Footprint as foot
-use Rattle.addr_space.specs.Footprint.{Footprint}
-use Rattle.addr_space.proofs.Bytes.{length-part}
-use Rattle.context_node.specs.State.{bytes_at}
 
 -- so many bytes from an address on are in its region
 abbrev pub IsIn : Space → Addr → ℕ → Type 0

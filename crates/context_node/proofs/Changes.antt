@@ -1,15 +1,5 @@
 -- Entries of which one changes.
-use Rattle.std.proofs.Common.{◌≡◌, ◌≢◌, ℕ, true, false, List, map, Some, refl, sym, ap, ◌∙◌, inl, inr}
-use Rattle.std.specs.Option.{option_map}
-use Rattle.std.proofs.lemmas.Bool.{cases_eq, eq-eqb, ne_eqb, both_ways}
-use Rattle.forest.specs.Forest.{Forest, Empty, Node, at, has, Once, changed}
-use Rattle.forest.proofs.Trees.{Apart, apart_of, has_at, changed_absent}
-use Rattle.forest.proofs.Mapped.{at_changed, at_changed_other}
-use Rattle.context_rules.specs.Contexts.{Chunk, has_name}
-use Rattle.context_rules.specs.Chunks.{with_changed}
-use Rattle.context_node.specs.declared.entry.Entry.{Entry}
-use Rattle.context_node.specs.Soundness.{AreFlat}
-use Rattle.context_node.specs.State.{entries}
+use Rattle.context_node.proofs.Words.{◌≡◌, ◌≢◌, ℕ, true, false, List, map, Some, refl, sym, ap, ◌∙◌, inl, inr, option_map, cases_eq, eq-eqb, ne_eqb, both_ways, Forest, Empty, Node, at, has, Once, changed, Apart, apart_of, has_at, changed_absent, at_changed, at_changed_other, Chunk, has_name, with_changed, Entry, AreFlat, entries}
 use Rattle.context_node.proofs.Names.{at_here, at_beside, one_at, below_or_beside}
 use Rattle.context_node.proofs.Steps.{entries_same}
 

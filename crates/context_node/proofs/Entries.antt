@@ -1,17 +1,5 @@
 -- Entries of which one after the other is taken out, with its name.
-use Rattle.std.proofs.Common.{◌≡◌, ◌≢◌, ℕ, ◌<◌, Bool, true, false, List, [], Option, Some, None, refl, sym, ap, ◌∙◌, subst, arith}
-use Rattle.std.specs.Prelude.{◌||◌, if◌then◌else◌}
-use Rattle.std.specs.Option.{option_map_or}
-use Rattle.std.proofs.lemmas.Bool.{eq-eqb}
-use Rattle.forest.specs.Forest.{Forest, Empty, Node, Once, at, has, size, first, removed}
-use Rattle.forest.proofs.Trees.{Apart, apart_of, removed_absent, has_of_removed, at_some, has_at, once_removed, size_removed}
-use Rattle.reset_callbacks.specs.Hook.{Hook}
-use Rattle.any_ctx.specs.declared.any.AnyCtx.{AnyCtx}
-use Rattle.context_node.specs.declared.chunk_id.ChunkId.{ChunkId}
-use Rattle.context_node.specs.declared.entry.Entry.{Entry}
-use Rattle.context_node.specs.Kept.{Kept}
-use Rattle.context_node.specs.Soundness.{same, AreFlat}
-use Rattle.context_node.specs.Ending.{is_named, left_names}
+use Rattle.context_node.proofs.Words.{◌≡◌, ◌≢◌, ℕ, ◌<◌, Bool, true, false, List, [], Option, Some, None, refl, sym, ap, ◌∙◌, subst, arith, ◌||◌, if◌then◌else◌, option_map_or, eq-eqb, Forest, Empty, Node, Once, at, has, size, first, removed, Apart, apart_of, removed_absent, has_of_removed, at_some, has_at, once_removed, size_removed, Hook, AnyCtx, ChunkId, Entry, Kept, same, AreFlat, is_named, left_names}
 use Rattle.context_node.proofs.Names.{one_at}
 use Rattle.context_node.proofs.Removals.{flat_removed, other_than_removed, still_at}
 

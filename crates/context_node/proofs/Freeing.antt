@@ -1,18 +1,6 @@
 -- A context in which a chunk was freed.
-use Rattle.std.proofs.Common.{◌≡◌, ◌≢◌, ℕ, ◌+◌, ◌<◌, true, List, map, Some, None, IsSome, sym, ap, ◌∙◌, subst, inl, inr, arith}
-use Rattle.addr_space.specs.Space.{Space, byte_at, IsKnown}
+use Rattle.context_node.proofs.Words.{◌≡◌, ◌≢◌, ℕ, ◌+◌, ◌<◌, true, List, map, Some, None, IsSome, sym, ap, ◌∙◌, subst, inl, inr, arith, Space, byte_at, IsKnown, put_at-cases, at, has, Once, removed, has_at, at_some, has_of_removed, once_removed, footprint, ledger, place_at, Chunk, Context, without, Entry, Kept, AreFlat, IsSoundContext, chunk_of, entries, context_of, Freed}
 use Rattle.addr_space.specs.Footprint as foot
-use Rattle.addr_space.proofs.Addresses.{put_at-cases}
-use Rattle.forest.specs.Forest.{at, has, Once, removed}
-use Rattle.forest.proofs.Trees.{has_at, at_some, has_of_removed, once_removed}
-use Rattle.any_ctx.specs.Contexts.{footprint, ledger, place_at}
-use Rattle.context_rules.specs.Contexts.{Chunk, Context}
-use Rattle.context_rules.specs.Chunks.{without}
-use Rattle.context_node.specs.declared.entry.Entry.{Entry}
-use Rattle.context_node.specs.Kept.{Kept}
-use Rattle.context_node.specs.Soundness.{AreFlat, IsSoundContext}
-use Rattle.context_node.specs.State.{chunk_of, entries, context_of}
-use Rattle.context_node.specs.Chunking.{Freed}
 use Rattle.context_node.proofs.Names.{named_not, named_so}
 use Rattle.context_node.proofs.Steps.{chunk_same}
 use Rattle.context_node.proofs.Bytes.{in_live, bytes_same}

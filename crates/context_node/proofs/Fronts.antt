@@ -1,11 +1,5 @@
 -- An entry in front of the others.
-use Rattle.std.proofs.Common.{◌≡◌, ℕ, true, false, Some, refl, sym, ap, ◌∙◌, subst}
-use Rattle.std.proofs.lemmas.Bool.{eq-eqb}
-use Rattle.forest.specs.Forest.{Forest, Empty, Node, at, has, changed, removed}
-use Rattle.forest.proofs.Trees.{changed_absent, removed_absent}
-use Rattle.any_ctx.specs.declared.any.AnyCtx.{AnyCtx}
-use Rattle.context_node.specs.declared.entry.Entry.{Entry}
-use Rattle.context_node.specs.Kept.{Kept}
+use Rattle.context_node.proofs.Words.{◌≡◌, ℕ, true, false, Some, refl, sym, ap, ◌∙◌, subst, eq-eqb, Forest, Empty, Node, at, has, changed, removed, changed_absent, removed_absent, AnyCtx, Entry, Kept}
 use Rattle.context_node.proofs.Names.{at_here}
 
 -- it lies there

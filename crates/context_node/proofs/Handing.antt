@@ -1,11 +1,7 @@
 -- Hooks that run and are handed in, the newest first.
-use Rattle.std.proofs.Common.{◌≡◌, ◌-◌, ◌<◌, ◌≤◌, ◌≢◌, List, [], ◌∷◌, ◌++◌, length, map, All, refl, sym, ap, ◌∙◌, subst, append_assoc, arith}
-use Rattle.std.proofs.lemmas.List.{append-nil, map-append, length-append}
+use Rattle.context_node.proofs.Words.{◌≡◌, ◌-◌, ◌<◌, ◌≤◌, ◌≢◌, List, [], ◌∷◌, ◌++◌, length, map, All, refl, sym, ap, ◌∙◌, subst, append_assoc, arith, append-nil, map-append, length-append, Hook, ran, Lacks, AreDistinct, ShelfState, held, finished, handed_in}
 use Rattle.std.proofs.lemmas.List.Elements.{All-nil, All-cons, All-head, All-tail, All-append}
-use Rattle.reset_callbacks.specs.Hook.{Hook, ran, Lacks, AreDistinct}
-use Rattle.reset_callbacks.specs.ShelfState.{ShelfState, held, finished}
 use Rattle.reset_callbacks.proofs.InOrder.{AreDistinct-push}
-use Rattle.context_rules.specs.Ends.{handed_in}
 
 module _ (P : Hook → Type 0) where
   -- what holds of each hook of two lists

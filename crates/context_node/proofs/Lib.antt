@@ -1,3 +1,4 @@
+pub mod Words
 pub mod Names
 pub mod Steps
 pub mod Sounds
@@ -15,3 +16,4 @@ pub mod Handing
 pub mod Entries
 pub mod NamedParts
 pub mod Made
+pub mod Lemmas

@@ -1,9 +1,6 @@
 -- A context that was just made.
-use Rattle.std.proofs.Common.{ℕ, sym, subst, arith}
-use Rattle.addr_space.specs.Space.{Space}
+use Rattle.context_node.proofs.Words.{ℕ, sym, subst, arith, Space, Kept, IsSoundContext}
 use Rattle.context_node.specs.declared.making.NewContext.{NewContext}
-use Rattle.context_node.specs.Kept.{Kept}
-use Rattle.context_node.specs.Soundness.{IsSoundContext}
 use Rattle.context_node.specs.Making.{Made}
 
 -- what a context that was just made is like

@@ -1,15 +1,5 @@
 -- The chunks that have a name, among all chunks of a context.
-use Rattle.std.proofs.Common.{◌≡◌, ◌≢◌, ℕ, ◌≤◌, Bool, true, false, List, Option, Some, None, refl, sym, ap, ◌∙◌, subst, inl, inr, arith}
-use Rattle.std.specs.Prelude.{is_some, ◌==◌, ◌||◌, if◌then◌else◌}
-use Rattle.std.specs.Option.{option_map_or}
-use Rattle.std.proofs.lemmas.Bool.{cases_Bool, cases_eq, eq-eqb, ne_eqb, both_ways}
-use Rattle.forest.specs.Forest.{Forest, Empty, Node, Once, at, has, times, changed, removed}
-use Rattle.forest.proofs.Trees.{Apart, apart_of, has_at, at_some, changed_absent, has_changed, once_changed, once_front, once_removed, has_of_removed}
-use Rattle.context_node.specs.declared.chunk_id.ChunkId.{ChunkId}
-use Rattle.context_node.specs.declared.entry.Entry.{Entry}
-use Rattle.context_node.specs.Soundness.{AreFlat, same}
-use Rattle.context_node.specs.KeptChunks.{named_part, IsKept}
-use Rattle.context_node.specs.Ending.{is_named, left_names}
+use Rattle.context_node.proofs.Words.{◌≡◌, ◌≢◌, ℕ, ◌≤◌, Bool, true, false, List, Option, Some, None, refl, sym, ap, ◌∙◌, subst, inl, inr, arith, is_some, ◌==◌, ◌||◌, if◌then◌else◌, option_map_or, cases_Bool, cases_eq, eq-eqb, ne_eqb, both_ways, Forest, Empty, Node, Once, at, has, times, changed, removed, Apart, apart_of, has_at, at_some, changed_absent, has_changed, once_changed, once_front, once_removed, has_of_removed, ChunkId, Entry, AreFlat, same, named_part, IsKept, is_named, left_names}
 use Rattle.context_node.proofs.Names.{at_here, at_beside, one_at}
 use Rattle.context_node.proofs.Taking.{front_has}
 use Rattle.context_node.proofs.Removals.{flat_removed, other_than_removed, still_at}

@@ -1,18 +1,7 @@
 -- Names, and the chunks of a context that have them.
-use Rattle.std.proofs.Common.{◌≡◌, ◌≢◌, ℕ, true, false, List, map, Option, Some, None, refl, sym, ap, ◌∙◌, inl, inr}
-use Rattle.std.specs.Prelude.{find}
-use Rattle.std.specs.Option.{option_map_or, IfSome}
-use Rattle.std.proofs.lemmas.Bool.{cases_Bool, eq-eqb, ne_eqb, both_ways}
+use Rattle.context_node.proofs.Words.{◌≡◌, ◌≢◌, ℕ, true, false, List, map, Option, Some, None, refl, sym, ap, ◌∙◌, inl, inr, find, option_map_or, IfSome, cases_Bool, eq-eqb, ne_eqb, both_ways, Space, Forest, Empty, Node, either, at, has, Once, Apart, apart_of, has_at, at_absent, at_some, AnyCtx, Chunk, has_name, Entry, AreFlat, chunk_of, entries}
 use lib.Pointwise.{bytes_decides}
-use Rattle.addr_space.specs.Space.{Space}
-use Rattle.forest.specs.Forest.{Forest, Empty, Node, either, at, has, Once}
-use Rattle.forest.proofs.Trees.{Apart, apart_of, has_at, at_absent, at_some}
-use Rattle.any_ctx.specs.declared.any.AnyCtx.{AnyCtx}
 use Rattle.context_rules.specs.Names.{same_name}
-use Rattle.context_rules.specs.Contexts.{Chunk, has_name}
-use Rattle.context_node.specs.declared.entry.Entry.{Entry}
-use Rattle.context_node.specs.Soundness.{AreFlat}
-use Rattle.context_node.specs.State.{chunk_of, entries}
 
 -- names are one where maps say so
 pub same_is : (a b : List ℕ) → same_name a b ≡ true → a ≡ b

@@ -1,25 +1,7 @@
 -- A context in which a chunk got another size.
-use Rattle.std.proofs.Common.{◌≡◌, ◌≢◌, ◌⊎◌, ℕ, ◌+◌, ◌<◌, ◌≤◌, List, length, map, take, Option, Some, None, IsSome, unwrap_or, refl, sym, ap, ◌∙◌, subst, inl, inr, arith}
-use Rattle.std.specs.Prelude.{min, if◌then◌else◌}
-use Rattle.std.proofs.lemmas.Grind.{same_number_lists}
-use Rattle.std.proofs.lemmas.List.{length-take, get_or-take}
-use Rattle.addr_space.specs.declared.Addr.{Addr}
-use Rattle.addr_space.specs.Space.{Space, byte_at, IsKnown}
+use Rattle.context_node.proofs.Words.{◌≡◌, ◌≢◌, ◌⊎◌, ℕ, ◌+◌, ◌<◌, ◌≤◌, List, length, map, take, Option, Some, None, IsSome, unwrap_or, refl, sym, ap, ◌∙◌, subst, inl, inr, arith, min, if◌then◌else◌, same_number_lists, length-take, get_or-take, Addr, Space, byte_at, IsKnown, same_addr-cases, none_or_some, at, has, Once, changed, once_changed, has_changed, Ledger, Place, InSlab, footprint, place_at, Chunk, Context, with_changed, with_size, Entry, Kept, AreFlat, IsSoundContext, bytes_at, chunk_of, entries, context_of, Refitted}
 use Rattle.addr_space.specs.Footprint as foot
 use Rattle.addr_space.specs.Live.{same_addr}
-use Rattle.addr_space.proofs.Addresses.{same_addr-cases}
-use Rattle.addr_space.proofs.Options.{none_or_some}
-use Rattle.forest.specs.Forest.{at, has, Once, changed}
-use Rattle.forest.proofs.Trees.{once_changed, has_changed}
-use Rattle.any_ctx.specs.Ledgers.{Ledger, Place, InSlab}
-use Rattle.any_ctx.specs.Contexts.{footprint, place_at}
-use Rattle.context_rules.specs.Contexts.{Chunk, Context}
-use Rattle.context_rules.specs.Chunks.{with_changed, with_size}
-use Rattle.context_node.specs.declared.entry.Entry.{Entry}
-use Rattle.context_node.specs.Kept.{Kept}
-use Rattle.context_node.specs.Soundness.{AreFlat, IsSoundContext}
-use Rattle.context_node.specs.State.{bytes_at, chunk_of, entries, context_of}
-use Rattle.context_node.specs.Chunking.{Refitted}
 use Rattle.context_node.proofs.Names.{named_not, named_so}
 use Rattle.context_node.proofs.Steps.{chunk_same}
 use Rattle.context_node.proofs.Sounds.{step_at}

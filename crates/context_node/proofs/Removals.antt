@@ -1,14 +1,5 @@
 -- Entries without one of them.
-use Rattle.std.proofs.Common.{◌≡◌, ◌≢◌, ℕ, true, false, List, map, Some, refl, sym, ap, ◌∙◌, inl, inr}
-use Rattle.std.specs.Prelude.{◌==◌}
-use Rattle.std.proofs.lemmas.Bool.{cases_eq, cases_Bool, eq-eqb, ne_eqb, both_ways}
-use Rattle.forest.specs.Forest.{Forest, Empty, Node, at, has, Once, children, removed}
-use Rattle.forest.proofs.Trees.{Apart, apart_of, has_at, removed_absent, at_removed}
-use Rattle.context_rules.specs.Contexts.{Chunk, has_name}
-use Rattle.context_rules.specs.Chunks.{without}
-use Rattle.context_node.specs.declared.entry.Entry.{Entry}
-use Rattle.context_node.specs.Soundness.{AreFlat}
-use Rattle.context_node.specs.State.{entries}
+use Rattle.context_node.proofs.Words.{◌≡◌, ◌≢◌, ℕ, true, false, List, map, Some, refl, sym, ap, ◌∙◌, inl, inr, ◌==◌, cases_eq, cases_Bool, eq-eqb, ne_eqb, both_ways, Forest, Empty, Node, at, has, Once, children, removed, Apart, apart_of, has_at, removed_absent, at_removed, Chunk, has_name, without, Entry, AreFlat, entries}
 use Rattle.context_node.proofs.Names.{at_here, at_beside, one_at, below_or_beside}
 use Rattle.context_node.proofs.Steps.{entries_same}
 

@@ -1,8 +1,5 @@
 -- What lies in a forest once one node changed.
-use Rattle.std.proofs.Common.{◌≡◌, ◌≢◌, ◌⊎◌, ℕ, Some, sym, ap, ◌∙◌, inl, inr}
-use Rattle.std.proofs.lemmas.Bool.{cases_eq}
-use Rattle.forest.specs.Forest.{Forest, at, changed}
-use Rattle.forest.proofs.Mapped.{at_changed, at_changed_other}
+use Rattle.context_node.proofs.Words.{◌≡◌, ◌≢◌, ◌⊎◌, ℕ, Some, sym, ap, ◌∙◌, inl, inr, cases_eq, Forest, at, changed, at_changed, at_changed_other}
 
 module _ {A : Type 0} (n : ℕ) (k l : A) (t : Forest A) (here : at n t ≡ Some k) where
   -- what lies at a number once one node changed

@@ -1,19 +1,6 @@
 -- What a context stands for while another one moves.
-use Rattle.std.proofs.Common.{◌≡◌, ℕ, List, map, Option, Some, None, refl, sym, ap, ◌∙◌, inl, inr}
-use Rattle.std.specs.Prelude.{unwrap_or}
-use Rattle.addr_space.specs.Space.{Region, Space, region_at, bytes_of, part}
+use Rattle.context_node.proofs.Words.{◌≡◌, ℕ, List, map, Option, Some, None, refl, sym, ap, ◌∙◌, inl, inr, unwrap_or, Region, Space, region_at, bytes_of, part, Footprint, AreDisjoint, option_cases, Forest, Empty, Node, at, Once, Apart, apart_of, footprint, ledger, place_at, AnyCtx, Chunk, Entry, Kept, IsSoundContext, chunk_of, entries, context_of, bytes_at}
 use Rattle.addr_space.specs.Footprint as foot
-use Rattle.addr_space.specs.Footprint.{Footprint, AreDisjoint}
-use Rattle.addr_space.proofs.Options.{option_cases}
-use Rattle.forest.specs.Forest.{Forest, Empty, Node, at, Once}
-use Rattle.forest.proofs.Trees.{Apart, apart_of}
-use Rattle.any_ctx.specs.Contexts.{footprint, ledger, place_at}
-use Rattle.any_ctx.specs.declared.any.AnyCtx.{AnyCtx}
-use Rattle.context_rules.specs.Contexts.{Chunk}
-use Rattle.context_node.specs.declared.entry.Entry.{Entry}
-use Rattle.context_node.specs.Kept.{Kept}
-use Rattle.context_node.specs.Soundness.{IsSoundContext}
-use Rattle.context_node.specs.State.{chunk_of, entries, context_of, bytes_at}
 use Rattle.context_node.proofs.Names.{at_here, at_beside}
 
 -- a region of a context that is apart from one that moves stays as it is

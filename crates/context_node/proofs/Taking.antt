@@ -1,21 +1,6 @@
 -- A context once a chunk was taken in it.
-use Rattle.std.proofs.Common.{◌≡◌, ◌≢◌, ◌⊎◌, ℕ, ◌+◌, ◌<◌, true, false, List, ◌∷◌, length, map, Option, Some, None, IsSome, refl, sym, ap, ◌∙◌, subst, inl, inr, arith}
-use Rattle.std.proofs.lemmas.Bool.{cases_eq, eq-eqb, ne_eqb}
-use Rattle.addr_space.specs.Space.{Space, byte_at, IsKnown}
+use Rattle.context_node.proofs.Words.{◌≡◌, ◌≢◌, ◌⊎◌, ℕ, ◌+◌, ◌<◌, true, false, List, ◌∷◌, length, map, Option, Some, None, IsSome, refl, sym, ap, ◌∙◌, subst, inl, inr, arith, cases_eq, eq-eqb, ne_eqb, Space, byte_at, IsKnown, put_at-cases, none_or_some, Forest, Empty, Node, at, has, Once, once_front, Ledger, footprint, place_at, Chunk, Context, with_chunk, Entry, Kept, AreFlat, IsSoundContext, chunk_of, entries, context_of, Took, placed, taken_entry}
 use Rattle.addr_space.specs.Footprint as foot
-use Rattle.addr_space.proofs.Addresses.{put_at-cases}
-use Rattle.addr_space.proofs.Options.{none_or_some}
-use Rattle.forest.specs.Forest.{Forest, Empty, Node, at, has, Once}
-use Rattle.forest.proofs.Trees.{once_front}
-use Rattle.any_ctx.specs.Ledgers.{Ledger}
-use Rattle.any_ctx.specs.Contexts.{footprint, place_at}
-use Rattle.context_rules.specs.Contexts.{Chunk, Context}
-use Rattle.context_rules.specs.Chunks.{with_chunk}
-use Rattle.context_node.specs.declared.entry.Entry.{Entry}
-use Rattle.context_node.specs.Kept.{Kept}
-use Rattle.context_node.specs.Soundness.{AreFlat, IsSoundContext}
-use Rattle.context_node.specs.State.{chunk_of, entries, context_of}
-use Rattle.context_node.specs.Chunking.{Took, placed, taken_entry}
 use Rattle.context_node.proofs.Names.{at_here, one_at}
 use Rattle.context_node.proofs.Steps.{entries_same, chunk_same}
 use Rattle.context_node.proofs.Bytes.{in_live, bytes_same, bytes_are, known_has}

@@ -1,8 +1,5 @@
 -- A context on which one more hook waits.
-use Rattle.std.proofs.Common.{◌≡◌, Bool, List, sym, subst}
-use Rattle.reset_callbacks.specs.Hook.{Hook}
-use Rattle.context_node.specs.Kept.{Kept}
-use Rattle.context_node.specs.Soundness.{IsSoundContext}
+use Rattle.context_node.proofs.Words.{◌≡◌, Bool, List, sym, subst, Hook, Kept, IsSoundContext}
 
 -- the context is the same, but for being used and its hooks
 abbrev pub SameChunks : Kept → Kept → Type 0

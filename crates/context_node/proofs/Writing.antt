@@ -1,24 +1,7 @@
 -- A context in which bytes were written in a chunk.
-use Rattle.std.proofs.Common.{◌≡◌, ◌≢◌, ◌⊎◌, ℕ, ◌+◌, ◌-◌, ◌<◌, ◌≤◌, List, ◌++◌, length, map, get_or, take, drop, Some, IsSome, refl, sym, ap, ◌∙◌, subst, inl, inr, arith}
-use Rattle.std.specs.Prelude.{max}
-use Rattle.std.proofs.lemmas.Bool.{cases_lt}
-use Rattle.std.proofs.lemmas.List.{length-append, length-take, length-drop, get_or-take, get_or-drop, get_or_append_left, get_or-append_right, append_assoc}
-use Rattle.addr_space.specs.declared.Addr.{Addr}
-use Rattle.addr_space.specs.Space.{Space, byte_at, IsKnown, HasBytes}
+use Rattle.context_node.proofs.Words.{◌≡◌, ◌≢◌, ◌⊎◌, ℕ, ◌+◌, ◌-◌, ◌<◌, ◌≤◌, List, ◌++◌, length, map, get_or, take, drop, Some, IsSome, refl, sym, ap, ◌∙◌, subst, inl, inr, arith, max, cases_lt, length-append, length-take, length-drop, get_or-take, get_or-drop, get_or_append_left, get_or-append_right, append_assoc, Addr, Space, byte_at, IsKnown, HasBytes, HasRegion, WritesInside, Moves-inside, KeepsBut-inside, HasBytes-written, byte_at-apart, has, Once, changed, once_changed, has_changed, footprint, ledger, Chunk, Context, with_changed, written_over, Entry, Kept, AreFlat, IsSoundContext, bytes_at, chunk_of, entries, context_of, Written}
 use Rattle.addr_space.specs.Footprint as foot
-use Rattle.addr_space.specs.Footprint.{HasRegion, WritesInside}
-use Rattle.addr_space.proofs.Apart.{Moves-inside, KeepsBut-inside}
-use Rattle.addr_space.proofs.Written.{HasBytes-written, byte_at-apart}
-use Rattle.forest.specs.Forest.{at as entry_at, has, Once, changed}
-use Rattle.forest.proofs.Trees.{once_changed, has_changed}
-use Rattle.any_ctx.specs.Contexts.{footprint, ledger}
-use Rattle.context_rules.specs.Contexts.{Chunk, Context}
-use Rattle.context_rules.specs.Chunks.{with_changed, written_over}
-use Rattle.context_node.specs.declared.entry.Entry.{Entry}
-use Rattle.context_node.specs.Kept.{Kept}
-use Rattle.context_node.specs.Soundness.{AreFlat, IsSoundContext}
-use Rattle.context_node.specs.State.{bytes_at, chunk_of, entries, context_of}
-use Rattle.context_node.specs.Chunking.{Written}
+use Rattle.forest.specs.Forest.{at as entry_at}
 use Rattle.context_node.proofs.Names.{named_not, named_so}
 use Rattle.context_node.proofs.Steps.{chunk_same}
 use Rattle.context_node.proofs.Sounds.{step_at}

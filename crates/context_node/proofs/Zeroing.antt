@@ -1,20 +1,6 @@
 -- Zeros written in a space, and in a chunk that was just taken.
-use Rattle.std.proofs.Common.{◌≡◌, ◌≢◌, ℕ, ◌+◌, ◌≤◌, true, List, [], ◌++◌, length, map, replicate, Option, Some, refl, sym, ap, ◌∙◌, inl, inr, arith}
-use Rattle.std.proofs.lemmas.List.{length-map, length-replicate, replicate-append-replicate, map-append}
-use Rattle.addr_space.specs.declared.Addr.{Addr}
-use Rattle.addr_space.specs.Space.{Region, Space, region_at, overwritten, Changes}
-use Rattle.addr_space.specs.Footprint.{HasRegion, WritesInside}
-use Rattle.addr_space.proofs.Addresses.{put_at-cases}
-use Rattle.addr_space.proofs.Apart.{Moves-inside, KeepsBut-inside}
-use Rattle.addr_space.proofs.Bytes.{overwritten-more}
-use Rattle.addr_space.proofs.Options.{none_or_some}
+use Rattle.context_node.proofs.Words.{◌≡◌, ◌≢◌, ℕ, ◌+◌, ◌≤◌, true, List, [], ◌++◌, length, map, replicate, Option, Some, refl, sym, ap, ◌∙◌, inl, inr, arith, length-map, length-replicate, replicate-append-replicate, map-append, Addr, Region, Space, region_at, overwritten, Changes, HasRegion, WritesInside, put_at-cases, Moves-inside, KeepsBut-inside, overwritten-more, none_or_some, HasBytes-written, Empty, Node, at, footprint, Entry, Kept, Took, placed, taken_entry}
 use Rattle.addr_space.proofs.Steps.{Moves-more}
-use Rattle.addr_space.proofs.Written.{HasBytes-written}
-use Rattle.forest.specs.Forest.{Empty, Node, at}
-use Rattle.any_ctx.specs.Contexts.{footprint}
-use Rattle.context_node.specs.declared.entry.Entry.{Entry}
-use Rattle.context_node.specs.Kept.{Kept}
-use Rattle.context_node.specs.Chunking.{Took, placed, taken_entry}
 use Rattle.context_node.proofs.Names.{at_here}
 
 -- a piece more

@@ -1,41 +1,10 @@
 -- A tree in which a context was made, and one in which none was.
-use Rattle.std.proofs.Common.{◌≡◌, ◌⊎◌, ℕ, ◌+◌, ◌-◌, ◌<◌, Bool, true, false, List, [], ◌∷◌, map, get_or, Option, Some, None, IsSome, refl, sym, ap, ◌∙◌, subst, inl, inr, arith}
-use Rattle.std.specs.Prelude.{not, ◌&&◌, unwrap_or, if◌then◌else◌, ◌==◌}
-use Rattle.std.specs.Option.{option_map}
-use Rattle.std.proofs.lemmas.Bool.{cases_Bool, cases_lt, le-ltb}
-use Rattle.addr_space.specs.Space.{Space, Region, region_at, bytes_of, part, held}
+use Rattle.context_tree.proofs.Base.{◌≡◌, ◌⊎◌, ℕ, ◌+◌, ◌-◌, ◌<◌, Bool, true, false, List, [], ◌∷◌, map, get_or, Option, Some, None, IsSome, refl, sym, ap, ◌∙◌, subst, inl, inr, arith, not, ◌&&◌, unwrap_or, if◌then◌else◌, ◌==◌, option_map, cases_lt, le-ltb, nat_tests}
+use Rattle.context_tree.proofs.Words.{Space, Region, region_at, bytes_of, part, held, Footprint, counted-nothing, option_cases, none_or_some, CtxId, NodeId, Forest, Empty, Node, at, has, Once, size, put, mapped, Forested, mapped-has, Ledger, footprint, CtxKind, is_reserved, Context, Contexts, new_context, context_named, create_refusal, is_taken, TreeError, Memory, Taken, TooMany, ChunkId, NewContext, Own, Kept, IsSoundContext, IsSound, IsOwn, chunk_of, entries, context_of, TreeState, stands_for, Agrees, Moves, SameRegions, left_of, total_of, entered_context, Grew, CameBack, Added, room_refusal, chunk_same, context_same, sound_made}
 use Rattle.addr_space.specs.Footprint as foot
-use Rattle.addr_space.specs.Footprint.{Footprint, nothing}
-use Rattle.addr_space.proofs.Contexts.{counted-nothing}
-use Rattle.addr_space.proofs.Options.{option_cases, none_or_some}
-use Rattle.pgs_step.specs.declared.ids.CtxId.{CtxId}
-use Rattle.forest.specs.declared.id.NodeId.{NodeId}
-use Rattle.forest.specs.Forest.{Forest, Empty, Node, at, has, Once, size, put, mapped}
-use Rattle.forest.specs.Forested.{Forested}
-use Rattle.forest.proofs.Mapped.{mapped-has}
-use Rattle.any_ctx.specs.Ledgers.{Ledger}
-use Rattle.any_ctx.specs.Contexts.{footprint}
-use Rattle.any_ctx.specs.declared.any.CtxKind.{CtxKind}
-use Rattle.context_rules.specs.Names.{is_reserved}
-use Rattle.context_rules.specs.Contexts.{Context, Contexts, new_context, context_named}
-use Rattle.context_rules.specs.Refusals.{create_refusal, is_taken}
-use Rattle.context_rules.specs.declared.errors.TreeError.{TreeError}
-use Rattle.context_rules.specs.declared.errors.TreeError.TheVariants.{Memory, Taken, TooMany}
-use Rattle.context_node.specs.declared.chunk_id.ChunkId.{ChunkId}
-use Rattle.context_node.specs.declared.making.NewContext.{NewContext}
-use Rattle.context_tree.specs.declared.tree.Own.{Own}
-use Rattle.context_node.specs.Kept.{Kept}
-use Rattle.context_node.specs.Soundness.{IsSoundContext}
-use Rattle.context_tree.specs.Soundness.{IsSound, IsOwn}
-use Rattle.context_node.specs.State.{chunk_of, entries, context_of}
-use Rattle.context_tree.specs.State.{TreeState, stands_for, Agrees, Moves, SameRegions, left_of, total_of}
-use Rattle.context_node.specs.Making.{entered_context}
-use Rattle.context_tree.specs.Making.{Grew, CameBack, Added, room_refusal}
 use Rattle.context_tree.proofs.Names.{once_of, find_named}
 use Rattle.context_tree.proofs.Reading.{stands_size}
-use Rattle.context_node.proofs.Steps.{chunk_same, context_same}
 use Rattle.context_tree.proofs.Growing.{Grown, stands_grown, moves_grown, at_put_new, at_grown_other, next_fresh, next_unplaced, own_grown, sound_grown}
-use Rattle.context_node.proofs.Made.{sound_made}
 
 -- two functions that say the same of everything
 pub map_all : {A B : Type 0} (f g : A → B) → ((x : A) → g x ≡ f x) → (xs : List A) → map g xs ≡ map f xs
@@ -62,14 +31,7 @@ module _ (s t : Space) (same : SameRegions s t) where
   byte_still number offset = ap (λ (r : Option Region). get_or (bytes_of r) offset None) (same.regions number)
 
   foot_still : (f : Footprint) → foot.Agrees f s → foot.Agrees f t
-  foot_still f agrees = record {
-    sound = agrees.sound;
-    account = omega (arith, agrees.account, same.accounts);
-    regions = λ number len owns.
-        let has = agrees.regions number len owns in
-        (has.0, same.regions number ∙ has.1, has.2, has.3);
-    marks = λ at bytes marked k below. byte_still at.region (at.offset + k) ∙ agrees.marks at bytes marked k below;
-  }
+  foot_still f agrees = grind (arith, nat_tests, agrees.sound, agrees.account, same.accounts)
 
   pub agrees_still : (a : TreeState) → Agrees a s → Agrees a t
   agrees_still a agrees = record {
@@ -122,17 +84,7 @@ untaken true name contexts free = refl
 untaken false name contexts free = let it = free refl in rw (it.0, it.1) refl
 
 pub taken_name : (name : List ℕ) (contexts : Contexts) → (is_reserved name ≡ true) ⊎ IsSome (context_named name contexts) → is_taken name contexts ≡ true
-taken_name name contexts why = elim why [
-  | inl reserved ↦ rw reserved refl
-  | inr some ↦
-      elim (cases_Bool (is_reserved name)) [
-        | inl y ↦ rw y refl
-        | inr n ↦ elim (option_cases (context_named name contexts)) [
-          | inl none ↦ let clash : IsSome {T = ℕ} None = subst IsSome none some in absurd (cc)
-          | inr is ↦ rw (n, is.1) refl
-        ]
-      ]
-]
+taken_name name contexts why = grind (arith, nat_tests)
 
 -- as many as live leave room
 pub few_of : (many left : ℕ) (kind : CtxKind) → room_refusal many left kind ≡ None → many < 65536

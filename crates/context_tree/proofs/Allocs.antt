@@ -1,48 +1,14 @@
 -- A tree in which a chunk was taken.
-use Rattle.std.proofs.Common.{◌≡◌, ◌≢◌, ◌⊎◌, ℕ, ◌+◌, ◌-◌, ◌<◌, true, false, List, length, Option, Some, None, Ok, IsSome, refl, sym, ap, ◌∙◌, subst, inl, inr, arith}
-use Rattle.std.specs.Option.{option_map}
-use Rattle.std.proofs.lemmas.Bool.{cases_eq, cases_Bool}
-use Rattle.pgs_step.specs.declared.ids.CtxId.{CtxId}
-use Rattle.addr_space.specs.Space.{Space, held, Asks}
+use Rattle.context_tree.proofs.Base.{◌≡◌, ◌≢◌, ◌⊎◌, ℕ, ◌+◌, ◌-◌, ◌<◌, true, false, List, length, Option, Some, None, Ok, IsSome, refl, sym, ap, ◌∙◌, subst, inl, inr, arith, option_map, cases_eq, cases_Bool, nat_tests}
+use Rattle.context_tree.proofs.Words.{CtxId, Space, held, Asks, none_or_some, Forest, Empty, at, has, Once, changed, mapped, has_at, at_some, mapped-at, take, footprint, ledger, take_in, TreeError, Taken, Memory, served, asked, allocated, with_chunk, refusal, is_chunk, alloc_refusal, ChunkId, Entry, Own, Kept, same, IsSoundContext, IsSound, IsChunk, context_of, TreeState, stands_for, Agrees, Moves, left_of, Took, taken_entry, entered, at_here, same_is, is_same, some_or_none, step_at, step_here, step_other, entry_cases, front_other, placed_other, placed_here, chunks_now, sound_took, known_took, context_took}
 use Rattle.addr_space.specs.Footprint as foot
-use Rattle.addr_space.proofs.Options.{none_or_some}
-use Rattle.forest.specs.Forest.{Forest, Empty, at, has, Once, changed, mapped}
-use Rattle.forest.proofs.Trees.{has_at, at_some}
-use Rattle.forest.proofs.Mapped.{mapped-at}
-use Rattle.any_ctx.specs.Ledgers.{take}
-use Rattle.any_ctx.specs.Contexts.{footprint, ledger}
-use Rattle.any_ctx.specs.Calls.{take_in}
-use Rattle.context_rules.specs.declared.errors.TreeError.{TreeError}
-use Rattle.context_rules.specs.declared.errors.TreeError.TheVariants.{Taken, Memory}
-use Rattle.context_rules.specs.Chunks.{served, asked, allocated, with_chunk}
-use Rattle.context_rules.specs.Refusals.{refusal, is_chunk, alloc_refusal}
-use Rattle.context_node.specs.declared.chunk_id.ChunkId.{ChunkId}
-use Rattle.context_node.specs.declared.entry.Entry.{Entry}
-use Rattle.context_tree.specs.declared.tree.Own.{Own}
-use Rattle.context_node.specs.Kept.{Kept}
-use Rattle.context_node.specs.Soundness.{same, IsSoundContext}
-use Rattle.context_tree.specs.Soundness.{IsSound, IsChunk}
-use Rattle.context_node.specs.State.{context_of}
-use Rattle.context_tree.specs.State.{TreeState, stands_for, Agrees, Moves, left_of}
-use Rattle.context_node.specs.Chunking.{Took, taken_entry, entered}
-use Rattle.context_node.proofs.Names.{at_here, same_is, is_same, some_or_none}
 use Rattle.context_tree.proofs.Names.{find_found, find_nothing}
 use Rattle.context_tree.proofs.Steps.{Stepped, stands_by, moves_stepped}
-use Rattle.context_node.proofs.Sounds.{step_at, step_here, step_other}
 use Rattle.context_tree.proofs.Sounds.{sound_step}
-use Rattle.context_node.proofs.Taking.{entry_cases, front_other, placed_other, placed_here, chunks_now, sound_took, known_took, context_took}
 
 -- nothing happens
 pub tree_none : (a : TreeState) (s : Space) → Agrees a s → Moves a a s s
-tree_none a s agrees = record {
-  agrees = agrees;
-  account = refl;
-  outside = λ number region. (λ out. out, λ out. out);
-  accounts = refl;
-  limit = refl;
-  own = refl;
-  others = λ account differ. refl;
-}
+tree_none a s agrees = grind (arith, nat_tests)
 
 module _ (kept : Forest Kept) (places : Forest ℕ) (find_context : List ℕ → Option CtxId) (find_chunk : List ℕ → Option ChunkId) (own : Own) (now : CtxId) (next next_entry : ℕ)
     (sound : IsSound kept places find_context find_chunk own now next next_entry) where
@@ -230,14 +196,7 @@ module _ (a : TreeState) (s : Space) (n : ℕ) (k : Kept) (agrees : Agrees a s) 
     answered = served_take size ∙ took.takes.is
 
     step : Stepped a (record a { kept = changed n (λ _. l) a.kept }) s t n k l
-    step = record {
-      here = here;
-      changed = refl;
-      account = refl;
-      moves = took.moves;
-      known = known_took k l number slot name size known s t took (each n k here) (agrees.each n k here) fresh (λ c e h. agrees.known n c k e here h);
-      total = took.total;
-    }
+    step = grind (arith, nat_tests, took.moves, known_took k l number slot name size known s t took (each n k here) (agrees.each n k here) fresh (λ c e h. agrees.known n c k e here h), took.total)
 
     pub alloc_contexts : stands_for (record a { kept = changed n (λ _. l) a.kept }) t ≡ allocated n (left_of a s) name size known (stands_for a s)
     alloc_contexts =

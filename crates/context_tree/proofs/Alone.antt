@@ -1,17 +1,6 @@
 -- A context that goes or is reset behind all that was below it.
-use Rattle.std.proofs.Common.{◌≡◌, ◌≢◌, ◌⊎◌, ℕ, Bool, true, false, Option, Some, None, refl, sym, ap, ◌∙◌, subst, inl, inr}
-use Rattle.std.specs.Prelude.{◌==◌}
-use Rattle.std.proofs.lemmas.Bool.{cases_Bool, or_parts, eqb-false}
-use Rattle.addr_space.specs.Space.{Space}
-use Rattle.pgs_step.specs.declared.ids.CtxId.{CtxId}
-use Rattle.forest.specs.Forest.{Forest, Empty, Node, has, at, Once, first, children, is_above, removed, changed}
-use Rattle.forest.proofs.Trees.{has_of_removed, has_changed, first_child_other, children_absent}
-use Rattle.reset_callbacks.specs.ShelfState.{ShelfState}
-use Rattle.context_rules.specs.Contexts.{Context, Contexts}
-use Rattle.context_rules.specs.Ends.{Ended, and_then, gone, children_gone, cleared, cleared_alone, emptied}
-use Rattle.context_rules.specs.Refusals.{is_within}
-use Rattle.context_tree.specs.State.{TreeState, stands_for, HooksFit}
-use Rattle.context_tree.specs.Calls.{Did}
+use Rattle.context_tree.proofs.Base.{◌≡◌, ◌≢◌, ◌⊎◌, ℕ, Bool, true, false, Option, Some, None, refl, sym, ap, ◌∙◌, subst, inl, inr, ◌==◌, cases_Bool, or_parts, eqb-false}
+use Rattle.context_tree.proofs.Words.{Space, CtxId, Forest, Empty, Node, has, at, Once, first, children, is_above, removed, changed, has_of_removed, has_changed, first_child_other, children_absent, ShelfState, Context, Contexts, Ended, and_then, gone, children_gone, cleared, cleared_alone, emptied, is_within, TreeState, stands_for, HooksFit, Did}
 use Rattle.context_tree.proofs.Fewer.{bare_with, removed_with}
 use Rattle.context_tree.proofs.Composed.{did_more}
 use Rattle.context_tree.proofs.Going.{gone_last}

@@ -1,10 +1,6 @@
 -- What was asked of an account for contexts that weren't made.
-use Rattle.std.proofs.Common.{ℕ, ◌+◌, ◌≤◌, refl, inl, inr, arith}
-use Rattle.addr_space.specs.Space.{Space, Asks}
-use Rattle.addr_space.proofs.Asked.{Asks-more}
-use Rattle.context_rules.specs.declared.errors.TreeError.{TreeError}
-use Rattle.context_rules.specs.declared.errors.TreeError.TheVariants.{Memory}
-use Rattle.context_tree.specs.Making.{AsksInVain, AsksPart, AsksPartInVain}
+use Rattle.context_tree.proofs.Base.{ℕ, ◌+◌, ◌≤◌, refl, inl, inr, arith}
+use Rattle.context_tree.proofs.Words.{Space, Asks, Asks-more, TreeError, Memory, AsksInVain, AsksPart, AsksPartInVain}
 
 -- a part behind what was asked before, in all at most so many bytes
 pub part_more : (account m n most : ℕ) (s t u : Space) → m + n ≤ most → Asks account m s t → AsksPart account n t u → AsksPart account most s u

@@ -1,17 +1,7 @@
 -- A tree of contexts beside another one, of another account, that changes in the same space.
-use Rattle.std.proofs.Common.{◌≡◌, ◌≢◌, ℕ, ◌+◌, map, get_or, Option, Some, None, IsSome, refl, sym, ap, ◌∙◌, subst, inl, inr, arith}
-use Rattle.std.specs.Prelude.{unwrap_or}
-use Rattle.addr_space.specs.Space.{Space, Region, region_at, bytes_of, part}
+use Rattle.context_tree.proofs.Base.{◌≡◌, ◌≢◌, ℕ, ◌+◌, map, get_or, Option, Some, None, IsSome, refl, sym, ap, ◌∙◌, subst, inl, inr, arith, unwrap_or}
+use Rattle.context_tree.proofs.Words.{Space, Region, region_at, bytes_of, part, option_cases, one_value, at, Once, footprint, Kept, IsSoundContext, chunk_of, context_of, TreeState, stands_for, Agrees, Moves, entries_same, chunk_same, context_same}
 use Rattle.addr_space.specs.Footprint as foot
-use Rattle.addr_space.specs.Footprint.{Footprint}
-use Rattle.addr_space.proofs.Options.{option_cases, one_value}
-use Rattle.forest.specs.Forest.{at, Once}
-use Rattle.any_ctx.specs.Contexts.{footprint}
-use Rattle.context_node.specs.Kept.{Kept}
-use Rattle.context_node.specs.Soundness.{IsSoundContext}
-use Rattle.context_node.specs.State.{chunk_of, context_of}
-use Rattle.context_tree.specs.State.{TreeState, stands_for, Agrees, Moves}
-use Rattle.context_node.proofs.Steps.{entries_same, chunk_same, context_same}
 use Rattle.context_tree.proofs.Growing.{mapped_same}
 
 module _ (a b c : TreeState) (s t : Space) (moves : Moves a b s t) (changing : Agrees a s) (agrees : Agrees c s) (once : Once c.kept) (each : (n : ℕ) (k : Kept) → at n c.kept ≡ Some k → IsSoundContext k)

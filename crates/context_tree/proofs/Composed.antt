@@ -1,15 +1,6 @@
 -- Calls that end contexts, one after the other.
-use Rattle.std.proofs.Common.{◌≡◌, ℕ, ◌+◌, ◌-◌, true, List, [], ◌++◌, length, map, refl, sym, ap, ◌∙◌, subst, arith, append_assoc}
-use Rattle.std.proofs.lemmas.List.{append-nil, map-append, length-append}
-use Rattle.pgs_step.specs.declared.events.What.{What}
-use Rattle.addr_space.specs.Space.{Space, held}
-use Rattle.forest.specs.Forest.{has}
-use Rattle.reset_callbacks.specs.Hook.{Hook, ran}
-use Rattle.reset_callbacks.specs.ShelfState.{ShelfState}
-use Rattle.context_rules.specs.Contexts.{Contexts}
-use Rattle.context_rules.specs.Ends.{Ended, and_then, unchanged, handed_in}
-use Rattle.context_tree.specs.State.{TreeState, stands_for, total_of, Agrees, Moves, HooksFit}
-use Rattle.context_tree.specs.Calls.{Did}
+use Rattle.context_tree.proofs.Base.{◌≡◌, ℕ, ◌+◌, ◌-◌, true, List, ◌++◌, map, refl, ap, ◌∙◌, subst, arith, append_assoc, append-nil, map-append, length-append, nat_tests}
+use Rattle.context_tree.proofs.Words.{What, Space, held, has, Hook, ran, ShelfState, Contexts, Ended, and_then, unchanged, handed_in, TreeState, stands_for, total_of, Agrees, Moves, HooksFit, Did}
 use Rattle.context_tree.proofs.Allocs.{tree_none}
 
 -- the same contexts, events and hooks
@@ -25,12 +16,7 @@ then_assoc d e f =
 
 -- hooks that are handed in after others
 handed_more : (xs ys : List Hook) (x : ShelfState) → handed_in ys (handed_in xs x) ≡ handed_in (xs ++ ys) x
-handed_more xs ys x =
-    let spent : (x.spent ++ map ran xs) ++ map ran ys ≡ x.spent ++ map ran (xs ++ ys) =
-    append_assoc x.spent (map ran xs) (map ran ys) ∙ ap (λ (hooks : List Hook). x.spent ++ hooks) (sym (map-append ran xs ys)) in
-    let out : x.out - length xs - length ys ≡ x.out - length (xs ++ ys) = omega (arith, length-append xs ys) in
-    ap (λ (hooks : List Hook). record x { spent = hooks; out = x.out - length xs - length ys }) spent
-    ∙ ap (λ (n : ℕ). record x { spent = x.spent ++ map ran (xs ++ ys); out = n }) out
+handed_more xs ys x = grind (arith, nat_tests, append_assoc x.spent (map ran xs) (map ran ys), map-append ran xs ys, length-append xs ys)
 
 -- two moves of a tree and its space
 pub tree_more : (a b c : TreeState) (s t u : Space) → Moves a b s t → Moves b c t u → Moves a c s u
@@ -66,15 +52,4 @@ did_more e f a b c s t u x y z fewer first second = record {
 
 -- no call
 pub did_none : (a : TreeState) (s : Space) (x : ShelfState) → Agrees a s → HooksFit (stands_for a s) x → Did (unchanged (stands_for a s)) a a s s x x
-did_none a s x agrees hooks = record {
-  contexts = refl;
-  shelf =
-      let out : x.out ≡ x.out - 0 = omega arith in
-      ap (λ (hooks : List Hook). record x { spent = hooks }) (sym (append-nil x.spent)) ∙ ap (λ (n : ℕ). record x { spent = x.spent ++ []; out = n }) out;
-  hooks = hooks;
-  moves = tree_none a s agrees;
-  asked = refl;
-  stays = λ n h. refl;
-  current = refl;
-  next = refl;
-}
+did_none a s x agrees hooks = grind (arith, nat_tests, append-nil x.spent, tree_none a s agrees)

@@ -1,26 +1,7 @@
 -- A tree whose contexts are given back one after the other, each without children, and one step after another.
-use Rattle.std.proofs.Common.{◌≡◌, ◌≢◌, ℕ, ◌+◌, ◌<◌, true, Some, None, IsSome, refl, sym, ap, ◌∙◌, subst, inl, inr, arith}
-use Rattle.std.specs.Option.{option_map}
-use Rattle.std.proofs.lemmas.Bool.{cases_eq}
-use Rattle.addr_space.specs.Space.{Space, held}
+use Rattle.context_tree.proofs.Base.{◌≡◌, ◌≢◌, ℕ, ◌+◌, ◌<◌, true, Some, None, IsSome, refl, sym, ap, ◌∙◌, subst, inl, inr, arith, option_map, cases_eq, nat_tests}
+use Rattle.context_tree.proofs.Words.{Space, held, AreDisjoint, nothing, Agrees-other, Keeps-other, counted-own, counted-other, counted-nothing, Forest, Empty, Node, either, at, first, has, Once, children, removed, mapped, lead, lead_in, lead_end, lead_leaf, children_in, once_children, Apart, apart_of, Here, Below, Beside, where_is, has_at, at_some, at_absent, removed_absent, once_removed, first_child_other, left_apart, at_removed, mapped-removed, mapped-children, mapped-once, mapped-at, stats, footprint, ledger, Context, Contexts, Kept, IsSoundContext, context_of, TreeState, stands_for, Agrees, total_of, Moves, bare, context_stays}
 use Rattle.addr_space.specs.Footprint as foot
-use Rattle.addr_space.specs.Footprint.{AreDisjoint, nothing}
-use Rattle.addr_space.proofs.Apart.{Agrees-other, Keeps-other}
-use Rattle.addr_space.proofs.Contexts.{counted-own, counted-other, counted-nothing}
-use Rattle.forest.specs.Forest.{Forest, Empty, Node, either, at, first, has, Once, children, removed, mapped}
-use Rattle.forest.specs.Walk.{lead}
-use Rattle.forest.proofs.Walks.{lead_in, lead_end, lead_leaf, children_in, once_children}
-use Rattle.forest.proofs.Trees.{Apart, apart_of, Here, Below, Beside, where_is, has_at, at_some, at_absent, removed_absent, once_removed, first_child_other, left_apart, at_removed}
-use Rattle.forest.proofs.Mapped.{mapped-removed, mapped-children, mapped-once, mapped-at}
-use Rattle.any_ctx.specs.Ledgers.{stats}
-use Rattle.any_ctx.specs.Contexts.{footprint, ledger}
-use Rattle.context_rules.specs.Contexts.{Context, Contexts}
-use Rattle.context_node.specs.Kept.{Kept}
-use Rattle.context_node.specs.Soundness.{IsSoundContext}
-use Rattle.context_node.specs.State.{context_of}
-use Rattle.context_tree.specs.State.{TreeState, stands_for, Agrees, total_of, Moves}
-use Rattle.context_tree.specs.Making.{bare}
-use Rattle.context_node.proofs.Steps.{context_stays}
 use Rattle.context_tree.proofs.Growing.{mapped_same}
 
 -- one step after another
@@ -185,13 +166,7 @@ none_first (Node n a below beside) none = absurd (cc)
 module _ (account n : ℕ) (k : Kept) (f g : Forest Kept) (s t : Space) (agrees : Agrees (bare account f) s) (once : Once f) (each : (m : ℕ) (j : Kept) → at m f ≡ Some j → IsSoundContext j) (here : at n f ≡ Some k)
     (leaf : children n f ≡ Empty) (now : g ≡ removed n f) (gives : foot.Moves (footprint k.memory) (nothing (footprint k.memory).account (footprint k.memory).context) s t) where
   one_gone : Gone (bare account f) (bare account g) s t n k (footprint k.memory).context
-  one_gone = record {
-    here = here;
-    leaf = leaf;
-    now = now;
-    account = refl;
-    moves = subst (λ (a : ℕ). foot.Moves (footprint k.memory) (nothing a (footprint k.memory).context) s t) (agrees.owned n k here) gives;
-  }
+  one_gone = grind (arith, nat_tests, agrees.owned n k here)
 
   pub one_back : Moves (bare account f) (bare account g) s t
   one_back = moves_gone (bare account f) (bare account g) s t n k (footprint k.memory).context agrees once each one_gone
@@ -201,22 +176,8 @@ module _ (account n : ℕ) (k : Kept) (f g : Forest Kept) (s t : Space) (agrees 
 
 -- a tree agrees with a space, and moves, by its contexts and their account alone
 pub agrees_bare : (a : TreeState) (s : Space) → Agrees a s → Agrees (bare a.account a.kept) s
-agrees_bare a s agrees = record {
-  account = agrees.account;
-  each = agrees.each;
-  owned = agrees.owned;
-  apart = agrees.apart;
-  known = agrees.known;
-}
+agrees_bare a s agrees = grind (arith, nat_tests, agrees.account, agrees.each, agrees.owned, agrees.apart, agrees.known)
 
 pub moves_bare : (a b : TreeState) (s t : Space) → Moves (bare a.account a.kept) b s t → Moves a b s t
 unfolding stands_for
-moves_bare a b s t moves = record {
-  agrees = moves.agrees;
-  account = moves.account;
-  outside = moves.outside;
-  accounts = moves.accounts;
-  limit = moves.limit;
-  own = moves.own;
-  others = moves.others;
-}
+moves_bare a b s t moves = grind (arith, nat_tests, moves.agrees, moves.account, moves.outside, moves.accounts, moves.limit, moves.own, moves.others)

@@ -1,24 +1,6 @@
 -- A tree whose contexts all go one after the other, each without children.
-use Rattle.std.proofs.Common.{◌≡◌, ℕ, ◌+◌, true, List, Option, Some, refl, sym, ap, ◌∙◌, subst, arith}
-use Rattle.std.proofs.lemmas.Bool.{eq-eqb}
-use Rattle.std.proofs.lemmas.List.{append-nil}
-use Rattle.addr_space.specs.Space.{Space, held, share}
-use Rattle.addr_space.proofs.Held.{held-changed}
-use Rattle.forest.specs.Forest.{Forest, Empty, Node, Once, at, first, has, children, removed, mapped}
-use Rattle.forest.specs.Walk.{lead}
-use Rattle.forest.proofs.Trees.{has_at, has_of_removed}
-use Rattle.forest.proofs.Mapped.{mapped-children}
-use Rattle.reset_callbacks.specs.ShelfState.{ShelfState}
-use Rattle.context_rules.specs.Contexts.{Contexts}
-use Rattle.context_rules.specs.Ends.{Ended, and_then, unchanged, gone, gone_events, waiting}
-use Rattle.context_node.specs.Kept.{Kept}
-use Rattle.context_node.specs.Soundness.{IsSoundContext}
-use Rattle.context_node.specs.State.{context_of}
-use Rattle.context_node.specs.declared.chunk_id.ChunkId.{ChunkId}
-use Rattle.context_node.specs.Ending.{Gone}
-use Rattle.context_tree.specs.State.{TreeState, stands_for, no_contexts, total_of, Agrees, Moves, SameRegions, HooksFit}
-use Rattle.context_tree.specs.Calls.{Did}
-use Rattle.context_tree.specs.Making.{bare}
+use Rattle.context_tree.proofs.Base.{◌≡◌, ℕ, ◌+◌, true, List, Option, Some, refl, sym, ap, ◌∙◌, subst, arith, eq-eqb, append-nil}
+use Rattle.context_tree.proofs.Words.{Space, held, share, held-changed, Forest, Empty, Node, Once, at, first, has, children, removed, mapped, lead, has_at, has_of_removed, mapped-children, ShelfState, Contexts, Ended, and_then, unchanged, gone, gone_events, waiting, Kept, IsSoundContext, context_of, ChunkId, Gone, TreeState, stands_for, no_contexts, total_of, Agrees, Moves, SameRegions, HooksFit, Did, bare}
 use Rattle.context_tree.proofs.Composed.{then_assoc, did_more, did_none}
 use Rattle.context_tree.proofs.Going.{none_left, first_gone, once_stands, has_stands, lead_all}
 use Rattle.context_tree.proofs.Emptying.{each_left}

@@ -1,13 +1,6 @@
 -- Forests of which nodes go, and what is said of each.
-use Rattle.std.proofs.Common.{◌≡◌, ◌≢◌, ℕ, true, false, Option, Some, List, [], ◌++◌, refl, sym, ap, ◌∙◌, inl, inr, append_assoc}
-use Rattle.std.specs.Prelude.{◌==◌, ◌||◌}
-use Rattle.std.specs.Option.{option_map_or}
-use Rattle.std.proofs.lemmas.Bool.{cases_Bool, eq-eqb, ne_eqb, eqb-true, or_parts, both_ways}
-use Rattle.forest.specs.Forest.{Forest, Empty, Node, has, Once, at, children, removed, with_children, subtree}
-use Rattle.forest.specs.Walk.{lead}
-use Rattle.forest.proofs.Trees.{Apart, apart_of, at_some, removed_absent, has_children}
-use Rattle.forest.proofs.Walks.{lead_of_node, once_children, children_in, children_removed}
-use Rattle.forest.proofs.Moved.{at_children}
+use Rattle.context_tree.proofs.Base.{◌≡◌, ◌≢◌, ℕ, true, false, Option, Some, List, [], ◌++◌, refl, sym, ap, ◌∙◌, inl, inr, append_assoc, ◌==◌, ◌||◌, option_map_or, cases_Bool, eq-eqb, ne_eqb, eqb-true, or_parts, both_ways, nat_tests, arith}
+use Rattle.context_tree.proofs.Words.{Forest, Empty, Node, has, Once, at, children, removed, with_children, subtree, lead, Apart, apart_of, at_some, removed_absent, has_children, lead_of_node, once_children, children_in, children_removed, at_children}
 
 module _ {A : Type 0} where
   -- a node that one part of the forest lacks is another one
@@ -146,10 +139,4 @@ module _ {A B : Type 0} (said : ℕ → A → List B) where
 
   -- of what is below a node
   pub told_first : (n m : ℕ) (t : Forest A) → Once t → m ≡ lead n (children n t) → has m (children n t) ≡ true → told (children n t) ≡ told (subtree m t) ++ told (children n (removed m t))
-  told_first n m t o e h =
-      let low : Forest A = children n t in
-      let i : has (lead n low) low ≡ true = ap (λ (x : ℕ). has x low) (sym e) ∙ h in
-      told_lead n low (once_children n t o) i
-      ∙ ap (λ (x : ℕ). told (subtree x low) ++ told (removed x low)) (sym e)
-      ∙ ap (λ (x : Forest A). told x ++ told (removed m low)) (subtree_in m n t o h)
-      ∙ ap (λ (x : Forest A). told (subtree m t) ++ told x) (sym (children_removed m n t o h))
+  told_first n m t o e h = grind (arith, nat_tests, children n t, told_lead n (children n t) (once_children n t o) (ap (λ (x : ℕ). has x (children n t)) (sym e) ∙ h), subtree_in m n t o h, children_removed m n t o h)

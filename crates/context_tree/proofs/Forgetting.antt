@@ -1,24 +1,8 @@
 -- Names that lead nowhere once a context is reset or gone.
-use Rattle.std.proofs.Common.{◌≡◌, ◌≢◌, ◌⊎◌, ℕ, Bool, true, false, List, Option, Some, None, [], refl, sym, ap, ◌∙◌, subst, inl, inr, arith}
-use Rattle.std.specs.Prelude.{◌||◌}
-use Rattle.std.specs.Option.{option_map_or}
-use Rattle.std.proofs.lemmas.Bool.{cases_eq, cases_Bool, both_ways, or_cases, or_left, or_right}
-use Rattle.pgs_step.specs.declared.ids.CtxId.{CtxId}
-use Rattle.addr_space.proofs.Options.{none_or_some}
-use Rattle.forest.specs.Forest.{Forest, Empty, Node, at, has, children, changed, removed, Once}
-use Rattle.forest.proofs.Trees.{Apart, apart_of, has_at, at_some, has_of_removed, times_removed, size_removed}
-use Rattle.context_node.specs.declared.chunk_id.ChunkId.{ChunkId}
-use Rattle.context_node.specs.declared.entry.Entry.{Entry}
-use Rattle.context_tree.specs.declared.tree.Own.{Own}
-use Rattle.context_node.specs.Kept.{Kept}
-use Rattle.context_node.specs.Soundness.{same, IsSoundContext}
-use Rattle.context_tree.specs.Soundness.{IsSound, IsNamed, IsChunk, IsOwn}
-use Rattle.context_node.specs.Ending.{is_named, left_names, without_context}
-use Rattle.context_node.proofs.Names.{at_here, at_below, at_beside, one_at, below_or_beside, same_is, is_same}
+use Rattle.context_tree.proofs.Base.{◌≡◌, ◌≢◌, ◌⊎◌, ℕ, Bool, true, false, List, Option, Some, None, [], refl, sym, ap, ◌∙◌, subst, inl, inr, arith, ◌||◌, option_map_or, cases_eq, cases_Bool, both_ways, or_cases, or_left, or_right}
+use Rattle.context_tree.proofs.Words.{CtxId, none_or_some, Forest, Empty, Node, at, has, children, changed, removed, Once, Apart, apart_of, has_at, at_some, has_of_removed, times_removed, size_removed, ChunkId, Entry, Own, Kept, same, IsSoundContext, IsSound, IsNamed, IsChunk, IsOwn, is_named, left_names, without_context, at_here, at_below, at_beside, one_at, below_or_beside, same_is, is_same, step_at, step_other, other_than_removed}
 use Rattle.context_tree.proofs.Names.{once_of}
-use Rattle.context_node.proofs.Sounds.{step_at, step_other}
 use Rattle.context_tree.proofs.Sounds.{sound_step}
-use Rattle.context_node.proofs.Removals.{other_than_removed}
 use Rattle.context_tree.proofs.Shrinking.{left_at, still_at}
 
 module _ (w : List ℕ) where

@@ -1,30 +1,10 @@
 -- A tree in which a chunk was freed.
-use Rattle.std.proofs.Common.{◌≡◌, ◌≢◌, ℕ, List, Option, Some, None, Ok, unwrap_or, refl, sym, ap, ◌∙◌, inl, inr, arith}
-use Rattle.std.specs.Prelude.{if◌then◌else◌}
-use Rattle.std.proofs.lemmas.Bool.{cases_eq, cases_Bool, both_ways}
-use Rattle.pgs_step.specs.declared.ids.CtxId.{CtxId}
-use Rattle.addr_space.specs.Space.{Space}
+use Rattle.context_tree.proofs.Base.{◌≡◌, ◌≢◌, ℕ, List, Option, Some, None, Ok, unwrap_or, refl, sym, ap, ◌∙◌, inl, inr, arith, if◌then◌else◌, cases_eq, cases_Bool, both_ways, nat_tests}
+use Rattle.context_tree.proofs.Words.{CtxId, Space, Forest, at, Once, changed, has_at, at_some, Place, InSlab, give, footprint, ledger, place_at, without, freed, ChunkId, Entry, Own, Kept, same, IsSoundContext, IsSound, IsChunk, TreeState, stands_for, Agrees, Moves, Freed, Leads, same_is, is_same, step_at, step_here, step_other, still_at, left, sound_freed, known_freed, context_freed}
 use Rattle.addr_space.specs.Footprint as foot
-use Rattle.forest.specs.Forest.{Forest, at, Once, changed}
-use Rattle.forest.proofs.Trees.{has_at, at_some}
-use Rattle.any_ctx.specs.Ledgers.{Place, InSlab, give}
-use Rattle.any_ctx.specs.Contexts.{footprint, ledger, place_at}
-use Rattle.context_rules.specs.Chunks.{without, freed}
-use Rattle.context_node.specs.declared.chunk_id.ChunkId.{ChunkId}
-use Rattle.context_node.specs.declared.entry.Entry.{Entry}
-use Rattle.context_tree.specs.declared.tree.Own.{Own}
-use Rattle.context_node.specs.Kept.{Kept}
-use Rattle.context_node.specs.Soundness.{same, IsSoundContext}
-use Rattle.context_tree.specs.Soundness.{IsSound, IsChunk}
-use Rattle.context_tree.specs.State.{TreeState, stands_for, Agrees, Moves}
-use Rattle.context_node.specs.Chunking.{Freed}
-use Rattle.context_tree.specs.Lookup.{Leads}
-use Rattle.context_node.proofs.Names.{same_is, is_same}
 use Rattle.context_tree.proofs.Steps.{Stepped, stands_by, moves_stepped}
-use Rattle.context_node.proofs.Sounds.{step_at, step_here, step_other}
 use Rattle.context_tree.proofs.Sounds.{sound_step}
-use Rattle.context_node.proofs.Removals.{still_at}
-use Rattle.context_node.proofs.Freeing.{chunks_now, left, sound_freed, known_freed, context_freed}
+use Rattle.context_node.proofs.Freeing.{chunks_now}
 
 -- a map of names without one
 abbrev pub dropped : List ℕ → (List ℕ → Option ChunkId) → List ℕ → Option ChunkId
@@ -112,14 +92,7 @@ module _ (kept : Forest Kept) (places : Forest ℕ) (find_context : List ℕ →
 module _ (a : TreeState) (s t : Space) (w : List ℕ) (id : ChunkId) (k l : Kept) (agrees : Agrees a s) (once : Once a.kept) (each : (m : ℕ) (j : Kept) → at m a.kept ≡ Some j → IsSoundContext j)
     (leads : Leads a w id) (here : at id.context.number a.kept ≡ Some k) (gone : Freed k l id.entry.number s t) where
   stepped : Stepped a (record a { kept = changed id.context.number (λ _. l) a.kept }) s t id.context.number k l
-  stepped = record {
-    here = here;
-    changed = refl;
-    account = refl;
-    moves = gone.moves;
-    known = known_freed k l id.entry.number s t gone (each id.context.number k here) (agrees.each id.context.number k here) (λ c e h. agrees.known id.context.number c k e here h);
-    total = gone.total;
-  }
+  stepped = grind (arith, nat_tests, gone.moves, known_freed k l id.entry.number s t gone (each id.context.number k here) (agrees.each id.context.number k here) (λ c e h. agrees.known id.context.number c k e here h), gone.total)
 
   pub free_moves : Moves a (record a { kept = changed id.context.number (λ _. l) a.kept }) s t
   free_moves = moves_stepped a (record a { kept = changed id.context.number (λ _. l) a.kept }) s t id.context.number k l agrees once each stepped

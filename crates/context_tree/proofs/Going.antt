@@ -1,21 +1,6 @@
 -- Contexts that go one by one, each behind all that is below it.
-use Rattle.std.proofs.Common.{◌≡◌, ◌≢◌, ℕ, ◌<◌, true, false, Option, Some, None, List, [], ◌∷◌, ◌++◌, refl, sym, ap, ◌∙◌, inl, inr, arith, append_assoc}
-use Rattle.std.specs.Option.{option_map_or}
-use Rattle.std.proofs.lemmas.Bool.{both_ways, false_from_ne_true}
-use Rattle.std.proofs.lemmas.List.{append-nil}
-use Rattle.pgs_step.specs.declared.events.What.{What}
-use Rattle.pgs_step.specs.declared.events.What.TheVariants.{Delete}
-use Rattle.addr_space.specs.Space.{Space}
-use Rattle.forest.specs.Forest.{Empty, Node, has, Once, size, at, children, is_above, removed, with_children, subtree}
-use Rattle.forest.specs.Walk.{lead, follows}
-use Rattle.forest.proofs.Trees.{first_child_other, once_removed, size_removed, has_children, children_absent, has_of_removed, at_some}
-use Rattle.forest.proofs.Walks.{once_children, lead_in, lead_removed, lead_leaf, lead_end, children_removed, above_stays, children_in}
-use Rattle.forest.proofs.Mapped.{mapped-has, mapped-children, mapped-lead, mapped-follows, mapped-once}
-use Rattle.reset_callbacks.specs.Hook.{Hook}
-use Rattle.context_rules.specs.Contexts.{Context, Contexts}
-use Rattle.context_rules.specs.Ends.{Ended, and_then, gone, children_gone, gone_events, callbacks, waiting}
-use Rattle.context_node.specs.State.{context_of}
-use Rattle.context_tree.specs.State.{TreeState, stands_for}
+use Rattle.context_tree.proofs.Base.{◌≡◌, ◌≢◌, ℕ, ◌<◌, true, false, Option, Some, None, List, [], ◌∷◌, ◌++◌, refl, sym, ap, ◌∙◌, inl, inr, arith, append_assoc, option_map_or, both_ways, false_from_ne_true, append-nil}
+use Rattle.context_tree.proofs.Words.{What, Delete, Space, Empty, Node, has, Once, size, at, children, is_above, removed, with_children, subtree, lead, follows, first_child_other, once_removed, size_removed, has_children, children_absent, has_of_removed, at_some, once_children, lead_in, lead_removed, lead_leaf, lead_end, children_removed, above_stays, children_in, mapped-has, mapped-children, mapped-lead, mapped-follows, mapped-once, Hook, Context, Contexts, Ended, and_then, gone, children_gone, gone_events, callbacks, waiting, context_of, TreeState, stands_for}
 use Rattle.context_tree.proofs.Composed.{ended_same}
 use Rattle.context_tree.proofs.Fewer.{told, told_lead, told_first, at_with, bare_with, removed_with, with_bare, with_removed}
 

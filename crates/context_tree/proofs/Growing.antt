@@ -1,31 +1,7 @@
 -- A context more in a tree: what that makes of the tree, and of what it stands for.
-use Rattle.std.proofs.Common.{◌≡◌, ◌≢◌, ◌⊎◌, ℕ, ◌+◌, ◌<◌, ◌≤◌, Bool, true, false, List, Option, Some, None, IsSome, refl, sym, ap, ◌∙◌, subst, inl, inr, arith}
-use Rattle.std.specs.Prelude.{◌==◌, ◌||◌, if◌then◌else◌}
-use Rattle.pgs_step.specs.declared.ids.CtxId.{CtxId}
-use Rattle.std.proofs.lemmas.Bool.{cases_eq, cases_Bool, eq-eqb, ne_eqb, both_ways, or_parts, cases_lt, lt-ltb, le-ltb}
-use Rattle.addr_space.specs.Space.{Space}
+use Rattle.context_tree.proofs.Base.{◌≡◌, ◌≢◌, ◌⊎◌, ℕ, ◌+◌, ◌<◌, ◌≤◌, Bool, true, false, List, Option, Some, None, IsSome, refl, sym, ap, ◌∙◌, subst, inl, inr, arith, ◌==◌, ◌||◌, if◌then◌else◌, cases_eq, cases_Bool, eq-eqb, ne_eqb, both_ways, or_parts, cases_lt, lt-ltb, le-ltb, nat_tests}
+use Rattle.context_tree.proofs.Words.{CtxId, Space, nothing, Agrees-other, Keeps-other, AreDisjoint-sym, AreDisjoint-nothing, AreDisjoint-fresh, counted-own, counted-other, counted-nothing, none_or_some, Forest, Empty, Node, at, has, Once, size, times, put, mapped, Apart, apart_of, Here, Below, Beside, where_is, has_at, at_some, has_none, put_absent, at_absent, times_put, times_none, size_put, mapped-put, mapped-once, mapped-has, stats, footprint, ledger, Context, Contexts, ChunkId, Entry, Own, Kept, entered_context, same, IsSoundContext, one_below, IsSound, IsNamed, IsChunk, IsOwn, context_of, TreeState, stands_for, Agrees, total_of, Moves, at_here, at_below, at_beside, same_is, is_same, context_stays}
 use Rattle.addr_space.specs.Footprint as foot
-use Rattle.addr_space.specs.Footprint.{Footprint, AreDisjoint, nothing}
-use Rattle.addr_space.proofs.Apart.{Agrees-other, Keeps-other, AreDisjoint-sym}
-use Rattle.addr_space.proofs.Contexts.{AreDisjoint-nothing, AreDisjoint-fresh, counted-own, counted-other, counted-nothing}
-use Rattle.addr_space.proofs.Options.{none_or_some}
-use Rattle.forest.specs.Forest.{Forest, Empty, Node, at, has, Once, size, times, put, mapped}
-use Rattle.forest.proofs.Trees.{Apart, apart_of, Here, Below, Beside, where_is, has_at, at_some, has_none, put_absent, at_absent, times_put, times_none, size_put}
-use Rattle.forest.proofs.Mapped.{mapped-put, mapped-once, mapped-has}
-use Rattle.any_ctx.specs.Ledgers.{stats}
-use Rattle.any_ctx.specs.Contexts.{footprint, ledger}
-use Rattle.context_rules.specs.Contexts.{Context, Contexts}
-use Rattle.context_node.specs.declared.chunk_id.ChunkId.{ChunkId}
-use Rattle.context_node.specs.declared.entry.Entry.{Entry}
-use Rattle.context_tree.specs.declared.tree.Own.{Own}
-use Rattle.context_node.specs.Kept.{Kept}
-use Rattle.context_node.specs.Making.{entered_context}
-use Rattle.context_node.specs.Soundness.{same, IsSoundContext}
-use Rattle.context_tree.specs.Soundness.{one_below, IsSound, IsNamed, IsChunk, IsOwn}
-use Rattle.context_node.specs.State.{context_of}
-use Rattle.context_tree.specs.State.{TreeState, stands_for, Agrees, total_of, Moves}
-use Rattle.context_node.proofs.Names.{at_here, at_below, at_beside, same_is, is_same}
-use Rattle.context_node.proofs.Steps.{context_stays}
 
 module _ {A : Type 0} (p n : ℕ) (a : A) where
   -- the new node, and the others
@@ -234,25 +210,7 @@ module _ (kept : Forest Kept) (places : Forest ℕ) (find_context : List ℕ →
 
   -- another map of names that says the same
   pub sound_found : (find2 : List ℕ → Option CtxId) → ((w : List ℕ) → find2 w ≡ find_context w) → IsSound kept places find2 find_chunk own now next next_entry
-  sound_found find2 alike = record {
-    numbers = sound.numbers;
-    few = sound.few;
-    lies = sound.lies;
-    there = sound.there;
-    each = sound.each;
-    given = sound.given;
-    named = λ word id h. sound.named word id (sym (alike word) ∙ h);
-    names = λ m j h findable.
-        let there = sound.names m j h findable in
-        (there.0, alike j.name ∙ there.1, there.2);
-    chunk_named = sound.chunk_named;
-    chunk_names = sound.chunk_names;
-    top = sound.top;
-    cache = sound.cache;
-    portals = sound.portals;
-    abort = sound.abort;
-    current = sound.current;
-  }
+  sound_found find2 alike = grind (arith, nat_tests, sound.numbers, sound.few, sound.lies, sound.there, sound.each, sound.given, sound.chunk_named, sound.chunk_names, sound.top, sound.cache, sound.portals, sound.abort, sound.current)
 
 module _ (places : Forest ℕ) (next p slot : ℕ) (parent_placed : has p places ≡ true) (unplaced : has next places ≡ false) where
   -- one of the session's own contexts, once this one is noted

@@ -1,13 +1,7 @@
 -- Hooks that wait, once some of them ran and were handed in.
-use Rattle.std.proofs.Common.{◌≡◌, ℕ, ◌+◌, ◌≤◌, List, [], ◌++◌, length, map, Some, refl, sym, ap, ◌∙◌, subst, append_assoc, arith}
-use Rattle.std.proofs.lemmas.List.{length-append}
-use Rattle.forest.specs.Forest.{Empty, Node, either, at, children, changed, removed, Once}
-use Rattle.forest.proofs.Trees.{Apart, apart_of, Here, Below, Beside, where_is, has_at, at_absent, at_some, removed_absent, changed_absent}
-use Rattle.reset_callbacks.specs.Hook.{Hook, ran, AreDistinct}
-use Rattle.reset_callbacks.specs.ShelfState.{ShelfState, held}
-use Rattle.context_rules.specs.Contexts.{Context, Contexts}
-use Rattle.context_rules.specs.Ends.{waiting, handed_in, emptied}
-use Rattle.context_node.proofs.Handing.{distinct_right, distinct_between, distinct_handed}
+use Rattle.context_tree.proofs.Base.{◌≡◌, ℕ, ◌+◌, ◌≤◌, List, [], ◌++◌, length, map, Some, refl, sym, ap, ◌∙◌, subst, append_assoc, arith, length-append, nat_tests}
+use Rattle.context_tree.proofs.Words.{Empty, Node, either, at, children, changed, removed, Once, Apart, apart_of, Here, Below, Beside, where_is, has_at, at_absent, at_some, removed_absent, changed_absent, Hook, ran, AreDistinct, ShelfState, Context, Contexts, waiting, handed_in, emptied, distinct_right, distinct_between, distinct_handed}
+use Rattle.reset_callbacks.specs.ShelfState.{held}
 
 -- a list of hooks with some of them in its midst, and the others
 pub record Parted (all hooks rest : List Hook) : Type 0 where
@@ -17,22 +11,10 @@ pub record Parted (all hooks rest : List Hook) : Type 0 where
   pub left : rest ≡ front ++ back
 
 parted_behind : (xs all hooks rest : List Hook) → Parted all hooks rest → Parted (xs ++ all) hooks (xs ++ rest)
-parted_behind xs all hooks rest p = record {
-  front = xs ++ p.front;
-  back = p.back;
-  whole = ap (λ (z : List Hook). xs ++ z) p.whole ∙ sym (append_assoc xs p.front (hooks ++ p.back));
-  left = ap (λ (z : List Hook). xs ++ z) p.left ∙ sym (append_assoc xs p.front p.back);
-}
+parted_behind xs all hooks rest p = grind (arith, nat_tests, p.back, p.whole, append_assoc xs p.front (hooks ++ p.back), p.left, append_assoc xs p.front p.back)
 
 parted_before : (ys all hooks rest : List Hook) → Parted all hooks rest → Parted (all ++ ys) hooks (rest ++ ys)
-parted_before ys all hooks rest p = record {
-  front = p.front;
-  back = p.back ++ ys;
-  whole =
-      ap (λ (z : List Hook). z ++ ys) p.whole ∙ append_assoc p.front (hooks ++ p.back) ys
-      ∙ ap (λ (z : List Hook). p.front ++ z) (append_assoc hooks p.back ys);
-  left = ap (λ (z : List Hook). z ++ ys) p.left ∙ append_assoc p.front p.back ys;
-}
+parted_before ys all hooks rest p = grind (arith, nat_tests, p.front, p.whole, append_assoc p.front (hooks ++ p.back) ys, append_assoc hooks p.back ys, p.left, append_assoc p.front p.back ys)
 
 -- the hooks of a context that is reset
 pub parted_changed : (n : ℕ) (c : Context) (t : Contexts) → Once t → at n t ≡ Some c → Parted (waiting t) c.hooks (waiting (changed n emptied t))
@@ -82,15 +64,7 @@ parted_removed n c (Node k b below beside) o h leaf =
 -- what the shelf needs for the hooks of one context, and what it is once they were handed in
 module _ (all hooks rest : List Hook) (x : ShelfState) (parts : Parted all hooks rest) (out : length all ≤ x.out) (words : AreDistinct (all ++ held x)) where
   lengths : length all ≡ length rest + length hooks
-  lengths =
-      omega (
-        arith,
-        ap length parts.whole,
-        ap length parts.left,
-        length-append parts.front (hooks ++ parts.back),
-        length-append hooks parts.back,
-        length-append parts.front parts.back,
-      )
+  lengths = grind (arith, nat_tests, parts.whole, parts.left, length-append parts.front (hooks ++ parts.back), length-append hooks parts.back, length-append parts.front parts.back)
 
   pub fits_one : length hooks ≤ x.out
   fits_one = omega (arith, out, lengths)

@@ -1,13 +1,6 @@
 -- Names that lead to chunks.
-use Rattle.std.proofs.Common.{◌≡◌, ℕ, List, Option, Some}
-use Rattle.pgs_step.specs.declared.ids.CtxId.{CtxId}
-use Rattle.forest.specs.Forest.{Forest}
-use Rattle.context_node.specs.declared.chunk_id.ChunkId.{ChunkId}
-use Rattle.context_tree.specs.declared.tree.Own.{Own}
-use Rattle.context_node.specs.Kept.{Kept}
-use Rattle.context_tree.specs.Soundness.{IsSound, IsChunk}
-use Rattle.context_tree.specs.State.{stands_for}
-use Rattle.context_tree.specs.Lookup.{Leads}
+use Rattle.context_tree.proofs.Base.{◌≡◌, ℕ, List, Option, Some}
+use Rattle.context_tree.proofs.Words.{CtxId, Forest, ChunkId, Own, Kept, IsSound, IsChunk, stands_for, Leads}
 use Rattle.context_tree.proofs.Names.{find_found}
 
 -- what the map of a sound tree finds

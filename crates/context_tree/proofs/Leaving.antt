@@ -1,21 +1,6 @@
 -- A tree from which a context went that had no child.
-use Rattle.std.proofs.Common.{◌≡◌, ◌≢◌, ℕ, List, [], ◌∷◌, ◌++◌, Option, Some, refl, sym, ap, ◌∙◌, subst}
-use Rattle.std.proofs.lemmas.List.{append-nil}
-use Rattle.pgs_step.specs.declared.events.What.TheVariants.{Delete}
-use Rattle.addr_space.specs.Space.{Space}
-use Rattle.forest.specs.Forest.{Forest, Empty, Node, at, children, removed, subtree, Once, mapped}
-use Rattle.forest.proofs.Mapped.{mapped-children, mapped-removed}
-use Rattle.reset_callbacks.specs.Hook.{Hook}
-use Rattle.reset_callbacks.specs.ShelfState.{ShelfState}
-use Rattle.context_rules.specs.Ends.{waiting, callbacks, gone_events, gone, handed_in}
-use Rattle.context_node.specs.declared.chunk_id.ChunkId.{ChunkId}
-use Rattle.context_node.specs.Kept.{Kept}
-use Rattle.context_node.specs.Soundness.{IsSoundContext}
-use Rattle.context_node.specs.State.{context_of}
-use Rattle.context_tree.specs.State.{TreeState, stands_for, Agrees, HooksFit}
-use Rattle.context_tree.specs.Calls.{Did}
-use Rattle.context_node.specs.Ending.{Gone}
-use Rattle.context_node.proofs.Removals.{other_than_removed}
+use Rattle.context_tree.proofs.Base.{◌≡◌, ◌≢◌, ℕ, List, [], ◌∷◌, ◌++◌, Option, Some, refl, sym, ap, ◌∙◌, subst, append-nil, nat_tests, arith}
+use Rattle.context_tree.proofs.Words.{Delete, Space, Forest, Empty, Node, at, children, removed, subtree, Once, mapped, mapped-children, mapped-removed, Hook, ShelfState, waiting, callbacks, gone_events, gone, handed_in, ChunkId, Kept, IsSoundContext, context_of, TreeState, stands_for, Agrees, HooksFit, Did, Gone, other_than_removed}
 use Rattle.context_tree.proofs.Shrinking.{Shrunk, stands_shrunk, moves_shrunk, leaf_stands}
 use Rattle.context_tree.proofs.Resetting.{stands_here, stands_once}
 use Rattle.context_tree.proofs.Handing.{Parted, parted_removed, fits_left, words_left}
@@ -45,13 +30,7 @@ module _ (a b : TreeState) (s t : Space) (x y : ShelfState) (n : ℕ) (k : Kept)
     (each : (m : ℕ) (j : Kept) → at m a.kept ≡ Some j → IsSoundContext j) (here : at n a.kept ≡ Some k) (leaf : children n a.kept ≡ Empty) (went : Gone k s t x y find left)
     (kept : b.kept ≡ removed n a.kept) (account : b.account ≡ a.account) where
   shrunk : Shrunk a b s t n k
-  shrunk = record {
-    here = here;
-    leaf = leaf;
-    now = kept;
-    account = account;
-    moves = went.moves;
-  }
+  shrunk = grind (arith, nat_tests, went.moves)
 
   pub did_go : b.places ≡ removed n a.places → ((m : ℕ) → m ≢ n → at m b.places ≡ at m a.places) → b.current ≡ a.current → b.next ≡ a.next → HooksFit (stands_for a s) x
       → Did (gone n (stands_for a s)) a b s t x y

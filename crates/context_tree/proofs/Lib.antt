@@ -31,3 +31,7 @@ pub mod Opening
 pub mod Rooms
 pub mod Tried
 pub mod Asking
+pub mod Base
+pub mod Words
+pub mod Lemmas
+pub mod Seen

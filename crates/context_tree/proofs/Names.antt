@@ -1,22 +1,6 @@
 -- A name leads to one context, and another one to one chunk.
-use Rattle.std.proofs.Common.{◌≡◌, ◌≢◌, ◌≤◌, ℕ, Bool, true, false, List, map, Option, Some, None, refl, sym, ap, ◌∙◌, inl, inr, arith}
-use Rattle.std.specs.Prelude.{not, ◌&&◌, nat_lt, find, option_map}
-use Rattle.std.proofs.lemmas.Bool.{cases_eq, cases_Bool, both_ways}
-use Rattle.pgs_step.specs.declared.ids.CtxId.{CtxId}
-use Rattle.addr_space.specs.Space.{Space}
-use Rattle.forest.specs.Forest.{Forest, Empty, Node, at, has, Once, mapped}
-use Rattle.forest.proofs.Trees.{Apart, apart_of, has_at}
-use Rattle.any_ctx.specs.Contexts.{ledger}
-use Rattle.context_rules.specs.Names.{same_name}
-use Rattle.context_rules.specs.Contexts.{Chunk, found, has_name, context_named}
-use Rattle.context_node.specs.declared.chunk_id.ChunkId.{ChunkId}
-use Rattle.context_node.specs.declared.entry.Entry.{Entry}
-use Rattle.context_tree.specs.declared.tree.Own.{Own}
-use Rattle.context_node.specs.Kept.{Kept}
-use Rattle.context_node.specs.Soundness.{IsSoundContext}
-use Rattle.context_tree.specs.Soundness.{IsSound, IsNamed, IsChunk, one_below}
-use Rattle.context_node.specs.State.{chunk_of, entries, context_of}
-use Rattle.context_node.proofs.Names.{same_is, is_same, some_or_none, at_here, at_below, at_beside, one_at, below_or_beside, none_in_entries, one_in_entries}
+use Rattle.context_tree.proofs.Base.{◌≡◌, ◌≢◌, ◌≤◌, ℕ, Bool, true, false, List, map, Option, Some, None, refl, sym, ap, ◌∙◌, inl, inr, arith, not, ◌&&◌, nat_lt, find, option_map, cases_eq, cases_Bool, both_ways, nat_tests}
+use Rattle.context_tree.proofs.Words.{CtxId, Space, Forest, Empty, Node, at, has, Once, mapped, Apart, apart_of, has_at, ledger, same_name, Chunk, found, has_name, context_named, ChunkId, Entry, Own, Kept, IsSoundContext, IsSound, IsNamed, IsChunk, one_below, chunk_of, entries, context_of, same_is, is_same, some_or_none, at_here, at_below, at_beside, one_at, below_or_beside, none_in_entries, one_in_entries}
 
 module _ (s : Space) (w : List ℕ) where
   -- whether `find` finds a context by this name
@@ -158,11 +142,4 @@ module _ (kept : Forest Kept) (places : Forest ℕ) (find_context : List ℕ →
 
   -- a context is there where it has a place
   pub placed_as : (n : ℕ) → has n kept ≡ has n places
-  placed_as n =
-      elim (cases_Bool (has n places)) [
-        | inl y ↦ sound.lies n y ∙ sym y
-        | inr out ↦ elim (cases_Bool (has n kept)) [
-          | inl y ↦ absurd (both_ways (has n places) out (sound.there n y))
-          | inr none ↦ none ∙ sym out
-        ]
-      ]
+  placed_as n = grind (arith, nat_tests, cases_Bool (has n places))

@@ -1,34 +1,7 @@
 -- A tree of the topmost context alone, and one of all that a session begins with.
-use Rattle.std.proofs.Common.{◌≡◌, ◌≢◌, ℕ, Bool, true, false, List, [], Option, Some, None, refl, sym, ap, ◌∙◌, subst, inl, inr, arith}
-use Rattle.std.specs.Prelude.{codes}
-use Rattle.std.proofs.lemmas.Bool.{cases_eq, eq-eqb, ne_eqb}
-use Rattle.addr_space.specs.Space.{Space, region_at}
+use Rattle.context_tree.proofs.Base.{◌≡◌, ◌≢◌, ℕ, Bool, true, false, List, [], Option, Some, None, refl, sym, ap, ◌∙◌, subst, inl, inr, arith, codes, cases_eq, eq-eqb, ne_eqb, nat_tests}
+use Rattle.context_tree.proofs.Words.{Space, region_at, nothing, option_cases, none_or_some, counted-own, counted-other, counted-nothing, CtxId, NodeId, Forest, Empty, Node, at, has, mapped, Forested, Ledger, stats, footprint, ledger, Default, CtxKind, Context, new_context, topmost, ChunkId, NewContext, Own, Kept, IsSoundContext, IsSound, IsOwn, context_of, stands_for, no_contexts, Moves, SameRegions, Grew, sound_made}
 use Rattle.addr_space.specs.Footprint as foot
-use Rattle.addr_space.specs.Footprint.{nothing}
-use Rattle.addr_space.proofs.Options.{option_cases, none_or_some}
-use Rattle.addr_space.proofs.Contexts.{counted-own, counted-other, counted-nothing}
-use Rattle.pgs_step.specs.declared.ids.CtxId.{CtxId}
-use Rattle.forest.specs.declared.id.NodeId.{NodeId}
-use Rattle.forest.specs.Forest.{Forest, Empty, Node, at, has, mapped}
-use Rattle.forest.specs.Forested.{Forested}
-use Rattle.any_ctx.specs.Ledgers.{Ledger, stats}
-use Rattle.any_ctx.specs.Contexts.{footprint, ledger}
-use Rattle.any_ctx.specs.declared.any.CtxKind.TheVariants.{Default}
-use Rattle.any_ctx.specs.declared.any.CtxKind.{CtxKind}
-use Rattle.any_ctx.specs.Kinds as kinds
-use Rattle.context_rules.specs.Contexts.{Context, new_context, created}
-use Rattle.context_rules.specs.Opening.{topmost}
-use Rattle.context_node.specs.declared.chunk_id.ChunkId.{ChunkId}
-use Rattle.context_node.specs.declared.entry.Entry.{Entry}
-use Rattle.context_node.specs.declared.making.NewContext.{NewContext}
-use Rattle.context_tree.specs.declared.tree.Own.{Own}
-use Rattle.context_node.specs.Kept.{Kept}
-use Rattle.context_node.specs.Soundness.{IsSoundContext}
-use Rattle.context_tree.specs.Soundness.{IsSound, IsOwn}
-use Rattle.context_node.specs.State.{context_of}
-use Rattle.context_tree.specs.State.{stands_for, no_contexts, Moves, SameRegions}
-use Rattle.context_tree.specs.Making.{Grew}
-use Rattle.context_node.proofs.Made.{sound_made}
 
 -- the only context of a forest
 only : {A : Type 0} (n m : ℕ) (a b : A) → at m (Node n a Empty Empty) ≡ Some b → (n ≡ m) × (b ≡ a)
@@ -47,35 +20,15 @@ own_later slot n id number later = record {
 pub sound_topmost : (k : Kept) (slot next_entry : ℕ) (find_context : List ℕ → Option CtxId) (find_chunk : List ℕ → Option ChunkId) (own : Own) (now : CtxId) → k.chunks ≡ Empty → k.protected ≡ true → IsSoundContext k
     → ((w : List ℕ) → find_context w ≡ None) → ((w : List ℕ) → find_chunk w ≡ None) → own.top ≡ record { number = 1; slot = slot } → own.cache.number ≡ 3 → own.portals.number ≡ 4 → own.abort.number ≡ 5
     → now ≡ record { number = 1; slot = slot } → IsSound (Node 1 k Empty Empty) (Node 1 slot Empty Empty) find_context find_chunk own now 2 next_entry
-sound_topmost k slot next_entry find_context find_chunk own now chunks protected inside no_name no_chunk top cache portals abort current = record {
-  numbers = λ n. elim (cases_eq 1 n) [
-    | inl same ↦ rw (sym same) (omega arith)
-    | inr ne ↦ rw (ne_eqb 1 n ne) (omega arith)
-  ];
-  few = omega arith;
-  lies = λ n h. h;
-  there = λ n h. h;
-  each = λ n j h. rw (only 1 n k j h).1 inside;
-  given = λ n c j h q.
-      let none : has {A = Entry} c Empty ≡ true = ap (has c) (sym (ap (λ (x : Kept). x.chunks) (only 1 n k j h).1 ∙ chunks)) ∙ q in
-      absurd (cc);
-  named = λ word id h. let none : None ≡ Some id = sym (no_name word) ∙ h in absurd (cc);
-  names = λ n j h findable.
-      let clash : true ≡ false = sym protected ∙ ap (λ (x : Kept). x.protected) (sym (only 1 n k j h).1) ∙ findable in
-      absurd (cc);
-  chunk_named = λ word id h. let none : None ≡ Some id = sym (no_chunk word) ∙ h in absurd (cc);
-  chunk_names = λ n c j e word h q is.
-      let none : at c Empty ≡ Some e = ap (at c) (sym (ap (λ (x : Kept). x.chunks) (only 1 n k j h).1 ∙ chunks)) ∙ q in
-      absurd (cc);
-  top = record {
-    number = ap (λ (x : CtxId). x.number) top;
-    placed = λ h. ap Some (sym (ap (λ (x : CtxId). x.slot) top));
-  };
-  cache = own_later slot 3 own.cache cache (omega arith);
-  portals = own_later slot 4 own.portals portals (omega arith);
-  abort = own_later slot 5 own.abort abort (omega arith);
-  current = inr (rw current refl);
-}
+sound_topmost k slot next_entry find_context find_chunk own now chunks protected inside no_name no_chunk top cache portals abort current =
+    grind (
+      arith,
+      nat_tests,
+      own_later slot 3 own.cache cache (omega arith),
+      own_later slot 4 own.portals portals (omega arith),
+      own_later slot 5 own.abort abort (omega arith),
+      current,
+    )
 
 module _ (account slot : ℕ) (k : Kept) (places : Forest ℕ) (now : CtxId) (next : ℕ) (s t : Space) (moves : foot.Moves (nothing account slot) (footprint k.memory) s t) (chunks : k.chunks ≡ Empty)
     (total : (footprint k.memory).total ≡ (stats (ledger k.memory)).total) where
@@ -149,11 +102,6 @@ module _ (f g : Forested Kept) (new : NewContext) (id : NodeId) (account : ℕ) 
       subst (λ (x : Forest Kept). Moves (no_contexts account) (record { kept = x; places = g.places; account = account; current = made; next = 2 }) s t) (sym kept_now)
       (topmost_moves account id.slot grew.context g.places made 2 s t grew.made.moves no_chunk grew.made.total)
 
-  pub topmost_live : at made.number g.places ≡ Some made.slot
-  topmost_live =
-      subst (λ (z : CtxId). at z.number g.places ≡ Some z.slot) (sym made_now)
-      (subst (λ (x : Forest ℕ). at 1 x ≡ Some id.slot) (sym places_now) refl)
-
   abbrev bare_context : List ℕ → CtxKind → Bool → Ledger → Context
   bare_context name kind protected ledger = record {
     name = name;
@@ -166,12 +114,7 @@ module _ (f g : Forested Kept) (new : NewContext) (id : NodeId) (account : ℕ) 
   }
 
   context_now : context_of t grew.context ≡ new_context (codes "TopMemoryContext") Default true
-  context_now =
-      ap (context_of t) grew.made.now
-      ∙ ap (bare_context new.name new.kind new.protected) grew.made.new_ledger
-      ∙ ap (λ (name : List ℕ). bare_context name new.kind new.protected (kinds.created new.kind)) named
-      ∙ ap (λ (k : CtxKind). bare_context (codes "TopMemoryContext") k new.protected (kinds.created k)) kind
-      ∙ ap (λ (b : Bool). bare_context (codes "TopMemoryContext") Default b (kinds.created Default)) protected
+  context_now = grind (arith, nat_tests, grew.made.now, grew.made.new_ledger)
 
   pub topmost_stands : stands_for (record { kept = g.forest; places = g.places; account = account; current = made; next = 2 }) t ≡ topmost
   unfolding stands_for

@@ -1,19 +1,6 @@
 -- A tree of which bytes are written over those that are known of a chunk.
-use Rattle.std.proofs.Common.{◌≡◌, ◌≢◌, ℕ, ◌+◌, ◌≤◌, List, [], length, map, Option, Some, refl, sym, ap, ◌∙◌, subst, arith}
-use Rattle.std.specs.Prelude.{max}
-use Rattle.addr_space.specs.Space.{Space, Changes, region_at, overwritten}
-use Rattle.forest.specs.Forest.{Forest, at, Once, changed}
-use Rattle.context_rules.specs.Chunks.{written}
-use Rattle.pgs_step.specs.declared.ids.CtxId.{CtxId}
-use Rattle.context_node.specs.declared.chunk_id.ChunkId.{ChunkId}
-use Rattle.context_node.specs.declared.entry.Entry.{Entry}
-use Rattle.context_node.specs.Kept.{Kept}
-use Rattle.context_tree.specs.declared.tree.Own.{Own}
-use Rattle.context_node.specs.Soundness.{IsSoundContext}
-use Rattle.context_tree.specs.Soundness.{IsSound}
-use Rattle.context_tree.specs.State.{TreeState, stands_for, Agrees, Moves}
-use Rattle.context_node.specs.Chunking.{Written}
-use Rattle.context_tree.specs.Lookup.{Leads}
+use Rattle.context_tree.proofs.Base.{◌≡◌, ◌≢◌, ℕ, ◌+◌, ◌≤◌, List, [], length, map, Option, Some, refl, sym, ap, ◌∙◌, subst, arith, max}
+use Rattle.context_tree.proofs.Words.{Space, Changes, region_at, overwritten, Forest, at, Once, changed, written, CtxId, ChunkId, Entry, Kept, Own, IsSoundContext, IsSound, TreeState, stands_for, Agrees, Moves, Written, Leads}
 use Rattle.context_tree.proofs.Names.{once_of}
 use Rattle.context_tree.proofs.Sounds.{tree_back, changed_back, one_named}
 use Rattle.context_tree.proofs.Writing.{put_moves, put_contexts}

@@ -1,17 +1,6 @@
 -- What a tree stands for, read one context at a time.
-use Rattle.std.proofs.Common.{◌≡◌, ℕ, Bool, true, false, Option, Some, None, refl, sym, ap, ◌∙◌}
-use Rattle.std.specs.Prelude.{not, is_some, MatchOption}
-use Rattle.std.specs.Option.{option_map}
-use Rattle.forest.specs.declared.id.NodeId.{NodeId}
-use Rattle.pgs_step.specs.declared.ids.CtxId.{CtxId}
-use Rattle.addr_space.specs.Space.{Space}
-use Rattle.forest.specs.Forest.{Forest, Empty, Node, Once, at, has, children, first, mapped, size}
-use Rattle.forest.proofs.Mapped.{mapped-at, mapped-has, mapped-once, mapped-size, mapped-children}
-use Rattle.context_rules.specs.Contexts.{is_nothing}
-use Rattle.context_node.specs.Kept.{Kept}
-use Rattle.context_node.specs.State.{context_of}
-use Rattle.context_tree.specs.Soundness.{IsOwn}
-use Rattle.context_tree.specs.State.{TreeState, IsLive, stands_for}
+use Rattle.context_tree.proofs.Base.{◌≡◌, ℕ, Bool, true, false, Option, Some, None, refl, sym, ap, ◌∙◌, not, is_some, MatchOption, option_map}
+use Rattle.context_tree.proofs.Words.{NodeId, CtxId, Space, Forest, Empty, Node, Once, at, has, children, first, mapped, size, mapped-at, mapped-has, mapped-once, mapped-size, mapped-children, is_nothing, Kept, context_of, IsOwn, TreeState, IsLive, stands_for}
 
 pub stands_size : (tree : TreeState) (s : Space) → size (stands_for tree s) ≡ size tree.kept
 unfolding stands_for

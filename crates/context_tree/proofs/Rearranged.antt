@@ -1,23 +1,7 @@
 -- A tree of which a context with all below it moves: what is said of contexts by their numbers holds on.
-use Rattle.std.proofs.Common.{◌≡◌, ℕ, true, false, List, Option, refl, sym, ap, ◌∙◌, inl, inr, arith}
-use Rattle.std.specs.Prelude.{◌==◌}
-use Rattle.std.specs.Option.{option_map_or}
-use Rattle.std.proofs.lemmas.Bool.{or_parts, eqb-false}
-use Rattle.addr_space.specs.Space.{Space}
-use Rattle.forest.specs.Forest.{Forest, Empty, Node, at, has, times, Once, size, children, parent_of, is_above, moved, mapped}
-use Rattle.forest.proofs.Trees.{Moves as NodeMoves, has_at, at_some, times_moved, size_moved}
-use Rattle.forest.proofs.Mapped.{mapped-has, mapped-children, mapped-parent, mapped-moved, mapped-once}
-use Rattle.forest.proofs.Moved.{at_moved, sum_of, sum_moved}
-use Rattle.pgs_step.specs.declared.ids.CtxId.{CtxId}
-use Rattle.any_ctx.specs.Ledgers.{stats}
-use Rattle.context_rules.specs.Contexts.{Context, Contexts, is_child}
-use Rattle.context_rules.specs.Refusals.{is_within}
-use Rattle.context_node.specs.declared.chunk_id.ChunkId.{ChunkId}
-use Rattle.context_tree.specs.declared.tree.Own.{Own}
-use Rattle.context_node.specs.Kept.{Kept}
-use Rattle.context_tree.specs.Soundness.{IsSound, IsNamed, IsChunk, IsOwn}
-use Rattle.context_node.specs.State.{context_of}
-use Rattle.context_tree.specs.State.{TreeState, stands_for, Agrees, Moves, total_of}
+use Rattle.context_tree.proofs.Base.{◌≡◌, ℕ, true, false, List, Option, refl, sym, ap, ◌∙◌, inl, inr, arith, ◌==◌, option_map_or, or_parts, eqb-false, nat_tests}
+use Rattle.context_tree.proofs.Words.{Space, Forest, Empty, Node, at, has, times, Once, size, children, parent_of, is_above, moved, mapped, has_at, at_some, times_moved, size_moved, mapped-has, mapped-children, mapped-parent, mapped-moved, mapped-once, at_moved, sum_of, sum_moved, CtxId, stats, Context, Contexts, is_child, is_within, ChunkId, Own, Kept, IsSound, IsNamed, IsChunk, IsOwn, context_of, TreeState, stands_for, Agrees, Moves, total_of}
+use Rattle.forest.proofs.Trees.{Moves as NodeMoves}
 
 module _ (kept kept2 : Forest Kept) (places places2 : Forest ℕ) (same : (m : ℕ) → at m kept2 ≡ at m kept) (lies : (m : ℕ) → at m places2 ≡ at m places) where
   own_stays : (n : ℕ) (id : CtxId) → IsOwn places n id → IsOwn places2 n id
@@ -86,14 +70,7 @@ total_is Empty = refl
 total_is (Node n c below beside) = rw (total_is below, total_is beside) refl
 
 node_moves : (s : Space) (n p : ℕ) (t : Forest Kept) → NodeMoves n p t → NodeMoves n p (mapped (context_of s) t)
-node_moves s n p t w = record {
-  node = mapped-has (context_of s) n t ∙ w.node;
-  parent = mapped-has (context_of s) p t ∙ w.parent;
-  other = w.other;
-  apart =
-      ap (λ (x : Contexts). has p x) (sym (mapped-children (context_of s) n t))
-      ∙ mapped-has (context_of s) p (children n t) ∙ w.apart;
-}
+node_moves s n p t w = grind (arith, nat_tests, mapped-has (context_of s) n t, w.node, mapped-has (context_of s) p t, w.parent, w.other, mapped-children (context_of s) n t, mapped-has (context_of s) p (children n t), w.apart)
 
 -- how often each number stands, and how many there are
 pub times_after : (m n p : ℕ) (t : Forest Kept) → Once t → NodeMoves n p t → times m (moved n p t) ≡ times m t
@@ -161,9 +138,4 @@ above_stands tree s n m =
 pub may_move : (tree : TreeState) (s : Space) (n p : ℕ) → has n tree.kept ≡ true → has p tree.kept ≡ true → is_within n p (stands_for tree s) ≡ false → NodeMoves n p tree.kept
 may_move tree s n p h i out =
     let parts = or_parts (p == n) (is_above n p (stands_for tree s)) out in
-    record {
-      node = h;
-      parent = i;
-      other = eqb-false p n parts.0;
-      apart = sym (above_stands tree s n p) ∙ parts.1;
-    }
+    grind (arith, nat_tests, eqb-false p n parts.0, above_stands tree s n p, parts.1)

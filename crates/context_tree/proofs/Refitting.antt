@@ -1,22 +1,7 @@
 -- A tree in which a chunk got another size.
-use Rattle.std.proofs.Common.{◌≡◌, ◌≢◌, ◌⊎◌, ℕ, List, Option, Some, None, Ok, unwrap_or, refl, sym, ap, ◌∙◌, subst, inl, inr}
-use Rattle.addr_space.specs.Space.{Space, held, Asks}
-use Rattle.forest.specs.Forest.{at, Once, changed}
-use Rattle.any_ctx.specs.Ledgers.{Place, InSlab, resize}
-use Rattle.any_ctx.specs.Contexts.{footprint, ledger, place_at}
-use Rattle.context_rules.specs.Chunks.{with_changed, with_size, resized, resized_asked}
-use Rattle.context_rules.specs.declared.errors.TreeError.{TreeError}
-use Rattle.context_rules.specs.declared.errors.TreeError.TheVariants.{Memory}
-use Rattle.context_rules.specs.Refusals.{refusal, realloc_refusal}
-use Rattle.context_node.specs.declared.chunk_id.ChunkId.{ChunkId}
-use Rattle.context_node.specs.declared.entry.Entry.{Entry}
-use Rattle.context_node.specs.Kept.{Kept}
-use Rattle.context_node.specs.Soundness.{IsSoundContext}
-use Rattle.context_tree.specs.State.{TreeState, stands_for, Agrees, Moves}
-use Rattle.context_node.specs.Chunking.{Refitted}
-use Rattle.context_tree.specs.Lookup.{Leads}
+use Rattle.context_tree.proofs.Base.{◌≡◌, ◌≢◌, ℕ, List, Option, Some, Ok, unwrap_or, refl, sym, ap, ◌∙◌, nat_tests, arith}
+use Rattle.context_tree.proofs.Words.{Space, held, at, Once, changed, Place, InSlab, resize, footprint, ledger, place_at, with_changed, with_size, resized, ChunkId, Entry, Kept, IsSoundContext, TreeState, stands_for, Agrees, Moves, Refitted, Leads, known_refitted, context_refitted}
 use Rattle.context_tree.proofs.Steps.{Stepped, stands_by, moves_stepped}
-use Rattle.context_node.proofs.Refitting.{known_refitted, context_refitted}
 
 module _ (a : TreeState) (s : Space) (w : List ℕ) (id : ChunkId) (k : Kept) (size : ℕ) (agrees : Agrees a s) (leads : Leads a w id) (here : at id.context.number a.kept ≡ Some k) where
   same_context : leads.chunk.context ≡ k
@@ -31,14 +16,6 @@ module _ (a : TreeState) (s : Space) (w : List ℕ) (id : ChunkId) (k : Kept) (s
   refit_told =
       ap (λ (x : Kept). resize (ledger x.memory) (held s a.account) s.limit (unwrap_or (place_at x.memory leads.chunk.entry.at) (InSlab 0)) size) same_context
       ∙ ap (λ (account : ℕ). resize (ledger k.memory) (held s account) s.limit (unwrap_or (place_at k.memory leads.chunk.entry.at) (InSlab 0)) size) (sym (agrees.owned id.context.number k here))
-
-  pub realloc_refused : (e : TreeError)
-      → (e ≡ Memory) ⊎ ((c : Entry) → at id.entry.number k.chunks ≡ Some c → refusal (resize (ledger k.memory) (held s (footprint k.memory).account) s.limit (unwrap_or (place_at k.memory c.at) (InSlab 0)) size) ≡ Some e)
-      → (e ≡ Memory) ⊎ (realloc_refusal (held s a.account) s.limit w size (stands_for a s) ≡ Some e)
-  realloc_refused e why = elim why [
-    | inl memory ↦ inl memory
-    | inr told ↦ inr (rw (leads.found s) (ap refusal refit_told ∙ told leads.chunk.entry leads_entry))
-  ]
 
   module _ (l : Kept) (t : Space) (once : Once a.kept) (each : (m : ℕ) (j : Kept) → at m a.kept ≡ Some j → IsSoundContext j) (fit : Refitted k l id.entry.number size s t) where
     same_entry : leads.chunk.entry ≡ fit.entry
@@ -55,14 +32,7 @@ module _ (a : TreeState) (s : Space) (w : List ℕ) (id : ChunkId) (k : Kept) (s
         ∙ fit.resizes.is
 
     stepped : Stepped a (record a { kept = changed id.context.number (λ _. l) a.kept }) s t id.context.number k l
-    stepped = record {
-      here = here;
-      changed = refl;
-      account = refl;
-      moves = fit.moves;
-      known = known_refitted k l id.entry.number size s t fit (each id.context.number k here) (agrees.each id.context.number k here) (λ c e h. agrees.known id.context.number c k e here h);
-      total = fit.total;
-    }
+    stepped = grind (arith, nat_tests, fit.moves, known_refitted k l id.entry.number size s t fit (each id.context.number k here) (agrees.each id.context.number k here) (λ c e h. agrees.known id.context.number c k e here h), fit.total)
 
     pub realloc_moves : Moves a (record a { kept = changed id.context.number (λ _. l) a.kept }) s t
     realloc_moves = moves_stepped a (record a { kept = changed id.context.number (λ _. l) a.kept }) s t id.context.number k l agrees once each stepped
@@ -74,11 +44,3 @@ module _ (a : TreeState) (s : Space) (w : List ℕ) (id : ChunkId) (k : Kept) (s
         (λ c. record c { ledger = fit.resizes.answer.ledger; chunks = with_changed w (with_size size fit.resizes.answer.place) c.chunks })
         (context_refitted k l id.entry.number size s t fit (each id.context.number k here) (agrees.each id.context.number k here) w entry_named others)
         ∙ sym (rw (leads.found s, answered) refl)
-
-    pub realloc_asked : Asks a.account (resized_asked (held s a.account) s.limit w size (stands_for a s)) s t
-    realloc_asked =
-        let mine : (footprint k.memory).account ≡ a.account = agrees.owned id.context.number k here in
-        rw (leads.found s, answered) (subst (λ (account : ℕ). Asks account fit.resizes.answer.asked s t) mine fit.resizes.asked)
-
-    pub realloc_served : realloc_refusal (held s a.account) s.limit w size (stands_for a s) ≡ None
-    realloc_served = rw (leads.found s, answered) refl

@@ -1,25 +1,9 @@
 -- A tree in which a context was reset.
-use Rattle.std.proofs.Common.{◌≡◌, ◌≤◌, ℕ, true, false, List, [], ◌∷◌, ◌++◌, length, Option, Some, refl, sym, ap, ◌∙◌, subst, arith}
-use Rattle.std.specs.Option.{option_map}
-use Rattle.addr_space.specs.Space.{Space}
-use Rattle.forest.specs.Forest.{Empty, at, has, Once, changed}
-use Rattle.forest.proofs.Mapped.{mapped-at, mapped-once}
-use Rattle.reset_callbacks.specs.Hook.{AreDistinct}
-use Rattle.reset_callbacks.specs.ShelfState.{ShelfState, held}
-use Rattle.any_ctx.specs.Ledgers.{Ledger}
-use Rattle.context_rules.specs.Ends.{waiting, callbacks, emptied, unchanged, cleared_alone}
-use Rattle.pgs_step.specs.declared.events.What.TheVariants.{Reset}
-use Rattle.context_node.specs.declared.chunk_id.ChunkId.{ChunkId}
-use Rattle.context_node.specs.declared.entry.Entry.{Entry}
-use Rattle.context_node.specs.Kept.{Kept}
-use Rattle.context_node.specs.Soundness.{AreFlat, IsSoundContext}
-use Rattle.context_node.specs.State.{context_of}
-use Rattle.context_tree.specs.State.{TreeState, stands_for, Agrees, HooksFit}
-use Rattle.context_tree.specs.Calls.{Did}
-use Rattle.context_node.specs.Ending.{Cleared}
+use Rattle.context_tree.proofs.Base.{◌≡◌, ◌≤◌, ℕ, true, false, List, [], ◌∷◌, ◌++◌, length, Option, Some, refl, sym, ap, ◌∙◌, arith, option_map, nat_tests}
+use Rattle.context_tree.proofs.Words.{Space, Empty, at, Once, changed, mapped-at, mapped-once, AreDistinct, ShelfState, waiting, callbacks, emptied, unchanged, cleared_alone, Reset, ChunkId, Entry, Kept, IsSoundContext, context_of, TreeState, stands_for, Agrees, HooksFit, Did, Cleared, handed_none}
+use Rattle.reset_callbacks.specs.ShelfState.{held}
 use Rattle.context_tree.proofs.Steps.{Stepped, stands_by, moves_stepped}
 use Rattle.context_tree.proofs.Allocs.{tree_none}
-use Rattle.context_node.proofs.Handing.{handed_none}
 use Rattle.context_tree.proofs.Handing.{Parted, parted_changed, fits_one, words_one, fits_left, words_left}
 
 module _ (a : TreeState) (s : Space) (n : ℕ) (k : Kept) (once : Once a.kept) (here : at n a.kept ≡ Some k) where
@@ -50,16 +34,7 @@ module _ (a : TreeState) (s : Space) (n : ℕ) (k : Kept) (once : Once a.kept) (
 
 -- nothing happens to a context that wasn't used
 pub did_unchanged : (a : TreeState) (s : Space) (x : ShelfState) → Agrees a s → HooksFit (stands_for a s) x → Did (unchanged (stands_for a s)) a a s s x x
-did_unchanged a s x agrees hooks = record {
-  contexts = refl;
-  shelf = handed_none x;
-  hooks = hooks;
-  moves = tree_none a s agrees;
-  asked = refl;
-  stays = λ m h. refl;
-  current = refl;
-  next = refl;
-}
+did_unchanged a s x agrees hooks = grind (arith, nat_tests, handed_none x, tree_none a s agrees)
 
 module _ (a : TreeState) (s t : Space) (x y : ShelfState) (n : ℕ) (k l : Kept) (find left : List ℕ → Option ChunkId) (once : Once a.kept) (here : at n a.kept ≡ Some k)
     (cleared : Cleared k l s t x y find left) where
@@ -70,60 +45,30 @@ module _ (a : TreeState) (s t : Space) (x y : ShelfState) (n : ℕ) (k l : Kept)
   none_listed P c e h = let none : at c Empty ≡ Some e = ap (at c) (sym no_chunks) ∙ h in absurd (cc)
 
   pub sound_emptied : IsSoundContext l
-  sound_emptied = record {
-    flat = subst AreFlat (sym no_chunks) tt;
-    once = subst Once (sym no_chunks) (record { once = λ m. omega arith });
-    numbers = λ c h. let none : has {A = ℕ} c Empty ≡ true = ap (λ (z : Kept). has c z.chunk_places) (sym cleared.now) ∙ h in absurd (cc);
-    live = λ c e h. none_listed _ c e h;
-    placed = λ c e h. none_listed _ c e h;
-    known = λ c e h. none_listed _ c e h;
-    differ = λ b c d e differs h q. none_listed _ b d h;
-    total = cleared.total;
-  }
+  sound_emptied = grind (arith, nat_tests, cleared.total)
 
   module _ (agrees : Agrees a s) (each : (m : ℕ) (j : Kept) → at m a.kept ≡ Some j → IsSoundContext j) where
     abbrev after : TreeState
     after = record a { kept = changed n (λ _. l) a.kept }
 
     stepped : Stepped a after s t n k l
-    stepped = record {
-      here = here;
-      changed = refl;
-      account = refl;
-      moves = cleared.moves;
-      known = λ c e h. none_listed _ c e h;
-      total = cleared.total;
-    }
+    stepped = grind (arith, nat_tests, cleared.moves, cleared.total)
 
     emptied_is : emptied (context_of s k) ≡ context_of t l
-    emptied_is =
-        sym (
-        ap (context_of t) cleared.now
-        ∙ ap (λ (z : Ledger). record {
-          name = k.name;
-          kind = k.kind;
-          protected = k.protected;
-          ledger = z;
-          used = false;
-          chunks = [];
-          hooks = [];
-        }) cleared.renewed
-        )
+    emptied_is = grind (arith, nat_tests, cleared.now, cleared.renewed)
 
     pub did_clear : k.used ≡ true → HooksFit (stands_for a s) x → Did (cleared_alone n (stands_for a s)) a after s t x y
     did_clear used hooks =
-        let parts : Parted (waiting (stands_for a s)) k.hooks (waiting (changed n emptied (stands_for a s))) =
-        parted_changed n (context_of s k) (stands_for a s) (stands_once a s n k once here) (stands_here a s n k once here) in
-        rw (stands_here a s n k once here, used) (record {
-          contexts = stands_by a after s t n k l agrees once each stepped emptied emptied_is;
-          shelf = cleared.shelf;
-          hooks = rw cleared.shelf (record {
-            out = fits_left (waiting (stands_for a s)) k.hooks (waiting (changed n emptied (stands_for a s))) x parts hooks.out hooks.words;
-            words = words_left (waiting (stands_for a s)) k.hooks (waiting (changed n emptied (stands_for a s))) x parts hooks.out hooks.words;
-          });
-          moves = moves_stepped a after s t n k l agrees once each stepped;
-          asked = cleared.asked;
-          stays = λ m h. refl;
-          current = refl;
-          next = refl;
-        })
+        grind (
+          arith,
+          nat_tests,
+          parted_changed n (context_of s k) (stands_for a s) (stands_once a s n k once here) (stands_here a s n k once here),
+          stands_here a s n k once here,
+          used,
+          stands_by a after s t n k l agrees once each stepped emptied emptied_is,
+          cleared.shelf,
+          fits_left (waiting (stands_for a s)) k.hooks (waiting (changed n emptied (stands_for a s))) x (parted_changed n (context_of s k) (stands_for a s) (stands_once a s n k once here) (stands_here a s n k once here)) hooks.out hooks.words,
+          words_left (waiting (stands_for a s)) k.hooks (waiting (changed n emptied (stands_for a s))) x (parted_changed n (context_of s k) (stands_for a s) (stands_once a s n k once here) (stands_here a s n k once here)) hooks.out hooks.words,
+          moves_stepped a after s t n k l agrees once each stepped,
+          cleared.asked,
+        )

@@ -1,18 +1,7 @@
 -- Whether there is room for a context, and a space to which all came back.
-use Rattle.std.proofs.Common.{◌≡◌, ℕ, ◌+◌, ◌-◌, ◌<◌, ◌≤◌, Some, None, refl, subst, arith}
-use Rattle.std.proofs.lemmas.Bool.{lt-ltb, le-ltb}
-use Rattle.addr_space.specs.Space.{Space, held}
+use Rattle.context_tree.proofs.Base.{◌≡◌, ℕ, ◌+◌, ◌-◌, ◌<◌, ◌≤◌, Some, None, refl, subst, arith, lt-ltb, le-ltb}
+use Rattle.context_tree.proofs.Words.{Space, held, nothing, Moves-more, first_size, footprint, AnyCtx, CtxKind, Default, Small, Error, Abort, Slab, Generation, Bump, NoSpace, TooMany, Ctx, CameBack, room_refusal}
 use Rattle.addr_space.specs.Footprint as foot
-use Rattle.addr_space.specs.Footprint.{nothing}
-use Rattle.addr_space.proofs.Steps.{Moves-more}
-use Rattle.any_ctx.specs.Kinds.{first_size}
-use Rattle.any_ctx.specs.Contexts.{footprint}
-use Rattle.any_ctx.specs.declared.any.AnyCtx.{AnyCtx}
-use Rattle.any_ctx.specs.declared.any.CtxKind.{CtxKind}
-use Rattle.any_ctx.specs.declared.any.CtxKind.TheVariants.{Default, Small, Error, Abort, Slab, Generation, Bump}
-use Rattle.chunk_header.specs.declared.CtxError.TheVariants.{NoSpace}
-use Rattle.context_rules.specs.declared.errors.TreeError.TheVariants.{TooMany, Ctx}
-use Rattle.context_tree.specs.Making.{CameBack, room_refusal}
 
 first_some : (kind : CtxKind) → 0 < first_size kind
 first_some Default = omega arith

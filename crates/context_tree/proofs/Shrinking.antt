@@ -1,26 +1,8 @@
 -- A context less in a tree: what that makes of the tree, and of what it stands for.
-use Rattle.std.proofs.Common.{◌≡◌, ◌≢◌, ℕ, ◌+◌, ◌<◌, Some, IsSome, refl, sym, ap, ◌∙◌, subst, inl, inr, arith}
-use Rattle.std.specs.Option.{option_map}
-use Rattle.std.proofs.lemmas.Bool.{cases_eq}
-use Rattle.addr_space.specs.Space.{Space, IsKnown}
+use Rattle.context_tree.proofs.Base.{◌≡◌, ◌≢◌, ℕ, ◌+◌, ◌<◌, Some, IsSome, refl, sym, ap, ◌∙◌, subst, inl, inr, arith, option_map, cases_eq}
+use Rattle.context_tree.proofs.Words.{Space, IsKnown, Footprint, AreDisjoint, nothing, Agrees-other, Keeps-other, counted-own, counted-other, counted-nothing, Forest, Empty, Node, either, at, children, removed, Once, mapped, Apart, apart_of, Here, Below, Beside, where_is, has_at, at_absent, at_some, removed_absent, at_removed, once_removed, mapped-removed, mapped-once, mapped-at, mapped-children, stats, footprint, Context, Contexts, Entry, Kept, IsSoundContext, context_of, TreeState, stands_for, Agrees, total_of, Moves, context_stays, other_than_removed}
 use Rattle.addr_space.specs.Footprint as foot
-use Rattle.addr_space.specs.Footprint.{Footprint, AreDisjoint, nothing}
-use Rattle.addr_space.proofs.Apart.{Agrees-other, Keeps-other}
-use Rattle.addr_space.proofs.Contexts.{counted-own, counted-other, counted-nothing}
-use Rattle.forest.specs.Forest.{Forest, Empty, Node, either, at, children, removed, Once, mapped}
-use Rattle.forest.proofs.Trees.{Apart, apart_of, Here, Below, Beside, where_is, has_at, at_absent, at_some, removed_absent, at_removed, once_removed}
-use Rattle.forest.proofs.Mapped.{mapped-removed, mapped-once, mapped-at, mapped-children}
-use Rattle.any_ctx.specs.Ledgers.{stats}
-use Rattle.any_ctx.specs.Contexts.{footprint}
-use Rattle.context_rules.specs.Contexts.{Context, Contexts}
-use Rattle.context_node.specs.declared.entry.Entry.{Entry}
-use Rattle.context_node.specs.Kept.{Kept}
-use Rattle.context_node.specs.Soundness.{IsSoundContext}
-use Rattle.context_node.specs.State.{context_of}
-use Rattle.context_tree.specs.State.{TreeState, stands_for, Agrees, total_of, Moves}
-use Rattle.context_node.proofs.Steps.{context_stays}
 use Rattle.context_tree.proofs.Growing.{mapped_same}
-use Rattle.context_node.proofs.Removals.{other_than_removed}
 
 module _ {A : Type 0} (n : ℕ) (t : Forest A) (once : Once t) (leaf : children n t ≡ Empty) where
   -- what is left where a node without children goes

@@ -1,19 +1,6 @@
 -- What calls keep of a tree's soundness.
-use Rattle.std.proofs.Common.{◌≡◌, ◌≢◌, ℕ, ◌<◌, ◌≤◌, true, List, Option, Some, refl, sym, ap, ◌∙◌, inl, inr, arith}
-use Rattle.std.specs.Option.{option_map}
-use Rattle.std.proofs.lemmas.Bool.{cases_eq, cases_Bool, eq-eqb, ne_eqb}
-use Rattle.pgs_step.specs.declared.ids.CtxId.{CtxId}
-use Rattle.addr_space.proofs.Options.{from_map}
-use Rattle.forest.specs.Forest.{Forest, Empty, Node, either, at, has, Once, changed}
-use Rattle.forest.proofs.Trees.{Apart, apart_of, has_at, at_absent, at_some, times_changed, size_changed, changed_absent, has_changed}
-use Rattle.context_node.specs.declared.chunk_id.ChunkId.{ChunkId}
-use Rattle.context_node.specs.declared.entry.Entry.{Entry}
-use Rattle.context_tree.specs.declared.tree.Own.{Own}
-use Rattle.context_node.specs.Kept.{Kept}
-use Rattle.context_node.specs.Soundness.{IsSoundContext}
-use Rattle.context_tree.specs.Soundness.{IsSound, IsNamed, IsChunk}
-use Rattle.context_tree.specs.State.{TreeState}
-use Rattle.context_node.proofs.Sounds.{step_at, step_here, step_other}
+use Rattle.context_tree.proofs.Base.{◌≡◌, ◌≢◌, ℕ, ◌<◌, ◌≤◌, true, List, Option, Some, refl, sym, ap, ◌∙◌, inl, inr, arith, option_map, cases_eq, cases_Bool, eq-eqb, ne_eqb}
+use Rattle.context_tree.proofs.Words.{CtxId, from_map, Forest, Empty, Node, either, at, has, Once, changed, Apart, apart_of, has_at, at_absent, at_some, times_changed, size_changed, changed_absent, has_changed, ChunkId, Entry, Own, Kept, IsSoundContext, IsSound, IsNamed, IsChunk, TreeState, step_at, step_here, step_other}
 
 -- a node that becomes what it is
 pub changed_back : {A : Type 0} (n : ℕ) (a : A) (t : Forest A) → Once t → at n t ≡ Some a → changed n (λ _. a) t ≡ t

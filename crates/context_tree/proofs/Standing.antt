@@ -1,25 +1,8 @@
 -- What is known of the chunk that a name leads to.
-use Rattle.std.proofs.Common.{◌≡◌, true, false, ℕ, ◌+◌, ◌^◌, ◌<◌, ◌≤◌, List, length, map, take, drop, Option, Some, None, IsSome, refl, sym, ap, ◌∙◌, subst, arith}
-use Rattle.std.specs.Prelude.{nat_lt}
-use Rattle.std.specs.Option.{IfSome}
-use Rattle.std.proofs.lemmas.Bool.{le-ltb, lt-ltb}
-use Rattle.addr_space.specs.declared.Addr.{Addr}
-use Rattle.addr_space.specs.Space.{Space, region_at, bytes_of, byte_at, part, IsInside, IsKnown, HasBytes}
+use Rattle.context_tree.proofs.Base.{◌≡◌, false, ℕ, ◌+◌, ◌^◌, ◌≤◌, List, length, map, take, drop, Option, Some, None, IsSome, refl, sym, ap, ◌∙◌, subst, arith, nat_lt, IfSome, le-ltb}
+use Rattle.context_tree.proofs.Words.{Addr, Space, region_at, bytes_of, byte_at, part, IsInside, IsKnown, HasBytes, Footprint, ends_small, IsInside-live_part, footprint, ledger, Found, found, shown, bytes_refusal, ChunkId, Entry, bytes_at, chunk_of, TreeState, stands_for, Agrees, Leads, IsIn, in_live, length-bytes_at, has_known, part_read}
 use Rattle.addr_space.specs.Footprint as foot
-use Rattle.addr_space.specs.Footprint.{Footprint}
-use Rattle.addr_space.proofs.Contexts.{ends_small, IsInside-live_part}
-use Rattle.any_ctx.specs.Contexts.{footprint, ledger}
-use Rattle.context_rules.specs.declared.errors.TreeError.TheVariants.{Range}
 use Rattle.context_rules.specs.Contexts as rules
-use Rattle.context_rules.specs.Contexts.{Found, found}
-use Rattle.context_rules.specs.Chunks.{shown}
-use Rattle.context_rules.specs.Refusals.{bytes_refusal}
-use Rattle.context_node.specs.declared.chunk_id.ChunkId.{ChunkId}
-use Rattle.context_node.specs.declared.entry.Entry.{Entry}
-use Rattle.context_node.specs.State.{bytes_at, chunk_of}
-use Rattle.context_tree.specs.State.{TreeState, stands_for, Agrees}
-use Rattle.context_tree.specs.Lookup.{Leads}
-use Rattle.context_node.proofs.Bytes.{IsIn, in_live, length-bytes_at, has_known, part_read}
 
 -- the chunk in its context and in the space
 pub record Stands (tree : TreeState) (word : List ℕ) (e : Entry) (s : Space) : Type 0 where
@@ -62,12 +45,6 @@ module _ (tree : TreeState) (word : List ℕ) (e : Entry) (s : Space) (x : Stand
   pub bytes_served : (place n : ℕ) → place + n ≤ e.known → None ≡ bytes_refusal word place n (stands_for tree s)
   bytes_served place n fits =
       let test : nat_lt (length x.found.chunk.known) (place + n) ≡ false = le-ltb (length x.found.chunk.known) (place + n) (omega (arith, known_long, fits)) in
-      rw (x.is, test) refl
-
-  pub bytes_range : (place n : ℕ) → (place + n ≤ e.known → ⊥) → Some Range ≡ bytes_refusal word place n (stands_for tree s)
-  bytes_range place n over =
-      let more : e.known < place + n = omega (arith, over) in
-      let test : nat_lt (length x.found.chunk.known) (place + n) ≡ true = lt-ltb (length x.found.chunk.known) (place + n) (omega (arith, known_long, more)) in
       rw (x.is, test) refl
 
   -- a place in the chunk

@@ -1,25 +1,7 @@
 -- One context of a tree moves: what that makes of the tree, and of what it stands for.
-use Rattle.std.proofs.Common.{◌≡◌, ◌≢◌, ◌⊎◌, ℕ, ◌+◌, ◌<◌, Some, IsSome, refl, sym, ap, ◌∙◌, subst, inl, inr, arith}
-use Rattle.std.specs.Option.{option_map}
-use Rattle.std.proofs.lemmas.Bool.{cases_eq, eq-eqb, ne_eqb}
-use Rattle.addr_space.specs.Space.{Space, IsKnown}
+use Rattle.context_tree.proofs.Base.{◌≡◌, ◌≢◌, ◌⊎◌, ℕ, ◌+◌, ◌<◌, Some, IsSome, refl, sym, ap, ◌∙◌, subst, inl, inr, arith, option_map, cases_eq, eq-eqb, ne_eqb}
+use Rattle.context_tree.proofs.Words.{Space, IsKnown, AreDisjoint, Agrees-other, Keeps-other, AreDisjoint-other, AreDisjoint-sym, counted-own, counted-other, Forest, Empty, Node, either, at, Once, changed, mapped, Apart, apart_of, Here, Below, Beside, where_is, has_at, at_absent, at_some, changed_absent, at_changed, at_changed_other, mapped-at, mapped-once, stats, footprint, ledger, Context, Contexts, Entry, Kept, IsSoundContext, context_of, TreeState, stands_for, Agrees, total_of, Moves, at_here, at_below, at_beside, context_stays}
 use Rattle.addr_space.specs.Footprint as foot
-use Rattle.addr_space.specs.Footprint.{AreDisjoint}
-use Rattle.addr_space.proofs.Apart.{Agrees-other, Keeps-other, AreDisjoint-other, AreDisjoint-sym}
-use Rattle.addr_space.proofs.Contexts.{counted-own, counted-other}
-use Rattle.forest.specs.Forest.{Forest, Empty, Node, either, at, Once, changed, mapped}
-use Rattle.forest.proofs.Trees.{Apart, apart_of, Here, Below, Beside, where_is, has_at, at_absent, at_some, changed_absent}
-use Rattle.forest.proofs.Mapped.{at_changed, at_changed_other, mapped-at, mapped-once}
-use Rattle.any_ctx.specs.Ledgers.{stats}
-use Rattle.any_ctx.specs.Contexts.{footprint, ledger}
-use Rattle.context_rules.specs.Contexts.{Context, Contexts}
-use Rattle.context_node.specs.declared.entry.Entry.{Entry}
-use Rattle.context_node.specs.Kept.{Kept}
-use Rattle.context_node.specs.Soundness.{IsSoundContext}
-use Rattle.context_node.specs.State.{context_of}
-use Rattle.context_tree.specs.State.{TreeState, stands_for, Agrees, total_of, Moves}
-use Rattle.context_node.proofs.Names.{at_here, at_below, at_beside}
-use Rattle.context_node.proofs.Steps.{context_stays}
 
 module _ {A B : Type 0} (f g : A → B) (n : ℕ) (l : A) where
   -- where one node changes, and of all others two functions say the same

@@ -1,19 +1,6 @@
 -- The lines and sums of a report, one context at a time.
-use Rattle.std.proofs.Common.{◌≡◌, ℕ, ◌+◌, ◌-◌, ◌^◌, min, List, [], ◌∷◌, ◌++◌, map, refl, sym, ap, ◌∙◌, arith}
-use Rattle.std.proofs.lemmas.List.{map-append}
-use Rattle.addr_space.specs.Space.{Space}
-use Rattle.chunk_header.specs.declared.Stats.{Stats}
-use Rattle.pgs_step.specs.declared.counters.MemoryCounters.{MemoryCounters}
-use Rattle.pgs_step.specs.declared.events.What.{What}
-use Rattle.forest.specs.Forest.{Forest, Empty, Node, mapped}
-use Rattle.forest.specs.Preorder.{Visited, preorder}
-use Rattle.any_ctx.specs.Ledgers.{stats}
-use Rattle.any_ctx.specs.Contexts.{ledger}
-use Rattle.context_report.specs.Lines.{line_of, added, capped}
-use Rattle.context_report.specs.declared.Total.{Total}
-use Rattle.context_rules.specs.Reports.{lines, summed}
-use Rattle.context_node.specs.Kept.{Kept}
-use Rattle.context_node.specs.State.{context_of}
+use Rattle.context_tree.proofs.Base.{◌≡◌, ℕ, ◌+◌, ◌-◌, ◌^◌, min, List, [], ◌∷◌, ◌++◌, map, refl, sym, ap, ◌∙◌, arith, map-append}
+use Rattle.context_tree.proofs.Words.{Space, Stats, MemoryCounters, What, Forest, Empty, Node, mapped, Visited, preorder, stats, ledger, line_of, added, capped, Total, lines, summed, Kept, context_of}
 
 -- the line of a context that a walk comes to
 abbrev pub told : Visited Kept → What

@@ -1,22 +1,8 @@
 -- What calls leave of the hooks that wait.
-use Rattle.std.proofs.Common.{◌≡◌, ◌≢◌, ℕ, ◌+◌, Bool, true, false, List, [], ◌∷◌, ◌++◌, Option, Some, None, Result, Ok, Err, refl, sym, ap, ◌∙◌, subst, arith}
-use Rattle.std.specs.Prelude.{if◌then◌else◌, ◌==◌}
-use Rattle.std.specs.Option.{option_map_or}
-use Rattle.std.proofs.lemmas.List.Elements.{All-cons, All-head, All-tail}
+use Rattle.context_tree.proofs.Base.{◌≡◌, ◌≢◌, ℕ, ◌+◌, Bool, true, false, List, [], ◌∷◌, ◌++◌, Option, Some, None, Result, Ok, Err, refl, sym, ap, ◌∙◌, subst, arith, if◌then◌else◌, ◌==◌, option_map_or, All-cons, All-head, All-tail}
+use Rattle.context_tree.proofs.Words.{CtxError, Empty, Node, changed, put, Hook, AreDistinct, Lacks, ShelfState, taken, differ_taken, Ledger, Place, CtxKind, Default, Context, Contexts, Found, created, found, new_context, allocated, from_ok, registered, served, with_chunk, with_changed, written, written_over, waiting, opening, HooksFit}
 use Rattle.chunk_header.specs.Answers.{Taken}
-use Rattle.chunk_header.specs.declared.CtxError.{CtxError}
-use Rattle.forest.specs.Forest.{Empty, Node, changed, put}
-use Rattle.reset_callbacks.specs.Hook.{Hook, AreDistinct, Lacks}
-use Rattle.reset_callbacks.specs.ShelfState.{ShelfState, held, taken}
-use Rattle.reset_callbacks.proofs.ShelfSteps.{differ_taken}
-use Rattle.any_ctx.specs.Ledgers.{Ledger, Place}
-use Rattle.any_ctx.specs.declared.any.CtxKind.{CtxKind}
-use Rattle.any_ctx.specs.declared.any.CtxKind.TheVariants.{Default}
-use Rattle.context_rules.specs.Contexts.{Context, Contexts, Found, created, found, new_context}
-use Rattle.context_rules.specs.Chunks.{allocated, from_ok, registered, served, with_chunk, with_changed, written, written_over}
-use Rattle.context_rules.specs.Ends.{waiting}
-use Rattle.context_rules.specs.Opening.{opening}
-use Rattle.context_tree.specs.State.{HooksFit}
+use Rattle.reset_callbacks.specs.ShelfState.{held}
 
 hooks_of : (b : Bool) (f : Context → Context) (c : Context) → (f c).hooks ≡ c.hooks → (if b then f c else c).hooks ≡ c.hooks
 hooks_of true f c same = same
@@ -88,8 +74,3 @@ two_fit first second x y z v waits before after again now differ =
         (All-tail (λ (other : Hook). other.word ≢ first.word) second (held z) lacks, e.1),
       );
     }
-
-pub two_wait : (first second : Hook) (x y z : ShelfState) (name : List ℕ) (p n m : ℕ) (s t u v : Contexts) → p ≡ 1 → n ≡ 6 → m ≡ 6 → s ≡ opening → t ≡ created p n name Default false s → u ≡ registered m first t → v ≡ registered m second u
-    → x.fresh ≡ first ∷ y.fresh → y ≡ taken x → y.fresh ≡ second ∷ z.fresh → z ≡ taken y → AreDistinct (held x) → HooksFit v z
-two_wait first second x y z name p n m s t u v p1 n6 m6 is made more last before after again now differ =
-    two_fit first second x y z v (waits_made first second name p n m s t u v p1 n6 m6 is made more last) before after again now differ

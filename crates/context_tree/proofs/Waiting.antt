@@ -1,17 +1,7 @@
 -- A context on which one more hook waits, or which stayed as it was.
-use Rattle.std.proofs.Common.{◌≡◌, ℕ, Some, Result, Ok, Err, OnOk, sym, ap, ◌∙◌}
-use Rattle.addr_space.specs.Space.{Space}
-use Rattle.addr_space.proofs.Steps.{Moves-none}
-use Rattle.forest.specs.Forest.{at, Once, changed, mapped}
-use Rattle.forest.proofs.Mapped.{mapped-changed}
-use Rattle.any_ctx.specs.Contexts.{footprint}
-use Rattle.context_rules.specs.Contexts.{Context}
-use Rattle.context_node.specs.Kept.{Kept}
-use Rattle.context_node.specs.Soundness.{IsSoundContext}
-use Rattle.context_node.specs.State.{context_of}
-use Rattle.context_tree.specs.State.{TreeState, stands_for, Agrees, Moves}
+use Rattle.context_tree.proofs.Base.{◌≡◌, ℕ, Some, Result, Ok, Err, OnOk, sym, ap, ◌∙◌}
+use Rattle.context_tree.proofs.Words.{Space, Moves-none, at, Once, changed, mapped, mapped-changed, footprint, Context, Kept, IsSoundContext, context_of, TreeState, stands_for, Agrees, Moves, SameChunks}
 use Rattle.context_tree.proofs.Steps.{moves_stepped}
-use Rattle.context_node.proofs.Waiting.{SameChunks}
 
 -- what holds of a call that was answered
 pub on_answer : {A E P Q : Type 0} (r : Result A E) → (P → Q) → OnOk r P → OnOk r Q

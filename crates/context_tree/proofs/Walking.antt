@@ -1,16 +1,6 @@
 -- The walk in which all below a context goes.
-use Rattle.std.proofs.Common.{◌≡◌, ◌≢◌, true, false, Some, refl, sym, ap, ◌∙◌, subst}
-use Rattle.addr_space.specs.Space.{Space}
-use Rattle.pgs_step.specs.declared.ids.CtxId.{CtxId}
-use Rattle.forest.specs.declared.id.NodeId.{NodeId}
-use Rattle.forest.specs.Forest.{has, at, Once, children, is_above, removed}
-use Rattle.forest.specs.Walk.{lead, follows}
-use Rattle.forest.proofs.Trees.{has_of_removed}
-use Rattle.reset_callbacks.specs.ShelfState.{ShelfState}
-use Rattle.context_rules.specs.Contexts.{Contexts}
-use Rattle.context_rules.specs.Ends.{Ended, and_then, unchanged, gone, children_gone}
-use Rattle.context_tree.specs.State.{TreeState, IsLive, stands_for, Agrees, HooksFit}
-use Rattle.context_tree.specs.Calls.{Did}
+use Rattle.context_tree.proofs.Base.{◌≡◌, ◌≢◌, true, false, Some, sym, ap, ◌∙◌, subst, nat_tests, arith}
+use Rattle.context_tree.proofs.Words.{Space, CtxId, NodeId, has, at, Once, children, is_above, removed, lead, follows, has_of_removed, ShelfState, Contexts, Ended, and_then, unchanged, gone, children_gone, TreeState, IsLive, stands_for, Agrees, HooksFit, Did}
 use Rattle.context_tree.proofs.Composed.{then_assoc, did_more, did_none}
 use Rattle.context_tree.proofs.Going.{Turn, turn, other_goes, still_apart, all_gone}
 
@@ -30,16 +20,7 @@ pub left_first : (id : CtxId) (leaf : NodeId) (a : TreeState) (s : Space) (x : S
     → Once (stands_for a s) → has id.number (stands_for a s) ≡ true → IsLive a id → at leaf.number a.places ≡ Some leaf.slot
     → leaf.number ≡ lead id.number (children id.number (stands_for a s)) → is_above id.number a.current.number (stands_for a s) ≡ false
     → Left (unchanged (stands_for a s)) id leaf a a s s x x
-left_first id leaf a s x agrees hooks once stands live placed first apart = record {
-  did = did_none a s x agrees hooks;
-  rest = refl;
-  once = once;
-  stands = stands;
-  live = live;
-  placed = placed;
-  first = first;
-  apart = apart;
-}
+left_first id leaf a s x agrees hooks once stands live placed first apart = grind (arith, nat_tests, did_none a s x agrees hooks)
 
 module _ (e : Ended) (id : CtxId) (leaf : NodeId) (a b : TreeState) (s t : Space) (x y : ShelfState) (left : Left e id leaf a b s t x y) where
   pub left_hooks : HooksFit (stands_for b t) y

@@ -1,24 +1,7 @@
 -- A tree in which bytes were written in a chunk.
-use Rattle.std.proofs.Common.{◌≡◌, ◌≢◌, ℕ, ◌+◌, false, List, length, Some, None, refl, sym, ap, ◌∙◌, arith}
-use Rattle.std.specs.Prelude.{nat_lt, ◌||◌}
-use Rattle.std.proofs.lemmas.Bool.{le-ltb}
-use Rattle.addr_space.specs.Space.{Space}
-use Rattle.forest.specs.Forest.{at as entry_at, Once, changed}
-use Rattle.any_ctx.specs.Contexts.{footprint}
-use Rattle.context_rules.specs.Chunks.{with_changed, written_over, written}
-use Rattle.context_rules.specs.declared.errors.TreeError.TheVariants.{Range}
-use Rattle.context_rules.specs.Refusals.{put_refusal, where_so}
-use Rattle.context_node.specs.declared.chunk_id.ChunkId.{ChunkId}
-use Rattle.context_node.specs.declared.entry.Entry.{Entry}
-use Rattle.context_node.specs.Kept.{Kept}
-use Rattle.context_node.specs.Soundness.{IsSoundContext}
-use Rattle.context_node.specs.State.{bytes_at}
-use Rattle.context_tree.specs.State.{TreeState, stands_for, Agrees, Moves}
-use Rattle.context_node.specs.Chunking.{Written}
-use Rattle.context_tree.specs.Lookup.{Leads}
+use Rattle.context_tree.proofs.Base.{◌≡◌, ◌≢◌, ℕ, ◌+◌, false, List, length, Some, None, refl, sym, ap, ◌∙◌, arith, nat_lt, ◌||◌, le-ltb}
+use Rattle.context_tree.proofs.Words.{Space, at as entry_at, Once, changed, footprint, with_changed, written_over, written, Range, put_refusal, where_so, ChunkId, Entry, Kept, IsSoundContext, bytes_at, TreeState, stands_for, Agrees, Moves, Written, Leads, in_live, length-bytes_at, moves_now, sound_written, known_written, context_written}
 use Rattle.context_tree.proofs.Steps.{Stepped, stands_by, moves_stepped}
-use Rattle.context_node.proofs.Bytes.{in_live, length-bytes_at}
-use Rattle.context_node.proofs.Writing.{moves_now, sound_written, known_written, context_written}
 
 module _ (a : TreeState) (s t : Space) (w : List ℕ) (id : ChunkId) (k l : Kept) (place : ℕ) (bytes : List ℕ) (agrees : Agrees a s) (once : Once a.kept)
     (each : (m : ℕ) (j : Kept) → entry_at m a.kept ≡ Some j → IsSoundContext j) (leads : Leads a w id) (here : entry_at id.context.number a.kept ≡ Some k) where

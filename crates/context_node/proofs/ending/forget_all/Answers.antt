@@ -1,9 +1,5 @@
-use Rattle.std.proofs.Common.{◌≡◌, true, refl, sym, ap, ◌∙◌}
-use Rattle.std.specs.HashMap.{get}
-use Rattle.forest.specs.Forest.{Empty, has}
-use Rattle.context_node.specs.declared.entry.Entry.{Entry}
-use Rattle.context_node.specs.Soundness.{same}
-use Rattle.context_node.proofs.Entries.{without_name, none_left, none_has, flat_turn, once_turn, size_turn, numbers_turn, left_turn}
+use Rattle.context_node.proofs.Words.{◌≡◌, true, refl, sym, ap, ◌∙◌, get, Empty, has, Entry, same}
+use Rattle.context_node.proofs.Lemmas.{without_name, none_left, none_has, flat_turn, once_turn, size_turn, numbers_turn, left_turn}
 use Rattle.context_node.proofs.ending.forget_all.Goals as goal
 
 pub loop-id-smaller-in-Some-name : goal.loop-id-smaller-in-Some-name

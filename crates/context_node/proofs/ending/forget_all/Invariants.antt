@@ -1,9 +1,5 @@
 -- The names that lead nowhere yet are those of the chunks that are gone.
-use Rattle.std.proofs.Common.{◌≡◌, ℕ, true, List}
-use Rattle.std.specs.HashMap.{get}
-use Rattle.forest.specs.Forest.{Once, has, size}
-use Rattle.context_node.specs.Soundness.{AreFlat, same}
-use Rattle.context_node.specs.Ending.{left_names}
+use Rattle.context_node.proofs.Words.{◌≡◌, ℕ, true, List, get, Once, has, size, AreFlat, same, left_names}
 use Rattle.context_node.proofs.ending.forget_all.Given as goal
 
 abbrev pub invariant-loop-id : goal.invariant-loop-id

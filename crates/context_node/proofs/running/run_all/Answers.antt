@@ -1,9 +1,4 @@
-use Rattle.std.proofs.Common.{◌≡◌, List, [], ◌∷◌, ◌++◌, refl, sym, ap, ◌∙◌, subst, append_assoc}
-use Rattle.std.proofs.lemmas.List.{append-nil, map-append}
-use Rattle.pgs_step.specs.declared.events.What.TheVariants.{Callback}
-use Rattle.reset_callbacks.specs.Hook.{Hook, ran}
-use Rattle.reset_callbacks.specs.ShelfState.{finished}
-use Rattle.context_rules.specs.Ends.{callbacks, handed_in}
+use Rattle.context_node.proofs.Words.{◌≡◌, List, [], ◌∷◌, ◌++◌, refl, sym, ap, ◌∙◌, subst, append_assoc, append-nil, map-append, Callback, Hook, ran, finished, callbacks, handed_in}
 use Rattle.context_node.proofs.Handing.{handed_more, handed_none, lacks_newest, some_out, count_turn, words_turn}
 use Rattle.context_node.proofs.running.run_all.Goals as goal
 use Rattle.context_node.proofs.running.run_all.Given as given

@@ -1,8 +1,5 @@
 -- The hooks that ran were said and handed in, and those that wait still fit the shelf.
-use Rattle.std.proofs.Common.{◌≡◌, ◌≤◌, List, ◌++◌, length}
-use Rattle.reset_callbacks.specs.Hook.{Hook, AreDistinct}
-use Rattle.reset_callbacks.specs.ShelfState.{held}
-use Rattle.context_rules.specs.Ends.{callbacks, handed_in}
+use Rattle.context_node.proofs.Words.{◌≡◌, ◌≤◌, List, ◌++◌, length, Hook, AreDistinct, held, callbacks, handed_in}
 use Rattle.context_node.proofs.running.run_all.Given as goal
 
 abbrev pub invariant-loop-hook : goal.invariant-loop-hook

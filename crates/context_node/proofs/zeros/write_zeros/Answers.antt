@@ -1,8 +1,6 @@
-use Rattle.std.proofs.Common.{◌≡◌, ℕ, ◌+◌, ◌≤◌, ◌∙◌, length, replicate, take, arith, ap}
-use Rattle.std.proofs.lemmas.List.{take-replicate}
-use Rattle.addr_space.specs.Space.{region_at, bytes_of}
+use Rattle.context_node.proofs.Words.{◌≡◌, ℕ, ◌+◌, ◌≤◌, ◌∙◌, length, replicate, take, arith, ap, take-replicate, region_at, bytes_of}
+use Rattle.context_node.proofs.Lemmas.{zeros_more}
 use Rattle.addr_space.proofs.Copied.{some_region}
-use Rattle.context_node.proofs.Zeroing.{zeros_more}
 use Rattle.context_node.proofs.zeros.write_zeros.Goals as goal
 
 short_of : (n m : ℕ) → n ≤ m → take n (replicate m 0) ≡ replicate {A = ℕ} n 0

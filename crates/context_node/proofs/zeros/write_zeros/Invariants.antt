@@ -1,6 +1,4 @@
-use Rattle.std.proofs.Common.{◌≡◌, ◌-◌, ◌≤◌, map, Some}
-use Rattle.addr_space.specs.Space.{Changes, overwritten, region_at}
-use Rattle.context_rules.specs.Chunks.{zeros}
+use Rattle.context_node.proofs.Words.{◌≡◌, ◌-◌, ◌≤◌, map, Some, Changes, overwritten, region_at, zeros}
 use Rattle.context_node.proofs.zeros.write_zeros.Given as goal
 
 abbrev pub invariant-loop-done : goal.invariant-loop-done

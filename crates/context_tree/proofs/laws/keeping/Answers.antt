@@ -1,8 +1,5 @@
-use Rattle.context_tree.proofs.Allocs.{tree_none}
 use Rattle.context_tree.proofs.Composed.{tree_more}
-use Rattle.context_tree.proofs.Adding.{stands_still}
-use Rattle.context_tree.proofs.Opening.{regions_same}
-use Rattle.context_tree.proofs.Ending.{same_held}
+use Rattle.context_tree.proofs.Lemmas.{tree_none, stands_still, regions_same, same_held}
 use Rattle.context_tree.proofs.laws.keeping.Goals as goal
 
 pub returns : goal.returns

@@ -1,20 +1,10 @@
-use Rattle.std.proofs.Common.{◌≡◌, ℕ, Some, refl, ap, ◌∙◌, subst, arith}
-use Rattle.forest.specs.Forest.{Forest, Empty, at, children, size}
-use Rattle.forest.proofs.Trees.{has_at, size_removed}
-use Rattle.context_node.specs.Kept.{Kept}
-use Rattle.context_tree.specs.State.{Moves}
-use Rattle.context_tree.specs.Making.{bare}
-use Rattle.context_tree.proofs.Allocs.{tree_none}
-use Rattle.context_tree.proofs.Emptying.{tree_more, leaf_bare, none_first, one_back, each_left}
+use Rattle.context_tree.proofs.Base.{◌≡◌, ℕ, Some, ap, ◌∙◌, subst, arith, nat_tests}
+use Rattle.context_tree.proofs.Words.{Forest, Empty, at, children, size, has_at, size_removed, Kept, Moves, bare}
+use Rattle.context_tree.proofs.Lemmas.{tree_more, leaf_bare, none_first, one_back, each_left}
 use Rattle.context_tree.proofs.making.give_all_back.Goals as goal
 
 pub loop-root-init : goal.loop-root-init
-loop-root-init g c = record {
-  agrees = c.requires.agrees;
-  each = c.requires.each;
-  asked = λ account. refl;
-  moves = λ account agrees. tree_none (bare account c.args.nodes.now.forest) c.args.space.now agrees;
-}
+loop-root-init g c = grind (arith, nat_tests, c.requires.agrees, c.requires.each)
 
 pub remove-node-requires-clause-leaf : goal.remove-node-requires-clause-leaf
 remove-node-requires-clause-leaf g c =

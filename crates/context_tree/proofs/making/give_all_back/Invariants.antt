@@ -1,11 +1,6 @@
 -- What is left agrees with the space, and what was given back made it move.
-use Rattle.std.proofs.Common.{◌≡◌, ℕ, Some}
-use Rattle.addr_space.specs.Space.{Asks}
-use Rattle.forest.specs.Forest.{at, size}
-use Rattle.context_node.specs.Kept.{Kept}
-use Rattle.context_node.specs.Soundness.{IsSoundContext}
-use Rattle.context_tree.specs.State.{Agrees, Moves}
-use Rattle.context_tree.specs.Making.{bare}
+use Rattle.context_tree.proofs.Base.{◌≡◌, ℕ, Some}
+use Rattle.context_tree.proofs.Words.{Asks, at, size, Kept, IsSoundContext, Agrees, Moves, bare}
 use Rattle.context_tree.proofs.making.give_all_back.Given as goal
 
 abbrev pub invariant-loop-root : goal.invariant-loop-root

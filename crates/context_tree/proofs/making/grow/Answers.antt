@@ -1,9 +1,7 @@
-use Rattle.std.proofs.Common.{◌∙◌, subst}
+use Rattle.context_tree.proofs.Base.{◌∙◌, subst}
+use Rattle.context_tree.proofs.Words.{nothing, footprint, Kept}
 use Rattle.addr_space.specs.Footprint as foot
-use Rattle.addr_space.specs.Footprint.{nothing}
-use Rattle.any_ctx.specs.Contexts.{footprint}
-use Rattle.context_node.specs.Kept.{Kept}
-use Rattle.context_tree.proofs.Rooms.{given_back}
+use Rattle.context_tree.proofs.Lemmas.{given_back}
 use Rattle.context_tree.proofs.making.grow.Goals as goal
 
 pub returns-in-Err-insert-clause-err_space : goal.returns-in-Err-insert-clause-err_space

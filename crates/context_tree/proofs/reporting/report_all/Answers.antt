@@ -1,16 +1,8 @@
 -- Each turn tells one context and adds what it has.
-use Rattle.std.proofs.Common.{◌≡◌, List, [], ◌∷◌, ◌++◌, map, refl, sym, ap, ◌∙◌, append_assoc}
-use Rattle.std.proofs.lemmas.List.{append-nil}
-use Rattle.forest.specs.Forest.{mapped}
-use Rattle.forest.specs.Preorder.{Visited}
-use Rattle.any_ctx.specs.Ledgers.{stats}
-use Rattle.any_ctx.specs.Contexts.{ledger}
-use Rattle.context_report.specs.Lines.{added, capped, no_total, sum_of}
-use Rattle.context_report.specs.declared.Total.{Total}
-use Rattle.context_rules.specs.Reports.{summed, lines}
-use Rattle.context_node.specs.Kept.{Kept}
-use Rattle.context_node.specs.State.{context_of}
-use Rattle.context_tree.proofs.Telling.{told, all_added, capped_all, counted, lines_told, summed_added}
+use Rattle.context_tree.proofs.Base.{◌≡◌, List, [], ◌∷◌, ◌++◌, map, refl, sym, ap, ◌∙◌, append_assoc, append-nil}
+use Rattle.context_tree.proofs.Words.{mapped, Visited, stats, ledger, added, capped, no_total, Total, summed, lines, Kept, context_of}
+use Rattle.context_report.specs.Lines.{sum_of}
+use Rattle.context_tree.proofs.Lemmas.{told, all_added, capped_all, counted, lines_told, summed_added}
 use Rattle.context_tree.proofs.reporting.report_all.Goals as goal
 
 pub loop-visit-preserved : goal.loop-visit-preserved

@@ -1,9 +1,7 @@
 -- What was said and what is still to say are the lines of all contexts, and so for the sums.
-use Rattle.std.proofs.Common.{◌≡◌, List, ◌++◌, map, length}
-use Rattle.pgs_step.specs.declared.events.What.{What}
-use Rattle.forest.specs.Preorder.{preorder}
-use Rattle.context_report.specs.Lines.{capped, no_total}
-use Rattle.context_tree.proofs.Telling.{told, all_added}
+use Rattle.context_tree.proofs.Base.{◌≡◌, List, ◌++◌, map, length}
+use Rattle.context_tree.proofs.Words.{What, preorder, capped, no_total}
+use Rattle.context_tree.proofs.Lemmas.{told, all_added}
 use Rattle.context_tree.proofs.reporting.report_all.Given as goal
 
 abbrev pub invariant-loop-visit : goal.invariant-loop-visit

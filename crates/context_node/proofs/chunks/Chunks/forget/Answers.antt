@@ -1,9 +1,5 @@
-use Rattle.std.proofs.Common.{ap, ◌∙◌}
-use Rattle.std.specs.HashMap.{get}
-use Rattle.context_node.specs.KeptChunks.{KeptChunks}
-use Rattle.context_node.specs.Soundness.{same}
-use Rattle.context_node.specs.Ending.{left_names}
-use Rattle.context_node.proofs.NamedParts.{kept_flat, kept_once, kept_none, left_same}
+use Rattle.context_node.proofs.Words.{ap, ◌∙◌, get, KeptChunks, same, left_names}
+use Rattle.context_node.proofs.Lemmas.{kept_flat, kept_once, kept_none, left_same}
 use Rattle.context_node.proofs.chunks.Chunks.forget.Goals as goal
 
 pub forget_all-requires-clause-flat : goal.forget_all-requires-clause-flat

@@ -1,7 +1,5 @@
-use Rattle.std.proofs.Common.{sym, ap, ◌∙◌}
-use Rattle.forest.specs.Forest.{at}
-use Rattle.context_node.specs.KeptChunks.{KeptChunks}
-use Rattle.context_node.proofs.NamedParts.{kept_at}
+use Rattle.context_node.proofs.Words.{sym, ap, ◌∙◌, at, KeptChunks}
+use Rattle.context_node.proofs.Lemmas.{kept_at}
 use Rattle.context_node.proofs.chunks.Chunks.get.Goals as goal
 
 pub returns : goal.returns

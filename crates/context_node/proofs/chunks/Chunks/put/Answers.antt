@@ -1,7 +1,5 @@
-use Rattle.std.proofs.Common.{◌≡◌, false, refl, ap, ◌∙◌}
-use Rattle.forest.specs.Forest.{has}
-use Rattle.context_node.specs.KeptChunks.{KeptChunks}
-use Rattle.context_node.proofs.NamedParts.{kept_fresh, kept_put}
+use Rattle.context_node.proofs.Words.{◌≡◌, false, refl, ap, ◌∙◌, has, KeptChunks}
+use Rattle.context_node.proofs.Lemmas.{kept_fresh, kept_put}
 use Rattle.context_node.proofs.chunks.Chunks.put.Goals as goal
 
 pub insert_root-requires : goal.insert_root-requires

@@ -1,7 +1,5 @@
-use Rattle.std.proofs.Common.{ap, ◌∙◌}
-use Rattle.forest.specs.Forest.{has}
-use Rattle.context_node.specs.KeptChunks.{KeptChunks}
-use Rattle.context_node.proofs.NamedParts.{kept_nameless}
+use Rattle.context_node.proofs.Words.{ap, ◌∙◌, has, KeptChunks}
+use Rattle.context_node.proofs.Lemmas.{kept_nameless}
 use Rattle.context_node.proofs.chunks.Chunks.put_nameless.Goals as goal
 
 pub invariant_of-self : goal.invariant_of-self

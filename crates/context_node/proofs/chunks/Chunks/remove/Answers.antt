@@ -1,7 +1,5 @@
-use Rattle.std.proofs.Common.{ap, ◌∙◌}
-use Rattle.forest.specs.Forest.{at}
-use Rattle.context_node.specs.KeptChunks.{KeptChunks}
-use Rattle.context_node.proofs.NamedParts.{kept_flat, kept_removed}
+use Rattle.context_node.proofs.Words.{ap, ◌∙◌, at, KeptChunks}
+use Rattle.context_node.proofs.Lemmas.{kept_flat, kept_removed}
 use Rattle.context_node.proofs.Removals.{flat_leaf}
 use Rattle.context_node.proofs.chunks.Chunks.remove.Goals as goal
 

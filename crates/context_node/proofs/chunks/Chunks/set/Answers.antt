@@ -1,8 +1,5 @@
-use Rattle.std.proofs.Common.{◌≡◌, Some, refl, sym, ap, ◌∙◌}
-use Rattle.forest.specs.Forest.{at, changed}
-use Rattle.context_node.specs.declared.entry.Entry.{Entry}
-use Rattle.context_node.specs.KeptChunks.{KeptChunks}
-use Rattle.context_node.proofs.NamedParts.{kept_at, kept_changed}
+use Rattle.context_node.proofs.Words.{◌≡◌, Some, refl, sym, ap, ◌∙◌, at, changed, Entry, KeptChunks}
+use Rattle.context_node.proofs.Lemmas.{kept_at, kept_changed}
 use Rattle.context_node.proofs.chunks.Chunks.set.Goals as goal
 
 pub invariant_of-self : goal.invariant_of-self

@@ -1,9 +1,5 @@
-use Rattle.std.proofs.Common.{◌≡◌, Option, None, sym, ap, ◌∙◌, subst}
-use Rattle.std.specs.Option.{IfSome}
-use Rattle.forest.specs.Forest.{at}
-use Rattle.context_node.specs.declared.entry.Entry.{Entry}
-use Rattle.context_node.specs.KeptChunks.{KeptChunks}
-use Rattle.context_node.proofs.NamedParts.{kept_same}
+use Rattle.context_node.proofs.Words.{◌≡◌, Option, None, sym, ap, ◌∙◌, subst, IfSome, at, Entry, KeptChunks}
+use Rattle.context_node.proofs.Lemmas.{kept_same}
 use Rattle.context_node.proofs.chunks.Chunks.set_nameless.Goals as goal
 
 pub invariant_of-self : goal.invariant_of-self

@@ -1,15 +1,5 @@
-use Rattle.std.proofs.Common.{◌≡◌, ℕ, List, map, Option, Some, None, refl, sym, ap, ◌∙◌, subst, arith}
-use Rattle.addr_space.specs.declared.Addr.{Addr}
-use Rattle.addr_space.specs.Space.{IsInside, Changes, region_at, overwritten}
-use Rattle.addr_space.proofs.Contexts.{ends_small, IsInside-live_part}
-use Rattle.forest.specs.Forest.{Forest, Empty, Node, at, changed}
-use Rattle.any_ctx.specs.Contexts.{footprint}
-use Rattle.context_rules.specs.Chunks.{zeros}
-use Rattle.context_node.specs.declared.entry.Entry.{Entry}
-use Rattle.context_node.specs.Kept.{Kept}
-use Rattle.context_node.specs.Chunking.{Took, taken_entry}
-use Rattle.context_node.proofs.Fronts.{front_changed}
-use Rattle.context_node.proofs.Zeroing.{live_now, taken_is, took_zeros}
+use Rattle.context_node.proofs.Words.{◌≡◌, ℕ, List, map, Option, Some, None, refl, sym, ap, ◌∙◌, subst, arith, Addr, IsInside, Changes, region_at, overwritten, ends_small, IsInside-live_part, Forest, Empty, Node, at, changed, footprint, zeros, Entry, Kept, Took, taken_entry}
+use Rattle.context_node.proofs.Lemmas.{front_changed, live_now, taken_is, took_zeros}
 use Rattle.context_node.proofs.node.Node.alloc0.Goals as goal
 
 pub write_zeros-requires-clause-inside : goal.write_zeros-requires-clause-inside

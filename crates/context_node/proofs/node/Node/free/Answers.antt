@@ -1,11 +1,5 @@
-use Rattle.std.proofs.Common.{◌≡◌, Option, Some, None, Ok, IsSome, refl, sym, ap, ◌∙◌, subst}
-use Rattle.std.specs.Option.{IfSome}
-use Rattle.forest.specs.Forest.{at}
-use Rattle.any_ctx.specs.Ledgers.{Place, give}
-use Rattle.any_ctx.specs.Contexts.{ledger, place_at}
-use Rattle.context_node.specs.Kept.{Kept}
-use Rattle.context_node.specs.Soundness.{IsSoundContext}
-use Rattle.context_node.proofs.Fronts.{kept_back}
+use Rattle.context_node.proofs.Words.{◌≡◌, Option, Some, None, Ok, IsSome, refl, sym, ap, ◌∙◌, subst, IfSome, at, Place, give, ledger, place_at, Kept, IsSoundContext}
+use Rattle.context_node.proofs.Lemmas.{kept_back}
 use Rattle.context_node.proofs.node.Node.free.Goals as goal
 
 some_value : {A : Type 0} (o : Option A) → IsSome o → (x : A) × (o ≡ Some x)

@@ -1,11 +1,5 @@
-use Rattle.std.proofs.Common.{◌≡◌, ℕ, length, map, Some, refl, ap, ◌∙◌, subst, arith}
-use Rattle.addr_space.specs.declared.Addr.{Addr}
-use Rattle.addr_space.specs.Space.{Changes, region_at, overwritten}
-use Rattle.addr_space.proofs.Contexts.{ends_small, IsInside-live_part}
-use Rattle.forest.specs.Forest.{at, changed}
-use Rattle.any_ctx.specs.Contexts.{footprint}
-use Rattle.context_node.specs.Kept.{Kept}
-use Rattle.context_node.proofs.Fronts.{kept_back}
+use Rattle.context_node.proofs.Words.{◌≡◌, ℕ, length, map, Some, refl, ap, ◌∙◌, subst, arith, Addr, Changes, region_at, overwritten, ends_small, IsInside-live_part, at, changed, footprint, Kept}
+use Rattle.context_node.proofs.Lemmas.{kept_back}
 use Rattle.context_node.proofs.node.Node.put.Goals as goal
 
 pub room_at-requires : goal.room_at-requires

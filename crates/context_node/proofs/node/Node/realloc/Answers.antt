@@ -1,15 +1,8 @@
-use Rattle.std.proofs.Common.{◌≡◌, ℕ, Option, Some, None, Err, IsSome, unwrap_or, refl, sym, ap, ◌∙◌, subst, inl, inr}
-use Rattle.std.specs.Option.{IfSome}
+use Rattle.context_node.proofs.Words.{◌≡◌, ℕ, Option, Some, None, Err, IsSome, unwrap_or, refl, sym, ap, ◌∙◌, subst, inl, inr, IfSome, at, changed, Place, InSlab, resize, footprint, ledger, place_at, Entry, Kept, IsSoundContext}
+use Rattle.context_node.proofs.Lemmas.{kept_back}
 use Rattle.addr_space.specs.Space.{held}
-use Rattle.forest.specs.Forest.{at, changed}
-use Rattle.any_ctx.specs.Ledgers.{Place, InSlab, resize}
-use Rattle.any_ctx.specs.Contexts.{footprint, ledger, place_at}
 use Rattle.any_ctx.specs.Calls.{Resizes, resize_in}
 use Rattle.context_rules.specs.Refusals.{refusal}
-use Rattle.context_node.specs.declared.entry.Entry.{Entry}
-use Rattle.context_node.specs.Kept.{Kept}
-use Rattle.context_node.specs.Soundness.{IsSoundContext}
-use Rattle.context_node.proofs.Fronts.{kept_back}
 use Rattle.context_node.proofs.node.Node.realloc.Goals as goal
 
 some_value : {A : Type 0} (o : Option A) → IsSome o → (x : A) × (o ≡ Some x)

@@ -1,8 +1,5 @@
-use Rattle.std.proofs.Common.{◌∷◌, [], ◌++◌, ap}
-use Rattle.pgs_step.specs.declared.events.What.TheVariants.{Reset}
-use Rattle.context_rules.specs.Ends.{callbacks}
-use Rattle.context_node.specs.Kept.{Kept}
-use Rattle.context_node.proofs.Entries.{kept_cleared}
+use Rattle.context_node.proofs.Words.{◌∷◌, [], ◌++◌, ap, Reset, callbacks, Kept}
+use Rattle.context_node.proofs.Lemmas.{kept_cleared}
 use Rattle.context_node.proofs.node.Node.reset.Goals as goal
 
 pub returns-clause-cleared : goal.returns-clause-cleared

@@ -1,9 +1,5 @@
-use Rattle.std.proofs.Common.{◌≡◌, false, Some, ap, ◌∙◌, arith}
-use Rattle.forest.specs.Forest.{has}
-use Rattle.context_node.specs.declared.entry.Entry.{Entry}
-use Rattle.context_node.specs.Kept.{Kept}
-use Rattle.context_node.specs.Chunking.{taken_entry}
-use Rattle.context_node.proofs.Fronts.{front_at, front_changed, front_removed, kept_now, kept_back}
+use Rattle.context_node.proofs.Words.{◌≡◌, false, Some, ap, ◌∙◌, arith, has, Entry, Kept, taken_entry}
+use Rattle.context_node.proofs.Lemmas.{front_at, front_changed, front_removed, kept_now, kept_back}
 use Rattle.context_node.proofs.node.Node.take_named.Goals as goal
 
 pub returns-in-Ok-clause-took : goal.returns-in-Ok-clause-took

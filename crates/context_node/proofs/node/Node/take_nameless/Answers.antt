@@ -1,8 +1,5 @@
-use Rattle.std.proofs.Common.{refl, ap, ◌∙◌, arith}
-use Rattle.forest.specs.Forest.{Empty, Node}
-use Rattle.context_node.specs.declared.entry.Entry.{Entry}
-use Rattle.context_node.specs.Kept.{Kept}
-use Rattle.context_node.proofs.Fronts.{kept_now}
+use Rattle.context_node.proofs.Words.{refl, ap, ◌∙◌, arith, Empty, Node, Entry, Kept}
+use Rattle.context_node.proofs.Lemmas.{kept_now}
 use Rattle.context_node.proofs.node.Node.take_nameless.Goals as goal
 
 pub returns-in-Ok-clause-took : goal.returns-in-Ok-clause-took

@@ -1,27 +1,6 @@
 -- `of` makes a value of no bytes, whose ghost field is read off the argument.
-use Rattle.std.proofs.Common.{◌≡◌, [], ◌∷◌, refl}
-use mir.Syntax.{a_type, dcons, dnil, named}
-use mir.Val.{Val, vptr, vstruct, vcons, vnil}
-use mir.MapTy.{inst_fn}
-use base.Logic.{SProp, emp}
-use base.Fml.{Fml}
-use contract.Monad.{fact, fact_i}
-use contract.Running.{tables}
-use types.Kit.{‵, raw, ◌⊛◌, ◌$◌, ◌∵◌, !, qed, by, keep, use0, split, fjoin}
-use types.Run.{no_more, and_then, returns, enter}
-use types.Part.{agg}
-use types.ByLocal.{alloc_all, pass_all, free_all, look_at, get, sets}
-use denote.Builtin.{RefOf}
-use denote.Exit.{yes}
-use denote.Param.{param, bounded}
-use denote.RattleType.{RattleType, owns}
-use denote.Ref.{shr_vals, shr_Tells}
-use denote.Shadow.{makes_shadow}
-use denote.Signature.{types_at, plain}
-use denote.Steps.{nothing}
-use denote.Triple.Entry.{alive}
-use denote.Triple.Walked.{Stays, stay_dropped, walk_of, Goes-dropped}
-use Rattle.std.proofs.raw_atomic.Walks.{proved, leaves}
+use Rattle.context_node.proofs.Words.{◌≡◌, [], ◌∷◌, refl, a_type, dcons, dnil, named, Val, vptr, vstruct, vcons, vnil, inst_fn, SProp, emp, Fml, fact, fact_i, tables, ‵, raw, ◌⊛◌, ◌$◌, ◌∵◌, !, qed, by, keep, use0, split, fjoin, no_more, and_then, returns, enter, agg, alloc_all, pass_all, free_all, look_at, sets, RefOf, yes, param, bounded, RattleType, owns, shr_vals, shr_Tells, makes_shadow, types_at, plain, nothing, alive, Stays, stay_dropped, walk_of, Goes-dropped, proved, leaves}
+use types.ByLocal.{get}
 use Rattle.context_node.specs.Ran.{Ran}
 use Rattle.context_node.specs.contracts.running.HooksRan as HooksRan
 use Rattle.context_node.specs.contracts.running.HooksRan.of.{ended, clauses}

@@ -1,7 +1,6 @@
-use Rattle.std.proofs.Common.{◌≡◌, [], sym, subst}
-use Rattle.context_tree.specs.State.{TreeState, stands_for, Agrees}
-use Rattle.context_tree.proofs.Names.{once_of}
-use Rattle.context_tree.proofs.Beside.{agrees_beside, stands_beside}
+use Rattle.context_tree.proofs.Base.{◌≡◌, [], sym, subst}
+use Rattle.context_tree.proofs.Words.{TreeState, stands_for, Agrees}
+use Rattle.context_tree.proofs.Lemmas.{once_of, agrees_beside, stands_beside}
 use Rattle.context_tree.proofs.tree.ContextTree.beside.Goals as goal
 
 pub returns-clause-agrees : goal.returns-clause-agrees

@@ -1,5 +1,5 @@
-use Rattle.std.proofs.Common.{length, arith}
-use Rattle.context_tree.proofs.Standing.{Stands, stands, bytes_served, inside_at, known_at, bytes_shown}
+use Rattle.context_tree.proofs.Base.{length, arith}
+use Rattle.context_tree.proofs.Lemmas.{Stands, stands, bytes_served, inside_at, known_at, bytes_shown}
 use Rattle.context_tree.proofs.tree.ContextTree.bytes.Goals as goal
 
 pub known_at-requires : goal.known_at-requires

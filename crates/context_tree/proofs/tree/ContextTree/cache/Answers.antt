@@ -1,8 +1,6 @@
-use Rattle.std.proofs.Common.{◌≡◌, true, [], sym, subst}
-use Rattle.forest.specs.Forest.{has}
-use Rattle.context_tree.specs.State.{TreeState, IsLive, stands_for}
-use Rattle.context_tree.proofs.Names.{placed_as}
-use Rattle.context_tree.proofs.Reading.{own_lives}
+use Rattle.context_tree.proofs.Base.{◌≡◌, true, [], sym, subst}
+use Rattle.context_tree.proofs.Words.{has, TreeState, IsLive, stands_for}
+use Rattle.context_tree.proofs.Lemmas.{placed_as, own_lives}
 use Rattle.context_tree.proofs.tree.ContextTree.cache.Goals as goal
 
 pub returns-clause-stands : goal.returns-clause-stands

@@ -1,12 +1,6 @@
-use Rattle.std.proofs.Common.{◌≡◌, None, sym, ◌∙◌, subst}
-use Rattle.std.specs.HashMap.{get}
-use Rattle.context_rules.specs.Contexts.{found}
-use Rattle.context_node.specs.Soundness.{same}
-use Rattle.context_tree.specs.State.{TreeState, stands_for}
-use Rattle.context_tree.specs.Lookup.{Leads}
-use Rattle.context_node.proofs.Names.{if_some}
-use Rattle.context_tree.proofs.Names.{find_nothing}
-use Rattle.context_tree.proofs.Leading.{leads}
+use Rattle.context_tree.proofs.Base.{◌≡◌, None, sym, ◌∙◌, subst, get}
+use Rattle.context_tree.proofs.Words.{found, same, TreeState, stands_for, Leads, if_some}
+use Rattle.context_tree.proofs.Lemmas.{find_nothing, leads}
 use Rattle.context_tree.proofs.tree.ContextTree.chunk.Goals as goal
 
 pub returns-clause-none : goal.returns-clause-none

@@ -1,8 +1,6 @@
 -- What was done and what is left of the walk.
-use Rattle.forest.specs.Forest.{size}
-use Rattle.context_rules.specs.Ends.{Ended}
-use Rattle.context_tree.specs.State.{stands_for}
-use Rattle.context_tree.proofs.Walking.{Left}
+use Rattle.context_tree.proofs.Words.{size, Ended, stands_for}
+use Rattle.context_tree.proofs.Lemmas.{Left}
 use Rattle.context_tree.proofs.tree.ContextTree.clear_children.Given as goal
 
 abbrev pub invariant-loop-leaf : goal.invariant-loop-leaf

@@ -1,8 +1,6 @@
-use Rattle.std.proofs.Common.{[], sym, ◌∙◌, subst}
-use Rattle.forest.specs.Forest.{Once}
-use Rattle.context_tree.specs.State.{TreeState, stands_for}
-use Rattle.context_tree.proofs.Names.{once_of}
-use Rattle.context_tree.proofs.Reading.{stands_once, stands_size}
+use Rattle.context_tree.proofs.Base.{[], sym, ◌∙◌, subst}
+use Rattle.context_tree.proofs.Words.{Once, TreeState, stands_for}
+use Rattle.context_tree.proofs.Lemmas.{once_of, stands_once, stands_size}
 use Rattle.context_tree.proofs.tree.ContextTree.count.Goals as goal
 
 pub returns-clause-value : goal.returns-clause-value

@@ -1,13 +1,5 @@
-use Rattle.std.proofs.Common.{◌≡◌, ◌⊎◌, ℕ, [], ◌∷◌, Some, Result, Err, IfErr, sym, ap, subst}
-use Rattle.std.proofs.lemmas.Result.{err_from_is_err_and}
-use Rattle.pgs_step.specs.declared.ids.CtxId.{CtxId}
-use Rattle.pgs_step.specs.declared.events.What.TheVariants.{Create}
-use Rattle.context_rules.specs.Refusals.{create_refusal}
-use Rattle.context_rules.specs.declared.errors.TreeError.{TreeError}
-use Rattle.context_rules.specs.declared.errors.TreeError.TheVariants.{Memory}
-use Rattle.any_ctx.specs.Kinds.{first_size}
-use Rattle.context_tree.specs.Making.{AsksInVain}
-use Rattle.context_tree.specs.State.{TreeState, place_of, stands_for, left_of}
+use Rattle.context_tree.proofs.Base.{◌≡◌, ◌⊎◌, ℕ, [], ◌∷◌, Some, Result, Err, IfErr, sym, ap, subst, err_from_is_err_and}
+use Rattle.context_tree.proofs.Words.{CtxId, Create, create_refusal, TreeError, Memory, first_size, AsksInVain, TreeState, place_of, stands_for, left_of}
 use Rattle.context_tree.proofs.tree.ContextTree.create.Goals as goal
 
 pub returns-in_err-id-clause-refused : goal.returns-in_err-id-clause-refused

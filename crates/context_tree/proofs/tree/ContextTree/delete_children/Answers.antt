@@ -1,4 +1,4 @@
-use Rattle.std.proofs.Common.{sym, ◌∙◌}
+use Rattle.context_tree.proofs.Base.{sym, ◌∙◌}
 use Rattle.context_tree.proofs.tree.ContextTree.delete_children.Goals as goal
 
 pub clear_children-requires-clause-apart : goal.clear_children-requires-clause-apart

@@ -1,19 +1,7 @@
 -- Each turn takes out the first leaf of what is left.
-use Rattle.std.proofs.Common.{◌≡◌, ℕ, List, Some, refl, sym, ap, ◌∙◌, subst, arith}
-use Rattle.pgs_step.specs.declared.events.What.{What}
-use Rattle.forest.specs.Forest.{Forest, Empty, at, children, size}
-use Rattle.forest.proofs.Trees.{has_at, size_removed}
-use Rattle.context_rules.specs.Contexts.{Contexts}
-use Rattle.context_rules.specs.Ends.{and_then, unchanged, gone, gone_events, waiting, handed_in}
-use Rattle.reset_callbacks.specs.Hook.{Hook}
-use Rattle.context_node.specs.Kept.{Kept}
-use Rattle.context_node.specs.Soundness.{IsSoundContext}
-use Rattle.context_tree.specs.State.{TreeState, stands_for, no_contexts, HooksFit}
-use Rattle.context_tree.specs.Making.{bare}
-use Rattle.context_tree.proofs.Resetting.{fits_of, words_of}
-use Rattle.context_tree.proofs.Leaving.{leaf_events}
-use Rattle.context_tree.proofs.Emptying.{leaf_bare, none_first, agrees_bare, moves_bare}
-use Rattle.context_tree.proofs.Ending.{Ending, stands_bare, ending_first, ending_hooks, alone, ending_next, end_events, end_hooks, end_moves, held_less}
+use Rattle.context_tree.proofs.Base.{◌≡◌, ℕ, List, Some, refl, sym, ap, ◌∙◌, subst, arith}
+use Rattle.context_tree.proofs.Words.{What, Forest, Empty, at, children, size, has_at, size_removed, Contexts, and_then, unchanged, gone, gone_events, waiting, handed_in, Hook, Kept, IsSoundContext, TreeState, stands_for, no_contexts, HooksFit, bare}
+use Rattle.context_tree.proofs.Lemmas.{fits_of, words_of, leaf_events, leaf_bare, none_first, agrees_bare, moves_bare, Ending, stands_bare, ending_first, ending_hooks, alone, ending_next, end_events, end_hooks, end_moves, held_less}
 use Rattle.context_tree.proofs.tree.ContextTree.end.Goals as goal
 
 pub loop-root-init : goal.loop-root-init
@@ -44,17 +32,11 @@ end-requires-clause-sound g c = c.loop-root.invariant.1.each c.first_leaf-leaf.r
 
 pub end-requires-clause-count : goal.end-requires-clause-count
 end-requires-clause-count g c =
-    let inv = c.loop-root.invariant in
-    let a : TreeState = c.args.self in
-    fits_of (bare a.account c.loop-root.nodes.forest) c.loop-root.space c.first_leaf-leaf.result.number c.remove-node.result c.first_leaf-leaf.ensures.once c.remove-node.ensures.value c.loop-root.shelf
-    (ending_hooks inv.0 a.account a.kept c.loop-root.nodes.forest c.args.space.now c.loop-root.space c.args.shelf.now c.loop-root.shelf inv.1)
+    fits_of (bare c.args.self.account c.loop-root.nodes.forest) _ _ _ c.first_leaf-leaf.ensures.once c.remove-node.ensures.value _ (ending_hooks _ _ _ _ _ _ _ _ c.loop-root.invariant.1)
 
 pub end-requires-clause-words : goal.end-requires-clause-words
 end-requires-clause-words g c =
-    let inv = c.loop-root.invariant in
-    let a : TreeState = c.args.self in
-    words_of (bare a.account c.loop-root.nodes.forest) c.loop-root.space c.first_leaf-leaf.result.number c.remove-node.result c.first_leaf-leaf.ensures.once c.remove-node.ensures.value c.loop-root.shelf
-    (ending_hooks inv.0 a.account a.kept c.loop-root.nodes.forest c.args.space.now c.loop-root.space c.args.shelf.now c.loop-root.shelf inv.1)
+    words_of (bare c.args.self.account c.loop-root.nodes.forest) _ _ _ c.first_leaf-leaf.ensures.once c.remove-node.ensures.value _ (ending_hooks _ _ _ _ _ _ _ _ c.loop-root.invariant.1)
 
 pub loop-root-preserved : goal.loop-root-preserved
 loop-root-preserved g c =
@@ -89,37 +71,20 @@ loop-root-smaller g c =
     )
 
 pub returns-clause-moves : goal.returns-clause-moves
-returns-clause-moves g c =
-    let inv = c.loop-root.invariant in
-    let a : TreeState = c.args.self in
-    let f : Forest Kept = c.loop-root.nodes.forest in
-    moves_bare a (no_contexts a.account) c.args.space.now c.loop-root.space
-    (end_moves inv.0 a.account a.kept f c.args.space.now c.loop-root.space c.args.shelf.now c.loop-root.shelf inv.1 (none_first f c.in_default.ensures))
+returns-clause-moves g c = moves_bare _ _ _ _ (end_moves _ _ _ _ _ _ _ _ c.loop-root.invariant.1 (none_first _ c.in_default.ensures))
 
 pub returns-clause-shelf : goal.returns-clause-shelf
 returns-clause-shelf g c =
-    let inv = c.loop-root.invariant in
-    let a : TreeState = c.args.self in
-    let f : Forest Kept = c.loop-root.nodes.forest in
-    let hooks = end_hooks inv.0 a.account a.kept f c.args.space.now c.loop-root.space c.args.shelf.now c.loop-root.shelf inv.1 (none_first f c.in_default.ensures) in
-    inv.1.did.shelf ∙ ap (λ (hs : List Hook). handed_in hs c.args.shelf.now) (hooks ∙ ap waiting (stands_bare a c.args.space.now))
+    c.loop-root.invariant.1.did.shelf ∙ ap (λ (hs : List Hook). handed_in hs c.args.shelf.now)
+    (end_hooks _ _ _ _ _ _ _ _ c.loop-root.invariant.1 (none_first _ c.in_default.ensures) ∙ ap waiting (stands_bare c.args.self c.args.space.now))
 
 pub returns-clause-emits : goal.returns-clause-emits
 returns-clause-emits g c =
-    let inv = c.loop-root.invariant in
-    let a : TreeState = c.args.self in
-    let f : Forest Kept = c.loop-root.nodes.forest in
-    let events = end_events inv.0 a.account a.kept f c.args.space.now c.loop-root.space c.args.shelf.now c.loop-root.shelf inv.1 (none_first f c.in_default.ensures) in
-    subst (λ (xs : List What). g.E.Emit.emits c.args.out.now xs c.loop-root.out) (events ∙ ap gone_events (stands_bare a c.args.space.now)) inv.2
+    subst (λ (xs : List What). g.E.Emit.emits c.args.out.now xs c.loop-root.out)
+    (end_events _ _ _ _ _ _ _ _ c.loop-root.invariant.1 (none_first _ c.in_default.ensures) ∙ ap gone_events (stands_bare c.args.self c.args.space.now)) c.loop-root.invariant.2
 
 pub returns-clause-asked : goal.returns-clause-asked
 returns-clause-asked g c = c.loop-root.invariant.1.did.asked
 
 pub returns-clause-held : goal.returns-clause-held
-returns-clause-held g c =
-    let inv = c.loop-root.invariant in
-    let a : TreeState = c.args.self in
-    let f : Forest Kept = c.loop-root.nodes.forest in
-    held_less a c.args.space.now c.loop-root.space
-    (moves_bare a (no_contexts a.account) c.args.space.now c.loop-root.space
-    (end_moves inv.0 a.account a.kept f c.args.space.now c.loop-root.space c.args.shelf.now c.loop-root.shelf inv.1 (none_first f c.in_default.ensures)))
+returns-clause-held g c = held_less _ _ _ (moves_bare c.args.self (no_contexts _) _ _ (end_moves _ _ _ _ _ _ _ _ c.loop-root.invariant.1 (none_first _ c.in_default.ensures)))

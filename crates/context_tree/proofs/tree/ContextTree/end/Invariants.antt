@@ -1,7 +1,6 @@
 -- What was done and what is left.
-use Rattle.forest.specs.Forest.{size}
-use Rattle.context_rules.specs.Ends.{Ended}
-use Rattle.context_tree.proofs.Ending.{Ending}
+use Rattle.context_tree.proofs.Words.{size, Ended}
+use Rattle.context_tree.proofs.Lemmas.{Ending}
 use Rattle.context_tree.proofs.tree.ContextTree.end.Given as goal
 
 abbrev pub invariant-loop-root : goal.invariant-loop-root

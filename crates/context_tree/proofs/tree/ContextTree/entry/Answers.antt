@@ -1,8 +1,5 @@
-use Rattle.std.proofs.Common.{◌≡◌, Some, sym, ap, ◌∙◌}
-use Rattle.forest.specs.declared.id.NodeId.{NodeId}
-use Rattle.forest.specs.Forest.{at}
-use Rattle.context_node.specs.Kept.{Kept}
-use Rattle.context_tree.specs.State.{TreeState}
+use Rattle.context_tree.proofs.Base.{◌≡◌, Some, sym, ap, ◌∙◌}
+use Rattle.context_tree.proofs.Words.{NodeId, at, Kept, TreeState}
 use Rattle.context_tree.proofs.tree.ContextTree.entry.Goals as goal
 
 pub returns-clause-some : goal.returns-clause-some

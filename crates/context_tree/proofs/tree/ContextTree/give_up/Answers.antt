@@ -1,7 +1,6 @@
-use Rattle.std.proofs.Common.{sym, subst}
-use Rattle.context_tree.specs.State.{TreeState, no_contexts, Agrees, Moves}
-use Rattle.context_tree.proofs.Adding.{tree_of}
-use Rattle.context_tree.proofs.Emptying.{agrees_bare, moves_bare}
+use Rattle.context_tree.proofs.Base.{sym, subst}
+use Rattle.context_tree.proofs.Words.{TreeState, no_contexts, Agrees, Moves}
+use Rattle.context_tree.proofs.Lemmas.{tree_of, agrees_bare, moves_bare}
 use Rattle.context_tree.proofs.tree.ContextTree.give_up.Goals as goal
 
 pub give_all_back-requires-clause-agrees : goal.give_all_back-requires-clause-agrees

@@ -1,12 +1,7 @@
 -- All below the context goes, and then the context itself.
-use Rattle.std.proofs.Common.{[], ap, subst}
-use Rattle.forest.specs.Forest.{Forest, Once}
-use Rattle.context_rules.specs.Ends.{Ended}
-use Rattle.context_node.specs.Kept.{Kept}
-use Rattle.context_tree.specs.State.{TreeState}
-use Rattle.context_tree.proofs.Names.{once_of}
-use Rattle.context_tree.proofs.Going.{once_stands}
-use Rattle.context_tree.proofs.Alone.{apart_below, now_hooks, now_bare, now_apart, gone_is, gone_did}
+use Rattle.context_tree.proofs.Base.{[], ap, subst}
+use Rattle.context_tree.proofs.Words.{Forest, Once, Ended, Kept, TreeState}
+use Rattle.context_tree.proofs.Lemmas.{once_of, once_stands, apart_below, now_hooks, now_bare, now_apart, gone_is, gone_did}
 use Rattle.context_tree.proofs.tree.ContextTree.gone.Goals as goal
 
 pub clear_children-requires-clause-apart : goal.clear_children-requires-clause-apart

@@ -1,10 +1,6 @@
-use Rattle.std.proofs.Common.{◌≡◌, ℕ, false, Option, Some, None, sym, ap, ◌∙◌}
-use Rattle.std.specs.Prelude.{◌==◌}
-use Rattle.std.specs.Option.{option_map_or}
-use Rattle.forest.specs.declared.id.NodeId.{NodeId}
-use Rattle.forest.specs.Forest.{parent_of}
-use Rattle.context_tree.specs.State.{TreeState}
-use Rattle.context_tree.proofs.Rearranged.{child_stands}
+use Rattle.context_tree.proofs.Base.{◌≡◌, ℕ, false, Option, Some, None, sym, ap, ◌∙◌, ◌==◌, option_map_or}
+use Rattle.context_tree.proofs.Words.{NodeId, parent_of, TreeState}
+use Rattle.context_tree.proofs.Lemmas.{child_stands}
 use Rattle.context_tree.proofs.tree.ContextTree.is_child.Goals as goal
 
 pub returns-in-Some : goal.returns-in-Some

@@ -1,10 +1,6 @@
-use Rattle.std.proofs.Common.{◌≡◌, true, false, Some, refl, sym, ap, ◌∙◌}
-use Rattle.forest.specs.declared.id.NodeId.{NodeId}
-use Rattle.forest.specs.Forest.{at, children, mapped}
-use Rattle.context_rules.specs.Contexts.{is_nothing}
-use Rattle.context_node.specs.State.{context_of}
-use Rattle.context_tree.specs.State.{TreeState, stands_for}
-use Rattle.context_tree.proofs.Reading.{stands_at, stands_children, first_told}
+use Rattle.context_tree.proofs.Base.{◌≡◌, true, false, Some, refl, sym, ap, ◌∙◌}
+use Rattle.context_tree.proofs.Words.{NodeId, at, children, mapped, is_nothing, context_of, TreeState, stands_for}
+use Rattle.context_tree.proofs.Lemmas.{stands_at, stands_children, first_told}
 use Rattle.context_tree.proofs.tree.ContextTree.is_empty.Goals as goal
 
 pub returns-then-not-is_used : goal.returns-then-not-is_used

@@ -1,10 +1,6 @@
-use Rattle.std.proofs.Common.{◌≡◌, false, sym, ap, ◌∙◌, arith}
-use Rattle.std.specs.Prelude.{◌==◌}
-use Rattle.std.proofs.lemmas.Bool.{ne_eqb}
-use Rattle.forest.specs.declared.id.NodeId.{NodeId}
-use Rattle.forest.specs.Forest.{is_above}
-use Rattle.context_tree.specs.State.{TreeState}
-use Rattle.context_tree.proofs.Rearranged.{above_stands}
+use Rattle.context_tree.proofs.Base.{◌≡◌, false, sym, ap, ◌∙◌, arith, ◌==◌, ne_eqb}
+use Rattle.context_tree.proofs.Words.{NodeId, is_above, TreeState}
+use Rattle.context_tree.proofs.Lemmas.{above_stands}
 use Rattle.context_tree.proofs.tree.ContextTree.is_within.Goals as goal
 
 pub returns-else-other-at : goal.returns-else-other-at

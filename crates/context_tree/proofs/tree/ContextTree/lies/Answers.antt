@@ -1,8 +1,6 @@
-use Rattle.std.proofs.Common.{◌≡◌, [], ◌∙◌, subst}
-use Rattle.forest.specs.Forest.{has}
-use Rattle.context_tree.specs.State.{TreeState, stands_for}
-use Rattle.context_tree.proofs.Names.{placed_as}
-use Rattle.context_tree.proofs.Reading.{stands_has}
+use Rattle.context_tree.proofs.Base.{◌≡◌, [], ◌∙◌, subst}
+use Rattle.context_tree.proofs.Words.{has, TreeState, stands_for}
+use Rattle.context_tree.proofs.Lemmas.{placed_as, stands_has}
 use Rattle.context_tree.proofs.tree.ContextTree.lies.Goals as goal
 
 pub returns : goal.returns

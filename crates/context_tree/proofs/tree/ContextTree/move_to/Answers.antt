@@ -1,14 +1,7 @@
-use Rattle.std.proofs.Common.{◌≡◌, Bool, [], refl, sym, ap, ◌∙◌, subst}
-use Rattle.std.specs.Prelude.{◌==◌}
-use Rattle.std.proofs.lemmas.Bool.{or_parts}
-use Rattle.forest.specs.declared.id.NodeId.{NodeId}
-use Rattle.forest.specs.Forest.{Once, has, is_above, moved}
+use Rattle.context_tree.proofs.Base.{◌≡◌, Bool, [], refl, sym, ap, ◌∙◌, subst, ◌==◌, or_parts}
+use Rattle.context_tree.proofs.Words.{NodeId, Once, has, is_above, moved, placed_under, is_within, TreeState, stands_for, Agrees, Moves}
 use Rattle.forest.proofs.Trees.{Moves as NodeMoves}
-use Rattle.context_rules.specs.Contexts.{placed_under}
-use Rattle.context_rules.specs.Refusals.{is_within}
-use Rattle.context_tree.specs.State.{TreeState, stands_for, Agrees, Moves}
-use Rattle.context_tree.proofs.Names.{once_of}
-use Rattle.context_tree.proofs.Rearranged.{sound_moved, stands_moved, moves_moved, above_stands, may_move}
+use Rattle.context_tree.proofs.Lemmas.{once_of, sound_moved, stands_moved, moves_moved, above_stands, may_move}
 use Rattle.context_tree.proofs.tree.ContextTree.move_to.Goals as goal
 use Rattle.context_tree.proofs.tree.ContextTree.move_to.Given as given
 

@@ -1,14 +1,6 @@
-use Rattle.std.proofs.Common.{◌≡◌, ℕ, Err, IfErr, OnErr, sym, subst}
-use Rattle.std.proofs.lemmas.Result.{err_from_is_err_and}
-use Rattle.addr_space.specs.Space.{Asks}
-use Rattle.addr_space.proofs.Asked.{Asks-more}
-use Rattle.context_rules.specs.declared.errors.TreeError.{TreeError}
-use Rattle.context_tree.specs.State.{no_contexts, SameRegions}
-use Rattle.context_tree.specs.Making.{AsksPart, AsksPartInVain}
-use Rattle.context_tree.proofs.Adding.{regions_back}
-use Rattle.context_tree.proofs.Asking.{opening_in_vain, topmost_in_vain}
-use Rattle.context_tree.proofs.Emptying.{tree_more}
-use Rattle.context_tree.proofs.Opening.{regions_same}
+use Rattle.context_tree.proofs.Base.{◌≡◌, ℕ, Err, IfErr, OnErr, sym, subst, err_from_is_err_and}
+use Rattle.context_tree.proofs.Words.{Asks, Asks-more, TreeError, no_contexts, SameRegions, AsksPart, AsksPartInVain}
+use Rattle.context_tree.proofs.Lemmas.{regions_back, opening_in_vain, topmost_in_vain, tree_more, regions_same}
 use Rattle.context_tree.proofs.tree.ContextTree.new.Goals as goal
 
 pub returns-in_err-tree-clause-err_space : goal.returns-in_err-tree-clause-err_space

@@ -1,11 +1,6 @@
-use Rattle.std.proofs.Common.{◌≡◌, ℕ, OnErr, Err, refl, sym, ◌∙◌, subst, arith}
-use Rattle.std.proofs.lemmas.Result.{err_from_is_err_and}
-use Rattle.addr_space.specs.Space.{Asks}
-use Rattle.addr_space.proofs.Asked.{Asks-more}
-use Rattle.context_rules.specs.declared.errors.TreeError.{TreeError}
-use Rattle.context_tree.specs.Making.{AsksPart}
-use Rattle.context_tree.proofs.Asking.{part_more}
-use Rattle.context_tree.proofs.Emptying.{tree_more}
+use Rattle.context_tree.proofs.Base.{◌≡◌, ℕ, OnErr, Err, refl, sym, ◌∙◌, subst, arith, err_from_is_err_and}
+use Rattle.context_tree.proofs.Words.{Asks, Asks-more, TreeError, AsksPart}
+use Rattle.context_tree.proofs.Lemmas.{part_more, tree_more}
 use Rattle.context_tree.proofs.tree.ContextTree.open.Goals as goal
 
 pub returns-in_err-add_own-2-clause-moves : goal.returns-in_err-add_own-2-clause-moves

@@ -1,12 +1,6 @@
-use Rattle.std.proofs.Common.{◌≡◌, ◌+◌, ◌≤◌, length, Option, sym, subst, arith}
-use Rattle.std.specs.Option.{IfSome}
-use Rattle.context_rules.specs.Contexts.{Found}
-use Rattle.context_rules.specs.Chunks.{written}
-use Rattle.context_node.specs.declared.chunk_id.ChunkId.{ChunkId}
-use Rattle.context_tree.specs.State.{TreeState, stands_for, Agrees, Moves}
-use Rattle.context_tree.specs.Lookup.{Leads}
-use Rattle.context_tree.proofs.Standing.{Stands, stands, place_has, known_long}
-use Rattle.context_tree.proofs.Placing.{place_written}
+use Rattle.context_tree.proofs.Base.{◌≡◌, ◌+◌, ◌≤◌, length, Option, sym, subst, arith, IfSome}
+use Rattle.context_tree.proofs.Words.{Found, written, ChunkId, TreeState, stands_for, Agrees, Moves, Leads}
+use Rattle.context_tree.proofs.Lemmas.{Stands, stands, place_has, known_long, place_written}
 use Rattle.context_tree.proofs.tree.ContextTree.place.Goals as goal
 
 pub returns-clause-known : goal.returns-clause-known

@@ -1,11 +1,6 @@
-use Rattle.std.proofs.Common.{◌≡◌, false, Option, Some, sym, ap, ◌∙◌}
-use Rattle.std.specs.Option.{option_map_or}
-use Rattle.forest.specs.declared.id.NodeId.{NodeId}
-use Rattle.forest.specs.Forest.{at}
-use Rattle.context_rules.specs.Contexts.{Context}
-use Rattle.context_node.specs.State.{context_of}
-use Rattle.context_tree.specs.State.{TreeState, stands_for}
-use Rattle.context_tree.proofs.Reading.{stands_at}
+use Rattle.context_tree.proofs.Base.{◌≡◌, false, Option, Some, sym, ap, ◌∙◌, option_map_or}
+use Rattle.context_tree.proofs.Words.{NodeId, at, Context, context_of, TreeState, stands_for}
+use Rattle.context_tree.proofs.Lemmas.{stands_at}
 use Rattle.context_tree.proofs.tree.ContextTree.protected.Goals as goal
 
 pub returns : goal.returns

@@ -1,113 +1,30 @@
-use Rattle.std.proofs.Common.{◌≡◌, ℕ, [], Some, Result, Err, OnErr, refl, sym, ap, ◌∙◌, subst}
-use Rattle.std.specs.Prelude.{min}
-use Rattle.std.specs.Option.{option_map}
-use Rattle.std.proofs.lemmas.Result.{err_from_is_err_and}
-use Rattle.std.specs.HashMap.{get}
-use Rattle.addr_space.specs.Space.{Space, held}
-use Rattle.forest.specs.declared.id.NodeId.{NodeId}
-use Rattle.forest.specs.Forest.{Forest, at, Once, changed}
-use Rattle.context_rules.specs.Chunks.{resized}
-use Rattle.context_rules.specs.declared.errors.TreeError.{TreeError}
-use Rattle.context_node.specs.declared.entry.Entry.{Entry}
-use Rattle.context_node.specs.Kept.{Kept}
-use Rattle.context_node.specs.Soundness.{same}
-use Rattle.context_tree.specs.Soundness.{IsSound}
-use Rattle.context_tree.specs.State.{TreeState, stands_for, Agrees, Moves}
-use Rattle.context_tree.specs.Lookup.{Leads}
-use Rattle.context_tree.proofs.Names.{once_of}
-use Rattle.context_tree.proofs.Sounds.{tree_back, changed_back, sound_same, one_named}
-use Rattle.context_tree.proofs.Allocs.{tree_none}
-use Rattle.context_node.proofs.Changes.{names_changed}
-use Rattle.context_node.proofs.Refitting.{sound_refitted}
-use Rattle.context_tree.proofs.Refitting.{realloc_moves, realloc_contexts, entry_named}
+use Rattle.context_tree.proofs.Base.{ap}
+use Rattle.context_tree.proofs.Words.{NodeId}
+use Rattle.context_tree.proofs.Seen.{node_agrees, back_is, back_moves, back_sound, refit_contexts, refit_moves, refit_sound, on_err_of}
 use Rattle.context_tree.proofs.tree.ContextTree.realloc.Goals as goal
 
 pub realloc-requires-clause-agrees : goal.realloc-requires-clause-agrees
-realloc-requires-clause-agrees g c =
-    c.requires.agrees.each c.node_at.result.number c.get_mut-node.result.now (ap (λ (t : TreeState). at c.node_at.result.number t.kept) (sym c.self.view_is) ∙ c.get_mut-node.ensures.value)
+realloc-requires-clause-agrees g c = node_agrees c.self.view_is c.requires.agrees c.node_at.result.number c.get_mut-node.ensures.value
 
 pub invariant_of-self : goal.invariant_of-self
-invariant_of-self g c =
-    let o : Once c.self.inside.nodes.forest = once_of _ _ _ _ _ _ _ _ c.self.invariant c.args.space.now [] in
-    let back : changed c.node_at.result.number (λ _. c.realloc.new.self) c.self.inside.nodes.forest ≡ c.self.inside.nodes.forest =
-    ap (λ (x : Kept). changed c.node_at.result.number (λ _. x) c.self.inside.nodes.forest) c.in_err-realloc.ensures.err
-    ∙ changed_back c.node_at.result.number c.get_mut-node.result.now c.self.inside.nodes.forest o c.get_mut-node.ensures.value in
-    subst (λ (x : Forest Kept). IsSound x c.self.inside.nodes.places (get same c.self.inside.names) (get same c.self.inside.chunk_names) c.self.inside.own c.self.inside.current c.self.inside.next c.self.inside.next_entry)
-    (sym back) c.self.invariant
+invariant_of-self g c = back_sound c.self.view_is c.self.invariant c.requires.agrees c.node_at.result.number c.get_mut-node.ensures.value c.in_err-realloc.ensures.err
 
 pub returns-in_err-realloc-clause-moves : goal.returns-in_err-realloc-clause-moves
 returns-in_err-realloc-clause-moves g c =
-    let a : TreeState = record { kept = c.self.inside.nodes.forest; places = c.self.inside.nodes.places; account = c.self.inside.account; current = c.self.inside.current; next = c.self.inside.next } in
-    let agrees : Agrees a c.args.space.now = subst (λ (x : TreeState). Agrees x c.args.space.now) (sym c.self.view_is) c.requires.agrees in
-    let o : Once a.kept = once_of _ _ _ _ _ _ _ _ c.self.invariant c.args.space.now [] in
-    let b : TreeState = record a { kept = changed c.node_at.result.number (λ _. c.realloc.new.self) a.kept } in
-    let back : b ≡ a = tree_back a c.node_at.result.number c.get_mut-node.result.now c.realloc.new.self c.get_mut-node.ensures.value o c.in_err-realloc.ensures.err in
-    let still : c.realloc.new.space ≡ c.args.space.now = c.in_err-realloc.ensures.err_space in
-    subst (λ (x : TreeState). Moves x b c.args.space.now c.realloc.new.space) c.self.view_is
-    (subst (λ (y : TreeState). Moves a y c.args.space.now c.realloc.new.space) (sym back)
-    (subst (λ (t : Space). Moves a a c.args.space.now t) (sym still) (tree_none a c.args.space.now agrees)))
+    back_moves c.self.view_is c.self.invariant c.requires.agrees c.node_at.result.number c.get_mut-node.ensures.value c.in_err-realloc.ensures.err c.in_err-realloc.ensures.err_space
 
 pub returns-in_err-realloc-clause-err : goal.returns-in_err-realloc-clause-err
 returns-in_err-realloc-clause-err g c =
-    let a : TreeState = record { kept = c.self.inside.nodes.forest; places = c.self.inside.nodes.places; account = c.self.inside.account; current = c.self.inside.current; next = c.self.inside.next } in
-    let o : Once a.kept = once_of _ _ _ _ _ _ _ _ c.self.invariant c.args.space.now [] in
-    let b : TreeState = record a { kept = changed c.node_at.result.number (λ _. c.realloc.new.self) a.kept } in
-    let p : c.from_residual.result ≡ Err c.in_err-realloc.field-0.0 = (let q = err_from_is_err_and c.from_residual.result c.from_residual.ensures.1 in cc) in
-    subst (λ (r : Result (Unit {0}) TreeError). OnErr r (b ≡ c.args.self.now)) (sym p)
-    (tree_back a c.node_at.result.number c.get_mut-node.result.now c.realloc.new.self c.get_mut-node.ensures.value o c.in_err-realloc.ensures.err ∙ c.self.view_is)
+    on_err_of _ (back_is c.self.view_is c.self.invariant c.requires.agrees c.node_at.result.number c.get_mut-node.ensures.value c.in_err-realloc.ensures.err)
 
 pub invariant_of-self-2 : goal.invariant_of-self-2
 invariant_of-self-2 g c =
-    let a : TreeState = record { kept = c.self.inside.nodes.forest; places = c.self.inside.nodes.places; account = c.self.inside.account; current = c.self.inside.current; next = c.self.inside.next } in
-    let agrees : Agrees a c.args.space.now = subst (λ (x : TreeState). Agrees x c.args.space.now) (sym c.self.view_is) c.requires.agrees in
-    let id = c.in-Some.id in
-    let k : Kept = c.get_mut-node.result.now in
-    let l : Kept = c.realloc.new.self in
-    let nn : c.node_at.result.number ≡ id.context.number = ap (λ (x : NodeId). x.number) c.node_at.ensures in
-    let o : Once a.kept = once_of _ _ _ _ _ _ _ _ c.self.invariant c.args.space.now [] in
-    let here : at id.context.number a.kept ≡ Some k = ap (λ (i : ℕ). at i a.kept) (sym nn) ∙ c.get_mut-node.ensures.value in
-    let leads : Leads a c.args.chunk.now id = subst (λ (x : TreeState). Leads x c.args.chunk.now id) (sym c.self.view_is) c.in-Some.ensures.some in
-    let fit = c.in_ok-realloc.ensures.refitted in
-    subst (λ (i : ℕ). IsSound (changed i (λ _. l) a.kept) a.places (get same c.self.inside.names) (get same c.self.inside.chunk_names) c.self.inside.own a.current a.next c.self.inside.next_entry) (sym nn)
-    (sound_same a.kept a.places (get same c.self.inside.names) (get same c.self.inside.chunk_names) c.self.inside.own a.current a.next c.self.inside.next_entry c.self.invariant
-    id.context.number k l here (ap (λ (x : Kept). x.name) fit.now) (ap (λ (x : Kept). x.protected) fit.now)
-    (sound_refitted k l id.entry.number c.args.size c.args.space.now c.realloc.new.space fit (c.self.invariant.each id.context.number k here) (agrees.each id.context.number k here))
-    (ap (λ (x : Kept). x.chunk_places) fit.now)
-    (λ d. ap (λ (x : Kept). option_map (λ (e : Entry). e.name) (at d x.chunks)) fit.now
-    ∙ names_changed id.entry.number fit.entry (record fit.entry { at = fit.to; size = c.args.size; known = min fit.entry.known c.args.size }) k.chunks fit.listed refl d))
+    refit_sound c.self.view_is c.self.invariant c.requires.agrees c.in-Some.ensures.some (ap (λ (x : NodeId). x.number) c.node_at.ensures) c.get_mut-node.ensures.value c.in_ok-realloc.ensures.refitted
 
 pub returns-clause-contexts : goal.returns-clause-contexts
 returns-clause-contexts g c =
-    let a : TreeState = record { kept = c.self.inside.nodes.forest; places = c.self.inside.nodes.places; account = c.self.inside.account; current = c.self.inside.current; next = c.self.inside.next } in
-    let agrees : Agrees a c.args.space.now = subst (λ (x : TreeState). Agrees x c.args.space.now) (sym c.self.view_is) c.requires.agrees in
-    let id = c.in-Some.id in
-    let k : Kept = c.get_mut-node.result.now in
-    let l : Kept = c.realloc.new.self in
-    let nn : c.node_at.result.number ≡ id.context.number = ap (λ (x : NodeId). x.number) c.node_at.ensures in
-    let o : Once a.kept = once_of _ _ _ _ _ _ _ _ c.self.invariant c.args.space.now [] in
-    let here : at id.context.number a.kept ≡ Some k = ap (λ (i : ℕ). at i a.kept) (sym nn) ∙ c.get_mut-node.ensures.value in
-    let leads : Leads a c.args.chunk.now id = subst (λ (x : TreeState). Leads x c.args.chunk.now id) (sym c.self.view_is) c.in-Some.ensures.some in
-    let fit = c.in_ok-realloc.ensures.refitted in
-    let s = c.args.space.now in
-    let named = entry_named a s c.args.chunk.now id k c.args.size agrees leads here l c.realloc.new.space o c.self.invariant.each fit in
-    subst (λ (x : TreeState). stands_for (record a { kept = changed c.node_at.result.number (λ _. l) a.kept }) c.realloc.new.space ≡ resized (held c.args.space.now x.account) c.args.space.now.limit c.args.chunk.now c.args.size (stands_for x c.args.space.now)) c.self.view_is
-    (subst (λ (i : ℕ). stands_for (record a { kept = changed i (λ _. l) a.kept }) c.realloc.new.space ≡ resized (held c.args.space.now a.account) c.args.space.now.limit c.args.chunk.now c.args.size (stands_for a c.args.space.now)) (sym nn)
-    (realloc_contexts a c.args.space.now c.args.chunk.now id k c.args.size agrees leads here l c.realloc.new.space o c.self.invariant.each fit
-    (one_named a.kept a.places (get same c.self.inside.names) (get same c.self.inside.chunk_names) c.self.inside.own a.current a.next c.self.inside.next_entry c.self.invariant
-    id.context.number id.entry.number k fit.entry c.args.chunk.now here fit.listed named)))
+    refit_contexts c.self.view_is c.self.invariant c.requires.agrees c.in-Some.ensures.some (ap (λ (x : NodeId). x.number) c.node_at.ensures) c.get_mut-node.ensures.value c.in_ok-realloc.ensures.refitted
 
 pub returns-clause-moves : goal.returns-clause-moves
 returns-clause-moves g c =
-    let a : TreeState = record { kept = c.self.inside.nodes.forest; places = c.self.inside.nodes.places; account = c.self.inside.account; current = c.self.inside.current; next = c.self.inside.next } in
-    let agrees : Agrees a c.args.space.now = subst (λ (x : TreeState). Agrees x c.args.space.now) (sym c.self.view_is) c.requires.agrees in
-    let id = c.in-Some.id in
-    let k : Kept = c.get_mut-node.result.now in
-    let l : Kept = c.realloc.new.self in
-    let nn : c.node_at.result.number ≡ id.context.number = ap (λ (x : NodeId). x.number) c.node_at.ensures in
-    let o : Once a.kept = once_of _ _ _ _ _ _ _ _ c.self.invariant c.args.space.now [] in
-    let here : at id.context.number a.kept ≡ Some k = ap (λ (i : ℕ). at i a.kept) (sym nn) ∙ c.get_mut-node.ensures.value in
-    let leads : Leads a c.args.chunk.now id = subst (λ (x : TreeState). Leads x c.args.chunk.now id) (sym c.self.view_is) c.in-Some.ensures.some in
-    let fit = c.in_ok-realloc.ensures.refitted in
-    subst (λ (x : TreeState). Moves x (record a { kept = changed c.node_at.result.number (λ _. l) a.kept }) c.args.space.now c.realloc.new.space) c.self.view_is
-    (subst (λ (i : ℕ). Moves a (record a { kept = changed i (λ _. l) a.kept }) c.args.space.now c.realloc.new.space) (sym nn)
-    (realloc_moves a c.args.space.now c.args.chunk.now id k c.args.size agrees leads here l c.realloc.new.space o c.self.invariant.each fit))
+    refit_moves c.self.view_is c.self.invariant c.requires.agrees c.in-Some.ensures.some (ap (λ (x : NodeId). x.number) c.node_at.ensures) c.get_mut-node.ensures.value c.in_ok-realloc.ensures.refitted

@@ -1,17 +1,7 @@
-use Rattle.std.proofs.Common.{true, [], ◌∷◌, refl, sym, ap, ◌∙◌, subst}
-use Rattle.std.specs.Option.{option_map}
-use Rattle.addr_space.proofs.Options.{on_err, either_way}
-use Rattle.forest.specs.declared.id.NodeId.{NodeId}
-use Rattle.forest.specs.Forest.{at, Once, changed}
-use Rattle.context_rules.specs.Chunks.{registered}
-use Rattle.context_node.specs.declared.entry.Entry.{Entry}
-use Rattle.context_node.specs.Kept.{Kept}
-use Rattle.context_node.specs.State.{context_of}
-use Rattle.context_tree.specs.State.{TreeState, stands_for, Agrees, Moves}
-use Rattle.context_tree.proofs.Names.{once_of}
-use Rattle.context_tree.proofs.Sounds.{sound_same, tree_back}
-use Rattle.context_node.proofs.Waiting.{SameChunks, same_sound}
-use Rattle.context_tree.proofs.Waiting.{on_answer, stands_still, moves_still}
+use Rattle.context_tree.proofs.Base.{true, [], ◌∷◌, refl, sym, ap, ◌∙◌, subst, option_map}
+use Rattle.context_tree.proofs.Words.{on_err, either_way, NodeId, at, Once, changed, registered, Entry, Kept, context_of, TreeState, stands_for, Agrees, Moves, SameChunks, same_sound}
+use Rattle.context_tree.proofs.Waiting.{stands_still}
+use Rattle.context_tree.proofs.Lemmas.{once_of, sound_same, tree_back, on_answer, moves_still}
 use Rattle.context_tree.proofs.tree.ContextTree.register.Goals as goal
 use Rattle.context_tree.proofs.tree.ContextTree.register.Given as given
 

@@ -1,10 +1,6 @@
-use Rattle.std.proofs.Common.{◌≡◌, refl, sym, ap, ◌∙◌, subst}
-use Rattle.addr_space.specs.Space.{Space}
-use Rattle.forest.specs.Forest.{mapped}
-use Rattle.context_rules.specs.Contexts.{Contexts}
+use Rattle.context_tree.proofs.Base.{◌≡◌, refl, sym, ap, ◌∙◌, subst}
+use Rattle.context_tree.proofs.Words.{Space, mapped, Contexts, context_of, TreeState, stands_for}
 use Rattle.context_rules.specs.Reports as reports
-use Rattle.context_node.specs.State.{context_of}
-use Rattle.context_tree.specs.State.{TreeState, stands_for}
 use Rattle.context_tree.proofs.tree.ContextTree.report.Goals as goal
 
 stands : (tree : TreeState) (s : Space) → stands_for tree s ≡ mapped (context_of s) tree.kept

@@ -1,7 +1,7 @@
 -- All below the context goes, and then it is reset itself.
-use Rattle.std.proofs.Common.{ap, sym, ◌∙◌}
-use Rattle.context_rules.specs.Ends.{Ended}
-use Rattle.context_tree.proofs.Alone.{now_hooks, cleared_is, cleared_did}
+use Rattle.context_tree.proofs.Base.{ap, sym, ◌∙◌}
+use Rattle.context_tree.proofs.Words.{Ended}
+use Rattle.context_tree.proofs.Lemmas.{now_hooks, cleared_is, cleared_did}
 use Rattle.context_tree.proofs.tree.ContextTree.reset.Goals as goal
 
 pub clear_children-requires-clause-apart : goal.clear_children-requires-clause-apart

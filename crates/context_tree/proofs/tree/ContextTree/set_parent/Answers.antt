@@ -1,5 +1,5 @@
-use Rattle.std.proofs.Common.{◌≡◌, true, false, [], sym, ◌∙◌}
-use Rattle.addr_space.specs.Space.{Space}
+use Rattle.context_tree.proofs.Base.{◌≡◌, true, false, [], sym, ◌∙◌}
+use Rattle.context_tree.proofs.Words.{Space}
 use Rattle.context_tree.proofs.tree.ContextTree.set_parent.Goals as goal
 
 abbrev nothing : Space

@@ -1,10 +1,6 @@
-use Rattle.std.proofs.Common.{true, refl, ap}
-use Rattle.std.specs.HashMap.{get}
-use Rattle.std.specs.Map.{lookup}
-use Rattle.any_ctx.specs.declared.any.CtxKind.TheVariants.{Default}
-use Rattle.context_tree.specs.declared.tree.Own.{Own}
-use Rattle.context_node.specs.Soundness.{same}
-use Rattle.context_tree.proofs.Opening.{topmost_sound, topmost_moved, topmost_stands}
+use Rattle.context_tree.proofs.Base.{true, refl, ap, get, lookup}
+use Rattle.context_tree.proofs.Words.{Default, Own, same}
+use Rattle.context_tree.proofs.Lemmas.{topmost_sound, topmost_moved, topmost_stands}
 use Rattle.context_tree.proofs.tree.ContextTree.topmost.Goals as goal
 
 pub invariant_of-result : goal.invariant_of-result
