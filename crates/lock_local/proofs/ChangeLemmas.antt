@@ -1,22 +1,9 @@
 -- What the changes of a session's locks keep.
-use Rattle.std.proofs.Common.{◌≡◌, ◌≢◌, ℕ, suc, zero, ◌<◌, ◌≤◌, ◌+◌, ◌^◌, Bool, true, false, ◌&&◌, ◌||◌, not, cond, nat_eq, nat_lt, List, [], ◌∷◌, length, get_or, set, map, filter, refl, ap, sym, subst, ◌∙◌, arith}
-use Rattle.std.specs.Prelude.{All, sum_by, insert}
-use Rattle.std.specs.Bool.{MatchBool}
-use Rattle.std.proofs.lemmas.Bool.{true≢false, eqb-false, lt-ltb}
-use Rattle.std.proofs.lemmas.List.Elements.{All-nil, All-cons, All-head, All-tail, All-weaker, All-filter, All-map, All-get_or, filter_passes}
-use Rattle.std.proofs.lemmas.List.Sums.{sum_by-cons}
-use Rattle.std.proofs.lemmas.List.Folds.{map_fixed}
-use Rattle.pgs_step.specs.declared.lock_modes.Mode.{Mode}
-use Rattle.pgs_step.specs.declared.lock_modes.Mode.TheVariants.{AccessShareLock}
-use Rattle.lock_shared.specs.declared.shared_locks.Holding.{Holding}
-use Rattle.lock_shared.specs.Holdings.{same_lock, holds, Sets}
-use Rattle.lock_local.specs.declared.local_lock.OwnerCount.{OwnerCount}
-use Rattle.lock_local.specs.Locks.{Lock, owner_count, count_if, lock_total, total, is_lock, has_owner, is_held, count_of, comes_before, IsInOrder, AreLocks, SessionLocks, Agrees}
-use Rattle.lock_local.specs.Places.{StandsAt, WouldStandAt}
-use Rattle.lock_local.specs.Changes.{added, new_lock, counted_up, counted_down, without, passed_lock, acquired, released, passed}
+use Rattle.std.proofs.lemmas.Bool.Decides.{nat_tests}
+use Rattle.lock_local.proofs.Base.{[], AccessShareLock, acquired, added, Agrees, All, All-cons, All-filter, All-get_or, All-head, All-map, All-nil, All-tail, All-weaker, ap, AreLocks, arith, Bool, comes_before, cond, count_if, count_of, counted_down, counted_up, false, filter, filter_passes, get_or, has_owner, Holding, holds, insert, is_held, is_lock, IsInOrder, length, List, Lock, lock_total, lt-ltb, map, map_fixed, MatchBool, Mode, nat_lt, new_lock, not, owner_count, OwnerCount, passed, passed_lock, refl, released, SessionLocks, set, Sets, StandsAt, subst, suc, sum_by, sum_by-cons, sym, total, true, true≢false, without, WouldStandAt, zero, ℕ, ◌+◌, ◌<◌, ◌^◌, ◌||◌, ◌∙◌, ◌∷◌, ◌≡◌, ◌≢◌, ◌≤◌}
 use Rattle.lock_local.proofs.OwnerLemmas.{Counted, is_owner, counts-added, Counted-added, Counted-lowered, counts-others, counts-lowered-le}
 use Rattle.lock_local.proofs.OrderLemmas.{Before, KeepsLock, IsInOrder-map, IsInOrder-filter, held_test, lock_not_before, before_lock, other_lock, comes_after, after_both, after_lock}
-use Rattle.lock_local.proofs.WalkLemmas.{freed_agrees, holds_after, sets_like, same_back}
+use Rattle.lock_local.proofs.WalkLemmas.{freed_agrees, sets_like, same_back}
 
 -- a lock whose counts are all at least 1
 abbrev pub WellCounted : Lock → Type 0
@@ -34,11 +21,7 @@ AreLocks-filtered f k h xs a = record {
 }
 
 pub AreLocks-mapped : (f : Lock → Lock) → KeepsLock f → ((l : Lock) → WellCounted l → WellCounted (f l)) → ((l : Lock) → Owned l → Owned (f l)) → (xs : List Lock) → AreLocks xs → AreLocks (map f xs)
-AreLocks-mapped f k h o xs a = record {
-  in_order = IsInOrder-map f k xs a.in_order;
-  owned = All-map Owned f xs (All-weaker Owned (λ l. Owned (f l)) o xs a.owned);
-  counted = All-map WellCounted f xs (All-weaker WellCounted (λ l. WellCounted (f l)) h xs a.counted);
-}
+AreLocks-mapped f k h o xs a = grind (arith, nat_tests, IsInOrder-map f k xs a.in_order, All-weaker Owned (λ l. Owned (f l)) o xs a.owned, All-map Owned f xs (All-weaker Owned (λ l. Owned (f l)) o xs a.owned), All-weaker WellCounted (λ l. WellCounted (f l)) h xs a.counted, All-map WellCounted f xs (All-weaker WellCounted (λ l. WellCounted (f l)) h xs a.counted))
 
 pub total-map : (f : Lock → Lock) → ((l : Lock) → lock_total (f l) ≤ lock_total l) → (xs : List Lock) → total (map f xs) ≤ total xs
 total-map f h [] = omega arith
@@ -46,32 +29,16 @@ total-map f h (x ∷ xs) = omega (arith, h x, total-map f h xs, sum_by-cons lock
 
 pub total-filter : (p : Lock → Bool) (xs : List Lock) → total (filter p xs) ≤ total xs
 total-filter p [] = omega arith
-total-filter p (x ∷ xs) = by_test (total-filter p xs) (p x)
-  where
-    by_test : total (filter p xs) ≤ total xs → (t : Bool) → total (cond t (x ∷ filter p xs) (filter p xs)) ≤ total (x ∷ xs)
-    by_test ih true = omega (arith, ih, sum_by-cons lock_total x (filter p xs), sum_by-cons lock_total x xs)
-    by_test ih false = omega (arith, ih, sum_by-cons lock_total x xs)
+total-filter p (x ∷ xs) = grind (arith, nat_tests, total-filter p xs, sum_by-cons lock_total x (filter p xs), sum_by-cons lock_total x xs)
 
 -- a lock that nobody holds counts for nothing
 pub is_held-filter : (xs : List Lock) (o : ℕ) (m : Mode) → is_held (filter has_owner xs) o m ≡ is_held xs o m
 is_held-filter [] o m = refl
-is_held-filter (x ∷ xs) o m = by_test (is_held-filter xs o m) (has_owner x) refl
-  where
-    and_false : (b : Bool) → (b && false) ≡ false
-    and_false true = refl
-    and_false false = refl
-
-    by_test : is_held (filter has_owner xs) o m ≡ is_held xs o m → (t : Bool) → has_owner x ≡ t → is_held (cond t (x ∷ filter has_owner xs) (filter has_owner xs)) o m ≡ ((is_lock o m x && has_owner x) || is_held xs o m)
-    by_test ih true e = ap (λ b. (is_lock o m x && has_owner x) || b) ih
-    by_test ih false e = ih ∙ ap (λ b. b || is_held xs o m) (sym (ap (λ b. is_lock o m x && b) e ∙ and_false (is_lock o m x)))
+is_held-filter (x ∷ xs) o m = grind (arith, nat_tests, is_held-filter xs o m)
 
 pub is_held-map : (f : Lock → Lock) → KeepsLock f → ((l : Lock) → has_owner (f l) ≡ has_owner l) → (xs : List Lock) (o : ℕ) (m : Mode) → is_held (map f xs) o m ≡ is_held xs o m
 is_held-map f k h [] o m = refl
-is_held-map f k h (x ∷ xs) o m =
-    ap (λ b. (is_lock o m (f x) && has_owner (f x)) || b) (is_held-map f k h xs o m)
-    ∙ ap (λ b. (is_lock o m (f x) && b) || is_held xs o m) (h x)
-    ∙ ap (λ (n : ℕ). (same_lock n (f x).mode o m && has_owner x) || is_held xs o m) (k.object x)
-    ∙ ap (λ (n : Mode). (same_lock x.object n o m && has_owner x) || is_held xs o m) (k.mode x)
+is_held-map f k h (x ∷ xs) o m = grind (arith, nat_tests, is_held-map f k h xs o m, k.object x, k.mode x)
 
 -- the owner without its locks
 pub keeps-without : (owner : ℕ) → KeepsLock (without owner)
@@ -92,36 +59,23 @@ total-released owner xs = omega (arith, total-filter has_owner (map (without own
 -- counts that are passed
 added_some : (owner n : ℕ) (xs : List OwnerCount) → 0 < length (added owner n xs)
 added_some owner n [] = omega arith
-added_some owner n (x ∷ xs) = by_test (is_owner owner x)
-  where
-    by_test : (t : Bool) → 0 < length (cond t (record { owner = x.owner; count = x.count + n } ∷ xs) (x ∷ added owner n xs))
-    by_test true = omega arith
-    by_test false = omega arith
+added_some owner n (x ∷ xs) = grind (arith, nat_tests)
 
 -- a lock that is passed, by whether anything is
 abbrev pub passes_some : ℕ → ℕ → Lock → Lock
 passes_some from to l = record { object = l.object; mode = l.mode; owners = added to (owner_count from l) (without from l).owners }
 
 pub by_passing : (P : Lock → Type 0) (from to : ℕ) (l : Lock) → P l → (owner_count from l ≢ 0 → P (passes_some from to l)) → P (passed_lock from to l)
-by_passing P from to l same some = by_test (nat_eq (owner_count from l) 0) refl
-  where
-    by_test : (t : Bool) → nat_eq (owner_count from l) 0 ≡ t → P (cond t l (passes_some from to l))
-    by_test true e = same
-    by_test false e = some (eqb-false (owner_count from l) 0 e)
+by_passing P from to l same some = grind (arith, nat_tests)
 
 pub keeps-passed : (from to : ℕ) → KeepsLock (passed_lock from to)
-keeps-passed from to = record {
-  object = λ l. by_passing (λ (m : Lock). m.object ≡ l.object) from to l refl (λ _. refl);
-  mode = λ l. by_passing (λ (m : Lock). m.mode ≡ l.mode) from to l refl (λ _. refl);
-}
+keeps-passed from to = grind (arith, nat_tests)
 
 pub counted-passed : (from to : ℕ) (l : Lock) → WellCounted l → WellCounted (passed_lock from to l)
-counted-passed from to l h =
-    by_passing WellCounted from to l h (λ more. Counted-added to (owner_count from l) (without from l).owners (omega (arith, more)) (counted-without from l h))
+counted-passed from to l h = grind (arith, nat_tests, counted-without from l h, by_passing WellCounted from to l h (λ more. Counted-added to (owner_count from l) (without from l).owners (omega (arith, more)) (counted-without from l h)))
 
 pub total-passed : (from to : ℕ) (l : Lock) → lock_total (passed_lock from to l) ≤ lock_total l
-total-passed from to l =
-    by_passing (λ m. lock_total m ≤ lock_total l) from to l (omega arith) (λ _. omega (arith, counts-added to (owner_count from l) (without from l).owners, counts-others from l.owners))
+total-passed from to l = grind (arith, nat_tests, counts-added to (owner_count from l) (without from l).owners, counts-others from l.owners, by_passing (λ m. lock_total m ≤ lock_total l) from to l (omega arith) (λ _. omega (arith, counts-added to (owner_count from l) (without from l).owners, counts-others from l.owners)))
 
 some_owner : (owner : ℕ) (xs : List OwnerCount) → sum_by (count_if owner) xs ≢ 0 → nat_lt 0 (length xs) ≡ true
 some_owner owner [] h = absurd (h refl)
@@ -158,15 +112,7 @@ agrees_by t u shared e a = let P : SessionLocks → Type 0 = λ v. Agrees v shar
 -- a lock that is counted up, or put in at its place
 pub All-acquired : (P : Lock → Type 0) (owner o : ℕ) (m : Mode) → P (new_lock o m owner) → ((l : Lock) → P l → P (counted_up owner l)) → (xs : List Lock) → All P xs → All P (acquired owner o m xs)
 All-acquired P owner o m n u [] h = All-cons P (new_lock o m owner) [] n (All-nil P)
-All-acquired P owner o m n u (x ∷ xs) h = by_order (All-acquired P owner o m n u xs (All-tail P x xs h)) (comes_before x.object x.mode o m)
-  where
-    by_lock : (t : Bool) → All P (cond t (counted_up owner x ∷ xs) (new_lock o m owner ∷ x ∷ xs))
-    by_lock true = All-cons P (counted_up owner x) xs (u x (All-head P x xs h)) (All-tail P x xs h)
-    by_lock false = All-cons P (new_lock o m owner) (x ∷ xs) n h
-
-    by_order : All P (acquired owner o m xs) → (t : Bool) → All P (cond t (x ∷ acquired owner o m xs) (cond (is_lock o m x) (counted_up owner x ∷ xs) (new_lock o m owner ∷ x ∷ xs)))
-    by_order ih true = All-cons P x (acquired owner o m xs) (All-head P x xs h) ih
-    by_order ih false = by_lock (is_lock o m x)
+All-acquired P owner o m n u (x ∷ xs) h = grind (arith, nat_tests, All-tail P x xs h, All-acquired P owner o m n u xs (All-tail P x xs h), All-head P x xs h)
 
 pub IsInOrder-acquired : (owner o : ℕ) (m : Mode) (xs : List Lock) → IsInOrder xs → IsInOrder (acquired owner o m xs)
 IsInOrder-acquired owner o m [] h = (All-nil (Before (new_lock o m owner)), tt)
@@ -190,17 +136,8 @@ AreLocks-acquired owner o m xs a = record {
 }
 
 pub total-acquired : (owner o : ℕ) (m : Mode) (xs : List Lock) → total (acquired owner o m xs) ≡ total xs + 1
-total-acquired owner o m [] =
-    omega (arith, sum_by-cons lock_total (new_lock o m owner) [], sum_by-cons (λ (c : OwnerCount). c.count) (record { owner = owner; count = 1 }) [])
-total-acquired owner o m (x ∷ xs) = by_order (total-acquired owner o m xs) (comes_before x.object x.mode o m)
-  where
-    by_lock : (t : Bool) → total (cond t (counted_up owner x ∷ xs) (new_lock o m owner ∷ x ∷ xs)) ≡ total (x ∷ xs) + 1
-    by_lock true = omega (arith, counts-added owner 1 x.owners, sum_by-cons lock_total (counted_up owner x) xs, sum_by-cons lock_total x xs)
-    by_lock false = omega (arith, sum_by-cons lock_total (new_lock o m owner) (x ∷ xs), sum_by-cons (λ (c : OwnerCount). c.count) (record { owner = owner; count = 1 }) [])
-
-    by_order : total (acquired owner o m xs) ≡ total xs + 1 → (t : Bool) → total (cond t (x ∷ acquired owner o m xs) (cond (is_lock o m x) (counted_up owner x ∷ xs) (new_lock o m owner ∷ x ∷ xs))) ≡ total (x ∷ xs) + 1
-    by_order ih true = omega (arith, ih, sum_by-cons lock_total x (acquired owner o m xs), sum_by-cons lock_total x xs)
-    by_order ih false = by_lock (is_lock o m x)
+total-acquired owner o m [] = grind (arith, nat_tests, sum_by-cons lock_total (new_lock o m owner) [], sum_by-cons (λ (c : OwnerCount). c.count) (record { owner = owner; count = 1 }) [])
+total-acquired owner o m (x ∷ xs) = grind (arith, nat_tests, total-acquired owner o m xs, counts-added owner 1 x.owners, sum_by-cons lock_total (counted_up owner x) xs, sum_by-cons lock_total x xs, sum_by-cons lock_total (new_lock o m owner) (x ∷ xs), sum_by-cons (λ (c : OwnerCount). c.count) (record { owner = owner; count = 1 }) [], sum_by-cons lock_total x (acquired owner o m xs))
 
 pub fit_acquired : (owner o : ℕ) (m : Mode) (xs ys : List Lock) → FitLocks xs → total xs < 2 ^ 62 → ys ≡ acquired owner o m xs → FitLocks ys
 fit_acquired owner o m xs ys h l e = subst FitLocks (sym e) (AreLocks-acquired owner o m xs h.0, omega (arith, l, total-acquired owner o m xs))
@@ -223,22 +160,14 @@ would_stand_tail o m x xs i d s = record {
 
 pub acquired_at : (owner o : ℕ) (m : Mode) (xs : List Lock) (i : ℕ) (d : Lock) → StandsAt o m xs i d → set xs i (counted_up owner (get_or xs i d)) ≡ acquired owner o m xs
 acquired_at owner o m [] i d s = absurd (let w = s.within in omega arith)
-acquired_at owner o m (x ∷ xs) zero d s =
-    ap (λ b. cond b (counted_up owner x ∷ xs) (new_lock o m owner ∷ x ∷ xs)) (sym s.here)
-    ∙ ap (λ b. cond b (x ∷ acquired owner o m xs) (cond (is_lock o m x) (counted_up owner x ∷ xs) (new_lock o m owner ∷ x ∷ xs))) (sym (lock_not_before x o m s.here))
-acquired_at owner o m (x ∷ xs) (suc i) d s =
-    ap (λ zs. x ∷ zs) (acquired_at owner o m xs i d (stands_tail o m x xs i d s))
-    ∙ ap (λ b. cond b (x ∷ acquired owner o m xs) (cond (is_lock o m x) (counted_up owner x ∷ xs) (new_lock o m owner ∷ x ∷ xs))) (sym (s.before zero (omega arith)))
+acquired_at owner o m (x ∷ xs) zero d s = cc (lock_not_before x o m s.here)
+acquired_at owner o m (x ∷ xs) (suc i) d s = grind (arith, nat_tests, stands_tail o m x xs i d s, acquired_at owner o m xs i d (stands_tail o m x xs i d s), s.before zero (omega arith))
 
 pub acquired_new : (owner o : ℕ) (m : Mode) (xs : List Lock) (i : ℕ) (d : Lock) → WouldStandAt o m xs i d → insert xs i (new_lock o m owner) ≡ acquired owner o m xs
 acquired_new owner o m [] zero d s = refl
 acquired_new owner o m [] (suc i) d s = absurd (let w = s.within in omega arith)
-acquired_new owner o m (x ∷ xs) zero d s =
-    ap (λ b. cond b (counted_up owner x ∷ xs) (new_lock o m owner ∷ x ∷ xs)) (sym (s.not_here (omega arith)))
-    ∙ ap (λ b. cond b (x ∷ acquired owner o m xs) (cond (is_lock o m x) (counted_up owner x ∷ xs) (new_lock o m owner ∷ x ∷ xs))) (sym (s.not_before (omega arith)))
-acquired_new owner o m (x ∷ xs) (suc i) d s =
-    ap (λ zs. x ∷ zs) (acquired_new owner o m xs i d (would_stand_tail o m x xs i d s))
-    ∙ ap (λ b. cond b (x ∷ acquired owner o m xs) (cond (is_lock o m x) (counted_up owner x ∷ xs) (new_lock o m owner ∷ x ∷ xs))) (sym (s.before zero (omega arith)))
+acquired_new owner o m (x ∷ xs) zero d s = cc (s.not_here (omega arith), s.not_before (omega arith))
+acquired_new owner o m (x ∷ xs) (suc i) d s = grind (arith, nat_tests, would_stand_tail o m x xs i d s, acquired_new owner o m xs i d (would_stand_tail o m x xs i d s), s.before zero (omega arith))
 
 -- the state of a table with other locks
 abbrev pub table : ℕ → List Lock → SessionLocks
@@ -253,10 +182,7 @@ counted_up_agrees owner o m xs i d y s shared h st e agrees =
     (subst (λ t. MatchBool t (shared ≡ shared) (Sets shared shared x.object x.mode s false)) (sym owned) refl) agrees
 
 or_swap : (a b c : Bool) → (a || (b || c)) ≡ (b || (a || c))
-or_swap true true c = refl
-or_swap true false c = refl
-or_swap false true c = refl
-or_swap false false c = refl
+or_swap v0 v1 c = grind (arith, nat_tests)
 
 pub is_held-insert : (xs : List Lock) (i : ℕ) (y : Lock) (o : ℕ) (m : Mode) → is_held (insert xs i y) o m ≡ (held_test o m y || is_held xs o m)
 is_held-insert [] zero y o m = refl
@@ -266,23 +192,12 @@ is_held-insert (x ∷ xs) (suc i) y o m = ap (λ b. held_test o m x || b) (is_he
 
 -- what is shared agrees once a new lock is granted
 pub new_agrees : (owner o : ℕ) (m : Mode) (xs ys : List Lock) (i s : ℕ) (old new : List Holding) → ys ≡ insert xs i (new_lock o m owner) → Sets old new o m s true → ((a : ℕ) (n : Mode) → holds old a n s ≡ is_held xs a n) → (a : ℕ) (n : Mode) → holds new a n s ≡ is_held ys a n
-new_agrees owner o m xs ys i s old new e sets agrees a n =
-    holds_after old new o m s true sets a n
-    ∙ ap (λ b. cond (same_lock o m a n) true b) (agrees a n)
-    ∙ by_test (same_lock o m a n)
-    ∙ sym (ap (λ (zs : List Lock). is_held zs a n) e ∙ is_held-insert xs i (new_lock o m owner) a n)
-  where
-    by_test : (t : Bool) → cond t true (is_held xs a n) ≡ ((t && true) || is_held xs a n)
-    by_test true = refl
-    by_test false = refl
+new_agrees owner o m xs ys i s old new e sets agrees a n = grind (arith, nat_tests, is_held-insert xs i (new_lock o m owner) a n)
 
 -- how often an owner holds a lock, by where it stands
 count_none : (xs : List Lock) (o : ℕ) (m : Mode) (w : ℕ) → All (λ l. is_lock o m l ≡ false) xs → count_of xs o m w ≡ 0
 count_none [] o m w h = refl
-count_none (x ∷ xs) o m w h =
-    let f : Lock → ℕ = λ l. cond (is_lock o m l) (owner_count w l) 0 in
-    let here : f x ≡ 0 = ap (λ b. cond b (owner_count w x) 0) (All-head (λ l. is_lock o m l ≡ false) x xs h) in
-    omega (arith, here, sum_by-cons f x xs, count_none xs o m w (All-tail (λ l. is_lock o m l ≡ false) x xs h))
+count_none (x ∷ xs) o m w h = grind (arith, nat_tests, All-head (λ l. is_lock o m l ≡ false) x xs h, All-tail (λ l. is_lock o m l ≡ false) x xs h, count_none xs o m w (All-tail (λ l. is_lock o m l ≡ false) x xs h))
 
 pub none_like : (x : Lock) (xs : List Lock) (o : ℕ) (m : Mode) → All (Before x) xs → is_lock o m x ≡ true → All (λ l. is_lock o m l ≡ false) xs
 none_like x xs o m h e = All-weaker (Before x) (λ l. is_lock o m l ≡ false) (λ l b. other_lock x l o m b e) xs h
@@ -293,10 +208,7 @@ count_at (x ∷ xs) zero d o m w h s =
     let f : Lock → ℕ = λ l. cond (is_lock o m l) (owner_count w l) 0 in
     let here : f x ≡ owner_count w x = ap (λ b. cond b (owner_count w x) 0) s.here in
     omega (arith, here, sum_by-cons f x xs, count_none xs o m w (none_like x xs o m h.0 s.here))
-count_at (x ∷ xs) (suc i) d o m w h s =
-    let f : Lock → ℕ = λ l. cond (is_lock o m l) (owner_count w l) 0 in
-    let here : f x ≡ 0 = ap (λ b. cond b (owner_count w x) 0) (before_lock x o m (s.before zero (omega arith))) in
-    omega (arith, here, sum_by-cons f x xs, count_at xs i d o m w h.1 (stands_tail o m x xs i d s))
+count_at (x ∷ xs) (suc i) d o m w h s = grind (arith, nat_tests, s.before zero (omega arith), before_lock x o m (s.before zero (omega arith)), stands_tail o m x xs i d s, count_at xs i d o m w h.1 (stands_tail o m x xs i d s))
 
 -- a lock that isn't there
 pub none_standing : (xs : List Lock) (i : ℕ) (d : Lock) (o : ℕ) (m : Mode) → IsInOrder xs → WouldStandAt o m xs i d → All (λ l. is_lock o m l ≡ false) xs
@@ -320,23 +232,13 @@ down_at owner o m (x ∷ xs) zero d h s =
     let f = down owner o m in
     let rest : map f xs ≡ xs = map_fixed f xs (All-weaker (λ l. is_lock o m l ≡ false) (λ l. f l ≡ l) (λ l e. ap (λ b. cond b (counted_down owner l) l) e) xs (none_like x xs o m h.0 s.here)) in
     ap (λ (z : Lock). z ∷ xs) (sym (ap (λ b. cond b (counted_down owner x) x) s.here)) ∙ ap (λ (zs : List Lock). f x ∷ zs) (sym rest)
-down_at owner o m (x ∷ xs) (suc i) d h s =
-    let f = down owner o m in
-    ap (λ (z : Lock). z ∷ set xs i (counted_down owner (get_or xs i d))) (sym (ap (λ b. cond b (counted_down owner x) x) (before_lock x o m (s.before zero (omega arith)))))
-    ∙ ap (λ (zs : List Lock). f x ∷ zs) (down_at owner o m xs i d h.1 (stands_tail o m x xs i d s))
+down_at owner o m (x ∷ xs) (suc i) d h s = grind (arith, nat_tests, s.before zero (omega arith), before_lock x o m (s.before zero (omega arith)), stands_tail o m x xs i d s, down_at owner o m xs i d h.1 (stands_tail o m x xs i d s))
 
 pub by_down : (P : Lock → Type 0) (owner o : ℕ) (m : Mode) (l : Lock) → P l → P (counted_down owner l) → P (down owner o m l)
-by_down P owner o m l same less = by_test (is_lock o m l)
-  where
-    by_test : (t : Bool) → P (cond t (counted_down owner l) l)
-    by_test true = less
-    by_test false = same
+by_down P owner o m l same less = grind (arith, nat_tests)
 
 pub keeps-down : (owner o : ℕ) (m : Mode) → KeepsLock (down owner o m)
-keeps-down owner o m = record {
-  object = λ l. by_down (λ (k : Lock). k.object ≡ l.object) owner o m l refl refl;
-  mode = λ l. by_down (λ (k : Lock). k.mode ≡ l.mode) owner o m l refl refl;
-}
+keeps-down owner o m = grind (arith, nat_tests)
 
 pub counted-down : (owner o : ℕ) (m : Mode) (l : Lock) → WellCounted l → WellCounted (down owner o m l)
 counted-down owner o m l h = by_down WellCounted owner o m l h (Counted-lowered owner l.owners h)
@@ -345,11 +247,7 @@ pub total-down : (owner o : ℕ) (m : Mode) (l : Lock) → lock_total (down owne
 total-down owner o m l = by_down (λ k. lock_total k ≤ lock_total l) owner o m l (omega arith) (counts-lowered-le owner l.owners)
 
 pub fit_given_back : (owner o : ℕ) (m : Mode) (xs mid ys : List Lock) → FitLocks xs → mid ≡ map (down owner o m) xs → ys ≡ filter has_owner mid → FitLocks ys
-fit_given_back owner o m xs mid ys h e f =
-    subst FitLocks (sym (f ∙ ap (filter has_owner) e)) (
-      AreLocks-filtered (down owner o m) (keeps-down owner o m) (counted-down owner o m) xs h.0,
-      omega (arith, h.1, total-filter has_owner (map (down owner o m) xs), total-map (down owner o m) (total-down owner o m) xs),
-    )
+fit_given_back owner o m xs mid ys h e f = grind (arith, nat_tests, keeps-down owner o m, counted-down owner o m, AreLocks-filtered (down owner o m) (keeps-down owner o m) (counted-down owner o m) xs h.0, total-filter has_owner (map (down owner o m) xs), total-down owner o m, total-map (down owner o m) (total-down owner o m) xs)
 
 -- what is shared agrees once the lock is counted down, and freed where no owner is left
 pub down_agrees : (owner o : ℕ) (m : Mode) (xs : List Lock) (i : ℕ) (d y : Lock) (s : ℕ) (old new : List Holding) → AreLocks xs → StandsAt o m xs i d → y ≡ counted_down owner (get_or xs i d) → MatchBool (has_owner y) (new ≡ old) (Sets old new o m s false) → ((a : ℕ) (n : Mode) → holds old a n s ≡ is_held xs a n) → (a : ℕ) (n : Mode) → holds new a n s ≡ is_held (set xs i y) a n
@@ -365,9 +263,6 @@ down_agrees owner o m xs i d y s old new h st e told agrees =
 pub stands : (o : ℕ) (m : Mode) (ys xs : List Lock) (i : ℕ) (d : Lock) → ys ≡ xs → StandsAt o m ys i d → StandsAt o m xs i d
 stands o m ys xs i d e s = subst (λ (zs : List Lock). StandsAt o m zs i d) e s
 
-pub would_stand : (o : ℕ) (m : Mode) (ys xs : List Lock) (i : ℕ) (d : Lock) → ys ≡ xs → WouldStandAt o m ys i d → WouldStandAt o m xs i d
-would_stand o m ys xs i d e s = subst (λ (zs : List Lock). WouldStandAt o m zs i d) e s
-
 -- some lock, to read where there is none
 abbrev pub no_lock : Lock
 no_lock = new_lock 0 AccessShareLock 0
@@ -379,8 +274,7 @@ pub down_over : (owner o : ℕ) (m : Mode) (xs : List Lock) (i : ℕ) (x y : Loc
 down_over owner o m xs i x y h s e f = ap (λ (z : Lock). set xs i z) (f ∙ ap (counted_down owner) e) ∙ down_at owner o m xs i x h s
 
 pub freed_by : (b : Bool) (o : ℕ) (m : Mode) (s : ℕ) (old new : List Holding) → (b ≡ true → new ≡ old) → (b ≡ false → Sets old new o m s false) → MatchBool b (new ≡ old) (Sets old new o m s false)
-freed_by true o m s old new f g = f refl
-freed_by false o m s old new f g = g refl
+freed_by v0 o m s old new f g = grind (arith, nat_tests)
 
 pub freed_yes : (b : Bool) (o : ℕ) (m : Mode) (s : ℕ) (old mid new : List Holding) → false ≡ b → Sets old mid o m s false → new ≡ mid → MatchBool b (new ≡ old) (Sets old new o m s false)
 freed_yes b o m s old mid new e h f = freed_by b o m s old new (λ a. absurd (true≢false (sym a ∙ sym e))) (λ _. subst (λ (zs : List Holding). Sets old zs o m s false) (sym f) h)

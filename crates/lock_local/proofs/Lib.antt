@@ -10,3 +10,5 @@ pub mod PlaceLemmas
 pub mod TotalLemmas
 pub mod TableLemmas
 pub mod LawLemmas
+pub mod Base
+pub mod Lemmas

@@ -1,14 +1,5 @@
 -- The order of locks, and what it tells of the one lock on an object in a mode.
-use Rattle.std.proofs.Common.{◌≡◌, ℕ, suc, zero, ◌<◌, ◌+◌, Bool, true, false, ◌&&◌, ◌||◌, cond, nat_eq, nat_lt, List, [], ◌∷◌, length, get_or, set, drop, map, filter, inl, inr, refl, ap, sym, subst, ◌∙◌, arith, add-one, drop-cons}
-use Rattle.std.specs.Prelude.{All}
-use Rattle.std.proofs.lemmas.Bool.{true≢false, cases_Bool}
-use Rattle.std.proofs.lemmas.Bool.Decides.{nat_tests}
-use Rattle.std.proofs.lemmas.List.Elements.{All-weaker, All-filter, All-get_or, All-set, All-map}
-use Rattle.std.proofs.lemmas.List.Folds.{list_any_none}
-use Rattle.pgs_step.specs.declared.lock_modes.Mode.{Mode}
-use Rattle.pgs_step.specs.Mode.{mode_number}
-use Rattle.lock_shared.specs.Holdings.{same_lock}
-use Rattle.lock_local.specs.Locks.{Lock, is_lock, has_owner, is_held, comes_before, IsInOrder}
+use Rattle.lock_local.proofs.Base.{[], add-one, All, All-filter, All-get_or, All-map, All-set, All-weaker, ap, arith, Bool, comes_before, cond, drop, drop-cons, false, filter, get_or, has_owner, is_held, is_lock, IsInOrder, length, List, list_any_none, Lock, map, Mode, mode_number, nat_eq, nat_lt, nat_tests, same_lock, set, subst, suc, sym, true, zero, ℕ, ◌&&◌, ◌+◌, ◌<◌, ◌||◌, ◌∙◌, ◌∷◌, ◌≡◌}
 
 -- the same on numbers
 abbrev before : ℕ → ℕ → ℕ → ℕ → Bool
@@ -44,9 +35,6 @@ after_not_before a i b j e = grind (arith, nat_tests)
 same_swapped : (a i b j : ℕ) → same a i b j ≡ same b j a i
 same_swapped a i b j = grind (arith, nat_tests)
 
-before_alike : (a i b j c k : ℕ) → same a i b j ≡ true → before a i c k ≡ before b j c k
-before_alike a i b j c k e = grind (arith, nat_tests)
-
 pub lock_swapped : (o : ℕ) (w : Mode) (o' : ℕ) (w' : Mode) → same_lock o w o' w' ≡ same_lock o' w' o w
 lock_swapped o w o' w' = same_swapped o (mode_number w) o' (mode_number w')
 
@@ -75,12 +63,6 @@ Before l m = comes_before l.object l.mode m.object m.mode ≡ true
 pub other_lock : (l m : Lock) (o : ℕ) (w : Mode) → Before l m → is_lock o w l ≡ true → is_lock o w m ≡ false
 other_lock l m o w b e = before_then_not l.object (mode_number l.mode) m.object (mode_number m.mode) o (mode_number w) b e
 
-pub other_lock_left : (l m : Lock) (o : ℕ) (w : Mode) → Before l m → is_lock o w m ≡ true → is_lock o w l ≡ false
-other_lock_left l m o w b e = elim (cases_Bool (is_lock o w l)) as (λ _. is_lock o w l ≡ false) [
-  | inl f ↦ absurd (true≢false (sym e ∙ other_lock l m o w b f))
-  | inr f ↦ f
-]
-
 pub before_lock : (l : Lock) (o : ℕ) (w : Mode) → comes_before l.object l.mode o w ≡ true → is_lock o w l ≡ false
 before_lock l o w e = before_not_same l.object (mode_number l.mode) o (mode_number w) e
 
@@ -107,34 +89,21 @@ pub not_held : (l : Lock) (o : ℕ) (w : Mode) → is_lock o w l ≡ false → h
 not_held l o w e = ap (λ b. b && has_owner l) e
 
 pub none_behind : (l : Lock) (ls : List Lock) (o : ℕ) (w : Mode) → All (Before l) ls → is_lock o w l ≡ true → is_held ls o w ≡ false
-none_behind l ls o w h e =
-    list_any_none (held_test o w) ls (All-weaker (Before l) (λ m. held_test o w m ≡ false) (λ m b. not_held m o w (other_lock l m o w b e)) ls h)
+none_behind l ls o w h e = grind (arith, nat_tests, All-weaker (Before l) (λ m. held_test o w m ≡ false) (λ m b. not_held m o w (other_lock l m o w b e)) ls h, list_any_none (held_test o w) ls (All-weaker (Before l) (λ m. held_test o w m ≡ false) (λ m b. not_held m o w (other_lock l m o w b e)) ls h))
 
 or_none : (a b : Bool) → b ≡ false → (a || b) ≡ a
-or_none true b e = refl
-or_none false b e = e
+or_none v0 b e = grind (arith, nat_tests)
 
 -- one lock is written over, with the same object and mode
 pub is_held-set : (xs : List Lock) (i : ℕ) (d y : Lock) (o : ℕ) (w : Mode) → IsInOrder xs → i < length xs → y.object ≡ (get_or xs i d).object → y.mode ≡ (get_or xs i d).mode → is_held (set xs i y) o w ≡ cond (is_lock o w (get_or xs i d)) (has_owner y) (is_held xs o w)
 is_held-set [] i d y o w h l a b = absurd (omega (arith, l))
-is_held-set (x ∷ xs) zero d y o w h l a b = by_test (is_lock o w x) refl
-  where
-    by_test : (t : Bool) → is_lock o w x ≡ t → ((is_lock o w y && has_owner y) || is_held xs o w) ≡ cond t (has_owner y) ((is_lock o w x && has_owner x) || is_held xs o w)
-    by_test true e = ap (λ t. (t && has_owner y) || is_held xs o w) (ap (λ (n : ℕ). same_lock n y.mode o w) a ∙ ap (λ (m : Mode). same_lock x.object m o w) b ∙ e) ∙ or_none (has_owner y) (is_held xs o w) (none_behind x xs o w h.0 e)
-    by_test false e = ap (λ t. (t && has_owner y) || is_held xs o w) (ap (λ (n : ℕ). same_lock n y.mode o w) a ∙ ap (λ (m : Mode). same_lock x.object m o w) b ∙ e) ∙ ap (λ t. (t && has_owner x) || is_held xs o w) (sym e)
-is_held-set (x ∷ xs) (suc i) d y o w h l a b = by_test (is_lock o w (get_or xs i d)) refl (is_held-set xs i d y o w h.1 (omega (arith, l)) a b)
-  where
-    by_test : (t : Bool) → is_lock o w (get_or xs i d) ≡ t → is_held (set xs i y) o w ≡ cond (is_lock o w (get_or xs i d)) (has_owner y) (is_held xs o w) → (held_test o w x || is_held (set xs i y) o w) ≡ cond t (has_owner y) (held_test o w x || is_held xs o w)
-    by_test true e ih =
-        let first : held_test o w x ≡ false = not_held x o w (other_lock_left x (get_or xs i d) o w (All-get_or (Before x) xs i d (omega (arith, l)) h.0) e) in
-        ap (λ t. t || is_held (set xs i y) o w) first ∙ ih ∙ ap (λ t. cond t (has_owner y) (is_held xs o w)) e
-    by_test false e ih = ap (λ t. held_test o w x || t) (ih ∙ ap (λ t. cond t (has_owner y) (is_held xs o w)) e)
+is_held-set (x ∷ xs) zero d y o w h l a b = grind (arith, nat_tests, none_behind, or_none)
+is_held-set (x ∷ xs) (suc i) d y o w h l a b = grind (arith, nat_tests, is_held-set xs i d y o w h.1 (omega (arith, l)) a b, All-get_or (Before x) xs i d (omega (arith, l)) h.0)
 
 -- changes that keep the order
 pub IsInOrder-set : (xs : List Lock) (i : ℕ) (d y : Lock) → IsInOrder xs → i < length xs → y.object ≡ (get_or xs i d).object → y.mode ≡ (get_or xs i d).mode → IsInOrder (set xs i y)
 IsInOrder-set [] i d y h l a b = absurd (omega (arith, l))
-IsInOrder-set (x ∷ xs) zero d y h l a b =
-    (subst (λ (n : ℕ). All (λ (m : Lock). comes_before n y.mode m.object m.mode ≡ true) xs) (sym a) (subst (λ (k : Mode). All (λ (m : Lock). comes_before x.object k m.object m.mode ≡ true) xs) (sym b) h.0), h.1)
+IsInOrder-set (x ∷ xs) zero d y h l a b = grind (arith, nat_tests)
 IsInOrder-set (x ∷ xs) (suc i) d y h l a b =
     let here : Before x (get_or xs i d) = All-get_or (Before x) xs i d (omega (arith, l)) h.0 in
     (All-set (Before x) xs i y (subst (λ (n : ℕ). comes_before x.object x.mode n y.mode ≡ true) (sym a) (subst (λ (k : Mode). comes_before x.object x.mode (get_or xs i d).object k ≡ true) (sym b) here)) h.0, IsInOrder-set xs i d y h.1 (omega (arith, l)) a b)
@@ -159,11 +128,7 @@ IsInOrder-map f k (x ∷ xs) h =
 
 pub IsInOrder-filter : (p : Lock → Bool) (xs : List Lock) → IsInOrder xs → IsInOrder (filter p xs)
 IsInOrder-filter p [] h = tt
-IsInOrder-filter p (x ∷ xs) h = by_test (p x) (IsInOrder-filter p xs h.1)
-  where
-    by_test : (t : Bool) → IsInOrder (filter p xs) → IsInOrder (cond t (x ∷ filter p xs) (filter p xs))
-    by_test true ih = (All-filter p (Before x) xs h.0, ih)
-    by_test false ih = ih
+IsInOrder-filter p (x ∷ xs) h = grind (arith, nat_tests, IsInOrder-filter p xs h.1, All-filter p (Before x) xs h.0)
 
 -- what stands behind a place
 pub drop_more : {X : Type 0} (xs : List X) (i : ℕ) (d : X) → i < length xs → drop i xs ≡ get_or xs i d ∷ drop (i + 1) xs

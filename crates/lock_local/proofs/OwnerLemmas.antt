@@ -1,16 +1,6 @@
 -- The counts of a lock's owners.
-use Rattle.std.proofs.Common.{◌≡◌, ◌≢◌, ℕ, suc, zero, ◌<◌, ◌≤◌, ◌+◌, ◌-◌, ◌^◌, Bool, true, false, not, cond, nat_eq, nat_lt, List, [], ◌∷◌, ◌++◌, length, get_or, set, take, filter, refl, ap, sym, subst, ◌∙◌, arith}
-use Rattle.std.specs.Prelude.{All, sum_by, remove, position, Option, Some, None, Result, Ok, Err, IsOk, OnOk}
-use Rattle.std.specs.List.{position_or_len}
-use Rattle.std.proofs.lemmas.Bool.{false≢true, eqb-true, eqb-false, eq-eqb, ne_eqb, ltb-true, ltb-false}
-use Rattle.std.proofs.lemmas.List.Elements.{All-nil, All-cons, All-head, All-tail, All-filter}
-use Rattle.std.proofs.lemmas.List.{length-set}
-use Rattle.std.proofs.lemmas.List.Sums.{sum_by-cons, passes_at_first, fails_before_first, sum_by-take-drop, sum_by-drop_more}
-use Rattle.smallvec.specs.SmallVec.{SmallVec, with_items}
-use Rattle.smallvec.proofs.SmallVecLemmas.{items-with_items}
-use Rattle.lock_local.specs.declared.local_lock.OwnerCount.{OwnerCount}
-use Rattle.lock_local.specs.Locks.{count_if}
-use Rattle.lock_local.specs.Changes.{added, lowered}
+use Rattle.std.proofs.lemmas.Bool.Decides.{nat_tests}
+use Rattle.lock_local.proofs.Base.{[], added, All, All-cons, All-filter, All-head, All-nil, All-tail, ap, arith, Bool, cond, count_if, eq-eqb, eqb-true, fails_before_first, false, false≢true, filter, get_or, IsOk, items-with_items, length, length-set, List, lowered, ltb-false, ltb-true, nat_eq, nat_lt, ne_eqb, None, not, OnOk, Option, OwnerCount, passes_at_first, position, position_or_len, refl, remove, Result, set, SmallVec, Some, subst, suc, sum_by, sum_by-cons, sum_by-drop_more, sum_by-take-drop, sym, take, true, with_items, zero, ℕ, ◌++◌, ◌+◌, ◌-◌, ◌<◌, ◌^◌, ◌∙◌, ◌∷◌, ◌≡◌, ◌≢◌, ◌≤◌}
 
 abbrev pub is_owner : ℕ → OwnerCount → Bool
 is_owner owner c = nat_eq c.owner owner
@@ -36,13 +26,8 @@ first_tail owner x xs i d f = record {
 
 pub added_at : (owner n : ℕ) (xs : List OwnerCount) (i : ℕ) (d : OwnerCount) → IsFirstOf owner xs i d → set xs i (record { owner = (get_or xs i d).owner; count = (get_or xs i d).count + n }) ≡ added owner n xs
 added_at owner n [] i d f = absurd (let w = f.within in omega arith)
-added_at owner n (x ∷ xs) zero d f =
-    let y : OwnerCount = record { owner = x.owner; count = x.count + n } in
-    ap (λ b. cond b (y ∷ xs) (x ∷ added owner n xs)) (sym f.here)
-added_at owner n (x ∷ xs) (suc i) d f =
-    let y : OwnerCount = record { owner = x.owner; count = x.count + n } in
-    ap (λ zs. x ∷ zs) (added_at owner n xs i d (first_tail owner x xs i d f))
-    ∙ ap (λ b. cond b (y ∷ xs) (x ∷ added owner n xs)) (sym (f.before zero (omega arith)))
+added_at owner n (x ∷ xs) zero d f = cc
+added_at owner n (x ∷ xs) (suc i) d f = grind (arith, nat_tests, first_tail owner x xs i d f, added_at owner n xs i d (first_tail owner x xs i d f), f.before zero (omega arith))
 
 pub added_none : (owner n : ℕ) (xs : List OwnerCount) (d : OwnerCount) → ((k : ℕ) → k < length xs → is_owner owner (get_or xs k d) ≡ false) → xs ++ record { owner = owner; count = n } ∷ [] ≡ added owner n xs
 added_none owner n [] d h = refl
@@ -56,38 +41,22 @@ less_one c cs = cond (nat_eq c.count 1) cs (record { owner = c.owner; count = c.
 
 pub lowered_gone : (owner : ℕ) (xs : List OwnerCount) (i : ℕ) (d : OwnerCount) → IsFirstOf owner xs i d → (get_or xs i d).count ≡ 1 → remove xs i ≡ lowered owner xs
 lowered_gone owner [] i d f one = absurd (let w = f.within in omega arith)
-lowered_gone owner (x ∷ xs) zero d f one =
-    ap (λ b. cond b xs (record { owner = x.owner; count = x.count - 1 } ∷ xs)) (sym (eq-eqb x.count 1 one))
-    ∙ ap (λ b. cond b (less_one x xs) (x ∷ lowered owner xs)) (sym f.here)
-lowered_gone owner (x ∷ xs) (suc i) d f one =
-    ap (λ zs. x ∷ zs) (lowered_gone owner xs i d (first_tail owner x xs i d f) one)
-    ∙ ap (λ b. cond b (less_one x xs) (x ∷ lowered owner xs)) (sym (f.before zero (omega arith)))
+lowered_gone owner (x ∷ xs) zero d f one = cc (eq-eqb x.count 1 one)
+lowered_gone owner (x ∷ xs) (suc i) d f one = grind (arith, nat_tests, first_tail owner x xs i d f, lowered_gone owner xs i d (first_tail owner x xs i d f) one, f.before zero (omega arith))
 
 pub lowered_kept : (owner : ℕ) (xs : List OwnerCount) (i : ℕ) (d : OwnerCount) → IsFirstOf owner xs i d → (get_or xs i d).count ≢ 1 → set xs i (record { owner = (get_or xs i d).owner; count = (get_or xs i d).count - 1 }) ≡ lowered owner xs
 lowered_kept owner [] i d f more = absurd (let w = f.within in omega arith)
-lowered_kept owner (x ∷ xs) zero d f more =
-    ap (λ b. cond b xs (record { owner = x.owner; count = x.count - 1 } ∷ xs)) (sym (ne_eqb x.count 1 more))
-    ∙ ap (λ b. cond b (less_one x xs) (x ∷ lowered owner xs)) (sym f.here)
-lowered_kept owner (x ∷ xs) (suc i) d f more =
-    ap (λ zs. x ∷ zs) (lowered_kept owner xs i d (first_tail owner x xs i d f) more)
-    ∙ ap (λ b. cond b (less_one x xs) (x ∷ lowered owner xs)) (sym (f.before zero (omega arith)))
+lowered_kept owner (x ∷ xs) zero d f more = cc (ne_eqb x.count 1 more)
+lowered_kept owner (x ∷ xs) (suc i) d f more = grind (arith, nat_tests, first_tail owner x xs i d f, lowered_kept owner xs i d (first_tail owner x xs i d f) more, f.before zero (omega arith))
 
 -- what the counts add up to
 pub counts-added : (owner n : ℕ) (xs : List OwnerCount) → counts (added owner n xs) ≡ counts xs + n
 counts-added owner n [] = omega (arith, sum_by-cons (λ (c : OwnerCount). c.count) (record { owner = owner; count = n }) [])
-counts-added owner n (x ∷ xs) = by_test (counts-added owner n xs) (is_owner owner x)
-  where
-    by_test : (counts (added owner n xs) ≡ counts xs + n) → (t : Bool) → counts (cond t (record { owner = x.owner; count = x.count + n } ∷ xs) (x ∷ added owner n xs)) ≡ counts (x ∷ xs) + n
-    by_test ih true = omega (arith, sum_by-cons (λ (c : OwnerCount). c.count) (record { owner = x.owner; count = x.count + n }) xs, sum_by-cons (λ (c : OwnerCount). c.count) x xs)
-    by_test ih false = omega (arith, ih, sum_by-cons (λ (c : OwnerCount). c.count) x (added owner n xs), sum_by-cons (λ (c : OwnerCount). c.count) x xs)
+counts-added owner n (x ∷ xs) = grind (arith, nat_tests, counts-added owner n xs, sum_by-cons (λ (c : OwnerCount). c.count) (record { owner = x.owner; count = x.count + n }) xs, sum_by-cons (λ (c : OwnerCount). c.count) x xs, sum_by-cons (λ (c : OwnerCount). c.count) x (added owner n xs))
 
 pub Counted-added : (owner n : ℕ) (xs : List OwnerCount) → 1 ≤ n → All Counted xs → All Counted (added owner n xs)
 Counted-added owner n [] l h = All-cons Counted (record { owner = owner; count = n }) [] l (All-nil Counted)
-Counted-added owner n (x ∷ xs) l h = by_test (Counted-added owner n xs l (All-tail Counted x xs h)) (is_owner owner x)
-  where
-    by_test : (All Counted (added owner n xs)) → (t : Bool) → All Counted (cond t (record { owner = x.owner; count = x.count + n } ∷ xs) (x ∷ added owner n xs))
-    by_test ih true = All-cons Counted (record { owner = x.owner; count = x.count + n }) xs (omega (arith, l)) (All-tail Counted x xs h)
-    by_test ih false = All-cons Counted x (added owner n xs) (All-head Counted x xs h) ih
+Counted-added owner n (x ∷ xs) l h = grind (arith, nat_tests, All-tail Counted x xs h, Counted-added owner n xs l (All-tail Counted x xs h), All-head Counted x xs h)
 
 pub counts-lowered : (owner : ℕ) (xs : List OwnerCount) → All Counted xs → 0 < sum_by (count_if owner) xs → counts (lowered owner xs) + 1 ≡ counts xs
 counts-lowered owner [] h l = absurd (omega (arith, l))
@@ -108,18 +77,7 @@ counts-lowered owner (x ∷ xs) h l = by_test (counts-lowered owner xs (All-tail
 
 pub Counted-lowered : (owner : ℕ) (xs : List OwnerCount) → All Counted xs → All Counted (lowered owner xs)
 Counted-lowered owner [] h = h
-Counted-lowered owner (x ∷ xs) h = by_test (Counted-lowered owner xs (All-tail Counted x xs h)) (is_owner owner x)
-  where
-    by_count : (t : Bool) → nat_eq x.count 1 ≡ t → All Counted (cond t xs (record { owner = x.owner; count = x.count - 1 } ∷ xs))
-    by_count true e = All-tail Counted x xs h
-    by_count false e = All-cons Counted (record { owner = x.owner; count = x.count - 1 }) xs (more x.count (All-head Counted x xs h) (eqb-false x.count 1 e)) (All-tail Counted x xs h)
-      where
-        more : (n : ℕ) → 1 ≤ n → (n ≡ 1 → ⊥) → 1 ≤ n - 1
-        more n l h = omega arith
-
-    by_test : (All Counted (lowered owner xs)) → (t : Bool) → All Counted (cond t (less_one x xs) (x ∷ lowered owner xs))
-    by_test ih true = by_count (nat_eq x.count 1) refl
-    by_test ih false = All-cons Counted x (lowered owner xs) (All-head Counted x xs h) ih
+Counted-lowered owner (x ∷ xs) h = grind (arith, nat_tests, All-tail Counted x xs h, Counted-lowered owner xs (All-tail Counted x xs h), All-head Counted x xs h)
 
 -- what one owner's going leaves
 abbrev pub others : ℕ → List OwnerCount → List OwnerCount
@@ -139,21 +97,11 @@ counts-others owner (x ∷ xs) = by_test (counts-others owner xs) (is_owner owne
 
 pub others_le : (owner : ℕ) (xs : List OwnerCount) → length (others owner xs) ≤ length xs
 others_le owner [] = omega arith
-others_le owner (x ∷ xs) = by_test (others_le owner xs) (is_owner owner x)
-  where
-    by_test : (length (others owner xs) ≤ length xs) → (t : Bool) → length (cond (not t) (x ∷ others owner xs) (others owner xs)) ≤ length (x ∷ xs)
-    by_test ih true = omega (arith, ih)
-    by_test ih false = omega (arith, ih)
+others_le owner (x ∷ xs) = grind (arith, nat_tests, others_le owner xs)
 
 pub others_lt : (owner : ℕ) (xs : List OwnerCount) → 0 < sum_by (count_if owner) xs → length (others owner xs) < length xs
 others_lt owner [] l = absurd (omega (arith, l))
-others_lt owner (x ∷ xs) l = by_test (others_lt owner xs) (is_owner owner x) refl
-  where
-    by_test : (0 < sum_by (count_if owner) xs → length (others owner xs) < length xs) → (t : Bool) → is_owner owner x ≡ t → length (cond (not t) (x ∷ others owner xs) (others owner xs)) < length (x ∷ xs)
-    by_test ih true e = omega (arith, others_le owner xs)
-    by_test ih false e =
-        let none : count_if owner x ≡ 0 = ap (λ b. cond b x.count 0) e in
-        omega (arith, ih (omega (arith, l, none, sum_by-cons (count_if owner) x xs)))
+others_lt owner (x ∷ xs) l = grind (arith, nat_tests, others_lt owner xs, others_le owner xs)
 
 -- an owner that holds the lock has a first entry
 pub some_first : (owner : ℕ) (xs : List OwnerCount) (i : ℕ) (d : OwnerCount) → position (is_owner owner) xs ≡ Some i → IsFirstOf owner xs i d
@@ -171,11 +119,7 @@ some_first owner xs i d e =
     by_test false f g = absurd (cc)
 
 pub none_first : (owner : ℕ) (xs : List OwnerCount) (d : OwnerCount) → position (is_owner owner) xs ≡ None → (k : ℕ) → k < length xs → is_owner owner (get_or xs k d) ≡ false
-none_first owner xs d e k l = fails_before_first (is_owner owner) xs k d (by_test (nat_lt (position_or_len (is_owner owner) xs) (length xs)) refl e)
-  where
-    by_test : (t : Bool) → nat_lt (position_or_len (is_owner owner) xs) (length xs) ≡ t → cond t (Some (position_or_len (is_owner owner) xs)) None ≡ None → k < position_or_len (is_owner owner) xs
-    by_test true f g = absurd (cc)
-    by_test false f g = omega (arith, l, ltb-false (position_or_len (is_owner owner) xs) (length xs) f)
+none_first owner xs d e k l = grind (arith, nat_tests, fails_before_first, ltb-false)
 
 -- an owner without an entry doesn't hold the lock
 pub none_held : (owner : ℕ) (xs : List OwnerCount) (d : OwnerCount) → ((k : ℕ) → k < length xs → is_owner owner (get_or xs k d) ≡ false) → sum_by (count_if owner) xs ≡ 0
@@ -223,20 +167,16 @@ abbrev pub AreFew : List OwnerCount → Type 0
 AreFew xs = All Counted xs × (counts xs ≤ 2 ^ 62)
 
 pub few_added : (owner n : ℕ) (xs ys : List OwnerCount) → All Counted xs → 1 ≤ n → counts xs + n ≤ 2 ^ 62 → ys ≡ added owner n xs → AreFew ys
-few_added owner n xs ys h l f e =
-    subst AreFew (sym e) (Counted-added owner n xs l h, omega (arith, f, counts-added owner n xs))
+few_added owner n xs ys h l f e = grind (arith, nat_tests, Counted-added owner n xs l h, counts-added owner n xs)
 
 pub few_lowered : (owner : ℕ) (xs ys : List OwnerCount) → AreFew xs → 0 < sum_by (count_if owner) xs → ys ≡ lowered owner xs → AreFew ys
-few_lowered owner xs ys h l e =
-    subst AreFew (sym e) (Counted-lowered owner xs h.0, omega (arith, h.1, counts-lowered owner xs h.0 l))
+few_lowered owner xs ys h l e = grind (arith, nat_tests, Counted-lowered owner xs h.0, counts-lowered owner xs h.0 l)
 
 pub few_others : (owner : ℕ) (xs ys : List OwnerCount) → AreFew xs → ys ≡ others owner xs → AreFew ys
-few_others owner xs ys h e =
-    subst AreFew (sym e) (All-filter (λ c. not (is_owner owner c)) Counted xs h.0, omega (arith, h.1, counts-others owner xs))
+few_others owner xs ys h e = grind (arith, nat_tests, All-filter (λ c. not (is_owner owner c)) Counted xs h.0, counts-others owner xs)
 
 pub few_handed : (from to n : ℕ) (xs ys : List OwnerCount) → AreFew xs → n ≡ sum_by (count_if from) xs → 0 < n → ys ≡ added to n (others from xs) → AreFew ys
-few_handed from to n xs ys h s l e =
-    few_added to n (others from xs) ys (All-filter (λ c. not (is_owner from c)) Counted xs h.0) (omega (arith, l)) (omega (arith, s, h.1, counts-others from xs)) e
+few_handed from to n xs ys h s l e = grind (arith, nat_tests, All-filter (λ c. not (is_owner from c)) Counted xs h.0, counts-others from xs, few_added to n (others from xs) ys (All-filter (λ c. not (is_owner from c)) Counted xs h.0) (omega (arith, l)) (omega (arith, s, h.1, counts-others from xs)) e)
 
 -- there is room for another entry once one has gone
 pub room_left : (owner : ℕ) (xs ys : List OwnerCount) (n cap cap' : ℕ) → n ≡ length xs → n ≤ cap → cap' ≡ cap → ys ≡ others owner xs → 0 < sum_by (count_if owner) xs → length ys + 1 ≤ cap'
@@ -247,17 +187,8 @@ handed_fits from n xs ys f s e = omega (arith, f, s, ap counts e, counts-others 
 
 -- a call that succeeds, with what it ensures of success
 pub at_success : {E P : Type 0} (r : Result (Unit {0}) E) → IsOk r → OnOk r P → P
-at_success {E} {P} (Ok u) o h = h
-at_success {E} {P} (Err e) o h = absurd (false≢true o)
+at_success {E} {P} v0 o h = grind (arith, nat_tests, false≢true)
 
 pub counts-lowered-le : (owner : ℕ) (xs : List OwnerCount) → counts (lowered owner xs) ≤ counts xs
 counts-lowered-le owner [] = omega arith
-counts-lowered-le owner (x ∷ xs) = by_test (counts-lowered-le owner xs) (is_owner owner x)
-  where
-    by_count : (t : Bool) → counts (cond t xs (record { owner = x.owner; count = x.count - 1 } ∷ xs)) ≤ counts (x ∷ xs)
-    by_count true = omega (arith, sum_by-cons (λ (c : OwnerCount). c.count) x xs)
-    by_count false = omega (arith, sum_by-cons (λ (c : OwnerCount). c.count) x xs, sum_by-cons (λ (c : OwnerCount). c.count) (record { owner = x.owner; count = x.count - 1 }) xs)
-
-    by_test : counts (lowered owner xs) ≤ counts xs → (t : Bool) → counts (cond t (less_one x xs) (x ∷ lowered owner xs)) ≤ counts (x ∷ xs)
-    by_test ih true = by_count (nat_eq x.count 1)
-    by_test ih false = omega (arith, ih, sum_by-cons (λ (c : OwnerCount). c.count) x (lowered owner xs), sum_by-cons (λ (c : OwnerCount). c.count) x xs)
+counts-lowered-le owner (x ∷ xs) = grind (arith, nat_tests, counts-lowered-le owner xs, sum_by-cons (λ (c : OwnerCount). c.count) x xs, sum_by-cons (λ (c : OwnerCount). c.count) (record { owner = x.owner; count = x.count - 1 }) xs, sum_by-cons (λ (c : OwnerCount). c.count) x (lowered owner xs))

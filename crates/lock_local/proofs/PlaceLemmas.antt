@@ -1,11 +1,5 @@
 -- The place of a lock among others that are in order.
-use Rattle.std.proofs.Common.{◌≡◌, ◌≢◌, ℕ, suc, zero, ◌<◌, ◌≤◌, Bool, true, false, cond, nat_eq, List, [], ◌∷◌, Option, Some, None, length, get_or, filter, inl, inr, refl, ap, sym, ◌∙◌, arith}
-use Rattle.std.specs.Prelude.{remove, OnSome}
-use Rattle.std.proofs.lemmas.Bool.{true≢false, cases_Bool, eqb-true, eqb-false}
-use Rattle.std.proofs.lemmas.List.{get_or_default}
-use Rattle.std.proofs.lemmas.List.Elements.{All-get_or, All-from_get_or}
-use Rattle.pgs_step.specs.declared.lock_modes.Mode.{Mode}
-use Rattle.lock_local.specs.Locks.{Lock, has_owner, comes_before, IsInOrder}
+use Rattle.lock_local.proofs.Base.{[], All-from_get_or, All-get_or, ap, arith, Bool, cases_Bool, comes_before, cond, eqb-false, eqb-true, false, filter, get_or, get_or_default, has_owner, inl, inr, IsInOrder, length, List, Lock, Mode, nat_eq, None, OnSome, Option, refl, remove, Some, suc, sym, true, true≢false, zero, ℕ, ◌<◌, ◌∙◌, ◌∷◌, ◌≡◌, ◌≢◌, ◌≤◌}
 use Rattle.lock_local.proofs.OrderLemmas.{Before, before_both}
 use Rattle.lock_local.proofs.ChangeLemmas.{Owned}
 use Rattle.lock_local.proofs.StepLemmas.{all_kept}

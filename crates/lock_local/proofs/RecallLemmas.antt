@@ -1,22 +1,5 @@
 -- What is remembered of the owners' locks after a change.
-use Rattle.std.proofs.Common.{◌≡◌, ◌≢◌, ℕ, suc, zero, ◌<◌, ◌≤◌, ◌+◌, Bool, true, false, ◌&&◌, ◌||◌, not, cond, nat_eq, nat_lt, List, [], ◌∷◌, length, get_or, set, Option, Some, None, refl, ap, sym, subst, ◌∙◌, arith}
-use Rattle.std.specs.Prelude.{All, MatchOption, position, insert, remove}
-use Rattle.std.specs.List.{find, list_any, position_or_len}
-use Rattle.std.proofs.lemmas.Bool.{true≢false, eqb-true, eqb-false, eq-eqb, ltb-true, ltb-false, lt-ltb, and_parts}
-use Rattle.std.proofs.lemmas.Bool.Decides.{nat_tests}
-use Rattle.std.proofs.lemmas.List.Sums.{fails_before_first}
-use Rattle.std.proofs.lemmas.List.Folds.{find_past, list_any_none}
-use Rattle.std.specs.List.Sorted.{IsNonDecreasingBy}
-use Rattle.std.proofs.lemmas.List.{get_or_default}
-use Rattle.std.proofs.lemmas.List.Elements.{All-nil, All-cons, All-head, All-tail, All-weaker, All-set, All-get_or, All-from_get_or}
-use Rattle.pgs_step.specs.declared.lock_modes.Mode.{Mode}
-use Rattle.lock_shared.specs.Holdings.{same_lock}
-use Rattle.lock_local.specs.declared.recalled.LockTag.{LockTag}
-use Rattle.lock_local.specs.Locks.{Lock, count_of}
-use Rattle.lock_local.specs.Counts.{HoldsOneMore, HoldsOneLess, HoldsNothing, HoldsBoth}
-use Rattle.lock_local.specs.Recalled.{Recall, is_tag, recalls, recall_of, has_lock, IsByOwner, IsRecall, Remembers, Joins}
-use Rattle.lock_local.specs.OwnerPlaces.{HasOwnerAt, WouldHaveOwnerAt}
-use Rattle.lock_local.specs.Tagged.{AreTagged}
+use Rattle.lock_local.proofs.Base.{[], All, All-from_get_or, All-get_or, All-head, All-nil, All-set, All-tail, All-weaker, and_parts, ap, AreTagged, arith, Bool, cond, count_of, eq-eqb, eqb-false, eqb-true, fails_before_first, false, find, find_past, get_or, get_or_default, has_lock, HasOwnerAt, HoldsBoth, HoldsNothing, HoldsOneLess, HoldsOneMore, insert, is_tag, IsByOwner, IsNonDecreasingBy, IsRecall, Joins, length, List, list_any, list_any_none, Lock, LockTag, lt-ltb, ltb-false, ltb-true, MatchOption, Mode, nat_eq, nat_lt, nat_tests, None, not, Option, position, position_or_len, Recall, recall_of, recalls, refl, Remembers, remove, same_lock, set, Some, subst, suc, sym, true, true≢false, WouldHaveOwnerAt, zero, ℕ, ◌&&◌, ◌+◌, ◌<◌, ◌||◌, ◌∙◌, ◌∷◌, ◌≡◌, ◌≢◌, ◌≤◌}
 use Rattle.lock_local.proofs.StepLemmas.{tagged_by}
 use Rattle.lock_local.proofs.TableLemmas.{count_like}
 use Rattle.lock_local.proofs.TagLemmas.{All-insert, All-remove}

@@ -1,22 +1,5 @@
 -- One lock of an owner is given up or passed, and what is left of its locks.
-use Rattle.std.proofs.Common.{◌≡◌, ◌≢◌, ℕ, suc, zero, ◌<◌, ◌≤◌, ◌+◌, Bool, true, false, ◌||◌, not, cond, nat_eq, List, [], ◌∷◌, ◌++◌, length, drop, get_or, set, map, filter, inl, inr, refl, ap, sym, ◌∙◌, arith}
-use Rattle.std.specs.Prelude.{All, sum_by, ◌⊎◌}
-use Rattle.std.specs.List.{flat_map, list_any}
-use Rattle.std.proofs.lemmas.Bool.{true≢false, false≢true, eqb-true, eqb-false, eq-eqb, ne_eqb}
-use Rattle.std.proofs.lemmas.List.Elements.{All-nil, All-cons, All-head, All-tail, All-weaker, All-filter, All-map}
-use Rattle.std.proofs.lemmas.List.Sums.{sum_by-cons}
-use Rattle.std.proofs.lemmas.List.Folds.{map_fixed}
-use Rattle.pgs_step.specs.declared.lock_modes.Mode.{Mode}
-use Rattle.pgs_step.specs.declared.lock_modes.Mode.TheVariants.{AccessShareLock}
-use Rattle.pgs_step.specs.declared.events.What.{What}
-use Rattle.pgs_step.specs.declared.events.What.TheVariants.{ReleaseLock, PassLock}
-use Rattle.lock_local.specs.declared.local_lock.OwnerCount.{OwnerCount}
-use Rattle.lock_local.specs.declared.recalled.LockTag.{LockTag}
-use Rattle.lock_local.specs.Locks.{Lock, owner_count, count_if, count_of, is_lock, has_owner, comes_before, IsInOrder, AreLocks}
-use Rattle.lock_local.specs.Places.{StandsAt}
-use Rattle.lock_local.specs.Changes.{without, passed_lock, release_of, pass_of, released, passed, releases, passes}
-use Rattle.lock_local.specs.Recalled.{is_tag, IsRising}
-use Rattle.lock_local.specs.Tagged.{at_lock, told_of, given_up, gives_up, handed_on, hands_on, AreTagged}
+use Rattle.lock_local.proofs.Base.{[], AccessShareLock, All, All-cons, All-filter, All-head, All-map, All-nil, All-tail, All-weaker, ap, AreLocks, AreTagged, arith, at_lock, Bool, comes_before, cond, count_if, count_of, drop, eq-eqb, eqb-false, eqb-true, false, false≢true, filter, flat_map, get_or, given_up, gives_up, handed_on, hands_on, has_owner, inl, inr, is_lock, is_tag, IsInOrder, IsRising, length, List, list_any, Lock, LockTag, map, map_fixed, Mode, nat_eq, ne_eqb, not, owner_count, OwnerCount, pass_of, passed, passed_lock, passes, PassLock, refl, release_of, released, ReleaseLock, releases, set, StandsAt, suc, sum_by, sum_by-cons, sym, told_of, true, true≢false, What, without, zero, ℕ, ◌++◌, ◌+◌, ◌<◌, ◌||◌, ◌∙◌, ◌∷◌, ◌≡◌, ◌≢◌, ◌≤◌, ◌⊎◌}
 use Rattle.lock_local.proofs.OwnerLemmas.{Counted, is_owner, others}
 use Rattle.lock_local.proofs.OrderLemmas.{Before, KeepsLock, lock_swapped, lock_itself, after_lock, before_lock, after_both}
 use Rattle.lock_local.proofs.ChangeLemmas.{by_passing, WellCounted, Owned, AreLocks-filtered, AreLocks-mapped, keeps-without, counted-without, keeps-passed, counted-passed, owner-passed, stands_tail, none_like}

@@ -1,25 +1,11 @@
 -- Tags of locks in their order.
-use Rattle.std.proofs.Common.{◌≡◌, ℕ, suc, zero, ◌<◌, Bool, true, false, ◌&&◌, ◌||◌, not, cond, nat_eq, List, [], ◌∷◌, length, get_or, refl, ap, sym, subst, ◌∙◌, arith}
-use Rattle.std.specs.Prelude.{All, insert, remove, count_by}
-use Rattle.std.specs.List.{list_any}
-use Rattle.std.proofs.lemmas.Bool.{true≢false, false≢true, eqb-true, and_parts}
-use Rattle.std.proofs.lemmas.List.Elements.{All-nil, All-cons, All-head, All-tail, All-weaker, All-get_or}
-use Rattle.std.proofs.lemmas.List.Folds.{list_any_none}
-use Rattle.std.proofs.lemmas.List.Sums.{sum_by-cons}
-use Rattle.pgs_step.specs.declared.lock_modes.Mode.{Mode}
-use Rattle.pgs_step.specs.Mode.{mode_number}
-use Rattle.lock_shared.specs.Holdings.{same_lock}
-use Rattle.lock_local.specs.declared.recalled.LockTag.{LockTag}
-use Rattle.lock_local.specs.Locks.{Lock, comes_before}
-use Rattle.lock_local.specs.Recalled.{is_tag, IsRising}
+use Rattle.std.proofs.lemmas.Bool.Decides.{nat_tests}
+use Rattle.lock_local.proofs.Base.{[], All, All-cons, All-get_or, All-head, All-nil, All-tail, All-weaker, ap, arith, Bool, comes_before, cond, count_by, false, false≢true, get_or, insert, is_tag, IsRising, length, List, list_any, list_any_none, Lock, LockTag, Mode, not, refl, remove, same_lock, subst, suc, sum_by-cons, sym, true, true≢false, zero, ℕ, ◌&&◌, ◌<◌, ◌||◌, ◌∙◌, ◌∷◌, ◌≡◌}
 use Rattle.lock_local.proofs.OrderLemmas.{comes_after, after_both, later_not_before, order_other, other_lock_by, other_lock, before_lock}
 
 module _ {X : Type 0} (p : X → Bool) where
   or_swap : (a b c : Bool) → (a || (b || c)) ≡ (b || (a || c))
-  or_swap true true c = refl
-  or_swap true false c = refl
-  or_swap false true c = refl
-  or_swap false false c = refl
+  or_swap v0 v1 c = grind (arith, nat_tests)
 
   pub any-insert : (xs : List X) (i : ℕ) (y : X) → list_any p (insert xs i y) ≡ (p y || list_any p xs)
   any-insert [] zero y = refl
@@ -35,14 +21,10 @@ module _ {X : Type 0} (p : X → Bool) where
 
   count_nothing : (xs : List X) → All (λ x. p x ≡ false) xs → count_by p xs ≡ 0
   count_nothing [] h = refl
-  count_nothing (x ∷ xs) h =
-      let here : ◌≡◌ {A = ℕ} (cond (p x) 1 0) 0 = ap (λ b. cond b 1 0) (All-head (λ y. p y ≡ false) x xs h) in
-      omega (arith, here, count_nothing xs (All-tail (λ y. p y ≡ false) x xs h), sum_by-cons (λ y. cond (p y) 1 0) x xs)
+  count_nothing (x ∷ xs) h = grind (arith, nat_tests, All-head (λ y. p y ≡ false) x xs h, All-tail (λ y. p y ≡ false) x xs h, count_nothing xs (All-tail (λ y. p y ≡ false) x xs h), sum_by-cons (λ y. cond (p y) 1 0) x xs)
 
   pub count_first : (x : X) (xs : List X) → p x ≡ true → count_by p (x ∷ xs) ≡ suc (count_by p xs)
-  count_first x xs h =
-      let here : ◌≡◌ {A = ℕ} (cond (p x) 1 0) 1 = ap (λ b. cond b 1 0) h in
-      omega (arith, here, sum_by-cons (λ y. cond (p y) 1 0) x xs)
+  count_first x xs h = grind (arith, nat_tests, sum_by-cons (λ y. cond (p y) 1 0) x xs)
 
   pub count_zero : (x : X) (xs : List X) → p x ≡ false → All (λ y. p y ≡ false) xs → count_by p (x ∷ xs) ≡ 0
   count_zero x xs h k = count_nothing (x ∷ xs) (All-cons (λ y. p y ≡ false) x xs h k)
@@ -111,11 +93,7 @@ IsRising-remove (t ∷ ts) (suc i) h = (All-remove (TagBefore t) ts i h.0, IsRis
 -- a lock whose tag stands behind a tag comes after it
 pub behind_tag : (o : ℕ) (m : Mode) (t : LockTag) (ts : List LockTag) → All (TagBefore t) ts → list_any (is_tag o m) ts ≡ true → comes_before t.object t.mode o m ≡ true
 behind_tag o m t [] h e = absurd (false≢true e)
-behind_tag o m t (u ∷ ts) h e = by_test (behind_tag o m t ts (All-tail (TagBefore t) u ts h)) (is_tag o m u) refl
-  where
-    by_test : (list_any (is_tag o m) ts ≡ true → comes_before t.object t.mode o m ≡ true) → (b : Bool) → is_tag o m u ≡ b → comes_before t.object t.mode o m ≡ true
-    by_test ih true f = order_other t.object t.mode u.object u.mode o m (All-head (TagBefore t) u ts h) f
-    by_test ih false f = ih (sym (ap (λ b. b || list_any (is_tag o m) ts) f) ∙ e)
+behind_tag o m t (u ∷ ts) h e = grind (arith, nat_tests, All-tail (TagBefore t) u ts h, behind_tag o m t ts (All-tail (TagBefore t) u ts h), All-head (TagBefore t) u ts h)
 
 -- the tag of one lock isn't that of another
 pub other_tag : (o : ℕ) (m : Mode) (a : ℕ) (n : Mode) (t : LockTag) → is_tag o m t ≡ true → same_lock o m a n ≡ false → is_tag a n t ≡ false
@@ -129,17 +107,6 @@ taken_out o m (t ∷ ts) (suc i) d h l e =
     let sooner_tag : comes_before t.object t.mode o m ≡ true = order_other t.object t.mode (get_or ts i d).object (get_or ts i d).mode o m (All-get_or (TagBefore t) ts i d (omega (arith, l)) h.0) e in
     ap (λ b. b || list_any (is_tag o m) (remove ts i)) (before_lock (bare t) o m sooner_tag) ∙ taken_out o m ts i d h.1 (omega (arith, l)) e
 
--- a lock may be named by any mode of its number
-pub tags_like : (ts : List LockTag) (o : ℕ) (m : Mode) (a : ℕ) (n : Mode) → same_lock o m a n ≡ true → list_any (is_tag o m) ts ≡ list_any (is_tag a n) ts
-tags_like ts o m a n e =
-    let p = and_parts (nat_eq o a) (nat_eq (mode_number m) (mode_number n)) e in
-    ap (λ (k : ℕ). list_any (λ (t : LockTag). nat_eq t.object k && nat_eq (mode_number t.mode) (mode_number m)) ts) (eqb-true o a p.0)
-    ∙ ap (λ (k : ℕ). list_any (λ (t : LockTag). nat_eq t.object a && nat_eq (mode_number t.mode) k) ts) (eqb-true (mode_number m) (mode_number n) p.1)
-
 -- the tags that are left without that of one lock
 pub untagged : (o : ℕ) (m : Mode) (ts us : List LockTag) → list_any (is_tag o m) us ≡ false → ((a : ℕ) (n : Mode) → same_lock o m a n ≡ false → list_any (is_tag a n) us ≡ list_any (is_tag a n) ts) → (a : ℕ) (n : Mode) → list_any (is_tag a n) us ≡ (not (same_lock o m a n) && list_any (is_tag a n) ts)
-untagged o m ts us gone kept a n = by_test (same_lock o m a n) refl
-  where
-    by_test : (t : Bool) → same_lock o m a n ≡ t → list_any (is_tag a n) us ≡ (not t && list_any (is_tag a n) ts)
-    by_test true e = sym (tags_like us o m a n e) ∙ gone
-    by_test false e = kept a n e
+untagged o m ts us gone kept a n = grind (arith, nat_tests)

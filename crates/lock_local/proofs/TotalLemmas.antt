@@ -1,28 +1,15 @@
 -- How often all owners together hold locks, after a change.
-use Rattle.std.proofs.Common.{◌≡◌, ℕ, ◌<◌, ◌+◌, Bool, true, false, cond, nat_lt, List, [], ◌∷◌, length, get_or, set, map, filter, refl, ap, sym, ◌∙◌, arith}
-use Rattle.std.specs.Prelude.{All, sum_by}
-use Rattle.std.proofs.lemmas.Bool.{true≢false, lt-ltb}
-use Rattle.std.proofs.lemmas.List.Sums.{sum_by-cons, sum_by-set}
-use Rattle.pgs_step.specs.declared.lock_modes.Mode.{Mode}
-use Rattle.lock_shared.specs.Holdings.{same_lock}
-use Rattle.lock_local.specs.declared.local_lock.OwnerCount.{OwnerCount}
-use Rattle.lock_local.specs.Locks.{Lock, owner_count, lock_total, total, owner_total, is_lock, has_owner, count_of, whole_of, comes_before}
-use Rattle.lock_local.specs.Counts.{WholeOneMore, WholeOneLess, WholeLess, WholeStays}
-use Rattle.lock_local.specs.Places.{StandsAt}
-use Rattle.lock_local.specs.Changes.{new_lock, counted_up, counted_down, without, passed_lock, acquired, released, passed}
+use Rattle.std.proofs.lemmas.Bool.Decides.{nat_tests}
+use Rattle.lock_local.proofs.Base.{[], acquired, All, ap, arith, Bool, cond, counted_down, counted_up, false, filter, get_or, has_owner, is_lock, length, List, Lock, lock_total, lt-ltb, map, Mode, nat_lt, new_lock, owner_count, owner_total, OwnerCount, passed, passed_lock, refl, released, same_lock, set, StandsAt, sum_by, sum_by-cons, sum_by-set, sym, total, true≢false, whole_of, WholeLess, WholeOneLess, WholeOneMore, WholeStays, without, ℕ, ◌+◌, ◌<◌, ◌∙◌, ◌∷◌, ◌≡◌}
 use Rattle.lock_local.proofs.OwnerLemmas.{Counted, counts, counts-added, counts-lowered, counts-others}
 use Rattle.lock_local.proofs.ChangeLemmas.{by_passing}
-use Rattle.lock_local.proofs.CountLemmas.{where_so, so_sum, same_as}
+use Rattle.lock_local.proofs.CountLemmas.{where_so, same_as}
 
 -- sums over locks
 module _ (f : Lock → ℕ) where
   pub sum_kept : ((l : Lock) → has_owner l ≡ false → f l ≡ 0) → (xs : List Lock) → sum_by f (filter has_owner xs) ≡ sum_by f xs
   sum_kept none [] = refl
-  sum_kept none (x ∷ xs) = by_test (sum_kept none xs) (has_owner x) refl
-    where
-      by_test : sum_by f (filter has_owner xs) ≡ sum_by f xs → (t : Bool) → has_owner x ≡ t → sum_by f (cond t (x ∷ filter has_owner xs) (filter has_owner xs)) ≡ sum_by f (x ∷ xs)
-      by_test ih true e = omega (arith, ih, sum_by-cons f x (filter has_owner xs), sum_by-cons f x xs)
-      by_test ih false e = omega (arith, ih, none x e, sum_by-cons f x xs)
+  sum_kept none (x ∷ xs) = grind (arith, nat_tests, sum_kept none xs, sum_by-cons f x (filter has_owner xs), sum_by-cons f x xs)
 
   pub sum_same : (g : Lock → Lock) → ((l : Lock) → f (g l) ≡ f l) → (xs : List Lock) → sum_by f (map g xs) ≡ sum_by f xs
   sum_same g same [] = refl
@@ -45,8 +32,7 @@ abbrev pub whole_one : ℕ → Mode → Lock → ℕ
 whole_one o m l = cond (is_lock o m l) (lock_total l) 0
 
 so_zero : (b : Bool) (n : ℕ) → n ≡ 0 → where_so b n ≡ 0
-so_zero true n e = e
-so_zero false n e = refl
+so_zero v0 n e = grind (arith, nat_tests)
 
 pub no_whole : (o : ℕ) (m : Mode) (l : Lock) → has_owner l ≡ false → whole_one o m l ≡ 0
 no_whole o m l e = so_zero (is_lock o m l) (lock_total l) (no_total l e)
@@ -58,29 +44,20 @@ pub total_passed : (from to : ℕ) (l : Lock) → lock_total (passed_lock from t
 total_passed from to l = by_passing (λ k. lock_total k ≡ lock_total l) from to l refl (λ _. omega (arith, counts-added to (owner_count from l) (without from l).owners, counts-others from l.owners))
 
 so_less : (b : Bool) (p q r : ℕ) → p + q ≡ r → where_so b p + where_so b q ≡ where_so b r
-so_less true p q r e = e
-so_less false p q r e = refl
+so_less v0 p q r e = grind (arith, nat_tests)
 
 pub whole_without : (w o : ℕ) (m : Mode) (l : Lock) → whole_one o m (without w l) + cond (is_lock o m l) (owner_count w l) 0 ≡ whole_one o m l
 whole_without w o m l = so_less (is_lock o m l) (lock_total (without w l)) (owner_count w l) (lock_total l) (total_without w l)
 
 pub whole_passed : (from to o : ℕ) (m : Mode) (l : Lock) → whole_one o m (passed_lock from to l) ≡ whole_one o m l
-whole_passed from to o m l =
-    by_passing (λ k. whole_one o m k ≡ where_so (is_lock o m l) (lock_total k)) from to l refl (λ _. refl)
-    ∙ ap (where_so (is_lock o m l)) (total_passed from to l)
+whole_passed from to o m l = grind (arith, nat_tests, by_passing (λ k. whole_one o m k ≡ where_so (is_lock o m l) (lock_total k)) from to l refl (λ _. refl), total_passed from to l)
 
 -- all that an owner holds goes
 pub wholes_released : (w : ℕ) (xs ys : List Lock) → ys ≡ released w xs → WholeLess xs ys w
-wholes_released w xs ys e o m =
-    ap (λ (zs : List Lock). whole_of zs o m + count_of xs o m w) e
-    ∙ ap (λ (n : ℕ). n + count_of xs o m w) (sum_kept (whole_one o m) (no_whole o m) (map (without w) xs))
-    ∙ sum_less (whole_one o m) (without w) (λ l. cond (is_lock o m l) (owner_count w l) 0) (whole_without w o m) xs
+wholes_released w xs ys e o m = grind (arith, nat_tests, no_whole o m, sum_kept (whole_one o m) (no_whole o m) (map (without w) xs), whole_without w o m, sum_less (whole_one o m) (without w) (λ l. cond (is_lock o m l) (owner_count w l) 0) (whole_without w o m) xs)
 
 pub totals_released : (w : ℕ) (xs ys : List Lock) → ys ≡ released w xs → total ys + owner_total w xs ≡ total xs
-totals_released w xs ys e =
-    ap (λ (zs : List Lock). total zs + owner_total w xs) e
-    ∙ ap (λ (n : ℕ). n + owner_total w xs) (sum_kept lock_total no_total (map (without w) xs))
-    ∙ sum_less lock_total (without w) (owner_count w) (total_without w) xs
+totals_released w xs ys e = grind (arith, nat_tests, sum_kept lock_total no_total (map (without w) xs), total_without w, sum_less lock_total (without w) (owner_count w) (total_without w) xs)
 
 -- all that an owner holds is passed
 pub wholes_passed : (from to : ℕ) (xs ys : List Lock) → ys ≡ passed from to xs → WholeStays xs ys
@@ -98,21 +75,7 @@ total_new owner o m = omega (arith, sum_by-cons (λ (c : OwnerCount). c.count) (
 
 pub whole-acquired : (owner o : ℕ) (m : Mode) (o' : ℕ) (m' : Mode) (xs : List Lock) → whole_of (acquired owner o m xs) o' m' ≡ whole_of xs o' m' + where_so (same_lock o m o' m') 1
 whole-acquired owner o m o' m' [] = omega (arith, sum_by-cons (whole_one o' m') (new_lock o m owner) [], ap (where_so (same_lock o m o' m')) (total_new owner o m))
-whole-acquired owner o m o' m' (x ∷ xs) = by_order (whole-acquired owner o m o' m' xs) (comes_before x.object x.mode o m)
-  where
-    by_lock : (t : Bool) → is_lock o m x ≡ t → whole_of (cond t (counted_up owner x ∷ xs) (new_lock o m owner ∷ x ∷ xs)) o' m' ≡ whole_of (x ∷ xs) o' m' + where_so (same_lock o m o' m') 1
-    by_lock true e =
-        let f = whole_one o' m' in
-        let up : f (counted_up owner x) ≡ where_so (is_lock o' m' x) (lock_total x + 1) = ap (where_so (is_lock o' m' x)) (total_up owner x) in
-        let alike : where_so (is_lock o' m' x) 1 ≡ where_so (same_lock o m o' m') 1 = ap (λ b. where_so b 1) (same_as x o m o' m' e) in
-        omega (arith, up, alike, so_sum (is_lock o' m' x) (lock_total x) 1, sum_by-cons f (counted_up owner x) xs, sum_by-cons f x xs)
-    by_lock false e =
-        let f = whole_one o' m' in
-        omega (arith, sum_by-cons f (new_lock o m owner) (x ∷ xs), ap (where_so (same_lock o m o' m')) (total_new owner o m))
-
-    by_order : whole_of (acquired owner o m xs) o' m' ≡ whole_of xs o' m' + where_so (same_lock o m o' m') 1 → (t : Bool) → whole_of (cond t (x ∷ acquired owner o m xs) (cond (is_lock o m x) (counted_up owner x ∷ xs) (new_lock o m owner ∷ x ∷ xs))) o' m' ≡ whole_of (x ∷ xs) o' m' + where_so (same_lock o m o' m') 1
-    by_order ih true = let f = whole_one o' m' in omega (arith, ih, sum_by-cons f x (acquired owner o m xs), sum_by-cons f x xs)
-    by_order ih false = by_lock (is_lock o m x) refl
+whole-acquired owner o m o' m' (x ∷ xs) = grind (arith, nat_tests, whole-acquired owner o m o' m' xs, total_up owner x, sum_by-cons (whole_one o' m') x xs, sum_by-cons (whole_one o' m') (new_lock o m owner) (x ∷ xs), total_new owner o m, sum_by-cons (whole_one o' m') x (acquired owner o m xs))
 
 pub wholes_more : (owner o : ℕ) (m : Mode) (xs ys : List Lock) → ys ≡ acquired owner o m xs → WholeOneMore xs ys o m
 wholes_more owner o m xs ys e o' m' = ap (λ (zs : List Lock). whole_of zs o' m') e ∙ whole-acquired owner o m o' m' xs
@@ -122,8 +85,7 @@ pub total_down : (owner : ℕ) (l : Lock) → All Counted l.owners → 0 < owner
 total_down owner l h n = counts-lowered owner l.owners h n
 
 pub totals_lowered : (owner : ℕ) (xs mid ys : List Lock) (i : ℕ) (d y : Lock) → i < length xs → y ≡ counted_down owner (get_or xs i d) → All Counted (get_or xs i d).owners → 0 < owner_count owner (get_or xs i d) → mid ≡ set xs i y → ys ≡ filter has_owner mid → total ys + 1 ≡ total xs
-totals_lowered owner xs mid ys i d y l e h n f g =
-    omega (arith, ap total g, sum_kept lock_total no_total mid, ap total f, sum_by-set lock_total xs i y d l, ap lock_total e, total_down owner (get_or xs i d) h n)
+totals_lowered owner xs mid ys i d y l e h n f g = grind (arith, nat_tests, sum_kept lock_total no_total mid, sum_by-set lock_total xs i y d l, total_down owner (get_or xs i d) h n)
 
 pub wholes_lowered : (owner o : ℕ) (m : Mode) (xs mid ys : List Lock) (i : ℕ) (d y : Lock) → StandsAt o m xs i d → y ≡ counted_down owner (get_or xs i d) → All Counted (get_or xs i d).owners → 0 < owner_count owner (get_or xs i d) → mid ≡ set xs i y → ys ≡ filter has_owner mid → WholeOneLess xs ys o m
 wholes_lowered owner o m xs mid ys i d y st e h n f g o' m' =

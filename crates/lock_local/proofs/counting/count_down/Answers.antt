@@ -1,14 +1,5 @@
-use Rattle.std.proofs.Common.{◌≡◌, ◌<◌, get_or, List, filter, map, set, ap, sym, ◌∙◌, arith, refl}
-use Rattle.std.specs.Bool.{MatchBool}
-use Rattle.std.specs.Prelude.{All, false}
-use Rattle.std.proofs.lemmas.List.Elements.{All-get_or}
-use Rattle.lock_shared.specs.Holdings.{Sets}
-use Rattle.lock_local.specs.Locks.{Lock, owner_count, has_owner, is_held}
-use Rattle.lock_local.specs.Changes.{counted_down}
-use Rattle.lock_local.proofs.ChangeLemmas.{no_lock, down, down_over, down_agrees, count_at, count_missing, is_held-filter, freed_yes, freed_no, WellCounted}
-use Rattle.lock_local.proofs.OwnerLemmas.{Counted}
-use Rattle.lock_local.proofs.CountLemmas.{counted_there, counts_lowered}
-use Rattle.lock_local.proofs.TotalLemmas.{wholes_lowered, totals_lowered}
+use Rattle.lock_local.proofs.Base.{All, All-get_or, ap, arith, counted_down, false, filter, get_or, has_owner, is_held, List, Lock, map, MatchBool, owner_count, refl, set, Sets, sym, ◌<◌, ◌∙◌, ◌≡◌}
+use Rattle.lock_local.proofs.Lemmas.{count_at, count_missing, Counted, counted_there, counts_lowered, down, down_agrees, down_over, freed_no, freed_yes, is_held-filter, no_lock, totals_lowered, WellCounted, wholes_lowered}
 use Rattle.lock_local.proofs.counting.count_down.Goals as goal
 use Rattle.lock_local.proofs.counting.count_down.Goals.{then-not-has_owner, else-not-has_owner}
 

@@ -1,8 +1,5 @@
-use Rattle.std.proofs.Common.{◌≡◌, ap, ◌∙◌, arith}
-use Rattle.std.specs.Prelude.{insert}
-use Rattle.lock_local.specs.Places.{WouldStandAt}
-use Rattle.lock_local.specs.Changes.{counted_up, new_lock}
-use Rattle.lock_local.proofs.ChangeLemmas.{no_lock, acquired_over, acquired_new, counted_up_agrees, new_agrees}
+use Rattle.lock_local.proofs.Base.{ap, arith, counted_up, insert, new_lock, WouldStandAt, ◌∙◌, ◌≡◌}
+use Rattle.lock_local.proofs.Lemmas.{acquired_new, acquired_over, counted_up_agrees, new_agrees, no_lock}
 use Rattle.lock_local.proofs.counting.count_up.Goals as goal
 
 -- what a new lock at its place makes

@@ -1,5 +1,5 @@
-use Rattle.std.proofs.Common.{◌∙◌}
-use Rattle.lock_local.proofs.OwnerLemmas.{added_over, added_none, found, not_found, no_count}
+use Rattle.lock_local.proofs.Base.{◌∙◌}
+use Rattle.lock_local.proofs.Lemmas.{added_none, added_over, found, no_count, not_found}
 use Rattle.lock_local.proofs.local_lock.add.Goals as goal
 
 pub returns-in-Some-clause-ok : goal.returns-in-Some-clause-ok

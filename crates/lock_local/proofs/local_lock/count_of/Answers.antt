@@ -1,5 +1,5 @@
-use Rattle.std.proofs.Common.{arith}
-use Rattle.lock_local.proofs.OwnerLemmas.{sum_so_far}
+use Rattle.lock_local.proofs.Base.{arith}
+use Rattle.lock_local.proofs.Lemmas.{sum_so_far}
 use Rattle.lock_local.proofs.local_lock.count_of.Goals as goal
 
 pub overflow_add-count : goal.overflow_add-count

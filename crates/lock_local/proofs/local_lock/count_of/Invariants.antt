@@ -1,6 +1,4 @@
-use Rattle.std.proofs.Common.{◌≡◌, take}
-use Rattle.std.specs.Prelude.{sum_by}
-use Rattle.lock_local.specs.Locks.{count_if}
+use Rattle.lock_local.proofs.Base.{count_if, sum_by, take, ◌≡◌}
 use Rattle.lock_local.proofs.local_lock.count_of.Given as goal
 
 abbrev pub invariant-loop-each : goal.invariant-loop-each

@@ -1,6 +1,5 @@
-use Rattle.std.proofs.Common.{arith, ap, ◌∙◌}
-use Rattle.lock_local.specs.Changes.{added}
-use Rattle.lock_local.proofs.OwnerLemmas.{handed_fits, room_left, at_success}
+use Rattle.lock_local.proofs.Base.{added, ap, arith, ◌∙◌}
+use Rattle.lock_local.proofs.Lemmas.{at_success, handed_fits, room_left}
 use Rattle.lock_local.proofs.local_lock.hand_over.Goals as goal
 
 pub add-requires : goal.add-requires

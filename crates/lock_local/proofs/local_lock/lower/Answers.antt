@@ -1,6 +1,5 @@
-use Rattle.std.proofs.Common.{sym, ◌∙◌, ap, arith, get_or, List}
-use Rattle.lock_local.specs.declared.local_lock.OwnerCount.{OwnerCount}
-use Rattle.lock_local.proofs.OwnerLemmas.{lowered_gone, lowered_over, found, not_found, none_held, no_count}
+use Rattle.lock_local.proofs.Base.{ap, arith, get_or, List, OwnerCount, sym, ◌∙◌}
+use Rattle.lock_local.proofs.Lemmas.{found, lowered_gone, lowered_over, no_count, none_held, not_found}
 use Rattle.lock_local.proofs.local_lock.lower.Goals as goal
 
 pub returns-then-deref-at-eq1 : goal.returns-then-deref-at-eq1

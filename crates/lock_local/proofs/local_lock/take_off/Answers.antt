@@ -1,5 +1,4 @@
-use Rattle.std.proofs.Common.{not, nat_eq, rules}
-use Rattle.arrayvec.proofs.ArrayVecLemmas.{filter-from_retain}
+use Rattle.lock_local.proofs.Base.{filter-from_retain, nat_eq, not, rules}
 use Rattle.lock_local.proofs.local_lock.take_off.Goals as goal
 
 pub returns-clause-items : goal.returns-clause-items

@@ -1,5 +1,5 @@
-use Rattle.std.proofs.Common.{sym, ◌∙◌, arith, ◌<◌, ◌+◌, ◌-◌, ◌/◌, length}
-use Rattle.lock_local.proofs.PlaceLemmas.{sooner_front, later_back}
+use Rattle.lock_local.proofs.Base.{arith, length, sym, ◌+◌, ◌-◌, ◌/◌, ◌<◌, ◌∙◌}
+use Rattle.lock_local.proofs.Lemmas.{later_back, sooner_front}
 use Rattle.lock_local.proofs.places.find.Goals as goal
 
 pub loop-low-preserved-then-comes_before : goal.loop-low-preserved-then-comes_before

@@ -1,5 +1,4 @@
-use Rattle.std.proofs.Common.{◌≡◌, ℕ, ◌-◌, ◌<◌, ◌≤◌, true, false, length, get_or}
-use Rattle.lock_local.specs.Locks.{Lock, comes_before}
+use Rattle.lock_local.proofs.Base.{comes_before, false, get_or, length, Lock, true, ℕ, ◌-◌, ◌<◌, ◌≡◌, ◌≤◌}
 use Rattle.lock_local.proofs.places.find.Given as goal
 
 abbrev pub invariant-loop-low : goal.invariant-loop-low

@@ -1,6 +1,5 @@
-use Rattle.std.proofs.Common.{sym, ◌∙◌, ap, arith}
-use Rattle.lock_local.specs.Locks.{has_owner}
-use Rattle.lock_local.proofs.PlaceLemmas.{ownerless_gone, ownerless_none, taken_some}
+use Rattle.lock_local.proofs.Base.{ap, arith, has_owner, sym, ◌∙◌}
+use Rattle.lock_local.proofs.Lemmas.{ownerless_gone, ownerless_none, taken_some}
 use Rattle.lock_local.proofs.places.keep_if_held.Goals as goal
 
 pub returns-then-not-has_owner : goal.returns-then-not-has_owner

@@ -1,7 +1,5 @@
-use Rattle.std.proofs.Common.{◌≡◌, ap, sym, subst, ◌∙◌, List, Some, remove, arith}
-use Rattle.lock_local.specs.Recalled.{Recall, recall_of, IsByOwner}
-use Rattle.lock_local.proofs.PlaceLemmas.{taken_some}
-use Rattle.lock_local.proofs.RecallLemmas.{at_place, no_place, written, removed, remove-set, IsByOwner-set, IsByOwner-remove, not_unknown, remembers_less, remembers_last}
+use Rattle.lock_local.proofs.Base.{ap, arith, IsByOwner, List, Recall, recall_of, remove, Some, subst, sym, ◌∙◌, ◌≡◌}
+use Rattle.lock_local.proofs.Lemmas.{at_place, IsByOwner-remove, IsByOwner-set, no_place, not_unknown, remembers_last, remembers_less, remove-set, removed, taken_some, written}
 use Rattle.lock_local.proofs.recalled.forget.Goals as goal
 
 pub returns-in_default-clause-remembers : goal.returns-in_default-clause-remembers

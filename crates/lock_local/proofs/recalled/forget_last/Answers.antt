@@ -1,5 +1,5 @@
-use Rattle.std.proofs.Common.{◌∙◌, sym, arith}
-use Rattle.lock_local.proofs.RecallLemmas.{remembers_lowered}
+use Rattle.lock_local.proofs.Base.{arith, sym, ◌∙◌}
+use Rattle.lock_local.proofs.Lemmas.{remembers_lowered}
 use Rattle.lock_local.proofs.recalled.forget_last.Goals as goal
 
 pub returns-then-count-eq1-clause-remembers : goal.returns-then-count-eq1-clause-remembers

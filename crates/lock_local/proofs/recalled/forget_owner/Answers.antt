@@ -1,4 +1,4 @@
-use Rattle.lock_local.proofs.RecallLemmas.{remembers_nothing}
+use Rattle.lock_local.proofs.Lemmas.{remembers_nothing}
 use Rattle.lock_local.proofs.recalled.forget_owner.Goals as goal
 
 pub returns-clause-remembers : goal.returns-clause-remembers

@@ -1,5 +1,5 @@
-use Rattle.std.proofs.Common.{arith}
-use Rattle.lock_local.proofs.RecallLemmas.{remembers_alone}
+use Rattle.lock_local.proofs.Base.{arith}
+use Rattle.lock_local.proofs.Lemmas.{remembers_alone}
 use Rattle.lock_local.proofs.recalled.hand_on.Goals as goal
 
 pub returns-then-len-eq1-clause-remembers : goal.returns-then-len-eq1-clause-remembers

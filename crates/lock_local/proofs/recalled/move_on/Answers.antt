@@ -1,6 +1,5 @@
-use Rattle.std.proofs.Common.{◌≡◌, ap, sym, subst, ◌∙◌, ℕ, nat_eq}
-use Rattle.lock_local.specs.Recalled.{Recall, recall_of, Joins}
-use Rattle.lock_local.proofs.RecallLemmas.{remembers_passed, remembers_unpassed}
+use Rattle.lock_local.proofs.Base.{ap, Joins, nat_eq, Recall, recall_of, subst, sym, ℕ, ◌∙◌, ◌≡◌}
+use Rattle.lock_local.proofs.Lemmas.{remembers_passed, remembers_unpassed}
 use Rattle.lock_local.proofs.recalled.move_on.Goals as goal
 
 pub returns-in-Some-clause-remembers : goal.returns-in-Some-clause-remembers

@@ -1,7 +1,5 @@
-use Rattle.std.proofs.Common.{◌≡◌, ◌≤◌, ap, sym, subst, ◌∙◌, List, Some}
-use Rattle.lock_local.specs.Recalled.{Recall, recall_of, IsByOwner}
-use Rattle.lock_local.specs.OwnerPlaces.{WouldHaveOwnerAt}
-use Rattle.lock_local.proofs.RecallLemmas.{at_place, no_place, written, inserted, IsByOwner-set, IsByOwner-insert, remembers_noted, remembers_new}
+use Rattle.lock_local.proofs.Base.{ap, IsByOwner, List, Recall, recall_of, Some, subst, sym, WouldHaveOwnerAt, ◌∙◌, ◌≡◌, ◌≤◌}
+use Rattle.lock_local.proofs.Lemmas.{at_place, inserted, IsByOwner-insert, IsByOwner-set, no_place, remembers_new, remembers_noted, written}
 use Rattle.lock_local.proofs.recalled.note.Goals as goal
 
 pub returns-in-Ok-clause-by_owner : goal.returns-in-Ok-clause-by_owner

@@ -1,9 +1,5 @@
-use Rattle.std.proofs.Common.{◌≢◌, ◌<◌, length, get_or, ap, ◌∙◌, arith, rules, ltb}
-use Rattle.std.proofs.lemmas.Bool.{ltb-true, ltb-false}
-use Rattle.std.proofs.lemmas.List.{get_or_default}
-use Rattle.std.proofs.lemmas.List.Sorted.{IsPartitionPoint-from_clause, IsPartitionedBy-ltb}
-use Rattle.lock_local.specs.Recalled.{Recall}
-use Rattle.lock_local.proofs.RecallLemmas.{never_falls, no_recall, would_stand_at}
+use Rattle.lock_local.proofs.Base.{ap, arith, get_or, get_or_default, IsPartitionedBy-ltb, IsPartitionPoint-from_clause, length, ltb, ltb-false, ltb-true, Recall, rules, ◌<◌, ◌∙◌, ◌≢◌}
+use Rattle.lock_local.proofs.Lemmas.{never_falls, no_recall, would_stand_at}
 use Rattle.lock_local.proofs.recalled.place_of.Goals as goal
 use Rattle.lock_local.proofs.recalled.place_of.Goals.{else-at-len-via-then-at-len+else-owner, else-at-len-via-else-at-len}
 

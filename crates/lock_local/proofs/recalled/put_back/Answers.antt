@@ -1,7 +1,5 @@
-use Rattle.std.proofs.Common.{◌≡◌, ◌≤◌, ap, sym, subst, ◌∙◌, ℕ, List, Some, cond}
-use Rattle.lock_local.specs.Recalled.{Recall, recall_of, Joins, IsByOwner}
-use Rattle.lock_local.specs.OwnerPlaces.{HasOwnerAt, WouldHaveOwnerAt}
-use Rattle.lock_local.proofs.RecallLemmas.{written, inserted, joined_at, joined_new, IsByOwner-set, IsByOwner-insert}
+use Rattle.lock_local.proofs.Base.{ap, cond, HasOwnerAt, IsByOwner, Joins, List, Recall, recall_of, Some, subst, sym, WouldHaveOwnerAt, ℕ, ◌∙◌, ◌≡◌, ◌≤◌}
+use Rattle.lock_local.proofs.Lemmas.{inserted, IsByOwner-insert, IsByOwner-set, joined_at, joined_new, written}
 use Rattle.lock_local.proofs.recalled.put_back.Goals as goal
 
 here : (c : goal.After-recalled-1) → HasOwnerAt c.args.recall.owner c.args.recalled.now.items c.in-Ok.at

@@ -1,5 +1,5 @@
-use Rattle.std.proofs.Common.{ap, sym, ◌∙◌, Some}
-use Rattle.lock_local.proofs.RecallLemmas.{at_place, no_place}
+use Rattle.lock_local.proofs.Base.{ap, Some, sym, ◌∙◌}
+use Rattle.lock_local.proofs.Lemmas.{at_place, no_place}
 use Rattle.lock_local.proofs.recalled.recall_of.Goals as goal
 
 pub returns-in-Ok : goal.returns-in-Ok

@@ -1,7 +1,5 @@
-use Rattle.std.proofs.Common.{◌≡◌, ap, sym, subst, ◌∙◌, List, remove, arith}
-use Rattle.lock_local.specs.Recalled.{Recall, recall_of, IsByOwner}
-use Rattle.lock_local.proofs.PlaceLemmas.{taken_some}
-use Rattle.lock_local.proofs.RecallLemmas.{at_place, no_place, no_recall, removed, absent, match_some, IsByOwner-remove}
+use Rattle.lock_local.proofs.Base.{ap, arith, IsByOwner, List, Recall, recall_of, remove, subst, sym, ◌∙◌, ◌≡◌}
+use Rattle.lock_local.proofs.Lemmas.{absent, at_place, IsByOwner-remove, match_some, no_place, no_recall, removed, taken_some}
 use Rattle.lock_local.proofs.recalled.take_out.Goals as goal
 
 left : (c : goal.After-remove) → c.remove.new.self.items ≡ remove c.args.recalled.now.items c.in-Ok.at

@@ -1,7 +1,5 @@
-use Rattle.std.proofs.Common.{List, set, ap, sym, ◌∙◌, arith}
-use Rattle.lock_local.specs.Locks.{Lock, is_held}
-use Rattle.lock_local.proofs.ChangeLemmas.{is_held-filter}
-use Rattle.lock_local.proofs.WalkLemmas.{freed_agrees, had_owner}
+use Rattle.lock_local.proofs.Base.{ap, arith, is_held, List, Lock, set, sym, ◌∙◌}
+use Rattle.lock_local.proofs.Lemmas.{freed_agrees, had_owner, is_held-filter}
 use Rattle.lock_local.proofs.tag_walks.give_up_at.Goals as goal
 
 pub returns-clause-agrees : goal.returns-clause-agrees

@@ -1,9 +1,6 @@
-use Rattle.std.proofs.Common.{List, ap, sym, subst, ◌∙◌, arith, filter}
-use Rattle.pgs_step.specs.declared.events.What.{What}
-use Rattle.lock_local.specs.Locks.{has_owner}
-use Rattle.lock_local.specs.Changes.{without, release_of}
-use Rattle.lock_local.proofs.ChangeLemmas.{no_lock, none_standing}
-use Rattle.lock_local.proofs.StepLemmas.{at_place, told_place, at_none, told_none, all_kept}
+use Rattle.lock_local.proofs.Base.{ap, arith, filter, has_owner, List, release_of, subst, sym, What, without, ◌∙◌}
+use Rattle.lock_local.proofs.Lemmas.{all_kept, at_none, no_lock, none_standing, told_none, told_place}
+use Rattle.lock_local.proofs.StepLemmas.{at_place}
 use Rattle.lock_local.proofs.tag_walks.give_up_one.Goals as goal
 
 pub give_up_at-requires-clause-within : goal.give_up_at-requires-clause-within

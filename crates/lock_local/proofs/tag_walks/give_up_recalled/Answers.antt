@@ -1,5 +1,5 @@
-use Rattle.std.proofs.Common.{[], sym, ◌∙◌}
-use Rattle.lock_local.proofs.RecallLemmas.{tagged_known, tagged_unknown}
+use Rattle.lock_local.proofs.Base.{[], sym, ◌∙◌}
+use Rattle.lock_local.proofs.Lemmas.{tagged_known, tagged_unknown}
 use Rattle.lock_local.proofs.tag_walks.give_up_recalled.Goals as goal
 
 pub give_up_tagged-requires-clause-tagged : goal.give_up_tagged-requires-clause-tagged

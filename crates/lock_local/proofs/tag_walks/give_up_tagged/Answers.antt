@@ -1,13 +1,5 @@
-use Rattle.std.proofs.Common.{◌≡◌, List, ◌++◌, ◌+◌, ◌∷◌, drop, refl, ap, sym, subst, ◌∙◌, arith, append_assoc, get_or}
-use Rattle.pgs_step.specs.declared.events.What.{What}
-use Rattle.lock_local.specs.declared.recalled.LockTag.{LockTag}
-use Rattle.lock_local.specs.Locks.{Lock, AreLocks}
-use Rattle.lock_local.specs.Changes.{released, releases}
-use Rattle.lock_local.specs.Recalled.{IsRising}
-use Rattle.lock_local.specs.Tagged.{AreTagged, gives_up, given_up}
-use Rattle.lock_local.proofs.OrderLemmas.{drop_more}
-use Rattle.lock_local.proofs.WalkLemmas.{others_more}
-use Rattle.lock_local.proofs.StepLemmas.{AreLocks-given_up, released_again, released_idle, releases_idle, releases_step, tagged_given_up, idle_untagged, no_tag, nothing_left, told_on}
+use Rattle.lock_local.proofs.Base.{ap, append_assoc, AreLocks, AreTagged, arith, drop, get_or, given_up, gives_up, IsRising, List, Lock, LockTag, refl, released, releases, subst, sym, What, ◌++◌, ◌+◌, ◌∙◌, ◌∷◌, ◌≡◌}
+use Rattle.lock_local.proofs.Lemmas.{AreLocks-given_up, drop_more, idle_untagged, no_tag, nothing_left, others_more, released_again, released_idle, releases_idle, releases_step, tagged_given_up, told_on}
 use Rattle.lock_local.proofs.tag_walks.give_up_tagged.Goals as goal
 
 pub loop-tag-preserved : goal.loop-tag-preserved

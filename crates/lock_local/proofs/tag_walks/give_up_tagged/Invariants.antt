@@ -1,11 +1,4 @@
-use Rattle.std.proofs.Common.{◌≡◌, ℕ, List, ◌++◌, drop}
-use Rattle.pgs_step.specs.declared.lock_modes.Mode.{Mode}
-use Rattle.pgs_step.specs.declared.events.What.{What}
-use Rattle.lock_shared.specs.Holdings.{holds}
-use Rattle.lock_local.specs.Locks.{is_held, AreLocks, OthersStay}
-use Rattle.lock_local.specs.Changes.{released, releases}
-use Rattle.lock_local.specs.Recalled.{IsRising}
-use Rattle.lock_local.specs.Tagged.{AreTagged}
+use Rattle.lock_local.proofs.Base.{AreLocks, AreTagged, drop, holds, is_held, IsRising, List, Mode, OthersStay, released, releases, What, ℕ, ◌++◌, ◌≡◌}
 use Rattle.lock_local.proofs.tag_walks.give_up_tagged.Given as goal
 
 abbrev pub invariant-loop-tag : goal.invariant-loop-tag

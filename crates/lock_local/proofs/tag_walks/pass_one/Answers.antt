@@ -1,9 +1,6 @@
-use Rattle.std.proofs.Common.{List, ap, sym, subst, ◌∙◌, arith, set}
-use Rattle.pgs_step.specs.declared.events.What.{What}
-use Rattle.lock_local.specs.Locks.{Lock}
-use Rattle.lock_local.specs.Changes.{passed_lock, pass_of}
-use Rattle.lock_local.proofs.ChangeLemmas.{no_lock, none_standing}
-use Rattle.lock_local.proofs.StepLemmas.{at_place, told_place, at_none, told_none}
+use Rattle.lock_local.proofs.Base.{ap, arith, List, Lock, pass_of, passed_lock, set, subst, sym, What, ◌∙◌}
+use Rattle.lock_local.proofs.Lemmas.{at_none, no_lock, none_standing, told_none, told_place}
+use Rattle.lock_local.proofs.StepLemmas.{at_place}
 use Rattle.lock_local.proofs.tag_walks.pass_one.Goals as goal
 
 pub index_mut-lock-requires : goal.index_mut-lock-requires

@@ -1,5 +1,5 @@
-use Rattle.std.proofs.Common.{[], sym, ◌∙◌}
-use Rattle.lock_local.proofs.RecallLemmas.{tagged_known, tagged_unknown}
+use Rattle.lock_local.proofs.Base.{[], sym, ◌∙◌}
+use Rattle.lock_local.proofs.Lemmas.{tagged_known, tagged_unknown}
 use Rattle.lock_local.proofs.tag_walks.pass_recalled.Goals as goal
 
 pub pass_tagged-requires-clause-tagged : goal.pass_tagged-requires-clause-tagged

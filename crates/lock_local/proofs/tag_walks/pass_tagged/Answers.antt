@@ -1,12 +1,5 @@
-use Rattle.std.proofs.Common.{◌≡◌, List, ◌++◌, ◌+◌, ◌∷◌, drop, refl, ap, sym, subst, ◌∙◌, arith, append_assoc, get_or}
-use Rattle.pgs_step.specs.declared.events.What.{What}
-use Rattle.lock_local.specs.declared.recalled.LockTag.{LockTag}
-use Rattle.lock_local.specs.Locks.{Lock, AreLocks}
-use Rattle.lock_local.specs.Changes.{passed, passes}
-use Rattle.lock_local.specs.Recalled.{IsRising}
-use Rattle.lock_local.specs.Tagged.{AreTagged, hands_on, handed_on}
-use Rattle.lock_local.proofs.OrderLemmas.{drop_more}
-use Rattle.lock_local.proofs.StepLemmas.{AreLocks-handed_on, passed_again, passed_idle, passes_idle, passes_step, tagged_handed_on, idle_untagged, no_tag, nothing_left, told_on}
+use Rattle.lock_local.proofs.Base.{ap, append_assoc, AreLocks, AreTagged, arith, drop, get_or, handed_on, hands_on, IsRising, List, Lock, LockTag, passed, passes, refl, subst, sym, What, ◌++◌, ◌+◌, ◌∙◌, ◌∷◌, ◌≡◌}
+use Rattle.lock_local.proofs.Lemmas.{AreLocks-handed_on, drop_more, idle_untagged, no_tag, nothing_left, passed_again, passed_idle, passes_idle, passes_step, tagged_handed_on, told_on}
 use Rattle.lock_local.proofs.tag_walks.pass_tagged.Goals as goal
 
 pub loop-tag-preserved : goal.loop-tag-preserved

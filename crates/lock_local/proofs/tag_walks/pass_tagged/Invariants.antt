@@ -1,9 +1,4 @@
-use Rattle.std.proofs.Common.{◌≡◌, List, ◌++◌, drop}
-use Rattle.pgs_step.specs.declared.events.What.{What}
-use Rattle.lock_local.specs.Locks.{AreLocks}
-use Rattle.lock_local.specs.Changes.{passed, passes}
-use Rattle.lock_local.specs.Recalled.{IsRising}
-use Rattle.lock_local.specs.Tagged.{AreTagged}
+use Rattle.lock_local.proofs.Base.{AreLocks, AreTagged, drop, IsRising, List, passed, passes, What, ◌++◌, ◌≡◌}
 use Rattle.lock_local.proofs.tag_walks.pass_tagged.Given as goal
 
 abbrev pub invariant-loop-tag : goal.invariant-loop-tag

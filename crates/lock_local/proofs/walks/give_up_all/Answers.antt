@@ -1,8 +1,5 @@
-use Rattle.std.proofs.Common.{◌≡◌, List, length, map, filter, sym, subst, ap, ◌∙◌}
-use Rattle.std.proofs.lemmas.List.{length-map}
-use Rattle.lock_local.specs.Locks.{Lock, has_owner, is_held, IsInOrder}
-use Rattle.lock_local.specs.Changes.{without, releases}
-use Rattle.lock_local.proofs.ChangeLemmas.{is_held-filter}
+use Rattle.lock_local.proofs.Base.{ap, filter, has_owner, is_held, IsInOrder, length, length-map, List, Lock, map, releases, subst, sym, without, ◌∙◌, ◌≡◌}
+use Rattle.lock_local.proofs.Lemmas.{is_held-filter}
 use Rattle.lock_local.proofs.walks.give_up_all.Goals as goal
 
 pub give_up_each-requires-clause-in_order : goal.give_up_each-requires-clause-in_order

@@ -1,9 +1,5 @@
-use Rattle.std.proofs.Common.{sym, refl, ap, ◌∙◌, get_or, set, arith, ◌<◌, length}
-use Rattle.std.proofs.lemmas.List.Edits.{map_over_more}
-use Rattle.lock_local.specs.Locks.{Lock}
-use Rattle.lock_local.specs.Changes.{without, release_of}
-use Rattle.lock_local.proofs.OrderLemmas.{IsInOrder-set}
-use Rattle.lock_local.proofs.WalkLemmas.{flat_map_at, freed_agrees, freed_others, others_more, had_owner}
+use Rattle.lock_local.proofs.Base.{ap, arith, get_or, length, Lock, map_over_more, refl, release_of, set, sym, without, ◌<◌, ◌∙◌}
+use Rattle.lock_local.proofs.Lemmas.{flat_map_at, freed_agrees, freed_others, had_owner, IsInOrder-set, others_more}
 use Rattle.lock_local.proofs.walks.give_up_each.Goals as goal
 
 pub loop-lock-preserved : goal.loop-lock-preserved

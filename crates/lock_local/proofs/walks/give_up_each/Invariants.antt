@@ -1,8 +1,4 @@
-use Rattle.std.proofs.Common.{◌≡◌, ℕ, ◌++◌, map, take, drop}
-use Rattle.pgs_step.specs.declared.lock_modes.Mode.{Mode}
-use Rattle.lock_shared.specs.Holdings.{holds}
-use Rattle.lock_local.specs.Locks.{IsInOrder, is_held, OthersStay}
-use Rattle.lock_local.specs.Changes.{without, releases}
+use Rattle.lock_local.proofs.Base.{drop, holds, is_held, IsInOrder, map, Mode, OthersStay, releases, take, without, ℕ, ◌++◌, ◌≡◌}
 use Rattle.lock_local.proofs.walks.give_up_each.Given as goal
 
 abbrev pub invariant-loop-lock : goal.invariant-loop-lock

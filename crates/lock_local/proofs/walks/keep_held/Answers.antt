@@ -1,6 +1,4 @@
-use Rattle.std.proofs.Common.{rules}
-use Rattle.std.proofs.lemmas.Fn.{filter_same}
-use Rattle.lock_local.specs.Locks.{has_owner}
+use Rattle.lock_local.proofs.Base.{filter_same, has_owner, rules}
 use Rattle.lock_local.proofs.walks.keep_held.Goals as goal
 
 pub returns : goal.returns

@@ -1,7 +1,4 @@
-use Rattle.std.proofs.Common.{◌≡◌, List, length, map, sym, subst, ap, ◌∙◌}
-use Rattle.std.proofs.lemmas.List.{length-map}
-use Rattle.lock_local.specs.Locks.{Lock}
-use Rattle.lock_local.specs.Changes.{passed_lock, passes}
+use Rattle.lock_local.proofs.Base.{ap, length, length-map, List, Lock, map, passed_lock, passes, subst, sym, ◌∙◌, ◌≡◌}
 use Rattle.lock_local.proofs.walks.pass_all.Goals as goal
 
 pub returns-clause-locks : goal.returns-clause-locks

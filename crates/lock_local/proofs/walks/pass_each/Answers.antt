@@ -1,7 +1,5 @@
-use Rattle.std.proofs.Common.{sym, ap, ◌∙◌, set}
-use Rattle.std.proofs.lemmas.List.Edits.{map_over_more}
-use Rattle.lock_local.specs.Changes.{passed_lock, pass_of}
-use Rattle.lock_local.proofs.WalkLemmas.{flat_map_at}
+use Rattle.lock_local.proofs.Base.{ap, map_over_more, pass_of, passed_lock, set, sym, ◌∙◌}
+use Rattle.lock_local.proofs.Lemmas.{flat_map_at}
 use Rattle.lock_local.proofs.walks.pass_each.Goals as goal
 
 pub loop-lock-preserved : goal.loop-lock-preserved

@@ -1,5 +1,4 @@
-use Rattle.std.proofs.Common.{◌≡◌, ◌++◌, map, take, drop}
-use Rattle.lock_local.specs.Changes.{passed_lock, passes}
+use Rattle.lock_local.proofs.Base.{drop, map, passed_lock, passes, take, ◌++◌, ◌≡◌}
 use Rattle.lock_local.proofs.walks.pass_each.Given as goal
 
 abbrev pub invariant-loop-lock : goal.invariant-loop-lock

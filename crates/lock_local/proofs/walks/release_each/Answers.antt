@@ -1,8 +1,5 @@
-use Rattle.std.proofs.Common.{sym, ap, ◌∙◌, ◌++◌, ◌∷◌, [], map, take}
-use Rattle.std.proofs.lemmas.List.{map_more}
-use Rattle.lock_local.specs.Locks.{Lock}
-use Rattle.lock_local.specs.Changes.{release_whole}
-use Rattle.lock_local.proofs.WalkLemmas.{rest_agrees}
+use Rattle.lock_local.proofs.Base.{[], ap, Lock, map, map_more, release_whole, sym, take, ◌++◌, ◌∙◌, ◌∷◌}
+use Rattle.lock_local.proofs.Lemmas.{rest_agrees}
 use Rattle.lock_local.proofs.walks.release_each.Goals as goal
 
 pub loop-lock-preserved : goal.loop-lock-preserved

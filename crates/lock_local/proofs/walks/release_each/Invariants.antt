@@ -1,8 +1,4 @@
-use Rattle.std.proofs.Common.{◌≡◌, ℕ, take, drop}
-use Rattle.pgs_step.specs.declared.lock_modes.Mode.{Mode}
-use Rattle.lock_shared.specs.Holdings.{holds}
-use Rattle.lock_local.specs.Locks.{is_held, OthersStay}
-use Rattle.lock_local.specs.Changes.{releases_of_all}
+use Rattle.lock_local.proofs.Base.{drop, holds, is_held, Mode, OthersStay, releases_of_all, take, ℕ, ◌≡◌}
 use Rattle.lock_local.proofs.walks.release_each.Given as goal
 
 abbrev pub invariant-loop-lock : goal.invariant-loop-lock

@@ -1,6 +1,5 @@
-use Rattle.std.proofs.Common.{arith, ap}
-use Rattle.lock_local.specs.Locks.{owner_count}
-use Rattle.lock_local.proofs.OwnerLemmas.{few_lowered}
+use Rattle.lock_local.proofs.Base.{ap, arith, owner_count}
+use Rattle.lock_local.proofs.Lemmas.{few_lowered}
 use Rattle.lock_local.proofs.local_lock.LocalLock.count_down.Goals as goal
 
 pub invariant_of-self : goal.invariant_of-self

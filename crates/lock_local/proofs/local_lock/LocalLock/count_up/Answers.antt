@@ -1,6 +1,5 @@
-use Rattle.std.proofs.Common.{arith, ap}
-use Rattle.lock_local.specs.Locks.{lock_total}
-use Rattle.lock_local.proofs.OwnerLemmas.{few_added}
+use Rattle.lock_local.proofs.Base.{ap, arith, lock_total}
+use Rattle.lock_local.proofs.Lemmas.{few_added}
 use Rattle.lock_local.proofs.local_lock.LocalLock.count_up.Goals as goal
 
 pub invariant_of-self-2 : goal.invariant_of-self-2

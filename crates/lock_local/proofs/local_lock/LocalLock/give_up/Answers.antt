@@ -1,4 +1,4 @@
-use Rattle.lock_local.proofs.OwnerLemmas.{few_others}
+use Rattle.lock_local.proofs.Lemmas.{few_others}
 use Rattle.lock_local.proofs.local_lock.LocalLock.give_up.Goals as goal
 
 pub invariant_of-self : goal.invariant_of-self

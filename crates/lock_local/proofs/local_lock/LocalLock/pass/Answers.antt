@@ -1,7 +1,5 @@
-use Rattle.std.proofs.Common.{◌∙◌, ap}
-use Rattle.std.specs.Prelude.{sum_by}
-use Rattle.lock_local.specs.Locks.{count_if}
-use Rattle.lock_local.proofs.OwnerLemmas.{few_handed}
+use Rattle.lock_local.proofs.Base.{ap, count_if, sum_by, ◌∙◌}
+use Rattle.lock_local.proofs.Lemmas.{few_handed}
 use Rattle.lock_local.proofs.local_lock.LocalLock.pass.Goals as goal
 
 pub invariant_of-self : goal.invariant_of-self

@@ -1,10 +1,4 @@
-use Rattle.std.proofs.Common.{◌≡◌, ℕ, Option, Some, None, Result, Err, sym, ap, ◌∙◌}
-use Rattle.pgs_step.specs.declared.lock_modes.Mode.{Mode}
-use Rattle.lock_shared.specs.Ranked.{beside, least_conflict}
-use Rattle.lock_shared.proofs.BesideLemmas.{conflict_is, conflict_stands}
-use Rattle.lock_local.specs.declared.errors.LockError.{LockError}
-use Rattle.lock_local.specs.declared.errors.LockError.TheVariants.{Conflict, NotHeld}
-use Rattle.lock_local.specs.Locks.{SessionLocks}
+use Rattle.lock_local.proofs.Base.{ap, beside, Conflict, conflict_is, conflict_stands, Err, least_conflict, LockError, Mode, None, NotHeld, Option, Result, SessionLocks, Some, sym, ℕ, ◌∙◌, ◌≡◌}
 use Rattle.lock_local.proofs.lock_table.LockTable.acquire.Goals as goal
 
 -- the answer that tells a conflict

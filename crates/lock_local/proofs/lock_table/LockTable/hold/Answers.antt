@@ -1,11 +1,5 @@
-use Rattle.std.proofs.Common.{◌≡◌, ◌+◌, List, ap, sym, subst, ◌∙◌, arith}
-use Rattle.lock_local.specs.Locks.{Lock, total}
-use Rattle.lock_local.specs.Counts.{HoldsOneMore, WholeOneMore}
-use Rattle.lock_local.specs.Recalled.{Recall, Remembers}
-use Rattle.lock_local.proofs.ChangeLemmas.{agrees_by, fit_acquired, total-acquired}
-use Rattle.lock_local.proofs.CountLemmas.{counts_more}
-use Rattle.lock_local.proofs.TotalLemmas.{wholes_more}
-use Rattle.lock_local.proofs.TableLemmas.{by_view}
+use Rattle.lock_local.proofs.Base.{ap, arith, HoldsOneMore, List, Lock, Recall, Remembers, subst, sym, total, WholeOneMore, ◌+◌, ◌∙◌, ◌≡◌}
+use Rattle.lock_local.proofs.Lemmas.{agrees_by, by_view, counts_more, fit_acquired, total-acquired, wholes_more}
 use Rattle.lock_local.proofs.lock_table.LockTable.hold.Goals as goal
 
 pub count_up-requires-clause-agrees : goal.count_up-requires-clause-agrees

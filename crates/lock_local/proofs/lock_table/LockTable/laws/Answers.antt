@@ -1,10 +1,5 @@
-use Rattle.std.proofs.Common.{◌≡◌, ℕ, List, length, nat_lt}
-use Rattle.std.specs.List.{list_any}
-use Rattle.std.specs.Set.{distinct_count}
-use Rattle.pgs_step.specs.declared.lock_modes.Mode.{Mode}
-use Rattle.lock_local.specs.Locks.{Lock, is_held, whole_of, same_name}
-use Rattle.lock_local.proofs.LawLemmas.{length_different, held_whole}
-use Rattle.lock_local.proofs.TableLemmas.{by_view}
+use Rattle.lock_local.proofs.Base.{distinct_count, is_held, length, List, list_any, Lock, Mode, nat_lt, same_name, whole_of, ℕ, ◌≡◌}
+use Rattle.lock_local.proofs.Lemmas.{by_view, held_whole, length_different}
 use Rattle.lock_local.proofs.lock_table.LockTable.laws.Goals as goal
 
 pub returns-clause-held : goal.returns-clause-held

@@ -1,5 +1,4 @@
-use Rattle.lock_local.proofs.ChangeLemmas.{agrees_by}
-use Rattle.lock_local.proofs.TableLemmas.{fit_lowered, taken_lowered}
+use Rattle.lock_local.proofs.Lemmas.{agrees_by, fit_lowered, taken_lowered}
 use Rattle.lock_local.proofs.lock_table.LockTable.lower.Goals as goal
 
 pub count_down-count-requires-clause-agrees : goal.count_down-count-requires-clause-agrees

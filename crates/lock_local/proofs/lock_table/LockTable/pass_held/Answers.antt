@@ -1,10 +1,5 @@
-use Rattle.std.proofs.Common.{◌≡◌, List, ap, ◌∙◌, arith}
-use Rattle.lock_local.specs.Locks.{Lock, SessionLocks, total, is_held}
-use Rattle.lock_local.specs.Counts.{HoldsBoth, WholeStays}
-use Rattle.lock_local.proofs.ChangeLemmas.{fit_passed, is_held-passed}
-use Rattle.lock_local.proofs.CountLemmas.{counts_both}
-use Rattle.lock_local.proofs.TotalLemmas.{wholes_passed, totals_passed}
-use Rattle.lock_local.proofs.TableLemmas.{by_view}
+use Rattle.lock_local.proofs.Base.{ap, arith, HoldsBoth, is_held, List, Lock, SessionLocks, total, WholeStays, ◌∙◌, ◌≡◌}
+use Rattle.lock_local.proofs.Lemmas.{by_view, counts_both, fit_passed, is_held-passed, totals_passed, wholes_passed}
 use Rattle.lock_local.proofs.lock_table.LockTable.pass_held.Goals as goal
 
 pub invariant_of-self : goal.invariant_of-self

@@ -1,6 +1,5 @@
-use Rattle.std.proofs.Common.{List, ap, sym, ◌∙◌}
-use Rattle.lock_local.specs.Locks.{Lock, is_held}
-use Rattle.lock_local.proofs.ChangeLemmas.{agrees_by}
+use Rattle.lock_local.proofs.Base.{ap, is_held, List, Lock, sym, ◌∙◌}
+use Rattle.lock_local.proofs.Lemmas.{agrees_by}
 use Rattle.lock_local.proofs.lock_table.LockTable.release_every.Goals as goal
 
 pub release_each-requires-clause-agrees : goal.release_each-requires-clause-agrees

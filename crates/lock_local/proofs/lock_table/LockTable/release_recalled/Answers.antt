@@ -1,11 +1,5 @@
-use Rattle.std.proofs.Common.{◌≡◌, ◌+◌, List, refl, map, arith}
-use Rattle.lock_local.specs.Locks.{Lock, total, owner_total}
-use Rattle.lock_local.specs.Counts.{HoldsNothing, WholeLess}
-use Rattle.lock_local.specs.Changes.{without}
-use Rattle.lock_local.proofs.ChangeLemmas.{agrees_by, fit_released}
-use Rattle.lock_local.proofs.CountLemmas.{counts_released}
-use Rattle.lock_local.proofs.TotalLemmas.{wholes_released, totals_released}
-use Rattle.lock_local.proofs.TableLemmas.{by_view}
+use Rattle.lock_local.proofs.Base.{arith, HoldsNothing, List, Lock, map, owner_total, refl, total, WholeLess, without, ◌+◌, ◌≡◌}
+use Rattle.lock_local.proofs.Lemmas.{agrees_by, by_view, counts_released, fit_released, totals_released, wholes_released}
 use Rattle.lock_local.proofs.lock_table.LockTable.release_recalled.Goals as goal
 
 pub give_up_recalled-requires-clause-agrees : goal.give_up_recalled-requires-clause-agrees

@@ -1,13 +1,5 @@
-use Rattle.std.proofs.Common.{◌≡◌, Bool, true, false, ◌&&◌, ◌||◌, not, refl, sym, ap, ◌∙◌, List, get_or}
-use Rattle.std.specs.List.{list_any, position}
-use Rattle.std.proofs.lemmas.Bool.{true≢false}
-use Rattle.std.proofs.lemmas.List.Quantifiers.{position-Some}
-use Rattle.lock_shared.specs.Holdings.{same_lock}
-use Rattle.lock_local.specs.declared.recalled.LockTag.{LockTag}
-use Rattle.lock_local.specs.Recalled.{Recall, is_tag, recalls}
-use Rattle.lock_local.proofs.TagLemmas.{IsRising-remove, any-remove, other_tag, taken_out, untagged}
-use Rattle.lock_local.proofs.RecallLemmas.{any_none}
-use Rattle.lock_local.proofs.StepLemmas.{no_tag}
+use Rattle.lock_local.proofs.Base.{ap, Bool, false, get_or, is_tag, List, list_any, LockTag, not, position, position-Some, Recall, recalls, refl, same_lock, sym, true, true≢false, ◌&&◌, ◌||◌, ◌∙◌, ◌≡◌}
+use Rattle.lock_local.proofs.Lemmas.{any-remove, any_none, IsRising-remove, no_tag, other_tag, taken_out, untagged}
 use Rattle.lock_local.proofs.recalled.OwnerLocks.forget.Goals as goal
 
 -- where there are no more, tags tell all

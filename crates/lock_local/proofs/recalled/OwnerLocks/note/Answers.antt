@@ -1,10 +1,5 @@
-use Rattle.std.proofs.Common.{◌≡◌, Bool, true, false, ◌||◌, sym, ap, ◌∙◌, refl, List}
-use Rattle.std.specs.List.{list_any}
-use Rattle.std.proofs.lemmas.Bool.{true≢false}
-use Rattle.lock_shared.specs.Holdings.{same_lock}
-use Rattle.lock_local.specs.declared.recalled.LockTag.{LockTag}
-use Rattle.lock_local.specs.Recalled.{Recall, is_tag, recalls}
-use Rattle.lock_local.proofs.TagLemmas.{IsRising-insert, any-insert, new_tag}
+use Rattle.lock_local.proofs.Base.{ap, Bool, false, is_tag, List, list_any, LockTag, Recall, recalls, refl, same_lock, sym, true, true≢false, ◌||◌, ◌∙◌, ◌≡◌}
+use Rattle.lock_local.proofs.Lemmas.{any-insert, IsRising-insert, new_tag}
 use Rattle.lock_local.proofs.recalled.OwnerLocks.note.Goals as goal
 
 neither : (a b : Bool) → (a || b) ≡ false → (a ≡ false) × (b ≡ false)

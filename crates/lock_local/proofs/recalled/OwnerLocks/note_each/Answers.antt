@@ -1,9 +1,5 @@
-use Rattle.std.proofs.Common.{◌≡◌, Bool, true, false, ◌||◌, refl, sym, ap, ◌∙◌, get_or, take}
-use Rattle.std.specs.List.{list_any}
-use Rattle.std.proofs.lemmas.List.Folds.{list_any_more}
-use Rattle.lock_shared.specs.Holdings.{same_lock}
-use Rattle.lock_local.specs.Recalled.{is_tag, recalls}
-use Rattle.lock_local.proofs.StepLemmas.{no_tag}
+use Rattle.lock_local.proofs.Base.{ap, Bool, false, get_or, is_tag, list_any, list_any_more, recalls, refl, same_lock, sym, take, true, ◌||◌, ◌∙◌, ◌≡◌}
+use Rattle.lock_local.proofs.Lemmas.{no_tag}
 use Rattle.lock_local.proofs.recalled.OwnerLocks.note_each.Goals as goal
 
 or_last : (a b c : Bool) → (a || (b || c)) ≡ ((b || a) || c)

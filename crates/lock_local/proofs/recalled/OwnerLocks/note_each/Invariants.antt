@@ -1,7 +1,4 @@
-use Rattle.std.proofs.Common.{◌≡◌, ℕ, ◌<◌, false, ◌||◌, length, take}
-use Rattle.std.specs.List.{list_any}
-use Rattle.pgs_step.specs.declared.lock_modes.Mode.{Mode}
-use Rattle.lock_local.specs.Recalled.{is_tag, recalls}
+use Rattle.lock_local.proofs.Base.{false, is_tag, length, list_any, Mode, recalls, take, ℕ, ◌<◌, ◌||◌, ◌≡◌}
 use Rattle.lock_local.proofs.recalled.OwnerLocks.note_each.Given as goal
 
 abbrev pub invariant-loop-tag : goal.invariant-loop-tag
