@@ -1,6 +1,7 @@
 -- Locks are released as often as they are acquired: what a reader has seen of a lock fits how often owners hold it.
 use Rattle.session_laws.proofs.Words.{◌≡◌, ℕ, ◌+◌, ◌<◌, Bool, true, false, cond, List, [], ◌∷◌, map, filter, refl, sym, ap, ◌∙◌, arith, if◌then◌else◌, ◌++◌, subst, ◌==◌, ◌&&◌, sum_by, All, nat_le, and_parts, eqb-true, and_from, le-leb, All-head, All-tail, All-weaker, All-nil, sum_by-cons, nat_tests, locks, unlocks, zero, suc, replicate, Option, None, ◌⊎◌, option_map_or, ltb-true}
-use Rattle.session_laws.proofs.Scenes.{Mode, IsInOrder, Lock, comes_before, count_of, has_owner, is_lock, lock_total, owner_count, AreLocks, What, Scene, step_done, lock_given_back, lock_taken, ReleasesLocks, PassesLocks, ReleasesAllLocks, mode_number, Command, LevelState, OpenPortal, SessionState, is_aborted, Check, Element, LevelContext, OfLevel, OwnerRole, PortalContext, Text, portal_named, line_elements, turn, Error, Moment, failure, unless, does, at_owner, snapshot_pushed, exited, ItemCommand, LockCommand, PortalCommand, Scan, Row, after_turn, elements, fetch_steps, item_row, lock_row, portal_row, at_savepoint, begin, elements_of, in_transaction, rolled_back_to, save, then_ok}
+use Rattle.session_laws.proofs.Scenes.{Work, Mode, IsInOrder, Lock, comes_before, count_of, has_owner, is_lock, lock_total, owner_count, AreLocks, What, Scene, step_done, lock_given_back, lock_taken, ReleasesLocks, PassesLocks, ReleasesAllLocks, mode_number, Command, LevelState, OpenPortal, SessionState, is_aborted, Check, Element, LevelContext, OfLevel, OwnerRole, PortalContext, Text, line_elements, turn, Error, Moment, failure, unless, does, at_owner, snapshot_pushed, exited, Scan, Row, after_turn, elements, fetch_steps, at_savepoint, begin, elements_of, in_transaction, rolled_back_to, save, then_ok}
+use Rattle.session_rules.specs.Works.{row_of}
 use Rattle.session_laws.proofs.Rules.{Reader, allows_all, seen_after, count, Law, said_none, said_lock_passes, WellCounted, by_passing, down, none_like, passes_some, AreLocks-acquired, AreLocks-filtered, AreLocks-passed, AreLocks-released, counted-down, keeps-down, IsRun, fallible_so}
 use Rattle.std.proofs.lemmas.List.Folds.{map_fixed}
 use Rattle.lock_local.specs.declared.local_lock.OwnerCount.{OwnerCount}
@@ -12,9 +13,6 @@ use Rattle.session_laws.proofs.LocksSight.{PassesOver, Sees, hides, of_locks, re
 use Rattle.session_laws.proofs.FilesLife.{count_over}
 use Rattle.session_rules.proofs.Sight as part
 use Rattle.pgs_step.specs.declared.events.What.TheVariants as what
-use Rattle.pgs_command.specs.declared.commands.ItemCommand.TheVariants as item
-use Rattle.pgs_command.specs.declared.commands.LockCommand.TheVariants as lock
-use Rattle.pgs_command.specs.declared.commands.PortalCommand.TheVariants as portal
 use Rattle.session_rules.specs.Elements as e
 
 counted_where : (b : Bool) (p q r : ℕ) → p + q ≡ r → cond b p 0 + cond b q 0 ≡ cond b r 0
@@ -372,21 +370,11 @@ fetches_free : (name : Text) (count : ℕ) (o : Option OpenPortal) → AreFree (
 fetches_free name count o = grind (arith, nat_tests, fetch_free)
 
 -- of what is done within a transaction
-items_safe : (c : ItemCommand) → Safe (elements (item_row c))
-items_safe (item.Touch file) = touch tt
-items_safe other = free (grind (arith, nat_tests))
-
-locks_safe : (c : LockCommand) → Safe (elements (lock_row c))
-locks_safe (lock.Lock object mode) = takes tt
-locks_safe (lock.Unlock object mode) = unlock tt
-
-portals_safe : (c : PortalCommand) (portals : List OpenPortal) → Safe (elements (portal_row c portals))
-portals_safe (portal.Open name object rows bad) portals = calm tt (calm tt (calm tt (calm tt (takes (tt, (tt, (tt, (tt, (tt, (tt, (tt, tt)))))))))))
-portals_safe (portal.Fetch name count) portals = free (tt, (tt, (tt, fetches_free name count (portal_named name portals))))
-portals_safe (portal.End name) portals = free (tt, (tt, tt))
-
 row_free : (r : Row) → AreFree r.steps → Safe (elements r)
 row_free r h = free (both_are_free (map e.Checks r.checks) r.steps (checks_are_free r.checks) h)
+
+row_safe : (c : Work) (portals : List OpenPortal) → Safe (elements (row_of c portals))
+row_safe c portals = grind (arith, nat_tests, free, calm, takes, touch, unlock, fetches_free, row_free)
 
 in_transaction_safe : (levels : List LevelState) (work : List Element) → Safe work → Safe (in_transaction levels work)
 in_transaction_safe [] work h = calm tt (calm tt (calm tt (calm tt (then_free (e.CommitTop ∷ e.Says what.Ok ∷ []) h (tt, (tt, tt))))))
@@ -395,7 +383,7 @@ in_transaction_safe (level ∷ levels) work h = then_free (e.Says what.Ok ∷ []
 -- A line is free of these, or its session isn't aborted and they are safe.
 elements_safe : (c : Command) (session : SessionState) → AreFree (elements_of c session) ⊎ ((is_aborted session.levels ≡ false) × Safe (elements_of c session))
 unfolding elements_of
-elements_safe c s = grind (arith, nat_tests, then_ok_free, begin_free, save_free, savepoint_free, commits_are_free, both_are_free, rolled_back_free, in_transaction_safe, row_free, items_safe, locks_safe, portals_safe)
+elements_safe c s = grind (arith, nat_tests, then_ok_free, begin_free, save_free, savepoint_free, commits_are_free, both_are_free, rolled_back_free, in_transaction_safe, row_safe)
 
 -- Each element of a line meets a scene in which what was checked for it holds.
 pub line_checked : (w : Option ℕ) (line : Option Command) (m : Moment) → IsRun IsChecked w (line_elements line m.scene.session) m

@@ -1,7 +1,8 @@
 -- Commands lead from a session between two lines to one between two lines.
 use Rattle.session_rules.proofs.Base.{◌≡◌, ℕ, ◌+◌, ◌≤◌, ◌<◌, Bool, true, false, Option, Some, None, List, [], ◌∷◌, ◌++◌, refl, sym, ap, ◌∙◌, subst, inl, arith, All, zero, suc, ◌-◌, ◌&&◌, ◌==◌, not, length, map, codes, is_none, is_some, replicate, nat_lt, if◌then◌else◌, option_and_then, option_map_or, le-ltb, ltb-true, flat_map, nat_tests}
-use Rattle.session_rules.proofs.Below.{Error, What, size, Scan, ScanStep, table_of, Command, is_text-same, KindId, TransactionCommand, Work, ContextCommand, ChunkCommand, ItemCommand, LockCommand, SnapshotCommand, PlanCommand, PortalCommand, TellCommand, class_kind, is_bad, is_tenth, new_scan, page_of, page_steps, row_step, row_steps, unpinned, turn as scan_turn, PortalState, AccessShareLock, Relcache, CtxKind}
-use Rattle.session_rules.proofs.Rules.{LevelState, OpenPortal, SessionState, buffer_pin, file_kind, is_aborted, level_owner, plan_reference, relcache_reference, snapshot_reference, Scene, Moment, Check, Element, InCurrent, InPortal, InRow, LevelContext, OfLevel, OfPortal, PortalContext, RowContext, Text, Ended, in_order, nothing, portal_becomes, where_there, failure, unless, Done, fallible, unless_refused, context_made, level_made, new_context_made, new_owner_made, portal_made, does, does_all, then_done, line_elements, turn, AreOpen, AreOuter, IsActive, IsAtRest, IsFetched, IsOpen, IsWorking, Stands, StandsBetweenLines, plan_at, portal_named, at_savepoint, begin, commit, committed_to, elements_of, ends_aborted, in_transaction, is_end, refused, rollback, rolled_back_to, save, savepoint, start, then_ok, transaction_of, unaborted, Row, after_turn, portal_steps, chunk_row, context_row, fallible_part, fetch_steps, item_row, lock_row, plan_row, portal_row, row_of, snapshot_row, tell_row, work_of}
+use Rattle.session_rules.proofs.Below.{Error, What, size, ReferenceClass, Scan, ScanStep, table_of, Command, is_text-same, TransactionCommand, Work, PortalCommand, class_kind, is_bad, is_tenth, new_scan, page_of, page_steps, row_step, row_steps, unpinned, turn as scan_turn, PortalState, AccessShareLock, Relcache, CtxKind}
+use Rattle.session_rules.proofs.Rules.{LevelState, OpenPortal, SessionState, buffer_pin, file_kind, is_aborted, level_owner, plan_reference, relcache_reference, snapshot_reference, Scene, Moment, Check, Element, InCurrent, InPortal, InRow, LevelContext, OfLevel, OfPortal, PortalContext, RowContext, Text, Ended, in_order, nothing, portal_becomes, where_there, failure, unless, Done, fallible, unless_refused, context_made, level_made, new_context_made, new_owner_made, portal_made, does, does_all, then_done, line_elements, turn, AreOpen, AreOuter, IsActive, IsAtRest, IsFetched, IsOpen, IsWorking, Stands, StandsBetweenLines, plan_at, portal_named, at_savepoint, begin, commit, committed_to, elements_of, ends_aborted, in_transaction, is_end, refused, rollback, rolled_back_to, save, savepoint, start, then_ok, transaction_of, unaborted, after_turn, portal_steps, fallible_part, fetch_steps, portal_row, row_of, work_of}
+use Rattle.session_rules.specs.Elements.{ScriptContext}
 use Rattle.session_rules.proofs.Kept.{is_there, RestsBeside, beside_becomes, beside_rests, rests_beside}
 use Rattle.session_rules.proofs.PortalsStand.{context_portal, made_portal, named_changed, named_in, owner_portal, row_portal}
 use Rattle.session_rules.proofs.PortalWorks.{Beside, Turned, Turns, begins_fetched, begins_works, beside_turns, check_beside, portal_allocates, portal_enlarges, portal_locks, portal_takes, ready_works, row_allocates, scan_turns, turned}
@@ -387,13 +388,16 @@ module _ (w : Option ℕ) (levels : List LevelState) (active : IsWorking levels)
       (λ m k. runs_on w (At levels) (At levels) (Element.PortalReady name) [] m (record { stands = k.stands; asks = tt }) (ready_leads w levels active name (At levels) m k) (λ m k. nothing_more w levels m k)))))))))))
 
 -- all these checks pass
-abbrev pub Pass : List Check → Scene → Type 0
-Pass [] scene = Unit {0}
-Pass (check ∷ checks) scene = (failure check scene ≡ None) × Pass checks scene
+abbrev pub Pass : (Check → Type 0) → List Check → Type 0
+Pass P [] = Unit {0}
+Pass P (check ∷ checks) = P check × Pass P checks
+
+abbrev pub PassIn : Scene → Check → Type 0
+PassIn scene check = failure check scene ≡ None
 
 -- A row leads on where its steps do behind checks that pass.
 pub row_leads : (w : Option ℕ) (Q : Scene → Type 0) (checks : List Check) (steps : List Element) (moment : Moment) → Stands moment.scene
-    → (Pass checks moment.scene → Runs w Q steps moment) → Runs w Q (map Element.Checks checks ++ steps) moment
+    → (Pass (PassIn moment.scene) checks → Runs w Q steps moment) → Runs w Q (map Element.Checks checks ++ steps) moment
 unfolding does
 row_leads w Q [] steps moment h next = next tt
 row_leads w Q (check ∷ checks) steps moment h next =
@@ -409,11 +413,65 @@ row_leads w Q (check ∷ checks) steps moment h next =
     went_on None e none rest = rest e
     went_on (Some error) e none rest = absurd (cc none)
 
+-- What is known of the steps of a row, where P is known of each of its checks.
+module _ (P : Check → Type 0) where
+  -- of a step by itself
+  abbrev Known : Element → Type 0
+  Known (Element.MakeContext (ScriptContext name parent kind)) = Unit {0}
+  Known (Element.Switch name) = Unit {0}
+  Known (Element.Register name) = Unit {0}
+  Known (Element.Reset name) = P (Check.MayReset name)
+  Known (Element.ResetOnly name) = Unit {0}
+  Known (Element.Delete name) = P (Check.MayDelete name)
+  Known (Element.DeleteChildren name) = P (Check.MayReset name)
+  Known (Element.Reparent name parent) = P (Check.MayMove name parent)
+  Known (Element.Alloc InCurrent (Some name) size zeroed) = Unit {0}
+  Known (Element.Realloc name size) = Unit {0}
+  Known (Element.FreeChunk name) = Unit {0}
+  Known (Element.Put name at bytes) = Unit {0}
+  Known (Element.Show name at count) = Unit {0}
+  Known (Element.Touch file) = Unit {0}
+  Known (Element.GiveBack kind key) = Unit {0}
+  Known (Element.GiveBackNamed kind key) = Unit {0}
+  Known (Element.TakeLock OfLevel object mode) = Unit {0}
+  Known (Element.Unlock object mode) = Unit {0}
+  Known (Element.PushSnapshot key) = Unit {0}
+  Known Element.PopSnapshot = Unit {0}
+  Known (Element.MakePlan number) = P (Check.PlanIsNew number)
+  Known (Element.DropPlan number) = Unit {0}
+  Known (Element.EndPortal name) = Unit {0}
+  Known Element.Report = Unit {0}
+  Known Element.Stat = Unit {0}
+  Known (Element.TellBuffer buffer) = Unit {0}
+  Known other = ⊥
+
+  -- of one that takes an item
+  data Takes : Element → Type 0 where
+    takes_pin : {buffer : ℕ} → P (Check.IsBuffer buffer) → Takes (Element.Take OfLevel buffer_pin buffer)
+    takes_file : {number : ℕ} → Takes (Element.Take OfLevel file_kind number)
+    takes_reference : (class : ReferenceClass) {key : ℕ} → Takes (Element.Take OfLevel (class_kind class) key)
+    takes_snapshot : {key : ℕ} → Takes (Element.Take OfLevel snapshot_reference key)
+    takes_plan : {number : ℕ} → P (Check.IsPlan number) → Takes (Element.Take OfLevel plan_reference number)
+    takes_named : {kind : Text} {key : ℕ} → Takes (Element.TakeNamed kind key)
+
+  data Ready : List Element → Type 0 where
+    nothing_at_all : Ready []
+    by_itself : {x : Element} → Known x → Ready (x ∷ [])
+    taking : {x : Element} → Takes x → Ready (Element.Enlarge OfLevel ∷ x ∷ [])
+    opens : {name : Text} {object rows : ℕ} {bad : Option ℕ} → P (Check.PortalIsNew name) → Ready (portal_steps name object rows bad)
+    fetches : {name : Text} (count : ℕ) (opened : Option OpenPortal) → Ready (Element.FetchBegins name ∷ option_map_or (λ p. fetch_steps name count p.scan 0) opened [])
+
+  portals_ready : (c : PortalCommand) (portals : List OpenPortal) → Pass P (portal_row c portals).checks → Ready (portal_row c portals).steps
+  portals_ready (PortalCommand.Open name object rows bad) portals ok = opens ok.0
+  portals_ready (PortalCommand.Fetch name count) portals ok = fetches count (portal_named name portals)
+  portals_ready (PortalCommand.End name) portals ok = by_itself tt
+
+  -- Each row is one of these.
+  row_ready : (c : Work) (portals : List OpenPortal) → Pass P (row_of c portals).checks → Ready (row_of c portals).steps
+  row_ready c portals ok = grind (arith, nat_tests, nothing_at_all, by_itself, taking, takes_pin, takes_file, takes_reference, takes_snapshot, takes_plan, takes_named, portals_ready)
+
 -- the steps of a command, behind its checks
 module _ (w : Option ℕ) (levels : List LevelState) (active : IsWorking levels) where
-  abbrev Steps : Row → Moment → Type 0
-  Steps r m = Pass r.checks m.scene → Runs w (At levels) r.steps m
-
   by_step : (x : Element) (m : Moment) → At levels m.scene → Asks x m.scene → Works m.scene (does w x m).moment.scene → Runs w (At levels) (x ∷ []) m
   by_step x m k asks works = behind_work w levels (At levels) x [] m k asks works (λ n l. nothing_more w levels n l)
 
@@ -423,80 +481,67 @@ module _ (w : Option ℕ) (levels : List LevelState) (active : IsWorking levels)
   works_in : (m : Moment) → At levels m.scene → IsWorking m.scene.session.levels
   works_in m k = working_at levels m.scene active k
 
-  gives_back : (kind : KindId) (key : ℕ) (m : Moment) → At levels m.scene → Runs w (At levels) (Element.GiveBack kind key ∷ []) m
-  gives_back kind key m k = by_step (Element.GiveBack kind key) m k tt (give_back_works w m k.stands (works_in m k) kind key)
+  known_leads : (x : Element) (m : Moment) → At levels m.scene → Known (PassIn m.scene) x → Runs w (At levels) (x ∷ []) m
+  unfolding does
+  known_leads (Element.MakeContext (ScriptContext name parent kind)) m k ok = by_step _ m k tt (make_script_context_works w m k.stands (works_in m k) name parent kind)
+  known_leads (Element.Switch name) m k ok = by_step _ m k tt (switch_works w m k.stands (works_in m k) name)
+  known_leads (Element.Register name) m k ok = by_step _ m k tt (register_works w m k.stands (works_in m k) name)
+  known_leads (Element.Reset name) m k ok = by_step _ m k tt (reset_works w m k.stands (works_in m k) name ok)
+  known_leads (Element.ResetOnly name) m k ok = by_step _ m k tt (reset_only_works w m k.stands (works_in m k) name)
+  known_leads (Element.Delete name) m k ok = by_step _ m k tt (delete_works w m k.stands (works_in m k) name ok)
+  known_leads (Element.DeleteChildren name) m k ok = by_step _ m k tt (delete_children_works w m k.stands (works_in m k) name ok)
+  known_leads (Element.Reparent name parent) m k ok = by_step _ m k ok (reparent_works w m k.stands (works_in m k) name parent ok)
+  known_leads (Element.Alloc InCurrent (Some name) size zeroed) m k ok = by_step _ m k tt (alloc_beside w m k.stands (works_in m k) InCurrent (Some name) size zeroed).works
+  known_leads (Element.Realloc name size) m k ok = by_step _ m k tt (realloc_works w m k.stands (works_in m k) name size)
+  known_leads (Element.FreeChunk name) m k ok = by_step _ m k tt (free_works w m k.stands (works_in m k) name)
+  known_leads (Element.Put name at bytes) m k ok = by_step _ m k tt (put_works w m k.stands (works_in m k) name at bytes)
+  known_leads (Element.Show name at count) m k ok = by_step _ m k tt (show_works w name at count m k.stands)
+  known_leads (Element.Touch file) m k ok = by_step _ m k tt (touch_works w m k.stands (works_in m k) file)
+  known_leads (Element.GiveBack kind key) m k ok = by_step _ m k tt (give_back_works w m k.stands (works_in m k) kind key)
+  known_leads (Element.GiveBackNamed kind key) m k ok = by_step _ m k tt (give_back_named_works w m k.stands (works_in m k) kind key)
+  known_leads (Element.TakeLock OfLevel object mode) m k ok = by_step _ m k tt (lock_beside w m k.stands (works_in m k) OfLevel (there w m k.stands (works_in m k)) object mode).works
+  known_leads (Element.Unlock object mode) m k ok = by_step _ m k tt (unlock_works w m k.stands (works_in m k) object mode)
+  known_leads (Element.PushSnapshot key) m k ok = by_step _ m k tt (push_works w m k.stands (works_in m k) key)
+  known_leads Element.PopSnapshot m k ok = by_step _ m k tt (pop_works w m k.stands)
+  known_leads (Element.MakePlan number) m k ok = by_step _ m k tt (make_plan_works w m k.stands (works_in m k) number (is_new (plan_at number m.scene.session.plans) Error.NameTaken ok))
+  known_leads (Element.DropPlan number) m k ok = by_step _ m k tt (drop_plan_works w m k.stands (works_in m k) number)
+  known_leads (Element.EndPortal name) m k ok = by_step _ m k (works_in m k, k.at_rest) (end_portal_works w m k.stands (works_in m k) k.at_rest name)
+  known_leads Element.Report m k ok = by_step _ m k tt (nothing_works m.scene k.stands)
+  known_leads Element.Stat m k ok = by_step _ m k tt (nothing_works m.scene k.stands)
+  known_leads (Element.TellBuffer buffer) m k ok = by_step _ m k tt (nothing_works m.scene k.stands)
+  known_leads other m k ok = absurd ok
 
-  contexts_lead : (c : ContextCommand) (m : Moment) → At levels m.scene → Steps (context_row c) m
-  contexts_lead (ContextCommand.Create name parent kind) m k ok = by_step _ m k tt (make_script_context_works w m k.stands (works_in m k) name parent _)
-  contexts_lead (ContextCommand.Reset name) m k ok = by_step (Element.Reset name) m k tt (reset_works w m k.stands (works_in m k) name ok.1.0)
-  contexts_lead (ContextCommand.Delete name) m k ok = by_step (Element.Delete name) m k tt (delete_works w m k.stands (works_in m k) name ok.1.0)
-  contexts_lead (ContextCommand.DeleteChildren name) m k ok = by_step (Element.DeleteChildren name) m k tt (delete_children_works w m k.stands (works_in m k) name ok.1.0)
-  contexts_lead (ContextCommand.Reparent name parent) m k ok = by_step (Element.Reparent name parent) m k ok.1.1.0 (reparent_works w m k.stands (works_in m k) name parent ok.1.1.0)
-  contexts_lead (ContextCommand.Switch name) m k ok = by_step (Element.Switch name) m k tt (switch_works w m k.stands (works_in m k) name)
-  contexts_lead (ContextCommand.OnReset name) m k ok = by_step (Element.Register name) m k tt (register_works w m k.stands (works_in m k) name)
-  contexts_lead (ContextCommand.ResetOnly name) m k ok = by_step (Element.ResetOnly name) m k tt (reset_only_works w m k.stands (works_in m k) name)
-
-  chunks_lead : (c : ChunkCommand) (m : Moment) → At levels m.scene → Steps (chunk_row c) m
-  chunks_lead (ChunkCommand.Alloc name size) m k ok = by_step _ m k tt (alloc_beside w m k.stands (works_in m k) InCurrent (Some name) size false).works
-  chunks_lead (ChunkCommand.AllocZeroed name size) m k ok = by_step _ m k tt (alloc_beside w m k.stands (works_in m k) InCurrent (Some name) size true).works
-  chunks_lead (ChunkCommand.Realloc name size) m k ok = by_step (Element.Realloc name size) m k tt (realloc_works w m k.stands (works_in m k) name size)
-  chunks_lead (ChunkCommand.Free name) m k ok = by_step (Element.FreeChunk name) m k tt (free_works w m k.stands (works_in m k) name)
-  chunks_lead (ChunkCommand.Put name place bytes) m k ok = by_step (Element.Put name place bytes) m k tt (put_works w m k.stands (works_in m k) name place bytes)
-  chunks_lead (ChunkCommand.Show name place n) m k ok = by_step (Element.Show name place n) m k tt (show_works w name place n m k.stands)
-
-  items_lead : (c : ItemCommand) (m : Moment) → At levels m.scene → Steps (item_row c) m
-  items_lead (ItemCommand.Pin buffer) m k ok =
-      by_take (Element.Take OfLevel buffer_pin buffer) m k works_in (λ n l. pin_works w n l.stands (works_in n l) buffer (is_buffer buffer (nat_lt buffer 1024) Error.NoSuchBuffer refl ok.0))
-  items_lead (ItemCommand.Open file) m k ok = by_take (Element.Take OfLevel file_kind file) m k works_in (λ n l. file_works w n l.stands (works_in n l) file)
-  items_lead (ItemCommand.Reference class key) m k ok =
-      by_take (Element.Take OfLevel (class_kind class) key) m k works_in
+  takes_lead : (x : Element) (m : Moment) → At levels m.scene → Takes (PassIn m.scene) x → Runs w (At levels) (Element.Enlarge OfLevel ∷ x ∷ []) m
+  takes_lead x m k (takes_pin {buffer = buffer} ok) = by_take x m k works_in (λ n l. pin_works w n l.stands (works_in n l) buffer (is_buffer buffer (nat_lt buffer 1024) Error.NoSuchBuffer refl ok))
+  takes_lead x m k (takes_file {number = number}) = by_take x m k works_in (λ n l. file_works w n l.stands (works_in n l) number)
+  takes_lead x m k (takes_reference class {key = key}) =
+      by_take x m k works_in
       (λ n l. take_works w n l.stands (works_in n l) (class_kind class) key (class_unkept class) (class_other class) (class_item (table_of n.scene.around.kinds) class key))
-  items_lead (ItemCommand.Acquire kind key) m k ok = by_take (Element.TakeNamed kind key) m k works_in (λ n l. take_named_works w n l.stands (works_in n l) kind key)
-  items_lead (ItemCommand.Snapshot key) m k ok =
-      by_take (Element.Take OfLevel snapshot_reference key) m k works_in
+  takes_lead x m k (takes_snapshot {key = key}) =
+      by_take x m k works_in
       (λ n l. take_works w n l.stands (works_in n l) snapshot_reference key refl (λ z. absurd (omega (arith, z))) (snapshot_item (table_of n.scene.around.kinds) key))
-  items_lead (ItemCommand.Touch file) m k ok = by_step (Element.Touch file) m k tt (touch_works w m k.stands (works_in m k) file)
-  items_lead (ItemCommand.Drop kind key) m k ok = by_step (Element.GiveBackNamed kind key) m k tt (give_back_named_works w m k.stands (works_in m k) kind key)
-  items_lead other m k ok = gives_back _ _ m k
-
-  locks_lead : (c : LockCommand) (m : Moment) → At levels m.scene → Steps (lock_row c) m
-  locks_lead (LockCommand.Lock object mode) m k ok = by_step (Element.TakeLock OfLevel object mode) m k tt (lock_beside w m k.stands (works_in m k) OfLevel (there w m k.stands (works_in m k)) object mode).works
-  locks_lead (LockCommand.Unlock object mode) m k ok = by_step (Element.Unlock object mode) m k tt (unlock_works w m k.stands (works_in m k) object mode)
-
-  snapshots_lead : (c : SnapshotCommand) (m : Moment) → At levels m.scene → Steps (snapshot_row c) m
-  snapshots_lead (SnapshotCommand.Push key) m k ok = by_step (Element.PushSnapshot key) m k tt (push_works w m k.stands (works_in m k) key)
-  snapshots_lead SnapshotCommand.Pop m k ok = by_step Element.PopSnapshot m k tt (pop_works w m k.stands)
-
-  plans_lead : (c : PlanCommand) (m : Moment) → At levels m.scene → Steps (plan_row c) m
-  plans_lead (PlanCommand.Create number) m k ok = by_step (Element.MakePlan number) m k tt (make_plan_works w m k.stands (works_in m k) number (is_new (plan_at number m.scene.session.plans) Error.NameTaken ok.0))
-  plans_lead (PlanCommand.Reference number) m k ok =
-      behind_room w levels (At levels) (Check.IsPlan number) _ m k ok.0
+  takes_lead x m k (takes_plan {number = number} ok) =
+      behind_room w levels (At levels) (Check.IsPlan number) _ m k ok
       (λ n l ok.
       let p = is_standing (plan_at number n.scene.session.plans) Error.NoSuchName ok in
-      by_step (Element.Take OfLevel plan_reference number) n l (works_in n l) (take_plan_works w n l.stands (works_in n l) number p.0 p.1))
-  plans_lead (PlanCommand.Unreference number) m k ok = gives_back plan_reference number m k
-  plans_lead (PlanCommand.Drop number) m k ok = by_step (Element.DropPlan number) m k tt (drop_plan_works w m k.stands (works_in m k) number)
+      by_step x n l (works_in n l) (take_plan_works w n l.stands (works_in n l) number p.0 p.1))
+  takes_lead x m k (takes_named {kind = kind} {key = key}) = by_take x m k works_in (λ n l. take_named_works w n l.stands (works_in n l) kind key)
 
-  portals_lead : (c : PortalCommand) (portals : List OpenPortal) (m : Moment) → At levels m.scene → Steps (portal_row c portals) m
-  portals_lead (PortalCommand.Open name object rows bad) portals m k ok = portal_leads w levels active name object rows bad m k (is_unnamed (portal_named name m.scene.session.portals) Error.PortalTaken ok.0)
-  portals_lead (PortalCommand.Fetch name count) portals m k ok =
+  ready_steps_lead : (xs : List Element) (m : Moment) → At levels m.scene → Ready (PassIn m.scene) xs → Runs w (At levels) xs m
+  ready_steps_lead xs m k nothing_at_all = nothing_more w levels m k
+  ready_steps_lead xs m k (by_itself {x = x} ok) = known_leads x m k ok
+  ready_steps_lead xs m k (taking {x = x} ok) = takes_lead x m k ok
+  ready_steps_lead xs m k (opens {name = name} {object = object} {rows = rows} {bad = bad} ok) = portal_leads w levels active name object rows bad m k (is_unnamed (portal_named name m.scene.session.portals) Error.PortalTaken ok)
+  ready_steps_lead xs m k (fetches {name = name} count opened) =
       behind_begin w levels active name (At levels) _ m k
       (λ n l.
-      let f : Runs w (Fetches levels name) (option_map_or (λ p. fetch_steps name count p.scan 0) (portal_named name portals) []) n =
-      all_fetch w levels name _ n l (fetch_all w levels active name count (portal_named name portals)) in
+      let f : Runs w (Fetches levels name) (option_map_or (λ p. fetch_steps name count p.scan 0) opened []) n =
+      all_fetch w levels name _ n l (fetch_all w levels active name count opened) in
       record { stands = f.stands; passed = λ none. let q = f.passed none in q.at; run = f.run })
-  portals_lead (PortalCommand.End name) portals m k ok = by_step (Element.EndPortal name) m k (works_in m k, k.at_rest) (end_portal_works w m k.stands (works_in m k) k.at_rest name)
-
-  tells_lead : (c : TellCommand) (m : Moment) → At levels m.scene → Steps (tell_row c) m
-  unfolding does
-  tells_lead c m k ok = grind (arith, nat_tests, by_step Element.Report m k tt (nothing_works m.scene k.stands), by_step Element.Stat m k tt (nothing_works m.scene k.stands), by_step, nothing_works m.scene k.stands)
-
-  steps_lead : (c : Work) (portals : List OpenPortal) (m : Moment) → At levels m.scene → Steps (row_of c portals) m
-  steps_lead c portals m k ok = grind (arith, nat_tests, nothing_more, contexts_lead, chunks_lead, items_lead, locks_lead, snapshots_lead, plans_lead, portals_lead, tells_lead)
 
   -- What is done within a transaction leads on.
   pub work_runs : (c : Work) (session : SessionState) (moment : Moment) → At levels moment.scene → Runs w (At levels) (work_of c session) moment
-  work_runs c session moment at = row_leads w (At levels) (row_of c session.portals).checks (row_of c session.portals).steps moment at.stands (steps_lead c session.portals moment at)
+  work_runs c session moment at = row_leads w (At levels) (row_of c session.portals).checks (row_of c session.portals).steps moment at.stands (λ ok. ready_steps_lead (row_of c session.portals).steps moment at (row_ready (PassIn moment.scene) c session.portals ok))
 
   pub work_leads : (c : Work) (session : SessionState) (moment : Moment) → At levels moment.scene → Leads (At levels) (does_all w (work_of c session) moment)
   work_leads c session moment at = let k : Runs w (At levels) (work_of c session) moment = work_runs c session moment at in record { stands = k.stands; passed = k.passed }
