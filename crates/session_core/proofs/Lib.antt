@@ -12,7 +12,6 @@ pub mod BetweenLines
 pub mod Rolling
 pub mod Turning
 pub mod Opened
-pub mod Charged
 pub mod Placing
 pub mod Base
 pub mod Words

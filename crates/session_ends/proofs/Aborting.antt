@@ -1,29 +1,7 @@
 -- A portal where the level aborts: its part in order.
-use Rattle.std.proofs.Common.{◌≡◌, ℕ, ◌-◌, ◌≤◌, Bool, true, false, Option, Some, None, List, [], ◌∷◌, ◌++◌, IfSome, refl, sym, ap, ◌∙◌, arith}
-use Rattle.std.specs.Prelude.{◌==◌, ◌&&◌, if◌then◌else◌, nat_lt}
-use Rattle.std.specs.Option.{option_map}
-use Rattle.std.proofs.lemmas.Bool.{eqb-true, eqb-false, le-ltb, lt-ltb}
-use Rattle.std.proofs.Math.Bool.{and-false}
-use Rattle.addr_space.specs.Space.{Space}
-use Rattle.pgs_step.specs.declared.ids.CtxId.{CtxId}
-use Rattle.pgs_step.specs.declared.ids.OwnerId.{OwnerId}
-use Rattle.pgs_step.specs.declared.events.What.{What}
-use Rattle.reset_callbacks.specs.ShelfState.{ShelfState}
-use Rattle.portal_store.specs.declared.portal.Portal.{Portal}
-use Rattle.portal_store.specs.declared.portal.PortalState.{PortalState}
+use Rattle.session_ends.proofs.Base.{◌≡◌, ℕ, ◌-◌, ◌≤◌, Bool, true, false, Option, Some, None, List, [], ◌∷◌, ◌++◌, IfSome, refl, sym, ap, ◌∙◌, arith, ◌==◌, ◌&&◌, if◌then◌else◌, nat_lt, option_map, eqb-true, eqb-false, le-ltb, lt-ltb, and-false, nat_tests}
+use Rattle.session_ends.proofs.Words.{Space, CtxId, OwnerId, What, ShelfState, Portal, PortalState, failed_owner, is_outer, kept_owner, moved_owner, sub_aborted, CommonState, OpenPortal, Scene, Ended, children_gone, in_order, nothing, portal_becomes, where_so, where_there, has_failed, portal_aborted, portal_failed, portal_withdrawn, owner_moved, StoreState, portal_state, scene_of, Acted, acted_as, number_in}
 use Rattle.portal_store.specs.declared.portal.PortalState.TheVariants as portal
-use Rattle.portal_store.specs.Portal.{failed_owner, is_outer, kept_owner, moved_owner, sub_aborted}
-use Rattle.session_owners.specs.Commons.{CommonState}
-use Rattle.session_rules.specs.State.{OpenPortal}
-use Rattle.session_rules.specs.World.{Scene}
-use Rattle.session_rules.specs.Acts.{Ended, children_gone, in_order, nothing, portal_becomes, where_so, where_there}
-use Rattle.session_rules.specs.Checks.{has_failed}
-use Rattle.session_rules.specs.Portals.{portal_aborted, portal_failed, portal_withdrawn}
-use Rattle.session_rules.specs.Releases.{owner_moved}
-use Rattle.session_store.specs.State.{StoreState, portal_state, scene_of}
-use Rattle.session_store.specs.Calls.{Acted}
-use Rattle.session_store.proofs.Owned.{acted_as}
-use Rattle.session_ends.specs.Portals.{number_in}
 use Rattle.session_ends.proofs.Acting.{acted_end, acted_then}
 
 -- what holds of a portal's owner holds of one that moves
@@ -76,13 +54,7 @@ failed_moves portal.Failed owner own z = refl
 
 outer_is : (level : ℕ) (own : Option ℕ) (p : Portal) (m : Option OwnerId) (z : Scene) → m ≡ failed_owner p.state p.owner
     → in_order (portal_becomes p.name (withdraws level) ∷ clears false p.context ∷ moves_to m own ∷ []) z ≡ of_level level own (portal_state p) false true z
-outer_is level own p m z is =
-    ap (λ (o : Option OwnerId). in_order (portal_becomes p.name (withdraws level) ∷ clears false p.context ∷ moves_to o own ∷ []) z) is
-    ∙ ap (λ (e : Ended). e) (in_order_last (portal_becomes p.name (withdraws level)) (moves_to (failed_owner p.state p.owner) own) (where_so (has_failed p.state) (where_there (number_in p.owner) (λ o. where_there own (owner_moved o)))) z (λ w. failed_moves p.state p.owner own w))
-    ∙ swap_is (has_failed p.state) (number_in p.owner) own p.name (withdraws level) z
-  where
-    in_order_last : (f g h : Scene → Ended) (w : Scene) → ((v : Scene) → g v ≡ h v) → in_order (f ∷ nothing ∷ g ∷ []) w ≡ in_order (f ∷ h ∷ []) w
-    in_order_last f g h w same = ap (λ (e : Ended). record { scene = e.scene; events = (f w).events ++ (e.events ++ []) }) (same (f w).scene)
+outer_is level own p m z is = grind (arith, nat_tests, portal_becomes p.name (withdraws level), moves_to (failed_owner p.state p.owner) own, where_so (has_failed p.state) (where_there (number_in p.owner) (λ o. where_there own (owner_moved o))), swap_is (has_failed p.state) (number_in p.owner) own p.name (withdraws level) z)
 
 -- what becomes of it by its levels
 kept_is : (state : PortalState) (owner : Option OwnerId) → (if has_failed state then None else number_in owner) ≡ number_in (kept_owner state owner)
@@ -93,10 +65,7 @@ kept_is portal.Failed owner = refl
 module _ (O : Type 0) (emits : O → List What → O → Type 0) (none : (o : O) → emits o [] o) (more : (o p q : O) (xs ys : List What) → emits o xs p → emits p ys q → emits o (xs ++ ys) q) where
   three : (f g h : Scene → Ended) (a b d e : StoreState) (s t : Space) (x y : ShelfState) (c : CommonState) (o p q : O) → Acted f a b s s x x c c (λ events. emits o events o) → Acted g b d s t x y c c (λ events. emits o events p) → Acted h d e t t y y c c (λ events. emits p events q)
       → Acted (in_order (f ∷ g ∷ h ∷ [])) a e s t x y c c (λ events. emits o events q)
-  three f g h a b d e s t x y c o p q one two last =
-      acted_then O emits none more f (g ∷ h ∷ []) a b e s s t x x y c c c o o q one
-      (acted_then O emits none more g (h ∷ []) b d e s t t x y y c c c o p q two
-      (acted_then O emits none more h [] d e e t t t y y y c c c p q q last (acted_end O emits none more e t y c q)))
+  three f g h a b d e s t x y c o p q one two last = grind (arith, nat_tests, acted_then O emits none more f (g ∷ h ∷ []) a b e s s t x x y c c c o o q one (acted_then O emits none more g (h ∷ []) b d e s t t x y y c c c o p q two (acted_then O emits none more h [] d e e t t t y y y c c c p q q last (acted_end O emits none more e t y c q))))
 
   -- the first part is what the case asks
   pub aborted_acted : (level : ℕ) (own : Option ℕ) (p : Portal) (m : Option OwnerId) (a b d e : StoreState) (s t : Space) (x y : ShelfState) (c : CommonState) (o q r : O) → m ≡ moved_owner level p → p.created ≤ p.active

@@ -1,22 +1,7 @@
 -- Acts of the rules one behind the other, from store to store.
-use Rattle.std.proofs.Common.{ℕ, List, [], ◌∷◌, ◌++◌, refl, sym, ap, ◌∙◌, subst}
-use Rattle.addr_space.specs.Space.{Space}
-use Rattle.pgs_step.specs.declared.events.What.{What}
-use Rattle.pgs_step.specs.declared.ids.CtxId.{CtxId}
-use Rattle.reset_callbacks.specs.ShelfState.{ShelfState}
-use Rattle.context_rules.specs.Contexts.{Contexts}
-use Rattle.context_tree.specs.State.{TreeState, stands_for}
-use Rattle.session_rules.specs.World.{Around, Scene}
-use Rattle.session_rules.specs.Acts.{Ended, in_order, nothing, say}
-use Rattle.session_owners.specs.ResourceState.{ResourceState, owners_of, plans_of}
+use Rattle.session_ends.proofs.Base.{ℕ, List, [], ◌∷◌, ◌++◌, refl, sym, ap, ◌∙◌, subst, arith, nat_tests}
+use Rattle.session_ends.proofs.Words.{Space, What, ShelfState, Contexts, TreeState, Around, Scene, Ended, in_order, nothing, say, ResourceState, owners_of, plans_of, Balances, CommonState, seen_by, balances_more, balances_none, StoreState, levels_of, portals_of, scene_of, session_of, Acted, IsSilent, owners_fit, HaveGone, hosting}
 use Rattle.session_owners.specs.Fitting as fitting
-use Rattle.session_owners.specs.Commons.{Balances, CommonState, seen_by}
-use Rattle.session_owners.proofs.Acts.{acted_nothing}
-use Rattle.session_owners.proofs.Balances.{balances_more, balances_none}
-use Rattle.session_store.specs.State.{StoreState, levels_of, portals_of, scene_of, session_of}
-use Rattle.session_store.specs.Calls.{Acted, IsSilent}
-use Rattle.session_store.proofs.Owned.{owners_fit}
-use Rattle.session_ends.specs.Place.{HaveGone, hosting}
 
 -- a scene by what a release changes besides its owners
 abbrev scene_on : StoreState → ResourceState → Around → Contexts → ℕ → ℕ → ShelfState → CommonState → ℕ → Scene
@@ -43,33 +28,21 @@ pub acted_on : (act : Scene → Ended) (a : StoreState) (b : TreeState) (q : Res
     → Acted act a (record a { tree = b; owners = q }) s t x y c d Said
 unfolding session_of
 acted_on act a b q s t x y c d Said h gone balances = record {
-  leads = λ around.
-      h.leads (scene_of a s x c around) (owners_fit a s x c around) (record { contexts = refl; shelf = refl })
-      ∙ ap (λ (n : ℕ). scene_on a q around (stands_for b t) n a.tree.next y d s.limit) (ap (λ (id : CtxId). id.number) (sym gone.current))
-      ∙ ap (λ (n : ℕ). scene_on a q around (stands_for b t) b.current.number n y d s.limit) (sym gone.next)
-      ∙ ap (λ (n : ℕ). scene_on a q around (stands_for b t) b.current.number b.next y d n) (sym gone.moves.limit);
+  leads = λ around. grind (arith, nat_tests, h.leads (scene_of a s x c around) (owners_fit a s x c around) (record { contexts = refl; shelf = refl }), gone.current, gone.next, gone.moves.limit);
   says = λ around. h.says (scene_of a s x c around) (owners_fit a s x c around) (record { contexts = refl; shelf = refl });
   balances = balances;
 }
 
 -- nothing is done
 pub acted_on_nothing : (a : ResourceState) (h : fitting.Hosting) (c : CommonState) (Said : List What → Type 0) → Said [] → fitting.ActedOn nothing a a h h c c Said
-acted_on_nothing a h c Said none = record {
-  leads = λ scene fit hosts.
-      (acted_nothing a c Said none).leads scene fit
-      ∙ ap (λ (u : Contexts). fitting.with_hosting (record { contexts = u; shelf = scene.around.shelf }) (fitting.with_owners a c scene)) hosts.contexts
-      ∙ ap (λ (x : ShelfState). fitting.with_hosting (record { contexts = h.contexts; shelf = x }) (fitting.with_owners a c scene)) hosts.shelf;
-  says = λ scene fit hosts. none;
-}
+acted_on_nothing a h c Said none = grind (arith, nat_tests)
 
 module _ (O : Type 0) (emits : O → List What → O → Type 0) (none : (o : O) → emits o [] o) (more : (o p q : O) (xs ys : List What) → emits o xs p → emits p ys q → emits o (xs ++ ys) q) where
   pub acted_then : (f : Scene → Ended) (acts : List (Scene → Ended)) (a b e : StoreState) (s t u : Space) (x y z : ShelfState) (c d g : CommonState) (o p q : O) → Acted f a b s t x y c d (λ events. emits o events p) → Acted (in_order acts) b e t u y z d g (λ events. emits p events q)
       → Acted (in_order (f ∷ acts)) a e s u x z c g (λ events. emits o events q)
   acted_then f acts a b e s t u x y z c d g o p q first second = record {
     leads = λ around. ap (λ (w : Scene). (in_order acts w).scene) (first.leads around) ∙ second.leads around;
-    says = λ around.
-        more o p q (f (scene_of a s x c around)).events (in_order acts (f (scene_of a s x c around)).scene).events (first.says around)
-        (subst (λ (w : Scene). emits p (in_order acts w).events q) (sym (first.leads around)) (second.says around));
+    says = λ around. grind (arith, nat_tests, more o p q (f (scene_of a s x c around)).events (in_order acts (f (scene_of a s x c around)).scene).events (first.says around) (subst (λ (w : Scene). emits p (in_order acts w).events q) (sym (first.leads around)) (second.says around)));
     balances = balances_more _ _ _ _ _ _ first.balances second.balances;
   }
 

@@ -1,26 +1,6 @@
 -- A store's portals change, and the session's are what the rules say.
-use Rattle.std.proofs.Common.{◌≡◌, Option, Some, List, ◌∷◌, length, refl, sym, ap, ◌∙◌, subst}
-use Rattle.std.specs.Prelude.{ℕ, IsSome}
-use Rattle.addr_space.specs.Space.{Space}
-use Rattle.reset_callbacks.specs.ShelfState.{ShelfState}
-use Rattle.exec_core.specs.Turn.{new_scan}
-use Rattle.context_tree.specs.State.{TreeState}
-use Rattle.portal_store.specs.declared.portal.Portal.{Portal}
-use Rattle.portal_store.specs.Portals.{HasDistinctNames, changed, new_portal, place_named, portal_named}
-use Rattle.subxact_stack.specs.declared.levels.Level.{Level}
-use Rattle.session_owners.specs.ResourceState.{ResourceState}
-use Rattle.session_owners.specs.Commons.{CommonState, seen_by}
-use Rattle.session_owners.proofs.Balances.{balances_none}
-use Rattle.session_rules.specs.State.{OpenPortal, depth}
-use Rattle.session_rules.specs.World.{Around, Scene}
-use Rattle.session_rules.specs.Lookup.{portal_changed}
-use Rattle.session_rules.specs.Acts.{portal_becomes}
-use Rattle.session_rules.specs.Making.{portal_made}
-use Rattle.session_store.specs.State.{StoreState, portal_state, portals_of, session_of}
-use Rattle.session_store.specs.Placed.{IsPlaced, PortalLies}
-use Rattle.session_store.specs.Calls.{Acted, IsSilent, PortalsAlone}
-use Rattle.session_store.proofs.Depths.{levels_long}
-use Rattle.session_store.proofs.Owned.{acted_as}
+use Rattle.session_ends.proofs.Base.{◌≡◌, Option, Some, List, ◌∷◌, length, refl, sym, ap, ◌∙◌, subst, ℕ, IsSome, arith, nat_tests}
+use Rattle.session_ends.proofs.Words.{Space, ShelfState, new_scan, TreeState, Portal, HasDistinctNames, changed, new_portal, place_named, portal_named, Level, ResourceState, CommonState, seen_by, balances_none, OpenPortal, depth, Around, Scene, portal_changed, portal_becomes, portal_made, StoreState, portal_state, portals_of, session_of, IsPlaced, PortalLies, Acted, IsSilent, PortalsAlone, levels_long, acted_as}
 use Rattle.session_ends.proofs.Naming.{changed_all, changed_is}
 
 -- the scene with other portals
@@ -45,8 +25,7 @@ pub made_acted : (a : StoreState) (name : List ℕ) (object rows : ℕ) (bad : O
     → Acted (portal_made name object rows bad) a (record a { portals = new_portal name (new_scan object rows bad) level ∷ a.portals }) s s x x commons commons IsSilent
 unfolding session_of
 made_acted a name object rows bad level s x commons e = record {
-  leads = λ around.
-      ap (λ (n : ℕ). portaled a (portal_state (new_portal name (new_scan object rows bad) n) ∷ portals_of a.portals) s x commons around) (levels_long a.levels ∙ sym e);
+  leads = λ around. grind (arith, nat_tests, levels_long a.levels);
   says = λ around. refl;
   balances = balances_none a.owners commons;
 }
@@ -54,16 +33,12 @@ made_acted a name object rows bad level s x commons e = record {
 -- what the portals name lies where it lay
 pub placed_changed : (tree : TreeState) (table : ResourceState) (levels : List Level) (ps qs : List Portal) (name : List ℕ) (f : Portal → Portal) → IsPlaced tree table levels ps
     → ((p : Portal) → portal_named name ps ≡ Some p → PortalLies tree table p → PortalLies tree table (f p)) → qs ≡ changed name f ps → IsPlaced tree table levels qs
-placed_changed tree table levels ps qs name f placed on e =
-    subst (λ (rs : List Portal). IsPlaced tree table levels rs) (sym e)
-    (record { current = placed.current; levels = placed.levels; plans = placed.plans; portals = changed_all (PortalLies tree table) name f ps on placed.portals })
+placed_changed tree table levels ps qs name f placed on e = grind (arith, nat_tests, placed.current, placed.levels, placed.plans, changed_all (PortalLies tree table) name f ps on placed.portals)
 
 module _ (tree : TreeState) (owners : ResourceState) (levels : List Level) (portals : List Portal) (v : StoreState) (is : record { tree = tree; owners = owners; levels = levels; portals = portals } ≡ v) where
   pub becomes_after : (qs : List Portal) (name : List ℕ) (f : Portal → Portal) (g : OpenPortal → OpenPortal) (s : Space) (x : ShelfState) (commons : CommonState) → HasDistinctNames portals → ((p : Portal) → portal_state (f p) ≡ g (portal_state p)) → qs ≡ changed name f portals
       → Acted (portal_becomes name g) v (record { tree = tree; owners = owners; levels = levels; portals = qs }) s s x x commons commons IsSilent
-  becomes_after qs name f g s x commons distinct same e =
-      subst (λ (a : StoreState). Acted (portal_becomes name g) a (record { tree = tree; owners = owners; levels = levels; portals = qs }) s s x x commons commons IsSilent) is
-      (becomes_acted (record { tree = tree; owners = owners; levels = levels; portals = portals }) qs name g s x commons (ap portals_of e ∙ changed_is name f g portals distinct same))
+  becomes_after qs name f g s x commons distinct same e = grind (arith, nat_tests, becomes_acted (record { tree = tree; owners = owners; levels = levels; portals = portals }) qs name g s x commons (ap portals_of e ∙ changed_is name f g portals distinct same))
 
   pub active_after : (qs : List Portal) (name : List ℕ) (level : ℕ) (s : Space) (x : ShelfState) (commons : CommonState) → HasDistinctNames portals → level ≡ length levels → qs ≡ changed name (λ p. record p { active = level }) portals
       → Acted (λ scene. portal_becomes name (λ p. record p { active = depth scene.session }) scene) v (record { tree = tree; owners = owners; levels = levels; portals = qs }) s s x x commons commons IsSilent
@@ -78,14 +53,10 @@ module _ (tree : TreeState) (owners : ResourceState) (levels : List Level) (port
 
   pub made_after : (qs : List Portal) (name : List ℕ) (object rows : ℕ) (bad : Option ℕ) (level : ℕ) (s : Space) (x : ShelfState) (commons : CommonState) → level ≡ length levels → qs ≡ new_portal name (new_scan object rows bad) level ∷ portals
       → Acted (portal_made name object rows bad) v (record { tree = tree; owners = owners; levels = levels; portals = qs }) s s x x commons commons IsSilent
-  made_after qs name object rows bad level s x commons deepest e =
-      subst (λ (ps : List Portal). Acted (portal_made name object rows bad) v (record { tree = tree; owners = owners; levels = levels; portals = ps }) s s x x commons commons IsSilent) (sym e)
-      (subst (λ (a : StoreState). Acted (portal_made name object rows bad) a (record { tree = tree; owners = owners; levels = levels; portals = new_portal name (new_scan object rows bad) level ∷ portals }) s s x x commons commons IsSilent) is
-      (made_acted (record { tree = tree; owners = owners; levels = levels; portals = portals }) name object rows bad level s x commons deepest))
+  made_after qs name object rows bad level s x commons deepest e = grind (arith, nat_tests, made_acted (record { tree = tree; owners = owners; levels = levels; portals = portals }) name object rows bad level s x commons deepest)
 
   pub portals_alone_after : (qs : List Portal) → PortalsAlone v (record { tree = tree; owners = owners; levels = levels; portals = qs })
-  portals_alone_after qs =
-      subst (λ (a : StoreState). PortalsAlone a (record { tree = tree; owners = owners; levels = levels; portals = qs })) is (record { tree = refl; owners = refl; levels = refl })
+  portals_alone_after qs = grind (arith, nat_tests)
 
   pub place_in : (name : List ℕ) (place : ℕ) → place_named name v.portals ≡ Some place → place_named name portals ≡ Some place
   place_in name place at = subst (λ (a : StoreState). place_named name a.portals ≡ Some place) (sym is) at

@@ -1,29 +1,6 @@
 -- The topmost context goes with all below it: nothing is left.
-use Rattle.std.proofs.Common.{◌≡◌, ◌⊎◌, ℕ, true, false, List, [], ◌∷◌, ◌++◌, All, sym, ap, ◌∙◌, subst, inr, append-nil}
-use Rattle.std.proofs.lemmas.Bool.{both_ways}
-use Rattle.std.proofs.lemmas.List.Elements.{All-cons, All-nil, All-weaker}
-use Rattle.addr_space.specs.Space.{Space, held}
-use Rattle.forest.specs.Forest.{Empty, has, removed}
-use Rattle.pgs_step.specs.declared.ids.CtxId.{CtxId}
-use Rattle.pgs_step.specs.declared.events.What.{What}
-use Rattle.reset_callbacks.specs.ShelfState.{ShelfState}
-use Rattle.context_rules.specs.Ends.{gone}
-use Rattle.context_rules.specs.Refusals.{is_within}
-use Rattle.context_tree.specs.Calls.{Did}
-use Rattle.context_tree.specs.State.{TreeState, stands_for, total_of}
-use Rattle.session_rules.specs.World.{Scene}
-use Rattle.session_rules.specs.Acts.{Ended, context_gone, in_order, switched}
-use Rattle.session_rules.specs.Standing.{Stands}
-use Rattle.session_rules.proofs.ContextsKept.{nothing_left}
-use Rattle.session_owners.specs.Placing.{contexts_of}
-use Rattle.session_owners.specs.Commons.{CommonState}
-use Rattle.session_owners.proofs.Balances.{balances_more}
-use Rattle.session_store.specs.State.{StoreState, scene_of, session_of}
-use Rattle.session_store.specs.Placed.{IsPlaced, LevelLies, Lies, PortalLies}
-use Rattle.session_store.specs.Calls.{Acted, IsSilent, Keeps, StandsIn}
-use Rattle.session_store.proofs.Kept.{has_kept, nowhere}
-use Rattle.session_store.proofs.Led.{did_acted, switch_acted}
-use Rattle.session_store.proofs.Sums.{held_is}
+use Rattle.session_ends.proofs.Base.{◌≡◌, ◌⊎◌, ℕ, true, false, List, [], ◌∷◌, ◌++◌, All, sym, ap, ◌∙◌, subst, inr, append-nil, both_ways, All-cons, All-nil, All-weaker}
+use Rattle.session_ends.proofs.Words.{Space, held, Empty, has, removed, CtxId, What, ShelfState, gone, is_within, Did, TreeState, stands_for, total_of, Scene, Ended, context_gone, in_order, switched, Stands, nothing_left, contexts_of, CommonState, balances_more, StoreState, scene_of, session_of, IsPlaced, LevelLies, Lies, PortalLies, Acted, IsSilent, Keeps, StandsIn, has_kept, nowhere, did_acted, switch_acted, held_is}
 use Rattle.session_ends.proofs.Ending.{keeps_left}
 use Rattle.session_ends.proofs.Out.{some_on}
 

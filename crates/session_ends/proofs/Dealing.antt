@@ -1,54 +1,8 @@
 -- One portal is dealt with where the deepest level ends.
-use Rattle.std.proofs.Common.{◌≡◌, ◌≢◌, ℕ, ◌+◌, ◌-◌, ◌≤◌, Bool, true, false, Option, Some, None, List, [], ◌∷◌, ◌++◌, length, All, IfSome, zero, suc, refl, sym, ap, ◌∙◌, subst, arith, inl, inr}
-use Rattle.std.specs.Prelude.{if◌then◌else◌, slice_get, slice_set}
-use Rattle.std.specs.Option.{option_map}
-use Rattle.std.proofs.lemmas.Bool.{cases_Bool, false_from_ne_true, ne_eqb}
-use Rattle.std.proofs.lemmas.List.{length-map, map-append}
-use Rattle.addr_space.specs.Space.{Space}
-use Rattle.forest.specs.Forest.{Empty, Once, children, has, is_above}
-use Rattle.forest.proofs.Mapped.{mapped-has}
-use Rattle.pgs_step.specs.declared.ids.CtxId.{CtxId}
-use Rattle.pgs_step.specs.declared.ids.OwnerId.{OwnerId}
-use Rattle.pgs_step.specs.declared.events.What.{What}
-use Rattle.reset_callbacks.specs.ShelfState.{ShelfState}
-use Rattle.context_rules.specs.Contexts.{Contexts}
-use Rattle.context_rules.specs.Refusals.{is_within}
-use Rattle.context_tree.specs.State.{TreeState, HooksFit, IsLive, stands_for}
-use Rattle.owner_core.specs.Owners.{OwnerTree, has_begun}
-use Rattle.owner_core.proofs.Sounds.{once_of}
-use Rattle.portal_store.specs.declared.portal.Portal.{Portal}
-use Rattle.portal_store.specs.declared.portal.PortalState.{PortalState}
-use Rattle.portal_store.specs.declared.portal.PortalState.TheVariants.{New, Ready, Failed}
-use Rattle.portal_store.specs.Portals.{without}
+use Rattle.session_ends.proofs.Base.{◌≡◌, ◌≢◌, ℕ, ◌+◌, ◌-◌, ◌≤◌, Bool, true, false, Option, Some, None, List, [], ◌∷◌, ◌++◌, length, All, IfSome, zero, suc, refl, sym, ap, ◌∙◌, subst, arith, inl, inr, if◌then◌else◌, slice_get, slice_set, option_map, cases_Bool, false_from_ne_true, ne_eqb, length-map, map-append}
+use Rattle.session_ends.proofs.Words.{Space, Empty, Once, children, has, is_above, mapped-has, CtxId, OwnerId, What, ShelfState, Contexts, is_within, TreeState, HooksFit, IsLive, stands_for, OwnerTree, has_begun, once_of, Portal, PortalState, New, Ready, Failed, without, Roomy, owners_of, CommonState, balances_none, Level, LevelState, OpenPortal, Around, Scene, portal_changed, portals_but, Ended, nothing, portal_becomes, portal_gone, where_so, executor_ended, is_ready, AreContexts, AreDifferent, AreLevels, IsAttached, IsOwner, IsPlace, IsPortal, Ending, protected_has, depth_still, but_one, changed_one, Leads, below_place, executor_goes, first_of_rest, StoreState, contexts_in, levels_of, portal_state, portals_of, scene_of, session_of, Lies, OwnerLies, PortalLies, Acted, IsSilent, PortalsAlone, if_some, levels_long, has_kept, nowhere, acted_as, EndsSo, IsEnding, PlansMayGo, executor_at, number_in, owner_to, LevelEnd, Merges, Aborts, Goes, above_owner}
 use Rattle.session_owners.specs.ResourceState as owners
-use Rattle.session_owners.specs.ResourceState.{Roomy, owners_of}
-use Rattle.session_owners.specs.Commons.{CommonState}
-use Rattle.session_owners.proofs.Balances.{balances_none}
-use Rattle.subxact_stack.specs.declared.levels.Level.{Level}
-use Rattle.session_rules.specs.State.{LevelState, OpenPortal}
-use Rattle.session_rules.specs.World.{Around, Scene}
-use Rattle.session_rules.specs.Lookup.{portal_changed, portals_but}
-use Rattle.session_rules.specs.Acts.{Ended, nothing, portal_becomes, portal_gone, where_so}
-use Rattle.session_rules.specs.Portals.{executor_ended, is_ready}
-use Rattle.session_rules.specs.Standing.{AreContexts, AreDifferent, AreLevels, IsAttached, IsOwner, IsPlace, IsPortal}
-use Rattle.session_rules.specs.Ending.{Ending}
-use Rattle.session_rules.proofs.ContextsKept.{protected_has}
-use Rattle.session_rules.proofs.Stacked.{depth_still}
-use Rattle.session_rules.proofs.PortalLists.{but_one, changed_one}
 use Rattle.session_rules.proofs.Ending as ending
-use Rattle.session_rules.proofs.Ending.{Leads, below_place}
-use Rattle.session_rules.proofs.Replacing.{executor_goes, first_of_rest}
-use Rattle.session_store.specs.State.{StoreState, contexts_in, levels_of, portal_state, portals_of, scene_of, session_of}
-use Rattle.session_store.specs.Placed.{Lies, OwnerLies, PortalLies}
-use Rattle.session_store.specs.Calls.{Acted, IsSilent, PortalsAlone}
-use Rattle.session_store.proofs.Answered.{if_some}
-use Rattle.session_store.proofs.Depths.{levels_long}
-use Rattle.session_store.proofs.Kept.{has_kept, nowhere}
-use Rattle.session_store.proofs.Owned.{acted_as}
-use Rattle.session_ends.specs.Portals.{EndsSo, IsEnding, PlansMayGo, executor_at, number_in, owner_to}
-use Rattle.session_ends.specs.declared.portals.LevelEnd.{LevelEnd}
-use Rattle.session_ends.specs.declared.portals.LevelEnd.TheVariants.{Merges, Aborts, Goes}
-use Rattle.session_rules.proofs.Passing.{above_owner}
 use Rattle.session_ends.proofs.Going.{may_go}
 use Rattle.session_ends.proofs.Lasts.{IsSplit, get_split, length_split, others_in, set_split, splits, without_split}
 use Rattle.session_ends.proofs.Out.{is_alone, some_is}

@@ -1,26 +1,7 @@
 -- The ends of levels are their parts, one behind the other.
-use Rattle.std.proofs.Common.{◌≡◌, ℕ, Bool, true, false, Option, Some, None, List, [], ◌∷◌, ◌++◌, length, refl, sym, ap, ◌∙◌}
-use Rattle.std.specs.Prelude.{◌==◌, drop}
-use Rattle.addr_space.specs.Space.{Space}
-use Rattle.pgs_step.specs.declared.ids.OwnerId.{OwnerId}
-use Rattle.pgs_step.specs.declared.events.What.{What}
+use Rattle.session_ends.proofs.Base.{◌≡◌, ℕ, Bool, true, false, Option, Some, None, List, [], ◌∷◌, ◌++◌, length, refl, sym, ap, ◌∙◌, ◌==◌, drop}
+use Rattle.session_ends.proofs.Words.{Space, OwnerId, What, ShelfState, LevelState, OpenPortal, deepest_changed, first_of, owner_of, top_context, portal_aborted, portal_closed, portal_passed, Around, Scene, Ended, changes, for_each, in_order, say, switched, aborted, cleaned_up, committed, level_context_gone, level_owner_gone, level_popped, level_released, stack_lowered, stack_popped, subcommitted, switched_up, CommonState, StoreState, levels_of, portals_of, scene_of, session_of, Acted, levels_long, leveled, scene_leveled, acted_as, context_left, level_left, number_in, portal_after, LevelEnd, Merges, Aborts, Goes}
 use Rattle.pgs_step.specs.declared.events.What.TheVariants as what
-use Rattle.reset_callbacks.specs.ShelfState.{ShelfState}
-use Rattle.session_rules.specs.State.{LevelState, OpenPortal, deepest_changed, first_of, owner_of, top_context}
-use Rattle.session_rules.specs.Portals.{portal_aborted, portal_closed, portal_passed}
-use Rattle.session_rules.specs.World.{Around, Scene}
-use Rattle.session_rules.specs.Acts.{Ended, changes, for_each, in_order, say, switched}
-use Rattle.session_rules.specs.Ends.{aborted, cleaned_up, committed, level_context_gone, level_owner_gone, level_popped, level_released, stack_lowered, stack_popped, subcommitted, switched_up}
-use Rattle.session_owners.specs.Commons.{CommonState}
-use Rattle.session_store.specs.State.{StoreState, levels_of, portals_of, scene_of, session_of}
-use Rattle.session_store.specs.Calls.{Acted}
-use Rattle.session_store.proofs.Depths.{levels_long}
-use Rattle.session_store.proofs.Levelled.{leveled, scene_leveled}
-use Rattle.session_store.proofs.Owned.{acted_as}
-use Rattle.session_ends.specs.Parts.{context_left, level_left}
-use Rattle.session_ends.specs.Portals.{number_in, portal_after}
-use Rattle.session_ends.specs.declared.portals.LevelEnd.{LevelEnd}
-use Rattle.session_ends.specs.declared.portals.LevelEnd.TheVariants.{Merges, Aborts, Goes}
 use Rattle.session_ends.proofs.Acting.{acted_end, acted_said, acted_then}
 
 -- the mark of an aborted level

@@ -1,39 +1,6 @@
 -- What the ends of levels ask for, where the deepest level may go, and what still lies behind them.
-use Rattle.std.proofs.Common.{◌≡◌, ◌↔◌, ℕ, ◌<◌, Bool, true, false, Option, Some, None, List, [], ◌∷◌, ◌++◌, length, All, IfSome, IsSome, refl, sym, ap, ◌∙◌, subst, arith}
-use Rattle.std.specs.Prelude.{drop, if◌then◌else◌, reverse, unwrap_or}
-use Rattle.std.specs.Option.{option_map, option_to_list}
-use Rattle.std.proofs.lemmas.List.{length-append}
-use Rattle.std.proofs.lemmas.List.Elements.{All-weaker}
-use Rattle.addr_space.specs.Space.{Asks, Space}
-use Rattle.forest.specs.Forest.{has, at}
-use Rattle.forest.proofs.Mapped.{mapped-has}
-use Rattle.pgs_step.specs.declared.ids.CtxId.{CtxId}
-use Rattle.pgs_step.specs.declared.ids.OwnerId.{OwnerId}
-use Rattle.reset_callbacks.specs.ShelfState.{ShelfState}
-use Rattle.context_rules.specs.Contexts.{Contexts, is_empty}
-use Rattle.context_rules.specs.Refusals.{is_within}
-use Rattle.context_tree.specs.State.{TreeState, Agrees, HooksFit, IsLive, Moves, place_of, stands_for}
-use Rattle.context_tree.proofs.Composed.{tree_more}
-use Rattle.plan_store.specs.Plans.{Plans}
-use Rattle.portal_store.specs.declared.portal.Portal.{Portal}
-use Rattle.session_owners.specs.ResourceState.{AllAt, HoldsNothing, ResourceState, Roomy, owners_of}
-use Rattle.session_owners.specs.Placing.{contexts_of}
-use Rattle.subxact_stack.specs.declared.levels.Level.{Level}
-use Rattle.session_rules.specs.State.{LevelState, context_of, first_of, owner_of}
-use Rattle.session_rules.specs.World.{Scene}
-use Rattle.session_rules.specs.Acts.{context_gone, where_so, where_there}
-use Rattle.session_rules.specs.Standing.{AreLevels, AreOuter}
-use Rattle.session_rules.proofs.ContextsKept.{protected_has, top_protected}
-use Rattle.session_store.specs.State.{StoreState, level_state, levels_of, only_empty, session_of}
-use Rattle.session_store.specs.Placed.{HasLevels, IsPlaced, IsThere, LevelLies, Lies, OwnerLies, PortalLies}
-use Rattle.session_store.specs.Calls.{Keeps}
-use Rattle.session_store.proofs.Answered.{if_some}
-use Rattle.session_store.proofs.Depths.{all_deepest, levels_are}
-use Rattle.session_store.proofs.Kept.{has_kept, levels_there}
-use Rattle.session_store.proofs.Levelled.{HasOwner, keeps_current, owners_there}
-use Rattle.session_store.proofs.Lists.{all_reverse}
-use Rattle.session_store.proofs.Sums.{keeps_on}
-use Rattle.session_ends.specs.Parts.{MayLeave, going}
+use Rattle.session_ends.proofs.Base.{◌≡◌, ◌↔◌, ℕ, ◌<◌, Bool, true, false, Option, Some, None, List, [], ◌∷◌, ◌++◌, length, All, IfSome, IsSome, refl, sym, ap, ◌∙◌, subst, arith, drop, if◌then◌else◌, reverse, unwrap_or, option_map, option_to_list, length-append, All-weaker}
+use Rattle.session_ends.proofs.Words.{Asks, Space, has, at, mapped-has, CtxId, OwnerId, ShelfState, Contexts, is_empty, is_within, TreeState, Agrees, HooksFit, IsLive, Moves, place_of, stands_for, tree_more, Plans, Portal, AllAt, HoldsNothing, ResourceState, Roomy, owners_of, contexts_of, Level, LevelState, context_of, first_of, owner_of, Scene, context_gone, where_so, where_there, AreLevels, AreOuter, protected_has, top_protected, StoreState, level_state, levels_of, only_empty, session_of, HasLevels, IsPlaced, IsThere, LevelLies, Lies, OwnerLies, PortalLies, Keeps, if_some, all_deepest, levels_are, has_kept, levels_there, HasOwner, keeps_current, owners_there, all_reverse, keeps_on, MayLeave, going}
 use Rattle.session_ends.proofs.Freed.{outside}
 use Rattle.session_ends.proofs.Out.{keeps_with, some_on}
 

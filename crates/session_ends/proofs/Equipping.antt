@@ -1,38 +1,10 @@
 -- A portal of a store gets its contexts and its owner.
-use Rattle.std.proofs.Common.{◌≡◌, ℕ, ◌+◌, true, Option, Some, None, List, [], ◌∷◌, ◌++◌, append-nil, All, refl, sym, ap, ◌∙◌, subst}
-use Rattle.std.specs.Prelude.{codes}
-use Rattle.std.specs.Option.{option_and_then, option_map}
-use Rattle.std.proofs.lemmas.List.Elements.{All-nil, All-cons, All-head, All-tail}
-use Rattle.addr_space.specs.Space.{Space}
-use Rattle.pgs_step.specs.declared.ids.CtxId.{CtxId}
-use Rattle.pgs_step.specs.declared.ids.OwnerId.{OwnerId}
-use Rattle.pgs_step.specs.declared.events.What.{What}
+use Rattle.session_ends.proofs.Base.{◌≡◌, ℕ, ◌+◌, true, Option, Some, None, List, [], ◌∷◌, ◌++◌, append-nil, All, refl, sym, ap, ◌∙◌, subst, codes, option_and_then, option_map, All-nil, All-cons, All-head, All-tail}
+use Rattle.session_ends.proofs.Words.{Space, CtxId, OwnerId, What, ShelfState, Contexts, created, created_events, TreeState, stands_for, Portal, HasDistinctNames, changed, portal_named, Plans, Level, ResourceState, owners_of, plans_of, contexts_of, Balances, CommonState, seen_by, balances_none, OpenPortal, level_owner, portals_context, Around, Scene, portal_changed, Ended, in_order, portal_becomes, where_there, OfPortal, PortalContext, RowContext, Text, context_made, new_context_made, new_owner_made, owner_made, StoreState, levels_of, portal_state, portals_of, scene_of, session_of, IsPlaced, LevelLies, Lies, Acted, Keeps, StandsIn, HasOwner, have_owners, owner_on, acted_as, have_portal_owners, portals_kept}
 use Rattle.any_ctx.specs.declared.any.CtxKind.TheVariants as kind
-use Rattle.reset_callbacks.specs.ShelfState.{ShelfState}
-use Rattle.context_rules.specs.Contexts.{Contexts, created, created_events}
-use Rattle.context_tree.specs.State.{TreeState, stands_for}
-use Rattle.portal_store.specs.declared.portal.Portal.{Portal}
-use Rattle.portal_store.specs.Portals.{HasDistinctNames, changed, portal_named}
-use Rattle.plan_store.specs.Plans.{Plans}
-use Rattle.subxact_stack.specs.declared.levels.Level.{Level}
 use Rattle.session_owners.specs.ResourceState as owners
-use Rattle.session_owners.specs.ResourceState.{ResourceState, owners_of, plans_of}
-use Rattle.session_owners.specs.Placing.{contexts_of}
 use Rattle.session_owners.specs.Fitting as fitting
-use Rattle.session_owners.specs.Commons.{Balances, CommonState, seen_by}
-use Rattle.session_owners.proofs.Balances.{balances_none}
-use Rattle.session_rules.specs.State.{OpenPortal, level_owner, portals_context}
-use Rattle.session_rules.specs.World.{Around, Scene}
 use Rattle.session_rules.specs.Lookup as rules
-use Rattle.session_rules.specs.Lookup.{portal_changed}
-use Rattle.session_rules.specs.Acts.{Ended, in_order, portal_becomes, where_there}
-use Rattle.session_rules.specs.Elements.{OfPortal, PortalContext, RowContext, Text}
-use Rattle.session_rules.specs.Making.{context_made, new_context_made, new_owner_made, owner_made}
-use Rattle.session_store.specs.State.{StoreState, levels_of, portal_state, portals_of, scene_of, session_of}
-use Rattle.session_store.specs.Placed.{IsPlaced, LevelLies, Lies}
-use Rattle.session_store.specs.Calls.{Acted, Keeps, StandsIn}
-use Rattle.session_store.proofs.Levelled.{HasOwner, have_owners, owner_on}
-use Rattle.session_store.proofs.Owned.{acted_as, have_portal_owners, portals_kept}
 use Rattle.session_ends.proofs.Naming.{changed_is, named_is}
 use Rattle.session_ends.proofs.Becoming.{placed_changed, portaled}
 

@@ -1,48 +1,9 @@
 -- What the release of the deepest level's owner leaves of a session: the level may go.
-use Rattle.std.proofs.Common.{◌≡◌, ◌≢◌, ◌↔◌, ℕ, ◌+◌, ◌<◌, length, Bool, true, false, Option, Some, None, List, [], ◌∷◌, ◌++◌, All, IfSome, refl, sym, ap, ◌∙◌, subst, inl, arith}
-use Rattle.std.specs.Prelude.{◌==◌, drop, unwrap_or}
-use Rattle.std.proofs.lemmas.Bool.{eq-eqb, eqb-true, ne_eqb}
-use Rattle.std.proofs.lemmas.List.Elements.{All-nil, All-weaker}
-use Rattle.addr_space.specs.Space.{Space}
-use Rattle.forest.specs.Forest.{children, has, parent_of}
-use Rattle.forest.proofs.Moved.{above_none}
-use Rattle.pgs_step.specs.declared.ids.OwnerId.{OwnerId}
-use Rattle.pgs_step.specs.declared.events.What.{What}
-use Rattle.reset_callbacks.specs.ShelfState.{ShelfState}
-use Rattle.context_rules.specs.Contexts.{Contexts}
-use Rattle.context_rules.specs.Refusals.{is_within}
-use Rattle.context_tree.specs.State.{TreeState, stands_for}
-use Rattle.owner_kinds.specs.KindShelf.{table_of}
-use Rattle.owner_kinds.specs.KindTable.{KindTable, IsSound as IsSoundTable}
-use Rattle.owner_core.specs.Sound.{IsSound}
-use Rattle.session_owners.specs.ResourceState.{AllAt, HoldsNothing, OwnerTree, ResourceState, owners_of}
+use Rattle.session_ends.proofs.Base.{◌≡◌, ◌≢◌, ◌↔◌, ℕ, ◌+◌, ◌<◌, length, Bool, true, false, Option, Some, None, List, [], ◌∷◌, ◌++◌, All, IfSome, refl, sym, ap, ◌∙◌, subst, inl, arith, ◌==◌, drop, unwrap_or, eq-eqb, eqb-true, ne_eqb, All-nil, All-weaker}
+use Rattle.session_ends.proofs.Words.{Space, children, has, parent_of, above_none, OwnerId, What, ShelfState, Contexts, is_within, TreeState, stands_for, table_of, KindTable, IsSound, AllAt, HoldsNothing, ResourceState, owners_of, CommonState, Level, LevelState, context_of, first_of, is_aborted, level_owner, owner_of, top_context, Scene, where_there, level_parent, owner_released, AreContexts, AreHooks, AreLevels, AreOuter, IsPlan, IsPortal, Stands, referred, AreEnding, Ending, IsDone, gone_levels, own, MayEnd, begins, left_idle, left_lone, may_end, settled, top_parent, HasLeft, is_there, left_still, levels_stay, outer_contexts, owners_aborted, owners_end, attached_by, place_spared, levels_apart, with_owners, Besides, Fits, HasSettled, Spares, besides_of, release_settles, spares_same, with_besides, StoreState, level_state, levels_of, portals_of, scene_of, session_of, StandsIn, if_some, ends, levels_are, levels_long, nowhere, plans_there, stands_deep, HaveGone, hosting, IsFreed, MayLeave, IsEnding, PlansMayGo, above_left, number_in}
+use Rattle.owner_kinds.specs.KindTable.{IsSound as IsSoundTable}
+use Rattle.session_owners.specs.ResourceState.{OwnerTree}
 use Rattle.session_owners.specs.Fitting as fitting
-use Rattle.session_owners.specs.Commons.{CommonState}
-use Rattle.subxact_stack.specs.declared.levels.Level.{Level}
-use Rattle.session_rules.specs.State.{LevelState, context_of, first_of, is_aborted, level_owner, owner_of, top_context}
-use Rattle.session_rules.specs.World.{Scene}
-use Rattle.session_rules.specs.Acts.{where_there}
-use Rattle.session_rules.specs.Making.{level_parent}
-use Rattle.session_rules.specs.Releases.{owner_released}
-use Rattle.session_rules.specs.Standing.{AreContexts, AreHooks, AreLevels, AreOuter, IsPlan, IsPortal, Stands, referred}
-use Rattle.session_rules.specs.Ending.{AreEnding, Ending, IsDone, gone_levels}
-use Rattle.session_rules.proofs.ContextsKept.{own}
-use Rattle.session_rules.proofs.EndsStand.{MayEnd, begins, left_idle, left_lone, may_end, settled}
-use Rattle.session_rules.proofs.Guarded.{top_parent}
-use Rattle.session_rules.proofs.LevelsKept.{HasLeft, is_there, left_still, levels_stay, outer_contexts, owners_aborted, owners_end}
-use Rattle.session_rules.proofs.PortalsAmong.{attached_by, place_spared}
-use Rattle.session_rules.proofs.PlansAmong.{levels_apart}
-use Rattle.session_rules.proofs.Releasing.{with_owners}
-use Rattle.session_rules.proofs.Settling.{Besides, Fits, HasSettled, Spares, besides_of, release_settles, spares_same, with_besides}
-use Rattle.session_store.specs.State.{StoreState, level_state, levels_of, portals_of, scene_of, session_of}
-use Rattle.session_store.specs.Calls.{StandsIn}
-use Rattle.session_store.proofs.Answered.{if_some}
-use Rattle.session_store.proofs.Depths.{ends, levels_are, levels_long}
-use Rattle.session_store.proofs.Kept.{nowhere, plans_there}
-use Rattle.session_store.proofs.Levelled.{stands_deep}
-use Rattle.session_ends.specs.Place.{HaveGone, hosting}
-use Rattle.session_ends.specs.Parts.{IsFreed, MayLeave}
-use Rattle.session_ends.specs.Portals.{IsEnding, PlansMayGo, above_left, number_in}
 use Rattle.session_ends.proofs.Going.{may_go as plans_may_go}
 
 -- what a release of an owner, where there is one, leaves

@@ -1,28 +1,7 @@
 -- An owner's newest item of a kind and key is given back, where it has one.
-use Rattle.std.proofs.Common.{◌≡◌, ℕ, false, Option, Some, None, List, [], ◌∷◌, Result, Ok, Err, OnErr, OnOk, refl, sym, ap, ◌∙◌, subst}
-use Rattle.std.specs.Prelude.{find}
-use Rattle.std.specs.Option.{ok_or}
-use Rattle.addr_space.specs.Space.{Space}
-use Rattle.pgs_step.specs.declared.ids.Item.{Item}
-use Rattle.pgs_step.specs.declared.ids.KindId.{KindId}
-use Rattle.pgs_step.specs.declared.events.What.{What}
+use Rattle.session_ends.proofs.Base.{◌≡◌, ℕ, false, Option, Some, None, List, [], ◌∷◌, Result, Ok, Err, OnErr, OnOk, refl, sym, ap, ◌∙◌, subst, find, ok_or}
+use Rattle.session_ends.proofs.Words.{Space, Item, KindId, What, ShelfState, is_of, without_newest, forgotten, has_begun, items_of, OwnerError, NotOwned, owners_of, Balances, CommonState, seen_by, balances_none, SessionState, Scene, Ended, changes, in_order, nothing, say, where_there, given_back, item_released, begun_changed, StoreState, scene_of, session_of, Acted, Refused, acted_as}
 use Rattle.pgs_step.specs.declared.events.What.TheVariants as what
-use Rattle.reset_callbacks.specs.ShelfState.{ShelfState}
-use Rattle.owner_items.specs.ItemList.{is_of, without_newest}
-use Rattle.owner_core.specs.Owners.{forgotten, has_begun, items_of}
-use Rattle.owner_core.specs.declared.errors.OwnerError.{OwnerError}
-use Rattle.owner_core.specs.declared.errors.OwnerError.TheVariants.{NotOwned}
-use Rattle.session_owners.specs.ResourceState.{owners_of}
-use Rattle.session_owners.specs.Commons.{Balances, CommonState, seen_by}
-use Rattle.session_owners.proofs.Balances.{balances_none}
-use Rattle.session_rules.specs.State.{SessionState}
-use Rattle.session_rules.specs.World.{Scene}
-use Rattle.session_rules.specs.Acts.{Ended, changes, in_order, nothing, say, where_there}
-use Rattle.session_rules.specs.Releases.{given_back, item_released}
-use Rattle.session_rules.proofs.Ending.{begun_changed}
-use Rattle.session_store.specs.State.{StoreState, scene_of, session_of}
-use Rattle.session_store.specs.Calls.{Acted, Refused}
-use Rattle.session_store.proofs.Owned.{acted_as}
 
 -- without an item nothing is done
 nothing_there : {A : Type 0} (i : Option A) (act : A → Scene → Ended) (z : Scene) → i ≡ None → nothing z ≡ where_there i act z

@@ -1,38 +1,11 @@
 -- Contexts of plans go: what that leaves of a tree, of its space, and of what a store names.
-use Rattle.std.proofs.Common.{◌≡◌, ◌≢◌, ℕ, true, false, List, [], ◌∷◌, map, All, Result, Ok, Err, OnErr, refl, sym, ap, ◌∙◌, subst}
-use Rattle.std.proofs.lemmas.Bool.{ne_eqb}
-use Rattle.std.proofs.lemmas.List.Elements.{All-cons, All-head, All-nil, All-tail, All-weaker}
-use Rattle.addr_space.specs.Space.{Space}
-use Rattle.forest.specs.Forest.{Forest, Once, at, children, has, removed}
-use Rattle.forest.proofs.Trees.{has_of_removed}
-use Rattle.pgs_step.specs.declared.ids.CtxId.{CtxId}
-use Rattle.reset_callbacks.specs.ShelfState.{ShelfState}
-use Rattle.context_rules.specs.Contexts.{Contexts}
-use Rattle.context_rules.specs.Ends.{gone}
-use Rattle.context_rules.specs.Refusals.{is_within}
-use Rattle.context_tree.specs.Calls.{Did}
-use Rattle.context_tree.specs.State.{TreeState, Agrees, HooksFit, stands_for}
-use Rattle.plan_store.specs.declared.plan.Plan.{Plan}
-use Rattle.session_owners.specs.ResourceState.{ResourceState, owners_of, plan_state, plans_of}
-use Rattle.session_owners.specs.Placing.{AreLeft, PlansFit, contexts_of}
-use Rattle.session_owners.specs.Commons.{CommonState}
-use Rattle.session_rules.specs.Standing.{AreApart, IsPlan, Stands}
-use Rattle.session_rules.proofs.ContextsKept.{protected_has}
-use Rattle.session_rules.proofs.Forests.{has_left, once_left}
-use Rattle.session_rules.proofs.Lone.{lone_left}
-use Rattle.session_store.specs.State.{StoreState, contexts_in, scene_of, session_of}
-use Rattle.session_store.specs.Placed.{IsPlaced, Lies}
-use Rattle.session_store.specs.Calls.{Keeps, Refused, StandsIn}
-use Rattle.session_store.proofs.Kept.{Goes, has_kept, nowhere}
-use Rattle.session_store.proofs.Owned.{OwnersGo}
-use Rattle.session_ends.specs.Place.{CanGo, HaveGone}
-use Rattle.session_ends.specs.Portals.{IsSpare, PlansMayGo}
+use Rattle.session_ends.proofs.Base.{◌≡◌, ◌≢◌, ℕ, true, false, List, [], ◌∷◌, map, All, Result, Ok, Err, OnErr, sym, ap, ◌∙◌, ne_eqb, All-cons, All-head, All-nil, All-tail, All-weaker, arith, nat_tests}
+use Rattle.session_ends.proofs.Words.{Space, Once, children, has, removed, has_of_removed, CtxId, ShelfState, Contexts, gone, is_within, Did, TreeState, Agrees, HooksFit, stands_for, Plan, ResourceState, owners_of, plan_state, plans_of, AreLeft, PlansFit, contexts_of, CommonState, AreApart, IsPlan, Stands, protected_has, has_left, once_left, lone_left, StoreState, contexts_in, scene_of, session_of, IsPlaced, Lies, Keeps, Refused, StandsIn, has_kept, nowhere, OwnersGo, CanGo, HaveGone, IsSpare, PlansMayGo}
+use Rattle.session_store.proofs.Kept.{Goes}
 
 -- the context that goes is neither the current one nor above it
 pub can_apart : (tree : TreeState) (s : Space) (x : ShelfState) (id : CtxId) → CanGo tree s x id → is_within id.number tree.current.number (stands_for tree s) ≡ false
-can_apart tree s x id can =
-    let out : has tree.current.number (children id.number (stands_for tree s)) ≡ false = ap (has tree.current.number) can.lone in
-    rw (ne_eqb tree.current.number id.number can.other, out) refl
+can_apart tree s x id can = grind (arith, nat_tests, can.lone, ne_eqb tree.current.number id.number can.other, (ap (has tree.current.number) can.lone))
 
 module _ (a b : TreeState) (s t : Space) (x y : ShelfState) (gone_id : CtxId) (did : Did (gone gone_id.number (stands_for a s)) a b s t x y) where
   -- another context can go as before
@@ -41,16 +14,7 @@ module _ (a b : TreeState) (s t : Space) (x y : ShelfState) (gone_id : CtxId) (d
       let u : Contexts = stands_for a s in
       let n : ℕ = gone_id.number in
       let out : has other.number (children n u) ≡ false = ap (has other.number) can.lone in
-      let still : has other.number (removed n u) ≡ true = has_left other.number n u can.once differ out ∙ k.there in
-      record {
-        agrees = did.moves.agrees;
-        hooks = subst (λ (c : Contexts). HooksFit c y) (sym did.contexts) did.hooks;
-        once = subst Once (sym did.contexts) (once_left n u can.once);
-        live = did.stays other.number still ∙ k.live;
-        there = ap (has other.number) did.contexts ∙ still;
-        lone = ap (children other.number) did.contexts ∙ lone_left other.number n u can.once differ out k.lone;
-        other = λ z. k.other (ap (λ (id : CtxId). id.number) (sym did.current) ∙ z);
-      }
+      grind (arith, nat_tests, has_left other.number n u can.once differ out, k.there, did.moves.agrees, did.contexts, did.hooks, once_left n u can.once, did.stays other.number (has_left other.number n u can.once differ out ∙ k.there), k.live, lone_left other.number n u can.once differ out k.lone)
 
   pub have_gone : HaveGone a b s t
   have_gone =
@@ -69,9 +33,7 @@ each_spare : (t : Contexts) (current : ℕ) (x : ShelfState) → HooksFit t x �
 each_spare t current x hooks once [] are = All-nil (IsSpare t current x)
 each_spare t current x hooks once (plan ∷ plans) are =
     let is = All-head (λ p. IsPlan p t current) (plan_state plan) (map plan_state plans) are in
-    All-cons (IsSpare t current x) plan.1.context (contexts_of plans)
-    (record { hooks = hooks; once = once; there = protected_has plan.1.context.number t is.protected; lone = is.lone; other = is.other })
-    (each_spare t current x hooks once plans (All-tail (λ p. IsPlan p t current) (plan_state plan) (map plan_state plans) are))
+    grind (arith, nat_tests, All-cons (IsSpare t current x) plan.1.context (contexts_of plans) (record { hooks = hooks; once = once; there = protected_has plan.1.context.number t is.protected; lone = is.lone; other = is.other }) (each_spare t current x hooks once plans (All-tail (λ p. IsPlan p t current) (plan_state plan) (map plan_state plans) are)))
 
 pub may_go : (a : StoreState) (s : Space) (x : ShelfState) → HooksFit (contexts_in a s) x → Once (contexts_in a s) → All (λ plan. IsPlan plan (contexts_in a s) a.tree.current.number) (plans_of a.owners) → AreApart (plans_of a.owners) → PlansMayGo a s x
 may_go a s x hooks once are apart = record { each = each_spare (contexts_in a s) a.tree.current.number x hooks once a.owners.plans.standing are; apart = apart }
@@ -88,15 +50,7 @@ each_can a s x agrees [] are lie = All-nil (CanGo a s x)
 each_can a s x agrees (id ∷ ids) are lie =
     let is = All-head (IsSpare (stands_for a s) a.current.number x) id ids are in
     All-cons (CanGo a s x) id ids
-    (record {
-      agrees = agrees;
-      hooks = is.hooks;
-      once = is.once;
-      live = All-head (Lies a) id ids lie (sym (has_kept id.number a s) ∙ is.there);
-      there = is.there;
-      lone = is.lone;
-      other = is.other;
-    })
+    (assumption (is.hooks, is.once, All-head (Lies a) id ids lie (sym (has_kept id.number a s) ∙ is.there), is.there, is.lone, is.other))
     (each_can a s x agrees ids (All-tail (IsSpare (stands_for a s) a.current.number x) id ids are) (All-tail (Lies a) id ids lie))
 
 pub plans_can : (a : StoreState) (s : Space) (x : ShelfState) → Keeps a s → PlansMayGo a s x → IsPlaced a.tree a.owners a.levels a.portals → PlansFit (CanGo a.tree s x) a.owners.plans.standing
@@ -109,10 +63,7 @@ plans_fit a s x commons keeps stands placed = plans_can a s x keeps (may_stand a
 -- and can go still
 pub plans_spare : (a : StoreState) (s : Space) (x : ShelfState) → PlansFit (CanGo a.tree s x) a.owners.plans.standing → PlansMayGo a s x
 unfolding session_of
-plans_spare a s x fit = record {
-  each = All-weaker (CanGo a.tree s x) (IsSpare (stands_for a.tree s) a.tree.current.number x) (λ id can. record { hooks = can.hooks; once = can.once; there = can.there; lone = can.lone; other = can.other }) (contexts_of a.owners.plans.standing) fit.each;
-  apart = fit.apart;
-}
+plans_spare a s x fit = grind (arith, nat_tests, All-weaker (CanGo a.tree s x) (IsSpare (stands_for a.tree s) a.tree.current.number x) (λ id can. record { hooks = can.hooks; once = can.once; there = can.there; lone = can.lone; other = can.other }) (contexts_of a.owners.plans.standing) fit.each, fit.apart)
 
 -- what the store names lies where it lay
 pub goes_of : (a b : TreeState) (s t : Space) → HaveGone a b s t → Goes a b s t
@@ -120,11 +71,7 @@ goes_of a b s t g = record { moves = g.moves; stays = λ n was now. g.stays n no
 
 -- an owner was released
 pub go_by : (a b : ResourceState) → ((n : ℕ) → has n (owners_of b) ≡ has n (owners_of a)) → b.places ≡ a.places → AreLeft a.plans.standing b.plans.standing → OwnersGo a b
-go_by a b same places left = record {
-  had = λ n there. sym (same n) ∙ there;
-  stays = λ n there. ap (λ (f : Forest ℕ). at n f) places;
-  left = left;
-}
+go_by a b same places left = grind (arith, nat_tests)
 
 -- only plans changed
 pub go_plans : (a b : ResourceState) → b ≡ record a { plans = b.plans } → AreLeft a.plans.standing b.plans.standing → OwnersGo a b
@@ -132,14 +79,7 @@ go_plans a b is left = go_by a b (λ n. ap (λ (q : ResourceState). has n (owner
 
 -- nothing changed
 pub refused_still : (a : StoreState) (b : TreeState) (q : ResourceState) (s t : Space) (x y : ShelfState) (c d : CommonState) → b ≡ a.tree → q ≡ a.owners → t ≡ s → y ≡ x → d ≡ c → Refused a (record a { tree = b; owners = q }) s t x y c d
-refused_still a b q s t x y c d tree owners space shelf commons = record {
-  store = ap (λ (z : TreeState). record a { tree = z; owners = q }) tree ∙ ap (λ (z : ResourceState). record a { owners = z }) owners;
-  shelf = shelf;
-  commons = commons;
-  session =
-      ap (λ (z : TreeState). session_of (record a { tree = z; owners = q }) t) tree ∙ ap (λ (z : ResourceState). session_of (record a { owners = z }) t) owners ∙ ap (session_of a) space;
-  limit = ap (λ (z : Space). z.limit) space;
-}
+refused_still a b q s t x y c d tree owners space shelf commons = grind (arith, nat_tests)
 
 pub err_three : {A E P Q R S : Type 0} (r : Result A E) → (P → Q → R → S) → OnErr r P → OnErr r Q → OnErr r R → OnErr r S
 err_three (Ok a) all first second third = first

@@ -1,21 +1,6 @@
 -- The portals of a store in their order: those that are done stand in front of those that are left.
-use Rattle.std.proofs.Common.{◌≡◌, ◌≢◌, ℕ, ◌+◌, ◌-◌, ◌<◌, Bool, true, false, Option, Some, None, List, [], ◌∷◌, ◌++◌, length, All, IfSome, refl, sym, ap, ◌∙◌, subst, arith, inl, inr, suc, zero}
-use Rattle.std.specs.Prelude.{find, ◌==◌, if◌then◌else◌, slice_get, slice_set}
-use Rattle.std.proofs.lemmas.Bool.{cases_Bool}
-use Rattle.std.proofs.lemmas.List.Elements.{All-head, All-tail, All-nil, All-cons}
-use lib.Pointwise.{bytes_decides, pointwise}
-use Rattle.portal_store.specs.declared.portal.Portal.{Portal}
-use Rattle.portal_store.specs.Portals.{has_name, without}
-use Rattle.session_rules.specs.State.{OpenPortal}
-use Rattle.session_rules.specs.Standing.{AreDifferent, AreOther}
-use Rattle.session_store.specs.State.{portal_state, portals_of}
-use Rattle.session_store.specs.Placed.{OwnerLies, PortalLies}
-use Rattle.session_store.proofs.Lists.{all_at}
-use Rattle.portal_store.specs.declared.portal.PortalState.{PortalState}
-use Rattle.portal_store.specs.declared.portal.PortalState.TheVariants.{New, Ready, Failed}
-use Rattle.portal_store.specs.Portal.{is_outer, kept_owner, sub_aborted, to_parent}
-use Rattle.context_tree.specs.State.{TreeState}
-use Rattle.session_owners.specs.ResourceState.{ResourceState}
+use Rattle.session_ends.proofs.Base.{◌≡◌, ◌≢◌, ℕ, ◌+◌, ◌-◌, ◌<◌, Bool, true, false, Option, Some, None, List, [], ◌∷◌, ◌++◌, length, All, IfSome, refl, sym, ap, ◌∙◌, subst, arith, inl, inr, suc, zero, find, ◌==◌, if◌then◌else◌, slice_get, slice_set, cases_Bool, All-head, All-tail, All-nil, All-cons, bytes_decides, pointwise}
+use Rattle.session_ends.proofs.Words.{Portal, has_name, without, OpenPortal, AreDifferent, AreOther, portal_state, portals_of, OwnerLies, PortalLies, all_at, PortalState, New, Ready, Failed, is_outer, kept_owner, sub_aborted, to_parent, TreeState, ResourceState}
 
 -- what holds of all holds of the one that is found
 pub found_all : {A : Type 0} (P : A → Type 0) (test : A → Bool) (xs : List A) → All P xs → IfSome (find test xs) P

@@ -22,3 +22,6 @@ pub mod Becoming
 pub mod Living
 pub mod Equipping
 pub mod Quiet
+pub mod Base
+pub mod Words
+pub mod Lemmas

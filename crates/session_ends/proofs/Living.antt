@@ -1,26 +1,8 @@
 -- What a portal of a store has is there where the session stands, and lies where its id says.
-use Rattle.std.proofs.Common.{◌≡◌, Option, Some, None, List, All, IfSome, refl, sym, ap, ◌∙◌, subst}
-use Rattle.std.specs.Option.{option_and_then, option_map}
-use Rattle.std.specs.Prelude.{ℕ}
-use Rattle.addr_space.specs.Space.{Space}
-use Rattle.forest.proofs.Mapped.{mapped-has}
-use Rattle.pgs_step.specs.declared.ids.CtxId.{CtxId}
-use Rattle.reset_callbacks.specs.ShelfState.{ShelfState}
-use Rattle.exec_core.specs.Turn.{IsScan}
-use Rattle.context_tree.specs.State.{TreeState, IsLive}
-use Rattle.portal_store.specs.declared.portal.Portal.{Portal}
-use Rattle.portal_store.specs.Portals.{portal_named}
-use Rattle.subxact_stack.specs.declared.levels.Level.{Level}
+use Rattle.session_ends.proofs.Base.{◌≡◌, Option, Some, None, List, All, IfSome, refl, sym, ap, ◌∙◌, subst, option_and_then, option_map, ℕ}
+use Rattle.session_ends.proofs.Words.{Space, mapped-has, CtxId, ShelfState, IsScan, TreeState, IsLive, Portal, portal_named, Level, ResourceState, Roomy, CommonState, StoreState, portal_state, session_of, IsPlaced, PortalLies, StandsIn, some_both, AreThere, PortalThere, are_there, HasPortalOwner, have_portal_owners}
 use Rattle.session_owners.specs.ResourceState as owners
-use Rattle.session_owners.specs.ResourceState.{ResourceState, Roomy, owners_of}
-use Rattle.session_owners.specs.Commons.{CommonState}
 use Rattle.session_rules.specs.Lookup as rules
-use Rattle.session_store.specs.State.{StoreState, portal_state, session_of}
-use Rattle.session_store.specs.Placed.{IsPlaced, PortalLies}
-use Rattle.session_store.specs.Calls.{StandsIn}
-use Rattle.session_store.proofs.Answered.{some_both}
-use Rattle.session_store.proofs.Kept.{AreThere, PortalThere, are_there}
-use Rattle.session_store.proofs.Owned.{HasPortalOwner, have_portal_owners}
 use Rattle.session_ends.proofs.Naming.{named_all, named_is}
 
 module _ (tree : TreeState) (table : ResourceState) (levels : List Level) (portals : List Portal) (placed : IsPlaced tree table levels portals) (v : StoreState) (is : record { tree = tree; owners = table; levels = levels; portals = portals } ≡ v) where

@@ -1,33 +1,6 @@
 -- The deepest level is marked as aborted, another context is the current one, and active snapshots are popped: what that leaves as it was.
-use Rattle.std.proofs.Common.{◌≡◌, ℕ, ◌<◌, true, false, List, [], ◌∷◌, ◌++◌, length, All, refl, sym, ap, ◌∙◌, subst, arith}
-use Rattle.std.proofs.lemmas.List.Elements.{All-push, All-weaker}
-use Rattle.addr_space.specs.Space.{Space}
-use Rattle.pgs_step.specs.declared.ids.CtxId.{CtxId}
-use Rattle.reset_callbacks.specs.ShelfState.{ShelfState}
-use Rattle.context_rules.specs.Contexts.{Contexts}
-use Rattle.context_tree.specs.State.{TreeState, stands_for}
-use Rattle.session_owners.specs.ResourceState.{AllAt, HoldsNothing, ResourceState, owners_of}
-use Rattle.session_owners.specs.Commons.{CommonState}
-use Rattle.session_owners.proofs.Balances.{balances_none}
-use Rattle.portal_store.specs.declared.portal.Portal.{Portal}
-use Rattle.subxact_stack.specs.declared.levels.Level.{Level}
-use Rattle.subxact_stack.specs.Levels.{with_deepest}
-use Rattle.session_rules.specs.State.{LevelState, OpenPortal, abort_context, deepest_changed, first_of, is_aborted, owner_of}
-use Rattle.session_rules.specs.World.{Scene}
-use Rattle.session_rules.specs.Acts.{changes}
-use Rattle.session_rules.specs.Standing.{IsMade, IsPortal, Stands, referred}
-use Rattle.session_rules.specs.Ending.{Ending}
-use Rattle.session_rules.proofs.ContextsKept.{protected_has}
-use Rattle.session_rules.proofs.EndsStand.{settled}
-use Rattle.session_rules.proofs.PlansAmong.{own_other, plans_current}
-use Rattle.session_rules.proofs.PortalsAmong.{place_own}
-use Rattle.session_store.specs.State.{StoreState, level_state, levels_of, portals_of, scene_of, session_of}
-use Rattle.session_store.specs.Placed.{IsPlaced, LevelLies}
-use Rattle.session_store.specs.Calls.{Acted, IsSilent, StandsIn}
-use Rattle.session_store.proofs.Depths.{all_deepest, deepest_new, levels_are, levels_long}
-use Rattle.session_store.proofs.Kept.{nowhere}
-use Rattle.session_store.proofs.Levelled.{leveled}
-use Rattle.session_ends.specs.Parts.{IsFreed, MayLeave}
+use Rattle.session_ends.proofs.Base.{◌≡◌, ℕ, ◌<◌, true, false, List, [], ◌∷◌, ◌++◌, length, All, refl, sym, ap, ◌∙◌, subst, arith, All-push, All-weaker}
+use Rattle.session_ends.proofs.Words.{Space, CtxId, ShelfState, Contexts, TreeState, stands_for, AllAt, HoldsNothing, ResourceState, owners_of, CommonState, balances_none, Portal, Level, with_deepest, LevelState, OpenPortal, abort_context, deepest_changed, first_of, is_aborted, owner_of, Scene, changes, IsMade, IsPortal, Stands, referred, Ending, protected_has, settled, own_other, plans_current, place_own, StoreState, level_state, levels_of, portals_of, scene_of, session_of, IsPlaced, LevelLies, Acted, IsSilent, StandsIn, all_deepest, deepest_new, levels_are, levels_long, nowhere, leveled, IsFreed, MayLeave}
 use Rattle.session_ends.proofs.Freed.{IsShut}
 
 -- the context for aborts is the current one, where there is a level
@@ -69,12 +42,13 @@ off_stands (level ∷ levels) s some h =
       snapshots = h.snapshots;
     }
 
-pub stands_off : (a : StoreState) (s : Space) (x : ShelfState) (commons : CommonState) (id : CtxId) → id.number ≡ abort_context → 0 < length a.levels → StandsIn a s x commons → StandsIn (record a { tree = record a.tree { current = id } }) s x commons
+pub stands_off : (a b : StoreState) (s : Space) (x : ShelfState) (commons : CommonState) (id : CtxId) → b ≡ record a { tree = record a.tree { current = id } } → id.number ≡ abort_context → 0 < length a.levels → StandsIn a s x commons → StandsIn b s x commons
 unfolding session_of stands_for
-stands_off a s x commons id number some stands around =
-    let some' : 0 < length (levels_of a.levels) = omega (arith, some, levels_long a.levels) in
+stands_off a b s x commons id is number some stands =
+    subst (λ (v : StoreState). StandsIn v s x commons) (sym is)
+    (λ around.
     let z : Scene = scene_of a s x commons around in
-    subst (λ (n : ℕ). Stands (record z { session = record z.session { current = n } })) (sym number) (off_stands (levels_of a.levels) z some' (stands around))
+    subst (λ (n : ℕ). Stands (record z { session = record z.session { current = n } })) (sym number) (off_stands (levels_of a.levels) z (omega (arith, some, levels_long a.levels)) (stands around)))
 
 -- only active snapshots are others
 pub stacked_leaves : (b : StoreState) (q : ResourceState) (s : Space) (x : ShelfState) → q ≡ record b.owners { stack = q.stack } → MayLeave b s x → MayLeave (record b { owners = q }) s x

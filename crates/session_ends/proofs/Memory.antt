@@ -1,26 +1,7 @@
 -- A portal's context goes, or all below it.
-use Rattle.std.proofs.Common.{◌≡◌, ℕ, false, Option, Some, None, List, [], IfSome, sym, ap, ◌∙◌, subst}
-use Rattle.std.specs.Prelude.{MatchOption}
-use Rattle.std.specs.Option.{option_map}
-use Rattle.addr_space.specs.Space.{Space}
-use Rattle.forest.specs.Forest.{Once, is_above}
-use Rattle.pgs_step.specs.declared.ids.CtxId.{CtxId}
-use Rattle.pgs_step.specs.declared.events.What.{What}
-use Rattle.reset_callbacks.specs.ShelfState.{ShelfState}
-use Rattle.context_rules.specs.Contexts.{Contexts}
+use Rattle.session_ends.proofs.Base.{◌≡◌, ℕ, false, Option, Some, None, List, [], IfSome, sym, ap, ◌∙◌, subst, MatchOption, option_map}
+use Rattle.session_ends.proofs.Words.{Space, Once, is_above, CtxId, What, ShelfState, Contexts, is_within, Did, DidNothing, TreeState, HooksFit, IsLive, stands_for, Portal, ResourceState, CommonState, balances_none, Level, of_contexts, where_there, StoreState, contexts_in, scene_of, session_of, Acted, did_acted}
 use Rattle.context_rules.specs.Ends as ends
-use Rattle.context_rules.specs.Refusals.{is_within}
-use Rattle.context_tree.specs.Calls.{Did, DidNothing}
-use Rattle.context_tree.specs.State.{TreeState, HooksFit, IsLive, stands_for}
-use Rattle.portal_store.specs.declared.portal.Portal.{Portal}
-use Rattle.session_owners.specs.ResourceState.{ResourceState}
-use Rattle.session_owners.specs.Commons.{CommonState}
-use Rattle.session_owners.proofs.Balances.{balances_none}
-use Rattle.subxact_stack.specs.declared.levels.Level.{Level}
-use Rattle.session_rules.specs.Acts.{of_contexts, where_there}
-use Rattle.session_store.specs.State.{StoreState, contexts_in, scene_of, session_of}
-use Rattle.session_store.specs.Calls.{Acted}
-use Rattle.session_store.proofs.Led.{did_acted}
 
 module _ (tree : TreeState) (owners : ResourceState) (levels : List Level) (portals : List Portal) (v : StoreState) (is : record { tree = tree; owners = owners; levels = levels; portals = portals } ≡ v) where
   pub is_hooked : (s : Space) (x : ShelfState) → HooksFit (contexts_in v s) x → HooksFit (stands_for tree s) x

@@ -1,16 +1,7 @@
 -- The portal of a name, in the list that a store keeps and in that of the session.
-use Rattle.std.proofs.Common.{◌≡◌, ◌≢◌, ℕ, zero, suc, false, List, [], ◌∷◌, Some, AllPairs, All, refl, sym, ap, subst, ◌∙◌, inl, inr, arith}
-use Rattle.std.specs.Option.{option_map}
-use Rattle.std.proofs.lemmas.Bool.{cases_Bool, false_from_ne_true}
-use Rattle.std.proofs.lemmas.List.Elements.{All-cons, All-head, All-tail}
-use Rattle.pgs_command.specs.Words.{is_text}
-use Rattle.pgs_command.proofs.ValueLemmas.{is_text-means}
-use Rattle.portal_store.specs.declared.portal.Portal.{Portal}
-use Rattle.portal_store.specs.Portals.{HasDistinctNames, changed, has_name, names, portal_named, without}
-use Rattle.session_rules.specs.State.{OpenPortal}
+use Rattle.session_ends.proofs.Base.{◌≡◌, ◌≢◌, ℕ, zero, suc, false, List, [], ◌∷◌, Some, AllPairs, All, refl, sym, ap, subst, ◌∙◌, inl, inr, arith, option_map, cases_Bool, false_from_ne_true, All-cons, All-head, All-tail, nat_tests}
+use Rattle.session_ends.proofs.Words.{is_text, is_text-means, Portal, HasDistinctNames, changed, has_name, names, portal_named, without, OpenPortal, portal_changed, portals_but, portal_state, portals_of}
 use Rattle.session_rules.specs.Lookup as rules
-use Rattle.session_rules.specs.Lookup.{portal_changed, portals_but}
-use Rattle.session_store.specs.State.{portal_state, portals_of}
 
 -- the portal of a name is that of the session
 pub named_is : (name : List ℕ) (ps : List Portal) → option_map portal_state (portal_named name ps) ≡ rules.portal_named name (portals_of ps)
@@ -32,9 +23,7 @@ named_all P name (q ∷ ps) p all e = elim (cases_Bool (has_name name q)) [
 pub changed_all : (P : Portal → Type 0) (name : List ℕ) (f : Portal → Portal) (ps : List Portal) → ((p : Portal) → portal_named name ps ≡ Some p → P p → P (f p)) → All P ps → All P (changed name f ps)
 changed_all P name f [] on all = all
 changed_all P name f (q ∷ ps) on all = elim (cases_Bool (has_name name q)) [
-  | inl y ↦
-      let here : portal_named name (q ∷ ps) ≡ Some q = rw y refl in
-      rw y (All-cons P (f q) ps (on q here (All-head P q ps all)) (All-tail P q ps all))
+  | inl y ↦ grind (arith, nat_tests, y, All-cons P (f q) ps (on q (rw y refl) (All-head P q ps all)) (All-tail P q ps all))
   | inr y ↦
       let behind : portal_named name (q ∷ ps) ≡ portal_named name ps = rw y refl in
       rw y (All-cons P q (changed name f ps) (All-head P q ps all) (changed_all P name f ps (λ p e. on p (behind ∙ e)) (All-tail P q ps all)))
@@ -56,15 +45,11 @@ other_text name q differs = false_from_ne_true (is_text q.name name) (λ u. diff
 
 none_changed : (name : List ℕ) (f : OpenPortal → OpenPortal) (ps : List Portal) → All (Differs name) (names ps) → portal_changed name f (portals_of ps) ≡ portals_of ps
 none_changed name f [] all = refl
-none_changed name f (q ∷ ps) all =
-    rw (other_text name q (All-head (Differs name) q.name (names ps) all))
-    (ap (λ (rs : List OpenPortal). portal_state q ∷ rs) (none_changed name f ps (All-tail (Differs name) q.name (names ps) all)))
+none_changed name f (q ∷ ps) all = grind (arith, nat_tests, other_text name q (All-head (Differs name) q.name (names ps) all), none_changed name f ps (All-tail (Differs name) q.name (names ps) all))
 
 none_but : (name : List ℕ) (ps : List Portal) → All (Differs name) (names ps) → portals_but name (portals_of ps) ≡ portals_of ps
 none_but name [] all = refl
-none_but name (q ∷ ps) all =
-    rw (other_text name q (All-head (Differs name) q.name (names ps) all))
-    (ap (λ (rs : List OpenPortal). portal_state q ∷ rs) (none_but name ps (All-tail (Differs name) q.name (names ps) all)))
+none_but name (q ∷ ps) all = grind (arith, nat_tests, other_text name q (All-head (Differs name) q.name (names ps) all), none_but name ps (All-tail (Differs name) q.name (names ps) all))
 
 first_others : (p : Portal) (ps : List Portal) (name : List ℕ) → HasDistinctNames (p ∷ ps) → p.name ≡ name → All (Differs name) (names ps)
 first_others p ps name distinct is = subst (λ (n : List ℕ). All (λ b. n ≢ b) (names ps)) is (pairs_head (λ (a b : List ℕ). a ≢ b) p.name (names ps) distinct)
@@ -73,9 +58,7 @@ first_others p ps name distinct is = subst (λ (n : List ℕ). All (λ b. n ≢ 
 pub changed_is : (name : List ℕ) (f : Portal → Portal) (g : OpenPortal → OpenPortal) (ps : List Portal) → HasDistinctNames ps → ((p : Portal) → portal_state (f p) ≡ g (portal_state p)) → portals_of (changed name f ps) ≡ portal_changed name g (portals_of ps)
 changed_is name f g [] distinct same = refl
 changed_is name f g (p ∷ ps) distinct same = elim (cases_Bool (has_name name p)) [
-  | inl y ↦
-      let others = first_others p ps name distinct (is_text-means p.name name y) in
-      rw y (ap (λ (q : OpenPortal). q ∷ portals_of ps) (same p) ∙ ap (λ (rs : List OpenPortal). g (portal_state p) ∷ rs) (sym (none_changed name g ps others)))
+  | inl y ↦ grind (arith, nat_tests, first_others p ps name distinct (is_text-means p.name name y), y, same p, none_changed name g ps (first_others p ps name distinct (is_text-means p.name name y)))
   | inr y ↦ rw y (ap (λ (rs : List OpenPortal). portal_state p ∷ rs) (changed_is name f g ps (pairs_tail (λ (a b : List ℕ). a ≢ b) p.name (names ps) distinct) same))
 ]
 

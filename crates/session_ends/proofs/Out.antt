@@ -1,31 +1,7 @@
 -- Contexts and owners go: what that leaves of a store, and what it names still lies where it lay.
-use Rattle.std.proofs.Common.{◌≡◌, ℕ, true, Option, Some, None, List, All, IfSome, refl, sym, ap, ◌∙◌, subst, arith}
-use Rattle.std.proofs.lemmas.List.Elements.{All-weaker}
-use Rattle.addr_space.specs.Space.{Space, Asks}
-use Rattle.forest.specs.Forest.{Forest, Empty, Once, at, has, with_children}
-use Rattle.forest.proofs.Trees.{has_some, times_some}
-use Rattle.forest.proofs.Mapped.{mapped-has}
-use Rattle.pgs_step.specs.declared.ids.CtxId.{CtxId}
-use Rattle.pgs_step.specs.declared.ids.OwnerId.{OwnerId}
-use Rattle.context_tree.specs.State.{TreeState}
-use Rattle.context_tree.proofs.Composed.{tree_more}
-use Rattle.plan_store.specs.Plans.{Plans}
-use Rattle.portal_store.specs.declared.portal.Portal.{Portal}
+use Rattle.session_ends.proofs.Base.{◌≡◌, ℕ, true, Option, Some, None, List, All, IfSome, refl, sym, ap, ◌∙◌, subst, arith, All-weaker}
+use Rattle.session_ends.proofs.Words.{Space, Asks, Forest, Empty, Once, at, has, with_children, has_some, times_some, mapped-has, CtxId, OwnerId, TreeState, tree_more, Plans, Portal, ResourceState, Roomy, owners_of, AreLeft, contexts_of, Level, times_emptied, StoreState, IsPlaced, LevelLies, Lies, OwnerLies, PortalLies, Keeps, PortalsAlone, some_more, all_left, OwnersGo, held_is, keeps_on, HaveGone, goes_nothing, GoesOut}
 use Rattle.session_owners.specs.ResourceState as owners
-use Rattle.session_owners.specs.ResourceState.{ResourceState, Roomy, owners_of}
-use Rattle.session_owners.specs.Placing.{AreLeft, contexts_of}
-use Rattle.subxact_stack.specs.declared.levels.Level.{Level}
-use Rattle.session_rules.proofs.Forests.{times_emptied}
-use Rattle.session_store.specs.State.{StoreState}
-use Rattle.session_store.specs.Placed.{IsPlaced, LevelLies, Lies, OwnerLies, PortalLies}
-use Rattle.session_store.specs.Calls.{Keeps, PortalsAlone}
-use Rattle.session_store.proofs.Answered.{some_more}
-use Rattle.session_store.proofs.Lists.{all_left}
-use Rattle.session_store.proofs.Owned.{OwnersGo}
-use Rattle.session_store.proofs.Sums.{held_is, keeps_on}
-use Rattle.session_ends.specs.Place.{HaveGone}
-use Rattle.session_ends.specs.PlaceLaws.{goes_nothing}
-use Rattle.session_ends.specs.Portals.{GoesOut}
 
 -- what holds of an option's value
 pub some_is : {A : Type 0} (P : A → Type 0) (o : Option A) (x : A) → IfSome o P → o ≡ Some x → P x

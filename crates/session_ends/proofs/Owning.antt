@@ -1,12 +1,6 @@
 -- An owner is released into its parent and discarded.
-use Rattle.std.proofs.Common.{◌≡◌, ◌↔◌, ℕ, true, false, Option, Some, None, [], ◌∷◌, IfSome, refl, sym, ◌∙◌}
-use Rattle.forest.specs.Forest.{parent_of}
-use Rattle.pgs_step.specs.declared.ids.OwnerId.{OwnerId}
-use Rattle.session_owners.specs.ResourceState.{ResourceState, owners_of}
-use Rattle.session_rules.specs.World.{Scene}
-use Rattle.session_rules.specs.Acts.{in_order, where_there}
-use Rattle.session_rules.specs.Releases.{owner_gone, owner_released}
-use Rattle.session_ends.specs.Portals.{owner_ended}
+use Rattle.session_ends.proofs.Base.{◌≡◌, ◌↔◌, ℕ, true, false, Option, Some, None, [], ◌∷◌, IfSome, refl, sym, ◌∙◌}
+use Rattle.session_ends.proofs.Words.{parent_of, OwnerId, ResourceState, owners_of, Scene, in_order, where_there, owner_gone, owner_released, owner_ended}
 
 pub has_parent : (owner : Option OwnerId) (table : ResourceState) → IfSome owner (λ o. (p : ℕ) × (parent_of o.number (owners_of table) ≡ Some p)) → IfSome owner (λ o. (false ≡ true) ↔ (parent_of o.number (owners_of table) ≡ None))
 has_parent None table h = tt

@@ -1,11 +1,6 @@
 -- A portal passes to the level above.
-use Rattle.std.proofs.Common.{◌≡◌, ℕ, Bool, true, false, Option, None, refl, ap, ◌∙◌}
-use Rattle.std.specs.Prelude.{if◌then◌else◌}
-use Rattle.pgs_step.specs.declared.ids.OwnerId.{OwnerId}
-use Rattle.session_rules.specs.World.{Scene}
-use Rattle.session_rules.specs.Acts.{where_so, where_there}
-use Rattle.session_rules.specs.Releases.{owner_moved}
-use Rattle.session_ends.specs.Portals.{number_in}
+use Rattle.session_ends.proofs.Base.{◌≡◌, ℕ, Bool, true, false, Option, None, refl, ap, ◌∙◌, if◌then◌else◌}
+use Rattle.session_ends.proofs.Words.{OwnerId, Scene, where_so, where_there, owner_moved, number_in}
 
 -- its owner moves where it is of the level
 pub moves_where : (b : Bool) (owner moved : Option OwnerId) (to : Option ℕ) (z : Scene) → moved ≡ (if b then owner else None)

@@ -1,49 +1,10 @@
 -- A portal ends within its transaction: what each part asks for.
-use Rattle.std.proofs.Common.{◌≡◌, ℕ, ◌+◌, ◌≤◌, Bool, true, false, Option, Some, None, List, [], ◌∷◌, ◌++◌, length, IfSome, refl, sym, ap, ◌∙◌, subst, arith, inl, inr}
-use Rattle.std.specs.Prelude.{◌==◌, if◌then◌else◌}
-use Rattle.std.specs.Option.{option_map}
-use Rattle.std.proofs.lemmas.Bool.{cases_Bool, eqb-false, false_from_ne_true}
-use Rattle.addr_space.specs.Space.{Space}
-use lib.Pointwise.{bytes_decides}
-use Rattle.forest.specs.Forest.{parent_of}
-use Rattle.forest.proofs.Mapped.{mapped-has}
-use Rattle.pgs_step.specs.declared.ids.CtxId.{CtxId}
-use Rattle.pgs_step.specs.declared.ids.OwnerId.{OwnerId}
-use Rattle.pgs_step.specs.declared.events.What.{What}
-use Rattle.reset_callbacks.specs.ShelfState.{ShelfState}
-use Rattle.context_rules.specs.Refusals.{is_within}
-use Rattle.context_tree.specs.State.{HooksFit, IsLive}
-use Rattle.owner_core.specs.Owners.{has_begun}
-use Rattle.portal_store.specs.declared.portal.Portal.{Portal}
-use Rattle.portal_store.specs.Portals.{has_name, portal_named}
+use Rattle.session_ends.proofs.Base.{◌≡◌, ℕ, ◌+◌, ◌≤◌, Bool, true, false, Option, Some, None, List, [], ◌∷◌, ◌++◌, length, IfSome, refl, sym, ap, ◌∙◌, subst, arith, inl, inr, ◌==◌, if◌then◌else◌, option_map, cases_Bool, eqb-false, false_from_ne_true, bytes_decides}
+use Rattle.session_ends.proofs.Words.{Space, parent_of, mapped-has, CtxId, OwnerId, What, ShelfState, is_within, HooksFit, IsLive, has_begun, Portal, has_name, portal_named, Roomy, owners_of, CommonState, LevelState, OpenPortal, Scene, in_order, nothing, where_so, where_there, executor_ended, is_ready, portal_ended, portal_owner_ended, at_portal, owner_gone, owner_released, AreContexts, AreDifferent, AreHooks, FitLevels, IsAttached, IsPlace, IsPortal, IsWorking, Stands, owner_at, protected_has, is_there, place_spared, executor_beside, Named, named_in, split_portals, this_live, this_portal, Beside, nothing_beside, HasSettled, besides_of, release_settles, depth_small, not_released, StoreState, contexts_in, levels_of, portal_state, portals_of, scene_of, session_of, Lies, OwnerLies, PortalLies, Acted, if_some, has_kept, nowhere, acted_as, PlansMayGo, executor_at, number_in, owner_ended}
 use Rattle.session_owners.specs.ResourceState as owners
-use Rattle.session_owners.specs.ResourceState.{Roomy, owners_of}
-use Rattle.session_owners.specs.Commons.{CommonState}
-use Rattle.session_rules.specs.State.{LevelState, OpenPortal}
-use Rattle.session_rules.specs.World.{Scene}
 use Rattle.session_rules.specs.Lookup as rules
-use Rattle.session_rules.specs.Acts.{in_order, nothing, where_so, where_there}
-use Rattle.session_rules.specs.Portals.{executor_ended, is_ready, portal_ended, portal_owner_ended}
-use Rattle.session_rules.specs.Parts.{at_portal}
-use Rattle.session_rules.specs.Releases.{owner_gone, owner_released}
-use Rattle.session_rules.specs.Standing.{AreContexts, AreDifferent, AreHooks, FitLevels, IsAttached, IsLive as IsLivePortal, IsPlace, IsPortal, IsWorking, Stands, owner_at}
-use Rattle.session_rules.proofs.ContextsKept.{protected_has}
+use Rattle.session_rules.specs.Standing.{IsLive as IsLivePortal}
 use Rattle.session_rules.proofs.EndsStand.{owner_made}
-use Rattle.session_rules.proofs.LevelsKept.{is_there}
-use Rattle.session_rules.proofs.PortalsAmong.{place_spared}
-use Rattle.session_rules.proofs.PortalEnds.{executor_beside}
-use Rattle.session_rules.proofs.PortalsStand.{Named, named_in, split_portals, this_live, this_portal}
-use Rattle.session_rules.proofs.PortalWorks.{Beside, nothing_beside}
-use Rattle.session_rules.proofs.Settling.{HasSettled, besides_of, release_settles}
-use Rattle.session_rules.proofs.Stacked.{depth_small}
-use Rattle.session_rules.proofs.StepsStand.{not_released}
-use Rattle.session_store.specs.State.{StoreState, contexts_in, levels_of, portal_state, portals_of, scene_of, session_of}
-use Rattle.session_store.specs.Placed.{Lies, OwnerLies, PortalLies}
-use Rattle.session_store.specs.Calls.{Acted}
-use Rattle.session_store.proofs.Answered.{if_some}
-use Rattle.session_store.proofs.Kept.{has_kept, nowhere}
-use Rattle.session_store.proofs.Owned.{acted_as}
-use Rattle.session_ends.specs.Portals.{PlansMayGo, executor_at, number_in, owner_ended}
 use Rattle.session_ends.proofs.Dealing.{place_apart}
 use Rattle.session_ends.proofs.Going.{may_go}
 use Rattle.session_ends.proofs.Out.{some_is}

@@ -1,29 +1,6 @@
 -- The end of a level is about no portal that was made at a lower level and is active in none that is as deep.
-use Rattle.std.proofs.Common.{◌≡◌, ℕ, ◌<◌, ◌≤◌, ◌+◌, Bool, true, false, List, [], ◌∷◌, ◌++◌, All, append_assoc, drop, length, refl, sym, ap, ◌∙◌, subst, arith}
-use Rattle.std.specs.Prelude.{◌==◌}
-use Rattle.std.proofs.lemmas.Bool.{ne_eqb}
-use Rattle.std.proofs.lemmas.List.{drop-append-le, drop-map, get_or-append-add, length-append}
-use Rattle.std.proofs.lemmas.List.Elements.{All-head, All-map, All-tail}
-use Rattle.addr_space.specs.Space.{Space}
-use Rattle.pgs_step.specs.declared.events.What.{What}
-use Rattle.reset_callbacks.specs.ShelfState.{ShelfState}
-use Rattle.portal_store.specs.declared.portal.Portal.{Portal}
-use Rattle.portal_store.specs.Portal.{lowered}
-use Rattle.session_owners.specs.Commons.{CommonState}
-use Rattle.session_owners.proofs.Balances.{balances_none}
-use Rattle.session_rules.specs.State.{LevelState, OpenPortal}
-use Rattle.session_rules.specs.Lookup.{portal_changed}
-use Rattle.session_rules.specs.World.{Scene}
-use Rattle.session_rules.specs.Acts.{Ended, context_gone, for_each, in_order, nothing, portal_becomes, portal_gone, where_so, where_there}
-use Rattle.session_rules.specs.Portals.{portal_failed, portal_withdrawn}
-use Rattle.session_rules.specs.Releases.{owner_moved}
-use Rattle.session_rules.specs.Standing.{AreDifferent}
-use Rattle.session_rules.proofs.PortalLists.{changed_one}
-use Rattle.session_store.specs.State.{StoreState, levels_of, portal_state, portals_of, scene_of, session_of}
-use Rattle.session_store.specs.Calls.{Acted, IsSilent}
-use Rattle.session_ends.specs.Portals.{EndsSo, IsEnding, left_by, number_in, portal_after}
-use Rattle.session_ends.specs.declared.portals.LevelEnd.{LevelEnd}
-use Rattle.session_ends.specs.declared.portals.LevelEnd.TheVariants.{Merges, Aborts, Goes}
+use Rattle.session_ends.proofs.Base.{◌≡◌, ℕ, ◌<◌, ◌≤◌, ◌+◌, Bool, true, false, List, [], ◌∷◌, ◌++◌, All, append_assoc, drop, length, refl, sym, ap, ◌∙◌, subst, arith, ◌==◌, ne_eqb, drop-append-le, drop-map, get_or-append-add, length-append, All-head, All-map, All-tail}
+use Rattle.session_ends.proofs.Words.{Space, What, ShelfState, Portal, lowered, CommonState, balances_none, LevelState, OpenPortal, portal_changed, Scene, Ended, context_gone, for_each, in_order, nothing, portal_becomes, portal_gone, where_so, where_there, portal_failed, portal_withdrawn, owner_moved, AreDifferent, changed_one, StoreState, levels_of, portal_state, portals_of, scene_of, session_of, Acted, IsSilent, EndsSo, IsEnding, left_by, number_in, portal_after, LevelEnd, Merges, Aborts, Goes}
 use Rattle.session_ends.proofs.Acting.{acted_quiet}
 use Rattle.session_ends.proofs.Dealing.{ending_step}
 use Rattle.session_ends.proofs.Walking.{acted_more, all_done, settling_leads}

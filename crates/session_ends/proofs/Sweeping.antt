@@ -1,26 +1,7 @@
 -- The portals of an aborted level go, and its owner holds nothing still.
-use Rattle.std.proofs.Common.{◌≡◌, ◌<◌, ℕ, Bool, true, false, arith, length, Option, Some, None, List, [], ◌∷◌, refl, sym, ap, ◌∙◌, subst}
-use Rattle.std.specs.Prelude.{◌==◌, drop}
-use Rattle.addr_space.specs.Space.{Space}
-use Rattle.pgs_step.specs.declared.events.What.{What}
-use Rattle.reset_callbacks.specs.ShelfState.{ShelfState}
-use Rattle.owner_core.specs.Owners.{OwnerTree}
-use Rattle.session_owners.specs.ResourceState.{AllAt, HoldsNothing, owners_of}
-use Rattle.session_owners.specs.Commons.{CommonState}
-use Rattle.subxact_stack.specs.declared.levels.Level.{Level}
-use Rattle.session_rules.specs.State.{LevelState, OpenPortal, first_of, is_aborted, level_owner, owner_of}
-use Rattle.session_rules.specs.World.{Scene}
-use Rattle.session_rules.specs.Acts.{context_gone, for_each, in_order, portal_gone, where_so, where_there}
-use Rattle.session_store.specs.State.{StoreState, levels_of, scene_of, session_of}
-use Rattle.session_store.specs.Calls.{Acted}
-use Rattle.session_store.proofs.Kept.{nowhere}
-use Rattle.session_ends.specs.Portals.{EndsSo, IsEnding, left_by, number_in, portal_after}
-use Rattle.session_ends.specs.declared.portals.LevelEnd.TheVariants.{Merges, Aborts, Goes}
+use Rattle.session_ends.proofs.Base.{◌≡◌, ◌<◌, ℕ, Bool, true, false, arith, length, Option, Some, None, List, [], ◌∷◌, refl, sym, ap, ◌∙◌, subst, ◌==◌, drop}
+use Rattle.session_ends.proofs.Words.{Space, What, ShelfState, OwnerTree, AllAt, HoldsNothing, owners_of, CommonState, Level, LevelState, OpenPortal, first_of, is_aborted, level_owner, owner_of, Scene, context_gone, for_each, in_order, portal_gone, where_so, where_there, StoreState, levels_of, scene_of, session_of, Acted, nowhere, EndsSo, IsEnding, left_by, number_in, portal_after, Merges, Aborts, Goes, level_released, owner_released, settled, OwnerId}
 use Rattle.session_ends.proofs.Freed.{IsShut, all_end, shuts_in}
-use Rattle.session_rules.specs.Ends.{level_released}
-use Rattle.session_rules.specs.Releases.{owner_released}
-use Rattle.session_rules.proofs.EndsStand.{settled}
-use Rattle.pgs_step.specs.declared.ids.OwnerId.{OwnerId}
 
 pub goes_so : (ls : List LevelState) (level : LevelState) (above : List LevelState) → ls ≡ level ∷ above → is_aborted ls ≡ true → EndsSo Goes ls
 goes_so ls level above e aborted = subst (EndsSo Goes) (sym e) (sym (ap is_aborted e) ∙ aborted)

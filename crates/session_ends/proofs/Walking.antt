@@ -1,32 +1,8 @@
 -- The way through the portals: some are done, the others are left.
-use Rattle.std.proofs.Common.{◌≡◌, ℕ, ◌+◌, ◌-◌, ◌≤◌, false, IfSome, Option, Some, None, List, [], ◌∷◌, ◌++◌, append-nil, append_assoc, length, refl, sym, ap, ◌∙◌, subst, arith}
-use Rattle.std.specs.Prelude.{slice_get}
-use Rattle.std.proofs.lemmas.List.{length-append, length-map}
-use Rattle.addr_space.specs.Space.{Space}
-use Rattle.pgs_step.specs.declared.events.What.{What}
-use Rattle.reset_callbacks.specs.ShelfState.{ShelfState}
-use Rattle.portal_store.specs.declared.portal.Portal.{Portal}
+use Rattle.session_ends.proofs.Base.{◌≡◌, ℕ, ◌+◌, ◌-◌, ◌≤◌, false, IfSome, Option, Some, None, List, [], ◌∷◌, ◌++◌, append-nil, append_assoc, length, refl, sym, ap, ◌∙◌, subst, arith, slice_get, length-append, length-map}
+use Rattle.session_ends.proofs.Words.{Space, What, ShelfState, Portal, CommonState, Serves, balances_more, balances_none, LevelState, OpenPortal, Scene, Ended, and_then, behind, for_each, StoreState, levels_of, portal_state, portals_of, scene_of, session_of, Acted, EndsSo, GoesOut, IsEnding, left_by, none_left, number_in, owner_to, portal_after, portal_aborted, portal_closed, portal_passed, IsMade, Ending, gone_levels, Leads, owner_when_active, closed_leads, swept_leads, aborted_leads, passed_leads, levels_long, LevelEnd, Merges, Aborts, Goes, nowhere}
 use Rattle.session_owners.specs.ResourceState as owners
-use Rattle.session_owners.specs.Commons.{CommonState, Serves}
-use Rattle.session_owners.proofs.Balances.{balances_more, balances_none}
-use Rattle.session_rules.specs.State.{LevelState, OpenPortal}
-use Rattle.session_rules.specs.World.{Scene}
-use Rattle.session_rules.specs.Acts.{Ended, and_then, behind, for_each}
-use Rattle.session_store.specs.State.{StoreState, levels_of, portal_state, portals_of, scene_of, session_of}
-use Rattle.session_store.specs.Calls.{Acted}
-use Rattle.session_ends.specs.Portals.{EndsSo, GoesOut, IsEnding, left_by, none_left, number_in, owner_to, portal_after}
-use Rattle.session_rules.specs.Portals.{portal_aborted, portal_closed, portal_passed}
-use Rattle.session_rules.specs.Standing.{IsLive, IsMade}
-use Rattle.session_rules.specs.Ending.{Ending, gone_levels}
-use Rattle.session_rules.proofs.Ending.{Leads}
-use Rattle.session_rules.proofs.EndsStand.{owner_when_active}
-use Rattle.session_rules.proofs.Replacing.{closed_leads, swept_leads}
-use Rattle.session_rules.proofs.Failing.{aborted_leads}
-use Rattle.session_rules.proofs.Passing.{passed_leads}
-use Rattle.session_store.proofs.Depths.{levels_long}
-use Rattle.session_ends.specs.declared.portals.LevelEnd.{LevelEnd}
-use Rattle.session_ends.specs.declared.portals.LevelEnd.TheVariants.{Merges, Aborts, Goes}
-use Rattle.session_store.proofs.Kept.{nowhere}
+use Rattle.session_rules.specs.Standing.{IsLive}
 use Rattle.session_ends.proofs.Dealing.{comes_next, none_next, one_level}
 
 -- an act for one more

@@ -1,28 +1,7 @@
 -- A level is left, act by act, in scenes of a store's session.
-use Rattle.std.proofs.Common.{◌≡◌, ℕ, Bool, Option, Some, None, List, [], ◌∷◌, ◌++◌, refl, sym, ap, ◌∙◌, subst}
-use Rattle.std.specs.Prelude.{MatchOption, unwrap_or}
-use Rattle.std.specs.Option.{option_map}
-use Rattle.addr_space.specs.Space.{Space}
-use Rattle.pgs_step.specs.declared.ids.CtxId.{CtxId}
-use Rattle.pgs_step.specs.declared.events.What.{What}
-use Rattle.reset_callbacks.specs.ShelfState.{ShelfState}
-use Rattle.context_rules.specs.Ends.{gone, handed_in}
-use Rattle.context_tree.specs.Calls.{Did, DidNothing}
-use Rattle.context_tree.specs.State.{TreeState, stands_for}
-use Rattle.session_owners.specs.ResourceState.{ResourceState}
-use Rattle.subxact_stack.specs.declared.levels.Level.{Level}
-use Rattle.session_rules.specs.State.{LevelState, context_of, first_of}
-use Rattle.session_rules.specs.World.{Around, Scene}
-use Rattle.session_rules.specs.Acts.{Ended, context_gone, in_order, where_there}
-use Rattle.session_rules.specs.Releases.{owner_gone}
-use Rattle.session_rules.specs.Ends.{level_owner_gone, level_popped, switched_up}
+use Rattle.session_ends.proofs.Base.{◌≡◌, ℕ, Bool, Option, Some, None, List, [], ◌∷◌, ◌++◌, refl, sym, ap, ◌∙◌, subst, MatchOption, unwrap_or, option_map}
+use Rattle.session_ends.proofs.Words.{Space, CtxId, What, ShelfState, gone, handed_in, Did, DidNothing, TreeState, stands_for, ResourceState, Level, LevelState, context_of, first_of, Around, Scene, Ended, context_gone, in_order, where_there, owner_gone, level_owner_gone, level_popped, switched_up, Balances, CommonState, StoreState, level_state, levels_of, session_of, Acted, leveled, made_same, scene_leveled, scene_made, context_left, going, level_left, number_in}
 use Rattle.session_owners.specs.Fitting as fitting
-use Rattle.session_owners.specs.Commons.{Balances, CommonState}
-use Rattle.session_store.specs.State.{StoreState, level_state, levels_of, session_of}
-use Rattle.session_store.specs.Calls.{Acted}
-use Rattle.session_store.proofs.Levelled.{leveled, made_same, scene_leveled, scene_made}
-use Rattle.session_ends.specs.Parts.{context_left, going, level_left}
-use Rattle.session_ends.specs.Portals.{number_in}
 use Rattle.session_ends.proofs.Ending.{going_gone}
 
 -- an act went from scene to scene, and what was said is what it says

@@ -13,9 +13,9 @@ parts_in scene owners next_owner next_serial recent descriptors kinds ls hs pinn
   around = record scene.around { kinds = kinds; locked = hs; pinned = pinned; descriptors = descriptors };
 }
 
-owners_same : (scene : Scene) (o p : OwnerTree) (m n s t : ℕ) (fs gs : List ℕ) (d e : ℕ) (ks js : List Kind) (ls ms : List Lock) (hs is : List Holding) (us vs : List ℕ) (xs ys : List Active) (ps qs : List StandingPlan)
+owners_same : (scene : Scene) (ks js : List Kind) {o p : OwnerTree} {m n s t : ℕ} {fs gs : List ℕ} {d e : ℕ} {ls ms : List Lock} {hs is : List Holding} {us vs : List ℕ} {xs ys : List Active} {ps qs : List StandingPlan}
     → o ≡ p → m ≡ n → s ≡ t → fs ≡ gs → d ≡ e → ks ≡ js → ls ≡ ms → hs ≡ is → us ≡ vs → xs ≡ ys → ps ≡ qs → parts_in scene o m s fs d ks ls hs us xs ps ≡ parts_in scene p n t gs e js ms is vs ys qs
-owners_same scene o p m n s t fs gs d e ks js ls ms hs is us vs xs ys ps qs f g h i j k l q u x y = rw (f, g, h, i, j, k, l, q, u, x, y) refl
+owners_same scene ks js f g h i j k l q u x y = rw (f, g, h, i, j, k, l, q, u, x, y) refl
 
 pub fit_is : (a : ResourceState) (c : CommonState) (scene : Scene) → OwnersFit a c scene → scene ≡ with_owners a c scene
 unfolding parts_in
@@ -40,24 +40,13 @@ state_of table files locks stack plans = record {
 pub acted_nothing : (a : ResourceState) (c : CommonState) (Says : List What → Type 0) → Says [] → Acted nothing a a c c Says
 acted_nothing a c Says none = record { leads = fit_is a c; says = λ scene fit. none }
 
--- a scene with these owners and files and with these locks, plans, kinds and active snapshots, and what others have locked and pinned
-with_parts : Scene → OwnerTree → ℕ → ℕ → List ℕ → ℕ → List Lock → List StandingPlan → List Kind → List Holding → List ℕ → List Active → Scene
-with_parts scene owners next_owner next_serial recent descriptors all plans kinds hs pinned stack = record {
-  session = record scene.session { owners = owners; next_owner = next_owner; next_serial = next_serial; locks = all; plans = plans; recent = recent; snapshots = stack };
-  around = record scene.around { kinds = kinds; locked = hs; pinned = pinned; descriptors = descriptors };
-}
-
-parts_same : (scene : Scene) (o p : OwnerTree) (m n s t : ℕ) (fs gs : List ℕ) (c d : ℕ) (ls ms : List Lock) (ps qs : List StandingPlan) (ks js : List Kind) (hs is : List Holding) (us vs : List ℕ) (xs ys : List Active)
-    → o ≡ p → m ≡ n → s ≡ t → fs ≡ gs → c ≡ d → ls ≡ ms → ps ≡ qs → ks ≡ js → hs ≡ is → us ≡ vs → xs ≡ ys → with_parts scene o m s fs c ls ps ks hs us xs ≡ with_parts scene p n t gs d ms qs js is vs ys
-parts_same scene o p m n s t fs gs c d ls ms ps qs ks js hs is us vs xs ys e f g h i j k l q u x = rw (e, f, g, h, i, j, k, l, q, u, x) refl
-
 -- a scene that owners and files fit, with its parts
 bare : ResourceState → CommonState → Scene → Scene
-bare a c scene = with_parts scene (owners_of a) a.next_owner a.next_serial a.recent a.descriptors a.locks (plans_of a) c.kinds (beside a.session c.locks) (pinned_beside (owners_of a) c.pins) a.stack
+bare a c scene = parts_in scene (owners_of a) a.next_owner a.next_serial a.recent a.descriptors c.kinds a.locks (beside a.session c.locks) (pinned_beside (owners_of a) c.pins) a.stack (plans_of a)
 
 is_bare : (a : ResourceState) (c : CommonState) (scene : Scene) → OwnersFit a c scene → scene ≡ bare a c scene
-unfolding bare with_parts
-is_bare a c scene fit = grind (arith, parts_same scene scene.session.owners (owners_of a) scene.session.next_owner a.next_owner scene.session.next_serial a.next_serial scene.session.recent a.recent scene.around.descriptors a.descriptors)
+unfolding bare parts_in
+is_bare a c scene fit = grind (arith, owners_same)
 
 -- an act that leads so from each such scene
 acted_bare : (act : Scene → Ended) (a b : ResourceState) (c d : CommonState) (Says : List What → Type 0)
@@ -88,10 +77,10 @@ seen_same a b c d same held = ap (λ (n : ℕ). beside n c.locks) (sym same.sess
 
 pub acted_made : (parent : Option ℕ) (a b : ResourceState) (c : CommonState) (Says : List What → Type 0) → owners_of b ≡ created parent a.next_owner (owners_of a)
     → b.next_owner ≡ a.next_owner + 1 → b.next_serial ≡ a.next_serial → SameFiles a b → SameLocks a b → Says (made_event parent a.next_owner ∷ []) → Acted (owner_made parent) a b c c Says
-unfolding bare with_parts parts_in
+unfolding bare parts_in
 acted_made parent a b c Says e f g files same says =
     acted_bare (owner_made parent) a b c c Says
-    (λ scene. owners_same (bare a c scene) (created parent a.next_owner (owners_of a)) (owners_of b) (a.next_owner + 1) b.next_owner a.next_serial b.next_serial a.recent b.recent a.descriptors b.descriptors c.kinds c.kinds a.locks b.locks (beside a.session c.locks) (beside b.session c.locks) (pinned_beside (owners_of a) c.pins) (pinned_beside (owners_of b) c.pins) a.stack b.stack (plans_of a) (plans_of b)
+    (λ scene. owners_same (bare a c scene) c.kinds c.kinds
     (sym e) (sym f) (sym g) (sym files.recent) (sym files.descriptors) refl (sym same.locks) (seen_same a b c c same refl) (beside_still (owners_of a) (owners_of b) c.pins (λ buffer. ap (pinned_once buffer) e ∙ pinned_same (owners_of a) (created parent a.next_owner (owners_of a)) buffer (held_created buffer_pin buffer parent a.next_owner (owners_of a)))) (sym same.stack) (plans_same a b same.plans))
     (λ scene. says)
 
@@ -99,11 +88,11 @@ pub acted_taken : (n : ℕ) (kind : KindId) (key : ℕ) (a b : ResourceState) (c
     → owners_of b ≡ remembered n (record { kind = kind; key = key; serial = a.next_serial }) (owners_of a)
     → b.next_owner ≡ a.next_owner → b.next_serial ≡ a.next_serial + 1 → SameFiles a b → SameLocks a b
     → Says (What.Acquire (record { kind = kind; key = key; serial = a.next_serial }) n ∷ []) → Acted (item_taken n kind key) a b c c Says
-unfolding bare with_parts parts_in
+unfolding bare parts_in
 acted_taken n kind key a b c Says unkept from e f g files same says =
     acted_bare (item_taken n kind key) a b c c Says
     (λ scene. ap (λ (k : Keeper). (in_order (taken_by k key ∷ remembers n kind key ∷ []) (bare a c scene)).scene) unkept
-    ∙ owners_same (bare a c scene) (remembered n (record { kind = kind; key = key; serial = a.next_serial }) (owners_of a)) (owners_of b) a.next_owner b.next_owner (a.next_serial + 1) b.next_serial a.recent b.recent a.descriptors b.descriptors c.kinds c.kinds a.locks b.locks (beside a.session c.locks) (beside b.session c.locks) (pinned_beside (owners_of a) c.pins) (pinned_beside (owners_of b) c.pins) a.stack b.stack (plans_of a) (plans_of b)
+    ∙ owners_same (bare a c scene) c.kinds c.kinds
     (sym e) (sym f) (sym g) (sym files.recent) (sym files.descriptors) refl (sym same.locks) (seen_same a b c c same refl) (beside_still (owners_of a) (owners_of b) c.pins (λ buffer. ap (pinned_once buffer) e ∙ pinned_remembered n (record { kind = kind; key = key; serial = a.next_serial }) (owners_of a) buffer (λ z. omega (arith, z, from)))) (sym same.stack) (plans_same a b same.plans))
     (λ scene. subst (λ (k : Keeper). Says (in_order (taken_by k key ∷ remembers n kind key ∷ []) (bare a c scene)).events) (sym unkept) says)
 
@@ -112,11 +101,10 @@ pub acted_pinned : (n buffer : ℕ) (a b : ResourceState) (c d : CommonState) (S
     → b.next_owner ≡ a.next_owner → b.next_serial ≡ a.next_serial + 1 → SameFiles a b → SameLocks a b → d.kinds ≡ c.kinds → d.locks ≡ c.locks
     → ((q : ℕ) → slice_index d.pins q + pinned_once q (owners_of a) ≡ slice_index c.pins q + pinned_once q (owners_of b))
     → Says (What.Acquire (record { kind = record { 0 = 1 }; key = buffer; serial = a.next_serial }) n ∷ []) → Acted (item_taken n buffer_pin buffer) a b c d Says
-unfolding bare with_parts parts_in
+unfolding bare parts_in
 acted_pinned n buffer a b c d Says e f g files same kinds held pins says =
     acted_bare (item_taken n buffer_pin buffer) a b c d Says
-    (λ scene. owners_same (bare a c scene) (remembered n (record { kind = buffer_pin; key = buffer; serial = a.next_serial }) (owners_of a)) (owners_of b) a.next_owner b.next_owner (a.next_serial + 1) b.next_serial a.recent b.recent a.descriptors b.descriptors
-    c.kinds d.kinds a.locks b.locks (beside a.session c.locks) (beside b.session d.locks) (pinned_beside (owners_of a) c.pins) (pinned_beside (owners_of b) d.pins) a.stack b.stack (plans_of a) (plans_of b)
+    (λ scene. owners_same (bare a c scene) c.kinds d.kinds
     (sym e) (sym f) (sym g) (sym files.recent) (sym files.descriptors) (sym kinds) (sym same.locks) (seen_same a b c d same held) (beside_same (owners_of a) (owners_of b) c.pins d.pins pins) (sym same.stack) (plans_same a b same.plans))
     (λ scene. says)
 
@@ -125,23 +113,22 @@ pub acted_extension : (n : ℕ) (kind : KindId) (key : ℕ) (a b : ResourceState
     → owners_of b ≡ remembered n (record { kind = kind; key = key; serial = a.next_serial }) (owners_of a)
     → b.next_owner ≡ a.next_owner → b.next_serial ≡ a.next_serial + 1 → SameFiles a b → SameLocks a b → d.kinds ≡ changed_at (kind.0 - 16) (opened key) c.kinds → d.locks ≡ c.locks → d.pins ≡ c.pins
     → Says (What.Acquire (record { kind = kind; key = key; serial = a.next_serial }) n ∷ []) → Acted (item_taken n kind key) a b c d Says
-unfolding bare with_parts parts_in
+unfolding bare parts_in
 acted_extension n kind key a b c d Says high e f g files same kinds held counted says =
     let kept : keeper_of kind ≡ TheKind (kind.0 - 16) = extension_keeps kind high in
     acted_bare (item_taken n kind key) a b c d Says
     (λ scene. ap (λ (k : Keeper). (in_order (taken_by k key ∷ remembers n kind key ∷ []) (bare a c scene)).scene) kept
-    ∙ owners_same (bare a c scene) (remembered n (record { kind = kind; key = key; serial = a.next_serial }) (owners_of a)) (owners_of b) a.next_owner b.next_owner (a.next_serial + 1) b.next_serial a.recent b.recent a.descriptors b.descriptors
-    (changed_at (kind.0 - 16) (opened key) c.kinds) d.kinds a.locks b.locks (beside a.session c.locks) (beside b.session d.locks) (pinned_beside (owners_of a) c.pins) (pinned_beside (owners_of b) d.pins) a.stack b.stack (plans_of a) (plans_of b)
+    ∙ owners_same (bare a c scene) (changed_at (kind.0 - 16) (opened key) c.kinds) d.kinds
     (sym e) (sym f) (sym g) (sym files.recent) (sym files.descriptors) (sym kinds) (sym same.locks) (seen_same a b c d same held) (beside_still (owners_of a) (owners_of b) c.pins (λ buffer. ap (pinned_once buffer) e ∙ pinned_remembered n (record { kind = kind; key = key; serial = a.next_serial }) (owners_of a) buffer (λ z. omega (arith, z, high))) ∙ ap (pinned_beside (owners_of b)) (sym counted)) (sym same.stack) (plans_same a b same.plans))
     (λ scene. subst (λ (k : Keeper). Says (in_order (taken_by k key ∷ remembers n kind key ∷ []) (bare a c scene)).events) (sym kept) says)
 
 -- a file gets a descriptor
 pub acted_touched : (file : ℕ) (a b : ResourceState) (c : CommonState) (Says : List What → Type 0) → owners_of b ≡ owners_of a → b.next_owner ≡ a.next_owner → b.next_serial ≡ a.next_serial
     → b.recent ≡ (touched_file file (files_of a)).recent → b.descriptors ≡ a.descriptors → SameLocks a b → Says (touch_events file (files_of a)) → Acted (descriptor_given file) a b c c Says
-unfolding bare with_parts parts_in
+unfolding bare parts_in
 acted_touched file a b c Says e f g recent descriptors same says =
     acted_bare (descriptor_given file) a b c c Says
-    (λ scene. owners_same (bare a c scene) (owners_of a) (owners_of b) a.next_owner b.next_owner a.next_serial b.next_serial (touched_file file (files_of a)).recent b.recent a.descriptors b.descriptors c.kinds c.kinds a.locks b.locks (beside a.session c.locks) (beside b.session c.locks) (pinned_beside (owners_of a) c.pins) (pinned_beside (owners_of b) c.pins) a.stack b.stack (plans_of a) (plans_of b)
+    (λ scene. owners_same (bare a c scene) c.kinds c.kinds
     (sym e) (sym f) (sym g) (sym recent) (sym descriptors) refl (sym same.locks) (seen_same a b c c same refl) (beside_still (owners_of a) (owners_of b) c.pins (λ buffer. ap (pinned_once buffer) e)) (sym same.stack) (plans_same a b same.plans))
     (λ scene. says)
 
@@ -150,29 +137,28 @@ pub acted_opened : (n file : ℕ) (a b : ResourceState) (c : CommonState) (Says 
     → owners_of b ≡ remembered n (record { kind = file_kind; key = file; serial = a.next_serial }) (owners_of a)
     → b.next_owner ≡ a.next_owner → b.next_serial ≡ a.next_serial + 1 → b.recent ≡ (touched_file file (files_of a)).recent → b.descriptors ≡ a.descriptors → SameLocks a b
     → Says (touch_events file (files_of a) ++ (What.Acquire (record { kind = file_kind; key = file; serial = a.next_serial }) n ∷ [])) → Acted (item_taken n file_kind file) a b c c Says
-unfolding bare with_parts parts_in
+unfolding bare parts_in
 acted_opened n file a b c Says e f g recent descriptors same says =
     acted_bare (item_taken n file_kind file) a b c c Says
-    (λ scene. owners_same (bare a c scene) (remembered n (record { kind = file_kind; key = file; serial = a.next_serial }) (owners_of a)) (owners_of b) a.next_owner b.next_owner (a.next_serial + 1) b.next_serial
-    (touched_file file (files_of a)).recent b.recent a.descriptors b.descriptors c.kinds c.kinds a.locks b.locks (beside a.session c.locks) (beside b.session c.locks) (pinned_beside (owners_of a) c.pins) (pinned_beside (owners_of b) c.pins) a.stack b.stack (plans_of a) (plans_of b)
+    (λ scene. owners_same (bare a c scene) c.kinds c.kinds
     (sym e) (sym f) (sym g) (sym recent) (sym descriptors) refl (sym same.locks) (seen_same a b c c same refl) (beside_still (owners_of a) (owners_of b) c.pins (λ buffer. ap (pinned_once buffer) e ∙ pinned_remembered n (record { kind = file_kind; key = file; serial = a.next_serial }) (owners_of a) buffer (λ z. omega (arith, z)))) (sym same.stack) (plans_same a b same.plans))
     (λ scene. says)
 
 pub acted_gone : (n : ℕ) (a b : ResourceState) (c : CommonState) (Says : List What → Type 0) → owners_of b ≡ removed n (owners_of a)
     → b.next_owner ≡ a.next_owner → b.next_serial ≡ a.next_serial → SameFiles a b → SameLocks a b → ((q : ℕ) → slice_index c.pins q + pinned_once q (owners_of a) ≡ slice_index c.pins q + pinned_once q (owners_of b)) → Says (gone_events n (owners_of a)) → Acted (owner_gone n) a b c c Says
-unfolding bare with_parts parts_in
+unfolding bare parts_in
 acted_gone n a b c Says e f g files same pins says =
     acted_bare (owner_gone n) a b c c Says
-    (λ scene. owners_same (bare a c scene) (removed n (owners_of a)) (owners_of b) a.next_owner b.next_owner a.next_serial b.next_serial a.recent b.recent a.descriptors b.descriptors c.kinds c.kinds a.locks b.locks (beside a.session c.locks) (beside b.session c.locks) (pinned_beside (owners_of a) c.pins) (pinned_beside (owners_of b) c.pins) a.stack b.stack (plans_of a) (plans_of b)
+    (λ scene. owners_same (bare a c scene) c.kinds c.kinds
     (sym e) (sym f) (sym g) (sym files.recent) (sym files.descriptors) refl (sym same.locks) (seen_same a b c c same refl) (beside_same (owners_of a) (owners_of b) c.pins c.pins pins) (sym same.stack) (plans_same a b same.plans))
     (λ scene. says)
 
 pub acted_moved : (n p : ℕ) (a b : ResourceState) (c : CommonState) (Says : List What → Type 0) → owners_of b ≡ moved n p (owners_of a)
     → b.next_owner ≡ a.next_owner → b.next_serial ≡ a.next_serial → SameFiles a b → SameLocks a b → ((q : ℕ) → slice_index c.pins q + pinned_once q (owners_of a) ≡ slice_index c.pins q + pinned_once q (owners_of b)) → Says (What.MoveOwner n p ∷ []) → Acted (owner_moved n p) a b c c Says
-unfolding bare with_parts parts_in
+unfolding bare parts_in
 acted_moved n p a b c Says e f g files same pins says =
     acted_bare (owner_moved n p) a b c c Says
-    (λ scene. owners_same (bare a c scene) (moved n p (owners_of a)) (owners_of b) a.next_owner b.next_owner a.next_serial b.next_serial a.recent b.recent a.descriptors b.descriptors c.kinds c.kinds a.locks b.locks (beside a.session c.locks) (beside b.session c.locks) (pinned_beside (owners_of a) c.pins) (pinned_beside (owners_of b) c.pins) a.stack b.stack (plans_of a) (plans_of b)
+    (λ scene. owners_same (bare a c scene) c.kinds c.kinds
     (sym e) (sym f) (sym g) (sym files.recent) (sym files.descriptors) refl (sym same.locks) (seen_same a b c c same refl) (beside_same (owners_of a) (owners_of b) c.pins c.pins pins) (sym same.stack) (plans_same a b same.plans))
     (λ scene. says)
 
@@ -193,10 +179,7 @@ acted_pushed level snapshot a b c Says is says = record {
 pub acted_popped : (entry : Active) (a b : ResourceState) (c : CommonState) (Says : List What → Type 0) → a.stack ≡ b.stack ++ entry ∷ [] → b ≡ record a { stack = b.stack } → Says (What.Pop entry.snapshot ∷ []) → Acted snapshot_popped a b c c Says
 acted_popped entry a b c Says ends is says = record {
   leads = λ scene fit.
-      ap (λ (o : Option Active). (act o scene).scene) (newest scene fit)
-      ∙ ap (λ (xs : List Active). record scene { session = record scene.session { snapshots = take (length xs - 1) xs } }) (fit.snapshots ∙ ends)
-      ∙ ap (λ (xs : List Active). record scene { session = record scene.session { snapshots = xs } }) (take_others b.stack entry)
-      ∙ stack_leads a b c scene b.stack fit is;
+      cc (newest scene fit, fit.snapshots, take_others b.stack entry, stack_leads a b c scene b.stack fit is);
   says = λ scene fit. subst (λ (o : Option Active). Says (act o scene).events) (sym (newest scene fit)) says;
 }
   where
@@ -237,12 +220,7 @@ pub acted_added : (n : ℕ) (plan : Plan) (a b : ResourceState) (c : CommonState
     → b ≡ record a { plans = record { standing = a.plans.standing ++ (n, plan) ∷ []; reserved = None } } → Says [] → Acted (plan_added n plan.context.number) a b c c Says
 acted_added n plan a b c Says fresh none is says = record {
   leads = λ scene fit.
-      ap (λ (ps : List StandingPlan). record scene { session = record scene.session { plans = ps } })
-      (ap (λ (ps : List StandingPlan). ps ++ (record { number = n; context = plan.context.number; discarded = false; references = 0 } ∷ [])) fit.plans
-      ∙ ap (λ (b : Bool). map plan_state a.plans.standing ++ (record { number = n; context = plan.context.number; discarded = b; references = 0 } ∷ [])) (sym fresh)
-      ∙ ap (λ (m : ℕ). map plan_state a.plans.standing ++ (record { number = n; context = plan.context.number; discarded = plan.discarded; references = m } ∷ [])) (sym none)
-      ∙ sym (map-append plan_state a.plans.standing ((n, plan) ∷ [])))
-      ∙ plans_lead a b c scene (record { standing = a.plans.standing ++ (n, plan) ∷ []; reserved = None }) fit is;
+      cc (map-append plan_state a.plans.standing ((n, plan) ∷ []), plans_lead a b c scene (record { standing = a.plans.standing ++ (n, plan) ∷ []; reserved = None }) fit is);
   says = λ scene fit. says;
 }
 
@@ -251,12 +229,10 @@ pub acted_referred : (n plan : ℕ) (a b : ResourceState) (c : CommonState) (Say
     → b.next_owner ≡ a.next_owner → b.next_serial ≡ a.next_serial + 1 → SameFiles a b → b.session ≡ a.session → b.locks ≡ a.locks → b.stack ≡ a.stack
     → plans_of b ≡ plan_changed plan (λ p. record p { references = p.references + 1 }) (plans_of a)
     → Says (What.Acquire (record { kind = plan_reference; key = plan; serial = a.next_serial }) n ∷ []) → Acted (item_taken n plan_reference plan) a b c c Says
-unfolding bare with_parts parts_in
+unfolding bare parts_in
 acted_referred n plan a b c Says e f g files session held stack plans says =
     acted_bare (item_taken n plan_reference plan) a b c c Says
-    (λ scene. owners_same (bare a c scene) (remembered n (record { kind = plan_reference; key = plan; serial = a.next_serial }) (owners_of a)) (owners_of b) a.next_owner b.next_owner (a.next_serial + 1) b.next_serial
-    a.recent b.recent a.descriptors b.descriptors c.kinds c.kinds a.locks b.locks (beside a.session c.locks) (beside b.session c.locks) (pinned_beside (owners_of a) c.pins) (pinned_beside (owners_of b) c.pins) a.stack b.stack
-    (plan_changed plan (λ p. record p { references = p.references + 1 }) (plans_of a)) (plans_of b)
+    (λ scene. owners_same (bare a c scene) c.kinds c.kinds
     (sym e) (sym f) (sym g) (sym files.recent) (sym files.descriptors) refl (sym held) (ap (λ (m : ℕ). beside m c.locks) (sym session)) (beside_still (owners_of a) (owners_of b) c.pins (λ buffer. ap (pinned_once buffer) e ∙ pinned_remembered n (record { kind = plan_reference; key = plan; serial = a.next_serial }) (owners_of a) buffer (λ z. omega (arith, z)))) (sym stack) (sym plans))
     (λ scene. says)
 
@@ -265,7 +241,7 @@ hosted : ResourceState → CommonState → Hosting → Scene → Scene
 hosted a c h scene = with_hosting h (bare a c scene)
 
 is_hosted : (a : ResourceState) (c : CommonState) (h : Hosting) (scene : Scene) → OwnersFit a c scene → HostsFit h scene → scene ≡ hosted a c h scene
-unfolding hosted bare with_parts
+unfolding hosted bare parts_in
 is_hosted a c h scene fit hosts = grind (arith, is_bare a c scene fit)
 
 -- an act that leads so from each such scene
@@ -284,7 +260,7 @@ module _ (a b : ResourceState) (c d : CommonState) (old new : Lending) (recent :
     (held : a.locks ≡ old.locks) (holds : b.locks ≡ new.locks) (balance : LocksBalance (locks_of a) (locks_of b) c.locks d.locks)
     (pins : pinned_beside (owners_of a) c.pins ≡ pinned_beside (owners_of b) d.pins) (stack : b.stack ≡ a.stack) (planned : a.plans ≡ old.held.plans) (plans : b.plans ≡ new.held.plans) where
   tables_fit : (scene : Scene) → TablesFit old (hosted a c (hosting_of old.contexts old.shelf) scene)
-  unfolding hosted bare with_parts
+  unfolding hosted bare parts_in
   tables_fit scene = record { recent = recent; kinds = kinds; locks = held; plans = ap (λ (p : Plans). map plan_state p.standing) planned; contexts = refl; shelf = refl }
 
   seen_on : beside a.session c.locks ≡ beside b.session d.locks
@@ -297,13 +273,11 @@ module _ (a b : ResourceState) (c d : CommonState) (old new : Lending) (recent :
   pub acted_given : (n : ℕ) (kind : KindId) (key : ℕ) (item : Item) (events : List What) (Says : List What → Type 0) → find (is_of kind key) (items_of n (owners_of a)) ≡ Some item
       → owners_of b ≡ forgotten n kind key (owners_of a) → b.next_owner ≡ a.next_owner → b.next_serial ≡ a.next_serial → TablesDo old (GivesBack item ∷ []) events new
       → Says (What.Release item n ∷ events) → ActedOn (item_released n kind key) a b (hosting_of old.contexts old.shelf) (hosting_of new.contexts new.shelf) c d Says
-  unfolding hosted bare with_parts parts_in
+  unfolding hosted bare parts_in
   acted_given n kind key item events Says found e f g does says =
       acted_hosted (item_released n kind key) a b (hosting_of old.contexts old.shelf) (hosting_of new.contexts new.shelf) c d Says
       (λ scene. ap (λ (o : Option Item). (act o scene).scene) found ∙ does.leads (forgot scene) (forgot_fits scene)
-      ∙ owners_same (hosted a c (hosting_of new.contexts new.shelf) scene) (forgotten n kind key (owners_of a)) (owners_of b) a.next_owner b.next_owner a.next_serial b.next_serial new.held.files.recent b.recent a.descriptors b.descriptors new.kinds d.kinds
-      new.locks b.locks (beside a.session c.locks) (beside b.session d.locks) (pinned_beside (owners_of a) c.pins) (pinned_beside (owners_of b) d.pins) a.stack b.stack (map plan_state new.held.plans.standing) (plans_of b)
-      (sym e) (sym f) (sym g) (sym after) (sym descriptors) (sym left) (sym holds) seen_on pins (sym stack) plans_on)
+      ∙ owners_same (hosted a c (hosting_of new.contexts new.shelf) scene) new.kinds d.kinds (sym e) (sym f) (sym g) (sym after) (sym descriptors) (sym left) (sym holds) seen_on pins (sym stack) plans_on)
       (λ scene. subst (λ (o : Option Item). Says (act o scene).events) (sym found)
       (subst (λ (es : List What). Says (What.Release item n ∷ es)) (sym (does.says (forgot scene) (forgot_fits scene))) says))
     where
@@ -324,18 +298,16 @@ module _ (a b : ResourceState) (c d : CommonState) (old new : Lending) (recent :
   pub acted_phase : (commit top : Bool) (n : ℕ) (phase : Phase) (events : List What) (Says : List What → Type 0) → owners_of b ≡ released (table_of c.kinds) phase n (owners_of a)
       → b.next_owner ≡ a.next_owner → b.next_serial ≡ a.next_serial → TablesDo old (release_steps (table_of c.kinds) phase commit top n (owners_of a)) events new → Says events
       → ActedOn (phase_released commit top n phase) a b (hosting_of old.contexts old.shelf) (hosting_of new.contexts new.shelf) c d Says
-  unfolding hosted bare with_parts parts_in
+  unfolding hosted bare parts_in
   acted_phase commit top n phase events Says e f g does says =
       acted_hosted (phase_released commit top n phase) a b (hosting_of old.contexts old.shelf) (hosting_of new.contexts new.shelf) c d Says
       (λ scene. ap (λ (z : Scene). record z { session = record z.session { owners = released (table_of c.kinds) phase n z.session.owners } }) (does.leads (hosted a c (hosting_of old.contexts old.shelf) scene) (tables_fit scene))
-      ∙ owners_same (hosted a c (hosting_of new.contexts new.shelf) scene) (released (table_of c.kinds) phase n (owners_of a)) (owners_of b) a.next_owner b.next_owner a.next_serial b.next_serial new.held.files.recent b.recent a.descriptors b.descriptors new.kinds d.kinds
-      new.locks b.locks (beside a.session c.locks) (beside b.session d.locks) (pinned_beside (owners_of a) c.pins) (pinned_beside (owners_of b) d.pins) a.stack b.stack (map plan_state new.held.plans.standing) (plans_of b)
-      (sym e) (sym f) (sym g) (sym after) (sym descriptors) (sym left) (sym holds) seen_on pins (sym stack) plans_on)
+      ∙ owners_same (hosted a c (hosting_of new.contexts new.shelf) scene) new.kinds d.kinds (sym e) (sym f) (sym g) (sym after) (sym descriptors) (sym left) (sym holds) seen_on pins (sym stack) plans_on)
       (λ scene. subst Says (sym (append-nil _ ∙ does.says (hosted a c (hosting_of old.contexts old.shelf) scene) (tables_fit scene))) says)
 
 -- no such act, and one behind another
 acted_nothing_on : (a : ResourceState) (h : Hosting) (c : CommonState) (Says : List What → Type 0) → Says [] → ActedOn nothing a a h h c c Says
-unfolding hosted bare with_parts
+unfolding hosted bare parts_in
 acted_nothing_on a h c Says none = acted_hosted nothing a a h h c c Says (λ scene. refl) (λ scene. none)
 
 acted_both_on : (f g : Scene → Ended) (a b z : ResourceState) (h k l : Hosting) (c d e : CommonState) (First Second Both : List What → Type 0)

@@ -48,11 +48,7 @@ few_sessions a had c buffer same serves = grind (arith, nat_tests, at_most_once 
 
 -- how many sessions pin a buffer, as a session sees it
 pub pinning_is : (a : ResourceState) (c : CommonState) (buffer result : ℕ) (scene : Scene) → Serves a c → OwnersFit a c scene → buffer < 1024 → result ≡ slice_index c.pins buffer → result ≡ pinning buffer scene
-pinning_is a c buffer result scene serves fit small is =
-    let seen : slice_index scene.around.pinned buffer ≡ slice_index c.pins buffer - pinned_once buffer (owners_of a) =
-    ap (λ (ns : List ℕ). slice_index ns buffer) fit.pinned ∙ at_buffer (λ q. slice_index c.pins q - pinned_once q (owners_of a)) buffer small in
-    let own : pinned_once buffer scene.session.owners ≡ pinned_once buffer (owners_of a) = ap (pinned_once buffer) fit.owners in
-    omega (arith, seen, own, serves.pins.own buffer, is)
+pinning_is a c buffer result scene serves fit small is = grind (arith, nat_tests, at_buffer (λ q. slice_index c.pins q - pinned_once q (owners_of a)) buffer small, serves.pins.own buffer)
 
 pub balances_more : (a b e : ResourceState) (c d f : CommonState) → Balances a b c d → Balances b e d f → Balances a e c f
 balances_more a b e c d f p q = grind (arith, nat_tests)
@@ -198,11 +194,7 @@ balances_given old a b c d lending lending' n kind key item s was from to found 
       items = λ h. rw (given, same)
           (all_changed (HasItems (table_of c.kinds)) n (λ (owner : Owner). record owner { items = without_newest (is_of kind key) owner.items }) t
           (λ o k. All-without (IsItem (table_of c.kinds)) (is_of kind key) o.items k) (rw was at h));
-      held = λ k j high.
-          let fewer : held k j (forgotten n kind key t) + uses k j (item ∷ []) ≡ held k j t = held_found n kind key item old lending.held s found k j in
-          let left : times_held lending'.kinds k j + uses k j (item ∷ []) ≡ times_held lending.kinds k j + 0 =
-          high_times lending lending' k j (uses k j (item ∷ [])) 0 high (omega (arith, times k j)) in
-          rw (given, was, from, to) (omega (arith, fewer, left));
+      held = grind (arith, nat_tests, held_found, high_times);
       locks = locks;
       pins = λ buffer. rw (given, was)
           (pins_balance lending.held.pins lending'.held.pins c.pins d.pins t (forgotten n kind key t) (λ q. s.counted buffer_pin q (omega arith))

@@ -48,12 +48,9 @@ pub counted_made : (old new : OwnerTable) (counts : Held) (parent : Option ℕ) 
     → ((result ≡ Err TooMany) ↔ (65536 ≤ size (owners_of old))) → OnErr result (new ≡ old) → IsCounted new counts
 counted_made old new counts parent (Ok owner) s e f g many refused =
     let few : size (owners_of old) < 65536 = elim (cases_lt (size (owners_of old)) 65536) [ inl l ↦ l | inr u ↦ absurd (let is = many.1 u in cc) ] in
-    counted new counts (created parent old.next_owner (owners_of old)) (old.next_owner + 1) old.next_serial e f g
-    (sound_created parent (owners_of old) old.next_owner old.next_serial s.sound few)
-    (items_created parent old.next_owner (owners_of old) s.items) s.buffers
+    counted new counts _ _ old.next_serial e f g (sound_created parent (owners_of old) old.next_owner old.next_serial s.sound few) (items_created parent old.next_owner (owners_of old) s.items) s.buffers
     (λ kind key low. s.counted kind key low ∙ sym (held_created kind key parent old.next_owner (owners_of old)))
-    (λ kind key. omega (arith, held_created kind key parent old.next_owner (owners_of old), s.few kind key))
-    s.references s.plan_references
+    (λ kind key. omega (arith, held_created kind key parent old.next_owner (owners_of old), s.few kind key)) s.references s.plan_references
 counted_made old new counts parent (Err error) s e f g many refused = subst (λ (t : OwnerTable). IsCounted t counts) (sym refused) s
 
 -- an owner with room is there
@@ -74,16 +71,10 @@ counted_taken old new counts counts' n kind key s spare is buffers references re
     let item : Item = record { kind = kind; key = key; serial = old.next_serial } in
     let w = there n old spare in
     let o : Once (owners_of old) = once_of (owners_of old) old.next_owner old.next_serial s.sound in
-    counted new counts' (remembered n item (owners_of old)) old.next_owner (old.next_serial + 1) e f g
-    (sound_remembered n w.0 item (owners_of old) old.next_owner old.next_serial s.sound w.1 refl)
-    (items_remembered n item (owners_of old) is s.items) buffers
+    counted new counts' _ old.next_owner _ e f g (sound_remembered n w.0 item (owners_of old) old.next_owner old.next_serial s.sound w.1 refl) (items_remembered n item (owners_of old) is s.items) buffers
     (λ k j low. more k j low ∙ ap (λ (z : ℕ). z + (if (kind.0 == k.0) && (key == j) then 1 else 0)) (s.counted k j low) ∙ sym (held_remembered k j n item w.0 (owners_of old) o w.1))
-    (λ k j. elim (cases_Bool ((kind.0 == k.0) && (key == j))) [
-      | inl y ↦ let up = held_remembered k j n item w.0 (owners_of old) o w.1 in omega (arith, s.few k j, rw y at up)
-      | inr y ↦ let up = held_remembered k j n item w.0 (owners_of old) o w.1 in omega (arith, s.few k j, rw y at up)
-    ])
-    (omega (arith, references, s.references))
-    (omega (arith, referred, s.plan_references))
+    (λ k j. elim (cases_Bool ((kind.0 == k.0) && (key == j))) [ inl y ↦ let up = held_remembered k j n item w.0 (owners_of old) o w.1 in omega (arith, s.few k j, rw y at up) | inr y ↦ let up = held_remembered k j n item w.0 (owners_of old) o w.1 in omega (arith, s.few k j, rw y at up) ])
+    (omega (arith, references, s.references)) (omega (arith, referred, s.plan_references))
 
 -- a pin more
 pub counted_pinned : (old new : OwnerTable) (counts counts' : Held) (n buffer : ℕ) → IsCounted old counts → 1 ≤ spare_of n old → buffer < 1024
@@ -91,12 +82,11 @@ pub counted_pinned : (old new : OwnerTable) (counts counts' : Held) (n buffer : 
     → owners_of new ≡ remembered n (record { kind = record { 0 = 1 }; key = buffer; serial = old.next_serial }) (owners_of old)
     → new.next_owner ≡ old.next_owner → new.next_serial ≡ old.next_serial + 1 → IsCounted new counts'
 counted_pinned old new counts counts' n buffer s spare small set e f g =
-    counted_taken old new counts counts' n (record { 0 = 1 }) buffer s spare (inl (record { kind = refl; buffer = small }))
+    counted_taken old new counts counts' n _ buffer s spare (inl (record { kind = refl; buffer = small }))
     (ap (λ (z : Held). length z.pins) set ∙ length-set counts.pins buffer (slice_index counts.pins buffer + 1) ∙ s.buffers)
     (let same : total counts'.references ≡ total counts.references = ap (λ (z : Held). total z.references) set in omega (arith, same))
     (let same : plans.references counts'.plans ≡ plans.references counts.plans = ap (λ (z : Held). plans.references z.plans) set in omega (arith, same))
-    (λ k j low. times_held-pinned counts counts' buffer k j (omega (arith, s.buffers, small)) set)
-    e f g
+    (λ k j low. times_held-pinned counts counts' buffer k j (omega (arith, s.buffers, small)) set) e f g
 
 -- a file more
 pub counted_opened : (old new : OwnerTable) (counts counts' : Held) (n file : ℕ) → IsCounted old counts → 1 ≤ spare_of n old
@@ -147,13 +137,10 @@ pub counted_given : (old new : OwnerTable) (lending lending' : Lending) (n : ℕ
     → owners_of new ≡ forgotten n kind key (owners_of old) → new.next_owner ≡ old.next_owner → new.next_serial ≡ old.next_serial → IsCounted new lending'.held
 counted_given old new lending lending' n kind key item s found buffers references referred fewer e f g =
     let w = with_item (is_of kind key) (at n (owners_of old)) item found in
-    counted new lending'.held (forgotten n kind key (owners_of old)) old.next_owner old.next_serial e f g
-    (sound_forgotten n w.0 (is_of kind key) (owners_of old) old.next_owner old.next_serial s.sound w.1)
+    counted new lending'.held _ old.next_owner old.next_serial e f g (sound_forgotten n w.0 (is_of kind key) (owners_of old) old.next_owner old.next_serial s.sound w.1)
     (all_changed HoldsCounted n _ (owners_of old) (λ a h. All-without IsHeld (is_of kind key) a.items h) s.items) buffers
     (λ k j low. omega (arith, fewer k j, lent_low lending k j low, lent_low lending' k j low, held_found n kind key item old lending.held s found k j, s.counted k j low))
-    (λ k j. omega (arith, held_found n kind key item old lending.held s found k j, s.few k j))
-    (omega (arith, references, s.references))
-    (omega (arith, referred, s.plan_references))
+    (λ k j. omega (arith, held_found n kind key item old lending.held s found k j, s.few k j)) (omega (arith, references, s.references)) (omega (arith, referred, s.plan_references))
 
 -- what a release asks for
 pub asked_counts : (table : OwnerTable) (lending : Lending) (n : ℕ) → IsCounted table lending.held

@@ -34,12 +34,7 @@ locks_lead : (scene : Scene) (ls : List Lock) (a b : ResourceState) (c d : Commo
 unfolding shown_in
 locks_lead scene ls a b c d alone is fit =
     let seen : beside a.session c.locks ≡ beside b.session d.locks = beside_stays a.session c.locks d.locks alone.others ∙ ap (λ (n : ℕ). beside n d.locks) (sym (ap (λ (r : ResourceState). r.session) alone.alone)) in
-    shown_same scene scene.session.owners (owners_of b) scene.session.next_owner b.next_owner scene.session.next_serial b.next_serial scene.session.recent b.recent ls b.locks
-    scene.around.kinds d.kinds scene.around.locked (beside b.session d.locks) scene.around.descriptors b.descriptors scene.around.pinned (pinned_beside (owners_of b) d.pins) scene.session.snapshots b.stack scene.session.plans (plans_of b)
-    (fit.owners ∙ sym (ap owners_of alone.alone)) (fit.next_owner ∙ sym (ap (λ (r : ResourceState). r.next_owner) alone.alone))
-    (fit.next_serial ∙ sym (ap (λ (r : ResourceState). r.next_serial) alone.alone)) (fit.recent ∙ sym (ap (λ (r : ResourceState). r.recent) alone.alone)) is
-    (fit.kinds ∙ sym alone.kinds) (fit.locked ∙ seen) (fit.descriptors ∙ sym (ap (λ (r : ResourceState). r.descriptors) alone.alone))
-    (fit.pinned ∙ ap (λ (r : ResourceState). pinned_beside (owners_of r) c.pins) (sym alone.alone) ∙ ap (pinned_beside (owners_of b)) (sym alone.pins)) (fit.snapshots ∙ sym (ap (λ (r : ResourceState). r.stack) alone.alone)) (fit.plans ∙ sym (ap plans_of alone.alone))
+    cc (shown_same scene scene.session.owners (owners_of b) scene.session.next_owner b.next_owner scene.session.next_serial b.next_serial scene.session.recent b.recent ls b.locks scene.around.kinds d.kinds scene.around.locked (beside b.session d.locks) scene.around.descriptors b.descriptors scene.around.pinned (pinned_beside (owners_of b) d.pins) scene.session.snapshots b.stack scene.session.plans (plans_of b) (fit.owners ∙ sym (ap owners_of alone.alone)) (fit.next_owner ∙ sym (ap (λ (r : ResourceState). r.next_owner) alone.alone)) (fit.next_serial ∙ sym (ap (λ (r : ResourceState). r.next_serial) alone.alone)) (fit.recent ∙ sym (ap (λ (r : ResourceState). r.recent) alone.alone)) is (fit.kinds ∙ sym alone.kinds) (fit.locked ∙ seen) (fit.descriptors ∙ sym (ap (λ (r : ResourceState). r.descriptors) alone.alone)) (fit.pinned ∙ ap (λ (r : ResourceState). pinned_beside (owners_of r) c.pins) (sym alone.alone) ∙ ap (pinned_beside (owners_of b)) (sym alone.pins)) (fit.snapshots ∙ sym (ap (λ (r : ResourceState). r.stack) alone.alone)) (fit.plans ∙ sym (ap plans_of alone.alone)))
 
 pub acted_locked : (o : ℕ) (w : Mode) (n : ℕ) (a b : ResourceState) (c d : CommonState) (Says : List What → Type 0) → LocksAlone a b c d → b.locks ≡ acquired n o w a.locks
     → Says (What.AcquireLock o w n ∷ []) → Acted (lock_taken o w n) a b c d Says

@@ -106,19 +106,8 @@ module _ (n : ℕ) (kept : Plan) (old new : List (ℕ × Plan)) (w : Parted n ke
       → PlansDo (λ scene. where_there (plan_at n scene.session.plans) (λ plan. plan_becomes (change plan)) scene) (gone kept.context.number h.contexts).events old new h k
   unfolding act placed_in
   does_go h k context test is contexts shelf = record {
-    leads = λ scene plans hosts.
-        ap (λ (z : Ended). z.scene) (becomes scene plans ∙ goes scene test)
-        ∙ ap (λ (m : ℕ). (plan_settled (record (change (plan_state (n, kept))) { number = m }) scene).scene) number
-        ∙ ap (λ (m : ℕ). (plan_settled (record (change (plan_state (n, kept))) { number = n; context = m }) scene).scene) context
-        ∙ placed_same (plans_but n scene.session.plans) (map plan_state new) (gone kept.context.number scene.session.contexts).contexts k.contexts (handed_in (gone kept.context.number scene.session.contexts).hooks scene.around.shelf) k.shelf scene
-        (ap (plans_but n) plans ∙ states_removed n kept old w ∙ ap (map plan_state) (sym is))
-        (ap (λ (t : Contexts). (gone kept.context.number t).contexts) hosts.contexts ∙ sym contexts)
-        (ap (λ (t : Contexts). handed_in (gone kept.context.number t).hooks scene.around.shelf) hosts.contexts ∙ ap (handed_in (gone kept.context.number h.contexts).hooks) hosts.shelf ∙ sym shelf);
-    says = λ scene plans hosts.
-        ap (λ (z : Ended). z.events) (becomes scene plans ∙ goes scene test)
-        ∙ append-nil (gone (change (plan_state (n, kept))).context scene.session.contexts).events
-        ∙ ap (λ (m : ℕ). (gone m scene.session.contexts).events) context
-        ∙ ap (λ (t : Contexts). (gone kept.context.number t).events) hosts.contexts;
+    leads = grind (arith, nat_tests, becomes, goes, placed_same, states_removed n kept old w);
+    says = grind (arith, nat_tests, becomes, goes, append-nil, change (plan_state (n, kept)));
   }
 
   pub does_stay : (h : Hosting) (other : Plan) → change (plan_state (n, kept)) ≡ plan_state (n, other) → (((change (plan_state (n, kept))).discarded && ((change (plan_state (n, kept))).references == 0)) ≡ false) → new ≡ set_value (nat_eq n) old other

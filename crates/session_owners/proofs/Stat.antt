@@ -12,18 +12,7 @@ places_from n (p ∷ ps) = if nat_lt 0 p then n ∷ places_from (n + 1) ps else 
 
 places_length : (n : ℕ) (ps : List ℕ) → length (places_from n ps) ≡ count_by (λ count. nat_lt 0 count) ps
 places_length n [] = refl
-places_length n (p ∷ ps) =
-    let all = sum_by-cons (λ count. cond (nat_lt 0 count) 1 0) p ps in
-    elim (cases_Bool (nat_lt 0 p)) [
-      | inl y ↦
-          let one : cond (nat_lt 0 p) (suc zero) zero ≡ suc zero = ap (λ b. cond b (suc zero) zero) y in
-          let now : length (places_from n (p ∷ ps)) ≡ length (places_from (n + 1) ps) + 1 = rw y (omega arith) in
-          omega (arith, now, places_length (n + 1) ps, all, one)
-      | inr y ↦
-          let none : cond (nat_lt 0 p) (suc zero) zero ≡ zero = ap (λ b. cond b (suc zero) zero) y in
-          let now : length (places_from n (p ∷ ps)) ≡ length (places_from (n + 1) ps) = rw y refl in
-          omega (arith, now, places_length (n + 1) ps, all, none)
-    ]
+places_length n (p ∷ ps) = grind (arith, nat_tests, sum_by-cons (λ count. cond (nat_lt 0 count) 1 0) p ps, cases_Bool (nat_lt 0 p), places_length (n + 1) ps)
 
 before_places : (b n : ℕ) (ps : List ℕ) → b < n → is_among b (places_from n ps) ≡ false
 before_places b n [] less = refl
@@ -54,16 +43,7 @@ keys_count : (kind : KindId) (key : ℕ) (items : List Item) → count_by (λ k.
 keys_count kind key [] = refl
 keys_count kind key (item ∷ items) =
     let all = sum_by-cons (λ (x : Item). cond (is_of kind key x) 1 0) item items in
-    elim (cases_Bool (item.kind.0 == kind.0)) [
-      | inl y ↦
-          let one : cond (is_of kind key item) (suc zero) zero ≡ cond (key == item.key) (suc zero) zero = rw (y, flipped key item.key) refl in
-          let now : count_by (λ k. key == k) (keys_of kind (item ∷ items)) ≡ cond (key == item.key) (suc zero) zero + count_by (λ k. key == k) (keys_of kind items) = rw y (sum_by-cons (λ k. cond (key == k) 1 0) item.key (keys_of kind items)) in
-          omega (arith, all, one, now, keys_count kind key items)
-      | inr y ↦
-          let none : cond (is_of kind key item) (suc zero) zero ≡ zero = rw y refl in
-          let now : count_by (λ k. key == k) (keys_of kind (item ∷ items)) ≡ count_by (λ k. key == k) (keys_of kind items) = rw y refl in
-          omega (arith, all, none, now, keys_count kind key items)
-    ]
+    grind (arith, nat_tests, cases_Bool (item.kind.0 == kind.0), flipped key item.key, sum_by-cons (λ k. cond (key == k) 1 0) item.key (keys_of kind items), keys_count kind key items)
 
 by_order : (key : ℕ) → is_at (nat_cmp key) ≡ (λ k. key == k)
 by_order key = λ i k. unsigned_tied key k i
@@ -105,16 +85,7 @@ count_tagged c k d (key ∷ keys) =
     let all = sum_by-cons (λ pair. cond (is_at (pair_cmp (c, k)) pair) 1 0) (d, key) (tagged d keys) in
     let ones = sum_by-cons (λ j. cond (k == j) 1 0) key keys in
     let here : cond (is_at (pair_cmp (c, k)) (d, key)) (suc zero) zero ≡ cond ((c == d) && (k == key)) (suc zero) zero = ap (λ (b : Bool). cond b (suc zero) zero) (pair_tied c k d key) in
-    elim (cases_Bool (c == d)) [
-      | inl y ↦
-          let rest : count_by (is_at (pair_cmp (c, k))) (tagged d keys) ≡ count_by (λ j. k == j) keys = rw y at (count_tagged c k d keys) in
-          let one : cond ((c == d) && (k == key)) (suc zero) zero ≡ cond (k == key) (suc zero) zero = rw y refl in
-          rw y (omega (arith, all, ones, here, one, rest))
-      | inr n ↦
-          let rest : count_by (is_at (pair_cmp (c, k))) (tagged d keys) ≡ 0 = rw n at (count_tagged c k d keys) in
-          let none : cond ((c == d) && (k == key)) (suc zero) zero ≡ zero = rw n refl in
-          rw n (omega (arith, all, here, none, rest))
-    ]
+    grind (arith, nat_tests, cases_Bool (c == d), count_tagged c k d keys)
 
 any_in_both : {A : Type 0} (test : A → Bool) (xs ys : List A) → list_any test (xs ++ ys) ≡ (list_any test xs || list_any test ys)
 any_in_both test [] ys = refl

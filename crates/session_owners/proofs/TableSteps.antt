@@ -1,6 +1,6 @@
 -- What the tables of a session's items do in a release: the steps of the rules.
-use Rattle.session_owners.proofs.Base.{nat_tests, ◌≡◌, ℕ, ◌≤◌, Bool, true, false, List, [], ◌∷◌, append-nil, refl, sym, ap, ◌∙◌, subst, arith, zero, suc, ◌<◌, ◌==◌, ◌-◌, nat_lt, if◌then◌else◌, map, Contains, eqb-true, lt-ltb, ne_eqb}
-use Rattle.session_owners.proofs.Words.{total, What, Item, KindId, Kind, changed_at, closed, opened, Step, GivesBack, Lock, is_among, without, closed_file, closing_events, without_missing, Contexts, ShelfState, Plans, references, Scene, Ended, Keeper, NoOne, ThePlans, TheDescriptors, TheKind, keeper_of, left_to, plan_left, step_done, extension_keeps, HostsFit, hosting_of, AreLeft, PlansDo, contexts_of, with_plans, Held, Lending, TablesDo, TablesFit, lending_of, with_lending, lending_is}
+use Rattle.session_owners.proofs.Base.{nat_tests, ◌≡◌, ℕ, ◌≤◌, Bool, true, false, List, [], ◌∷◌, append-nil, refl, ap, ◌∙◌, subst, arith, zero, suc, ◌<◌, ◌==◌, ◌-◌, nat_lt, if◌then◌else◌, map, Contains, eqb-true, lt-ltb, ne_eqb}
+use Rattle.session_owners.proofs.Words.{total, What, Item, KindId, Kind, changed_at, closed, opened, Step, GivesBack, Lock, is_among, without, closed_file, closing_events, without_missing, Contexts, ShelfState, Plans, references, Scene, Ended, Keeper, NoOne, ThePlans, TheDescriptors, TheKind, keeper_of, left_to, plan_left, step_done, extension_keeps, HostsFit, hosting_of, AreLeft, PlansDo, contexts_of, Held, Lending, TablesDo, TablesFit, lending_of, with_lending, lending_is}
 
 -- a pin is no file, and no reference to a plan
 pub pin_is_other : (kind : ℕ) → (kind == 1) ≡ true → (kind == 8) ≡ false
@@ -97,15 +97,8 @@ pub does_refer_less : (a b : Held) (kinds : List Kind) (ls : List Lock) (cs ds :
     → PlansDo (plan_left item.key) events a.plans.standing b.plans.standing (hosting_of cs xs) (hosting_of ds ys) → references b.plans ≤ references a.plans → AreLeft a.plans.standing b.plans.standing
     → TablesDo (lending_of a kinds ls cs xs) (GivesBack item ∷ []) events (lending_of b kinds ls ds ys)
 does_refer_less a b kinds ls cs ds xs ys item events is new does fewer left = record {
-  leads = λ scene fit.
-      ap (λ (k : Keeper). (left_to k item.key scene).scene) (is_plan item.kind is)
-      ∙ does.leads scene fit.plans (hosts scene fit)
-      ∙ ap (λ (s : Scene). with_plans b.plans.standing (hosting_of ds ys) s) (lending_is (lending_of a kinds ls cs xs) scene fit)
-      ∙ ap (λ (h : Held). with_lending (lending_of h kinds ls ds ys) scene) (sym new);
-  says = λ scene fit.
-      append-nil (step_done (GivesBack item) scene).events
-      ∙ ap (λ (k : Keeper). (left_to k item.key scene).events) (is_plan item.kind is)
-      ∙ does.says scene fit.plans (hosts scene fit);
+  leads = grind (arith, nat_tests, is_plan item.kind is, hosts, lending_is);
+  says = grind (arith, nat_tests, append-nil, is_plan item.kind is, hosts);
   descriptors = ap (λ (h : Held). h.files.descriptors) new;
   stack = ap (λ (h : Held). h.snapshots.stack) new;
   fewer = let same : total b.references ≡ total a.references = ap (λ (h : Held). total h.references) new in omega (arith, same);

@@ -1,5 +1,5 @@
 -- Lemmas on answers.
-use Rattle.std.proofs.Common.{◌≡◌, Option, Some, None, Result, Ok, Err, IfErr, IfSome, OnOk, refl}
+use Rattle.session_store.proofs.Words.{◌≡◌, Option, Some, None, Result, Ok, Err, IfErr, IfSome, OnOk, refl}
 
 -- what follows where the call was answered
 pub on_answer : {A E P Q : Type 0} (r : Result A E) → (P → Q) → OnOk r P → OnOk r Q

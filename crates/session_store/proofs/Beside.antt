@@ -1,12 +1,6 @@
 -- A store beside a tree of another account that changes in the same space.
-use Rattle.std.proofs.Common.{◌≡◌, ◌≢◌, sym, ap, ◌∙◌, subst}
-use Rattle.addr_space.specs.Space.{Space}
-use Rattle.context_rules.specs.Contexts.{Contexts}
-use Rattle.context_tree.specs.State.{TreeState, stands_for, Agrees, Moves}
+use Rattle.session_store.proofs.Words.{◌≡◌, ◌≢◌, sym, ap, ◌∙◌, subst, Space, Contexts, TreeState, stands_for, Agrees, Moves, SessionState, StoreState, session_of, StaysBeside}
 use Rattle.session_rules.specs.Making as rules
-use Rattle.session_rules.specs.State.{SessionState}
-use Rattle.session_store.specs.State.{StoreState, session_of}
-use Rattle.session_store.specs.Calls.{StaysBeside}
 
 same_session : (store : StoreState) (s t : Space) → stands_for store.tree t ≡ stands_for store.tree s → session_of store t ≡ session_of store s
 unfolding session_of

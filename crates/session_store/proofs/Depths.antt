@@ -1,14 +1,5 @@
 -- The deepest level and those above it, in the order in which a store keeps them and in that of the session.
-use Rattle.std.proofs.Common.{◌≡◌, ℕ, zero, suc, ◌+◌, ◌<◌, Bool, Some, None, List, [], ◌∷◌, ◌++◌, length, map, refl, sym, ap, ◌∙◌, subst, inl, inr, arith}
-use Rattle.std.specs.Prelude.{◌-◌, ◌==◌, if◌then◌else◌, All, drop, reverse, slice_get}
-use Rattle.std.proofs.lemmas.Bool.{cases_Bool, ne_eqb}
-use Rattle.std.proofs.lemmas.List.Elements.{All-pop}
-use Rattle.std.specs.Option.{option_map}
-use Rattle.std.proofs.lemmas.List.{length-append, length-map, length-reverse, reverse-append}
-use Rattle.subxact_stack.specs.declared.levels.Level.{Level}
-use Rattle.subxact_stack.specs.Levels.{level_at, with_deepest}
-use Rattle.session_rules.specs.State.{LevelState, first_of}
-use Rattle.session_store.specs.State.{level_state, levels_of}
+use Rattle.session_store.proofs.Words.{◌≡◌, ℕ, zero, suc, ◌+◌, ◌<◌, Bool, Some, None, List, [], ◌∷◌, ◌++◌, length, map, refl, sym, ap, ◌∙◌, subst, inl, inr, arith, ◌-◌, ◌==◌, if◌then◌else◌, All, drop, reverse, slice_get, cases_Bool, ne_eqb, All-pop, option_map, length-append, length-map, length-reverse, reverse-append, Level, level_at, with_deepest, LevelState, first_of, level_state, levels_of}
 use Rattle.session_store.proofs.Lists.{all_at, first_map, first_reverse}
 
 module _ {A : Type 0} where

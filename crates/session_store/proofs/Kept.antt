@@ -1,36 +1,12 @@
 -- What is there lies where it lay, when a tree changes.
-use Rattle.std.proofs.Common.{◌≡◌, ◌≢◌, ℕ, ◌-◌, Bool, true, false, Option, Some, None, List, [], ◌∷◌, map, All, IfSome, refl, sym, ap, ◌∙◌, subst}
-use Rattle.std.specs.Prelude.{◌==◌, if◌then◌else◌, reverse, slice_get}
-use Rattle.std.specs.Option.{option_map}
-use Rattle.std.proofs.lemmas.Bool.{both_ways, eq-eqb}
-use Rattle.std.proofs.lemmas.List.Elements.{All-nil, All-cons, All-head, All-tail}
-use Rattle.addr_space.specs.Space.{Space}
-use Rattle.forest.specs.Forest.{Empty, Forest, Node, Once, at, children, has}
-use Rattle.forest.proofs.Mapped.{mapped-has}
-use Rattle.forest.proofs.Trees.{has_children}
-use Rattle.pgs_step.specs.declared.ids.CtxId.{CtxId}
-use Rattle.reset_callbacks.specs.ShelfState.{ShelfState}
+use Rattle.session_store.proofs.Words.{◌≡◌, ◌≢◌, ℕ, ◌-◌, Bool, true, false, Option, Some, None, List, [], ◌∷◌, map, All, IfSome, refl, sym, ap, ◌∙◌, subst, ◌==◌, if◌then◌else◌, reverse, slice_get, option_map, both_ways, eq-eqb, All-nil, All-cons, All-head, All-tail, Space, Empty, Forest, Node, Once, at, children, has, mapped-has, has_children, CtxId, ShelfState, Did, DidNothing, TreeState, Agrees, IsLive, Moves, StaysPut, place_of, stands_for, Plan, ResourceState, OwnerTree, owners_of, plan_state, contexts_of, level_at, Level, Around, Context, Contexts, Portal, LevelState, AreLevels, IsPlan, IsPortal, IsRow, Stands, CommonState, StoreState, level_state, levels_of, portal_state, portals_of, scene_of, session_of, IsPlaced, IsThere, LevelLies, Lies, PortalLies, ContextsAlone, Keeps, StandsIn}
 use Rattle.context_tree.specs.State.{context_of}
 use Rattle.context_rules.specs.Ends.{Ended}
-use Rattle.context_tree.specs.Calls.{Did, DidNothing}
-use Rattle.context_tree.specs.State.{TreeState, Agrees, IsLive, Moves, StaysPut, place_of, stands_for}
-use Rattle.plan_store.specs.declared.plan.Plan.{Plan}
-use Rattle.session_owners.specs.ResourceState.{ResourceState, OwnerTree, owners_of, plan_state}
-use Rattle.session_owners.specs.Fitting.{contexts_of}
-use Rattle.subxact_stack.specs.Levels.{level_at}
-use Rattle.subxact_stack.specs.declared.levels.Level.{Level}
-use Rattle.session_rules.specs.World.{Around}
-use Rattle.context_rules.specs.Contexts.{Context, Contexts}
-use Rattle.portal_store.specs.declared.portal.Portal.{Portal}
-use Rattle.session_rules.specs.State.{LevelState}
-use Rattle.session_rules.specs.Standing.{AreLevels, IsPlan, IsPortal, IsRow, Stands}
 use Rattle.session_rules.proofs.ContextsKept.{protected_has}
-use Rattle.session_owners.specs.Commons.{CommonState}
-use Rattle.session_store.specs.State.{StoreState, level_state, levels_of, portal_state, portals_of, scene_of, session_of}
-use Rattle.session_store.specs.Placed.{IsPlaced, IsThere, LevelLies, Lies, PortalLies}
-use Rattle.session_store.specs.Calls.{ContextsAlone, Keeps, StandsIn}
-use Rattle.session_store.proofs.Answered.{some_both}
-use Rattle.session_store.proofs.Lists.{all_at, all_reverse}
+use Rattle.std.proofs.lemmas.List.Elements.{All-map}
+use Rattle.session_store.proofs.Answered.{if_some, some_both}
+use Rattle.session_store.proofs.Depths.{all_level}
+use Rattle.session_store.proofs.Lists.{all_both, all_mapped, all_reverse}
 use Rattle.session_store.proofs.Sums.{keeps_on}
 
 -- a context is there in the tree where it is among those that the tree stands for
@@ -55,8 +31,7 @@ pub record AreThere (tree : TreeState) (table : ResourceState) (list : List Leve
   pub portals : All (PortalThere tree) queries
 
 level_there : (tree : TreeState) (s : Space) (o : Option CtxId) → ((n : ℕ) → option_map (λ (id : CtxId). id.number) o ≡ Some n → has n (stands_for tree s) ≡ true) → IfSome o (λ id. has id.number tree.kept ≡ true)
-level_there tree s None there = tt
-level_there tree s (Some id) there = sym (has_kept id.number tree s) ∙ there id.number refl
+level_there tree s o there = if_some o (λ id e. sym (has_kept id.number tree s) ∙ there id.number (ap (option_map (λ (i : CtxId). i.number)) e))
 
 pub levels_there : (tree : TreeState) (s : Space) (owners : OwnerTree) (levels : List Level) → AreLevels (map level_state levels) (stands_for tree s) owners → All (IsThere tree) levels
 levels_there tree s owners [] h = All-nil (IsThere tree)
@@ -66,12 +41,10 @@ levels_there tree s owners (level ∷ levels) h =
     (levels_there tree s owners levels h.1)
 
 pub plans_there : (tree : TreeState) (s : Space) (current : ℕ) (standing : List (ℕ × Plan)) → All (λ plan. IsPlan plan (stands_for tree s) current) (map plan_state standing) → All (HasContext tree) (contexts_of standing)
-plans_there tree s current [] h = All-nil (HasContext tree)
-plans_there tree s current (plan ∷ plans) h =
-    let first = All-head (λ p. IsPlan p (stands_for tree s) current) (plan_state plan) (map plan_state plans) h in
-    All-cons (HasContext tree) plan.1.context (contexts_of plans)
-    (sym (has_kept plan.1.context.number tree s) ∙ protected_has plan.1.context.number (stands_for tree s) first.protected)
-    (plans_there tree s current plans (All-tail (λ p. IsPlan p (stands_for tree s) current) (plan_state plan) (map plan_state plans) h))
+plans_there tree s current standing h =
+    All-map (HasContext tree) (λ (p : ℕ × Plan). p.1.context) standing
+    (all_mapped plan_state (λ plan. IsPlan plan (stands_for tree s) current) (λ p. HasContext tree p.1.context)
+    (λ p is. sym (has_kept p.1.context.number tree s) ∙ protected_has p.1.context.number (stands_for tree s) is.protected) standing h)
 
 -- the context of one row is there, where that of its portal is
 row_there : (n : ℕ) (o : Option ℕ) (t : Contexts) → Once t → IsRow o (children n t) → (e : ℕ) → o ≡ Some e → has e t ≡ true
@@ -94,11 +67,8 @@ portal_there tree s levels owners current portal once h = record {
 
 pub portals_there : (tree : TreeState) (s : Space) (levels : List LevelState) (owners : OwnerTree) (current : ℕ) (portals : List Portal) → Once (stands_for tree s) → All (λ p. IsPortal p levels (stands_for tree s) owners current) (portals_of portals)
     → All (PortalThere tree) portals
-portals_there tree s levels owners current [] once h = All-nil (PortalThere tree)
-portals_there tree s levels owners current (portal ∷ portals) once h =
-    All-cons (PortalThere tree) portal portals
-    (portal_there tree s levels owners current portal once (All-head (λ p. IsPortal p levels (stands_for tree s) owners current) (portal_state portal) (portals_of portals) h))
-    (portals_there tree s levels owners current portals once (All-tail (λ p. IsPortal p levels (stands_for tree s) owners current) (portal_state portal) (portals_of portals) h))
+portals_there tree s levels owners current portals once h =
+    all_mapped portal_state (λ p. IsPortal p levels (stands_for tree s) owners current) (PortalThere tree) (λ portal. portal_there tree s levels owners current portal once) portals h
 
 -- no surroundings at all
 abbrev pub nowhere : Around
@@ -170,18 +140,12 @@ lies_on a b id stays lies was now = stays id.number was now ∙ lies was
 
 levels_on : (a b : TreeState) (table : ResourceState) (levels : List Level) → ((n : ℕ) → has n a.kept ≡ true → has n b.kept ≡ true → place_of b n ≡ place_of a n)
     → All (LevelLies a table) levels → All (IsThere a) levels → All (LevelLies b table) levels
-levels_on a b table [] stays lies there = All-nil (LevelLies b table)
-levels_on a b table (level ∷ levels) stays lies there =
-    let first = All-head (LevelLies a table) level levels lies in
-    All-cons (LevelLies b table) level levels
-    (record { context = some_both level.context (λ id. lies_on a b id stays) first.context (All-head (IsThere a) level levels there); owner = first.owner })
-    (levels_on a b table levels stays (All-tail (LevelLies a table) level levels lies) (All-tail (IsThere a) level levels there))
+levels_on a b table levels stays =
+    all_both (LevelLies a table) (IsThere a) (LevelLies b table)
+    (λ level lies there. record { context = some_both level.context (λ id. lies_on a b id stays) lies.context there; owner = lies.owner }) levels
 
 pub plans_on : (a b : TreeState) (contexts : List CtxId) → ((n : ℕ) → has n a.kept ≡ true → has n b.kept ≡ true → place_of b n ≡ place_of a n) → All (Lies a) contexts → All (HasContext a) contexts → All (Lies b) contexts
-plans_on a b [] stays lies there = All-nil (Lies b)
-plans_on a b (id ∷ ids) stays lies there =
-    All-cons (Lies b) id ids (lies_on a b id stays (All-head (Lies a) id ids lies) (All-head (HasContext a) id ids there))
-    (plans_on a b ids stays (All-tail (Lies a) id ids lies) (All-tail (HasContext a) id ids there))
+plans_on a b contexts stays = all_both (Lies a) (HasContext a) (Lies b) (λ id. lies_on a b id stays) contexts
 
 -- a portal's contexts lie on
 pub portal_on : (a b : TreeState) (table : ResourceState) (portal : Portal) → ((n : ℕ) → has n a.kept ≡ true → has n b.kept ≡ true → place_of b n ≡ place_of a n) → PortalLies a table portal → PortalThere a portal → PortalLies b table portal
@@ -193,11 +157,7 @@ portal_on a b table portal stays lies there = record {
 }
 
 pub portals_on : (a b : TreeState) (table : ResourceState) (portals : List Portal) → ((n : ℕ) → has n a.kept ≡ true → has n b.kept ≡ true → place_of b n ≡ place_of a n) → All (PortalLies a table) portals → All (PortalThere a) portals → All (PortalLies b table) portals
-portals_on a b table [] stays lies there = All-nil (PortalLies b table)
-portals_on a b table (portal ∷ portals) stays lies there =
-    All-cons (PortalLies b table) portal portals
-    (portal_on a b table portal stays (All-head (PortalLies a table) portal portals lies) (All-head (PortalThere a) portal portals there))
-    (portals_on a b table portals stays (All-tail (PortalLies a table) portal portals lies) (All-tail (PortalThere a) portal portals there))
+portals_on a b table portals stays = all_both (PortalLies a table) (PortalThere a) (PortalLies b table) (λ portal. portal_on a b table portal stays) portals
 
 pub placed_on : (a b : TreeState) (table : ResourceState) (levels : List Level) (portals : List Portal) → IsPlaced a table levels portals → AreThere a table levels portals → ((n : ℕ) → has n a.kept ≡ true → has n b.kept ≡ true → place_of b n ≡ place_of a n) → b.current ≡ a.current
     → IsPlaced b table levels portals
@@ -212,17 +172,10 @@ pub placed_put : (a b : TreeState) (table : ResourceState) (levels : List Level)
 placed_put a b table levels portals placed there put = placed_on a b table levels portals placed there (λ n was now. ap (λ (places : Forest ℕ). at n places) put.places) put.current
 
 -- the context of the level of a number lies where its id says
-pub at_level : (P : Level → Type 0) (levels : List Level) (n : ℕ) (level : Level) → All P levels → level_at levels n ≡ Some level → P level
-at_level P levels n level h e = go (n == 0) e
-  where
-    go : (b : Bool) → (if b then None else slice_get levels (n - 1)) ≡ Some level → P level
-    go true e = absurd (cc e)
-    go false e = all_at P levels (n - 1) level h e
-
 pub level_live : (tree : TreeState) (table : ResourceState) (levels : List Level) (portals : List Portal) (n : ℕ) (level : Level) → IsPlaced tree table levels portals → AreThere tree table levels portals → level_at levels n ≡ Some level → IfSome level.context (IsLive tree)
 level_live tree table levels portals n level placed there e =
-    let lies : LevelLies tree table level = at_level (LevelLies tree table) levels n level placed.levels e in
-    some_both level.context (λ id lies here. lies here) lies.context (at_level (IsThere tree) levels n level there.levels e)
+    let lies : LevelLies tree table level = all_level (LevelLies tree table) levels n level placed.levels e in
+    some_both level.context (λ id lies. lies) lies.context (all_level (IsThere tree) levels n level there.levels e)
 
 -- the store that holds the tree
 pub alone_on : (a : StoreState) (b : TreeState) (s t : Space) (commons : CommonState) → Keeps a s → Goes a.tree b s t → ContextsAlone a (record a { tree = b }) s t commons commons

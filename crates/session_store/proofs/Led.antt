@@ -1,31 +1,7 @@
 -- What a change of a store's contexts makes of the session, and that acts of the rules lead there.
-use Rattle.std.proofs.Common.{◌≡◌, ℕ, ◌+◌, Bool, false, List, [], ◌∷◌, Option, Some, refl, sym, ap, ◌∙◌, subst}
-use Rattle.std.specs.Prelude.{if◌then◌else◌}
-use Rattle.addr_space.specs.Space.{Space, held}
-use Rattle.pgs_step.specs.declared.ids.CtxId.{CtxId}
-use Rattle.pgs_step.specs.declared.events.What.{What}
+use Rattle.session_store.proofs.Words.{◌≡◌, ℕ, ◌+◌, Bool, false, List, [], ◌∷◌, Option, Some, refl, sym, ap, ◌∙◌, subst, if◌then◌else◌, Space, held, CtxId, What, CtxKind, Hook, ShelfState, taken, Contexts, created, created_events, reparented, reparented_events, allocated, registered, resized, zeros, handed_in, Did, DidNothing, TreeState, SameRegions, StaysPut, left_of, stands_for, stands_still, owners_of, plans_of, CommonState, seen_by, first_of, Around, Scene, of_contexts, switched, where_there, context_made, context_moved, contexts_become, chunk_resized, hook_waits, memory_taken, balances_none, StoreState, left_in, levels_of, portals_of, scene_of, session_of, Acted, IsSilent, Keeps, Refused}
 use Rattle.pgs_step.specs.declared.events.What.TheVariants as what
-use Rattle.any_ctx.specs.declared.any.CtxKind.{CtxKind}
-use Rattle.reset_callbacks.specs.Hook.{Hook}
-use Rattle.reset_callbacks.specs.ShelfState.{ShelfState, taken}
-use Rattle.context_rules.specs.Contexts.{Contexts, created, created_events, reparented, reparented_events}
-use Rattle.context_rules.specs.Chunks.{allocated, registered, resized, zeros}
 use Rattle.context_rules.specs.Ends as ends
-use Rattle.context_rules.specs.Ends.{handed_in}
-use Rattle.context_tree.specs.Calls.{Did, DidNothing}
-use Rattle.context_tree.specs.State.{TreeState, SameRegions, StaysPut, left_of, stands_for}
-use Rattle.context_tree.proofs.Adding.{stands_still}
-use Rattle.session_owners.specs.ResourceState.{owners_of, plans_of}
-use Rattle.session_owners.specs.Commons.{CommonState, seen_by}
-use Rattle.session_rules.specs.State.{first_of}
-use Rattle.session_rules.specs.World.{Around, Scene}
-use Rattle.session_rules.specs.Acts.{of_contexts, switched, where_there}
-use Rattle.session_rules.specs.Making.{context_made}
-use Rattle.session_rules.specs.Parts.{context_moved, contexts_become}
-use Rattle.session_rules.specs.Taking.{chunk_resized, hook_waits, memory_taken}
-use Rattle.session_owners.proofs.Balances.{balances_none}
-use Rattle.session_store.specs.State.{StoreState, left_in, levels_of, portals_of, scene_of, session_of}
-use Rattle.session_store.specs.Calls.{Acted, IsSilent, Keeps, Refused}
 use Rattle.session_store.proofs.Sums.{left_is}
 
 -- a scene, by what calls on contexts change

@@ -1,44 +1,15 @@
 -- What calls on a store's levels make of the session, and that acts of the rules lead there.
-use Rattle.std.proofs.Common.{◌≡◌, ℕ, ◌+◌, ◌≤◌, arith, Bool, true, false, Option, Some, None, List, [], ◌∷◌, ◌++◌, append-nil, length, map, All, IfSome, refl, sym, ap, ◌∙◌, subst}
-use Rattle.std.specs.Prelude.{◌-◌, reverse, unwrap_or}
-use Rattle.std.specs.Option.{option_and_then, option_map, option_map_or}
-use Rattle.std.proofs.lemmas.List.Elements.{All-cons, All-head, All-nil, All-push, All-tail, All-weaker}
-use Rattle.addr_space.specs.Space.{Space}
-use Rattle.forest.specs.Forest.{has}
-use Rattle.forest.proofs.Mapped.{mapped-has}
-use Rattle.pgs_step.specs.declared.ids.CtxId.{CtxId}
-use Rattle.pgs_step.specs.declared.ids.OwnerId.{OwnerId}
-use Rattle.pgs_step.specs.declared.events.What.{What}
+use Rattle.session_store.proofs.Words.{◌≡◌, ℕ, ◌+◌, ◌≤◌, arith, Bool, true, false, Option, Some, None, List, [], ◌∷◌, ◌++◌, append-nil, length, map, All, IfSome, refl, sym, ap, ◌∙◌, subst, ◌-◌, reverse, unwrap_or, option_and_then, option_map, option_map_or, All-cons, All-head, All-nil, All-push, All-tail, All-weaker, Space, has, mapped-has, CtxId, OwnerId, What, ShelfState, Contexts, created, created_events, TreeState, IsLive, stands_for, ResourceState, Roomy, owners_of, plans_of, contexts_of, Level, Portal, level_at, new_level, LevelState, context_of, deepest_changed, first_of, owner_of, Around, Scene, Ended, LevelContext, OfLevel, level_context_name, level_made, level_parent, new_context_made, new_owner_made, owner_made, level_stands, AreLevels, Stands, own_there, Balances, CommonState, seen_by, balances_none, StoreState, level_state, levels_of, portals_of, scene_of, session_of, IsPlaced, IsThere, LevelLies, Lies, PortalLies, Acted, IsSilent, Keeps, StandsIn}
 use Rattle.pgs_step.specs.declared.events.What.TheVariants as what
-use Rattle.reset_callbacks.specs.ShelfState.{ShelfState}
-use Rattle.context_rules.specs.Contexts.{Contexts, created, created_events}
 use Rattle.any_ctx.specs.declared.any.CtxKind.TheVariants as kind
-use Rattle.context_tree.specs.State.{TreeState, IsLive, stands_for}
 use Rattle.session_owners.specs.ResourceState as owners
-use Rattle.session_owners.specs.ResourceState.{ResourceState, Roomy, owners_of, plans_of}
-use Rattle.session_owners.specs.Fitting.{contexts_of}
-use Rattle.subxact_stack.specs.declared.levels.Level.{Level}
-use Rattle.portal_store.specs.declared.portal.Portal.{Portal}
-use Rattle.subxact_stack.specs.Levels.{level_at, new_level}
-use Rattle.session_rules.specs.State.{LevelState, context_of, deepest_changed, first_of, owner_of}
-use Rattle.session_rules.specs.World.{Around, Scene}
-use Rattle.session_rules.specs.Acts.{Ended}
-use Rattle.session_rules.specs.Elements.{LevelContext, OfLevel}
-use Rattle.session_rules.specs.Making.{level_context_name, level_made, level_parent, new_context_made, new_owner_made, owner_made}
-use Rattle.session_rules.specs.Parts.{level_stands}
-use Rattle.session_rules.specs.Standing.{AreLevels, Stands}
 use Rattle.session_rules.proofs.EndsStand.{settled}
-use Rattle.session_rules.proofs.Standings.{own_there}
 use Rattle.session_owners.specs.Fitting as fitting
-use Rattle.session_owners.specs.Commons.{Balances, CommonState, seen_by}
-use Rattle.session_owners.proofs.Balances.{balances_none}
-use Rattle.session_store.specs.State.{StoreState, level_state, levels_of, portals_of, scene_of, session_of}
-use Rattle.session_store.specs.Placed.{IsPlaced, IsThere, LevelLies, Lies, PortalLies}
-use Rattle.session_store.specs.Calls.{Acted, IsSilent, Keeps, StandsIn}
 use Rattle.session_store.proofs.Answered.{if_some, some_both, some_more}
 use Rattle.session_store.proofs.Depths.{above_is, all_deepest, all_level, levels_are, levels_long}
 use Rattle.session_store.proofs.Kept.{nowhere}
-use Rattle.session_store.proofs.Lists.{all_reverse}
+use Rattle.session_store.proofs.Lists.{all_both}
+pub use Rattle.session_store.proofs.Owned.{HasOwner, have_owners, owner_number, owners_there}
 
 -- the space has what the store has in it, whatever its owners and its levels
 pub keeps_parts : (a : StoreState) (o : ResourceState) (ls : List Level) (s : Space) → Keeps a s → Keeps (record a { owners = o; levels = ls }) s
@@ -123,23 +94,6 @@ owner_acted a outer level s x commons p id parent Said e up number made balances
   balances = balances;
 }
 
--- the owner of a level, once it is made, is there
-abbrev pub HasOwner : ResourceState → Level → Type 0
-HasOwner table level = IfSome level.owner (λ id. has id.number (owners_of table) ≡ true)
-
-pub owners_there : (contexts : Contexts) (table : ResourceState) (levels : List Level) → AreLevels (map level_state levels) contexts (owners_of table) → All (HasOwner table) levels
-owners_there contexts table [] h = All-nil (HasOwner table)
-owners_there contexts table (level ∷ levels) h =
-    All-cons (HasOwner table) level levels
-    (if_some level.owner (λ id e. (h.0.owner id.number (ap (option_map (λ (o : OwnerId). o.number)) e)).there))
-    (owners_there contexts table levels h.1)
-
-pub have_owners : (a : StoreState) (s : Space) (x : ShelfState) (commons : CommonState) → StandsIn a s x commons → All (HasOwner a.owners) a.levels
-unfolding session_of
-have_owners a s x commons stands =
-    let h : Stands (scene_of a s x commons nowhere) = stands nowhere in
-    all_reverse (HasOwner a.owners) a.levels (owners_there (stands_for a.tree s) a.owners (reverse a.levels) h.levels)
-
 -- a level's context and owner lie where their ids say
 pub context_live : (tree : TreeState) (table : ResourceState) (level : Level) → LevelLies tree table level → IsThere tree level → IfSome level.context (IsLive tree)
 context_live tree table level lies there = some_both level.context (λ id l h. l h) lies.context there
@@ -172,17 +126,10 @@ deepest_placed tree tree' table table' levels outer portals level new placed e o
     let has = all_deepest (HasOwner table) levels outer level e owned in
     record {
       current = current;
-      levels = All-push (LevelLies tree' table') outer new (all_more outer both.0 has.0) (then both.1);
+      levels = All-push (LevelLies tree' table') outer new (all_both (LevelLies tree table) (HasOwner table) (LevelLies tree' table') on outer both.0 has.0) (then both.1);
       plans = plans;
       portals = queries;
     }
-  where
-    all_more : (ls : List Level) → All (LevelLies tree table) ls → All (HasOwner table) ls → All (LevelLies tree' table') ls
-    all_more [] lies has = All-nil (LevelLies tree' table')
-    all_more (l ∷ ls) lies has =
-        All-cons (LevelLies tree' table') l ls
-        (on l (All-head (LevelLies tree table) l ls lies) (All-head (HasOwner table) l ls has))
-        (all_more ls (All-tail (LevelLies tree table) l ls lies) (All-tail (HasOwner table) l ls has))
 
 -- what lies in a tree lies there whichever context is the current one
 pub lies_at : (tree : TreeState) (table : ResourceState) (id : CtxId) (level : Level) → LevelLies tree table level → LevelLies (record tree { current = id }) table level
@@ -230,14 +177,10 @@ above_live a s x commons n (Some level) placed stands e =
     (all_level (LevelLies a.tree a.owners) a.levels n level placed.levels (sym e))
     (all_level (HasOwner a.owners) a.levels n level (have_owners a s x commons stands) (sym e))
 
-number_of : (o : Option Level) → option_map (λ (id : OwnerId). id.number) (option_and_then (λ level. level.owner) o) ≡ owner_of (option_map level_state o)
-number_of None = refl
-number_of (Some level) = refl
-
 pub above_owner : (a : StoreState) (outer : List Level) (level : Level) → a.levels ≡ outer ++ level ∷ []
     → option_map (λ (id : OwnerId). id.number) (option_and_then (λ level. level.owner) (level_at a.levels (length a.levels - 1))) ≡ owner_of (first_of (levels_of outer))
 above_owner a outer level e =
-    number_of (level_at a.levels (length a.levels - 1))
+    sym (owner_number (level_at a.levels (length a.levels - 1)))
     ∙ ap (λ (ls : List Level). owner_of (option_map level_state (level_at ls (length ls - 1)))) e
     ∙ ap owner_of (above_is outer level)
 

@@ -1,3 +1,4 @@
+pub mod Words
 pub mod Answered
 pub mod Lists
 pub mod Sums
@@ -12,3 +13,4 @@ pub mod Levelled
 pub mod Owned
 pub mod Savepoints
 pub mod Planned
+pub mod Lemmas

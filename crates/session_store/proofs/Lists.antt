@@ -1,9 +1,5 @@
 -- Lists from their other end.
-use Rattle.std.proofs.Common.{◌≡◌, ℕ, zero, suc, ◌<◌, List, [], ◌∷◌, ◌++◌, length, map, All, Some, refl, sym, ap, ◌∙◌, subst, arith}
-use Rattle.std.specs.Prelude.{Contains, reverse, slice_get, option_map}
-use Rattle.std.proofs.lemmas.List.{length-reverse, map-append, reverse-append, reverse-reverse}
-use Rattle.std.proofs.lemmas.List.Elements.{All-cons, All-contains, All-contains_itself, All-head, All-pop, All-tail, All-weaker}
-use Rattle.session_rules.specs.State.{first_of, last_of}
+use Rattle.session_store.proofs.Words.{◌≡◌, ℕ, zero, suc, ◌<◌, List, [], ◌∷◌, ◌++◌, length, map, All, Some, refl, sym, ap, ◌∙◌, subst, arith, Contains, reverse, slice_get, option_map, length-reverse, map-append, reverse-append, reverse-reverse, All-cons, All-nil, All-contains, All-contains_itself, All-head, All-pop, All-tail, All-weaker, first_of, last_of}
 
 module _ {A : Type 0} where
   -- a list turned round, one element at a time
@@ -34,6 +30,11 @@ module _ {A : Type 0} where
   all_at P (y ∷ xs) zero x h e = let same : y ≡ x = cc e in subst P same (All-head P y xs h)
   all_at P (y ∷ xs) (suc i) x h e = all_at P xs i x (All-tail P y xs h) e
 
+  -- what follows of two things that hold of all
+  pub all_both : (P Q R : A → Type 0) → ((x : A) → P x → Q x → R x) → (xs : List A) → All P xs → All Q xs → All R xs
+  all_both P Q R more [] p q = All-nil R
+  all_both P Q R more (x ∷ xs) p q = All-cons R x xs (more x (All-head P x xs p) (All-head Q x xs q)) (all_both P Q R more xs (All-tail P x xs p) (All-tail Q x xs q))
+
   -- what holds of the elements of a list holds of those of a part of it
   pub all_left : (P : A → Type 0) (xs ys : List A) → ((x : A) → Contains ys x → Contains xs x) → All P xs → All P ys
   all_left P xs ys left all = All-weaker (Contains ys) P (λ y here. All-contains P xs y all (left y here)) ys (All-contains_itself ys)
@@ -46,6 +47,11 @@ module _ {A B : Type 0} (f : A → B) where
       ∙ ap (λ (ys : List B). ys ++ f x ∷ []) (reverse_map xs)
       ∙ sym (map-append f (reverse xs) (x ∷ []))
       ∙ ap (map f) (sym (reverse_more x xs))
+
+  -- what follows of what holds of all that a list is mapped to
+  pub all_mapped : (P : B → Type 0) (Q : A → Type 0) → ((x : A) → P (f x) → Q x) → (xs : List A) → All P (map f xs) → All Q xs
+  all_mapped P Q more [] h = All-nil Q
+  all_mapped P Q more (x ∷ xs) h = All-cons Q x xs (more x (All-head P (f x) (map f xs) h)) (all_mapped P Q more xs (All-tail P (f x) (map f xs) h))
 
   pub first_map : (xs : List A) → first_of (map f xs) ≡ option_map f (first_of xs)
   first_map [] = refl

@@ -1,18 +1,7 @@
 -- What names mean that stand for contexts of the transaction.
-use Rattle.std.proofs.Common.{◌≡◌, ℕ, suc, ◌-◌, false, true, List, [], ◌∷◌, length, Option, Some, None, refl, ap, sym, ◌∙◌, arith}
-use Rattle.std.specs.Prelude.{◌==◌, codes, slice_get}
-use Rattle.std.specs.Option.{option_and_then, option_map}
-use Rattle.std.proofs.lemmas.Bool.{ne_eqb}
-use Rattle.addr_space.specs.Space.{Space}
-use Rattle.pgs_step.specs.declared.ids.CtxId.{CtxId}
+use Rattle.session_store.proofs.Words.{◌≡◌, ℕ, suc, ◌-◌, false, true, List, [], ◌∷◌, length, Option, Some, None, refl, ap, sym, ◌∙◌, arith, ◌==◌, codes, slice_get, option_and_then, option_map, ne_eqb, Space, CtxId, same_name, stands_for, level_at, Level, context_of, first_of, last_of, StoreState, level_state, levels_of, session_of}
 use Rattle.context_rules.specs.Contexts as contexts
-use Rattle.context_rules.specs.Names.{same_name}
-use Rattle.context_tree.specs.State.{stands_for}
-use Rattle.subxact_stack.specs.Levels.{level_at}
-use Rattle.subxact_stack.specs.declared.levels.Level.{Level}
-use Rattle.session_rules.specs.State.{context_of, first_of, last_of}
 use Rattle.session_rules.specs.Lookup.{context_named}
-use Rattle.session_store.specs.State.{StoreState, level_state, levels_of, session_of}
 use Rattle.session_store.proofs.Lists.{first_map, first_reverse, last_reverse}
 
 -- the number of a level's context

@@ -1,25 +1,10 @@
 -- A session that opens.
-use Rattle.std.proofs.Common.{◌≡◌, ℕ, List, [], None, ap, sym, ◌∙◌, arith, subst}
-use Rattle.addr_space.specs.Space.{Space, held}
-use Rattle.forest.specs.Forest.{Empty}
-use Rattle.context_rules.specs.Contexts.{Contexts}
+use Rattle.session_store.proofs.Words.{◌≡◌, ℕ, List, [], None, ap, sym, ◌∙◌, arith, subst, Space, held, Empty, Contexts, TreeState, Moves, no_contexts, stands_for, total_of, ResourceState, owners_of, plans_of, Level, Portal, AreDistinct, ShelfState, SessionState, opening, Around, Stands, CommonState, seen_by, StoreState, levels_of, portals_of, session_of, Keeps, StandsIn}
 use Rattle.context_rules.specs.Opening as contexts
-use Rattle.context_tree.specs.State.{TreeState, Moves, no_contexts, stands_for, total_of}
 use Rattle.owner_kinds.specs.KindShelf.{table_of}
 use Rattle.owner_kinds.specs.KindTable.{IsSound}
-use Rattle.session_owners.specs.ResourceState.{ResourceState, owners_of, plans_of}
-use Rattle.subxact_stack.specs.declared.levels.Level.{Level}
-use Rattle.portal_store.specs.declared.portal.Portal.{Portal}
-use Rattle.reset_callbacks.specs.Hook.{AreDistinct}
 use Rattle.reset_callbacks.specs.ShelfState as shelf
-use Rattle.reset_callbacks.specs.ShelfState.{ShelfState}
-use Rattle.session_rules.specs.State.{SessionState, opening}
-use Rattle.session_rules.specs.World.{Around}
-use Rattle.session_rules.specs.Standing.{Stands}
 use Rattle.session_rules.proofs.OpeningStands.{opening_stands}
-use Rattle.session_owners.specs.Commons.{CommonState, seen_by}
-use Rattle.session_store.specs.State.{StoreState, levels_of, portals_of, session_of}
-use Rattle.session_store.specs.Calls.{Keeps, StandsIn}
 use Rattle.session_store.proofs.Sums.{held_is}
 
 -- a session by its parts

@@ -1,48 +1,18 @@
 -- What calls on a store's owners make of it.
-use Rattle.std.proofs.Common.{◌≡◌, ◌↔◌, ℕ, true, false, Option, Some, None, List, [], ◌∷◌, length, map, All, IfSome, refl, sym, ap, ◌∙◌, subst, Result, Ok, Err, OnOk, OnErr}
-use Rattle.std.specs.Prelude.{◌==◌, IsErr, reverse}
-use Rattle.std.specs.Option.{option_and_then, option_map, option_map_or}
-use Rattle.std.proofs.lemmas.List.Elements.{All-nil, All-cons, All-head, All-tail, All-weaker}
-use Rattle.addr_space.specs.Space.{Space}
-use Rattle.forest.specs.Forest.{Forest, at, changed, has}
-use Rattle.forest.proofs.Trees.{has_changed}
-use Rattle.forest.proofs.Mapped.{mapped-has}
-use Rattle.pgs_step.specs.declared.ids.OwnerId.{OwnerId}
-use Rattle.pgs_step.specs.declared.events.What.{What}
-use Rattle.reset_callbacks.specs.ShelfState.{ShelfState}
-use Rattle.context_rules.specs.Contexts.{Contexts}
-use Rattle.context_tree.specs.State.{TreeState, stands_for}
+use Rattle.session_store.proofs.Words.{◌≡◌, ◌↔◌, ℕ, true, false, Option, Some, None, List, [], ◌∷◌, length, map, All, IfSome, refl, sym, ap, ◌∙◌, subst, Result, Ok, Err, OnOk, OnErr, ◌==◌, IsErr, reverse, option_and_then, option_map, option_map_or, All-nil, All-cons, All-head, All-tail, All-weaker, Space, Forest, at, changed, has, has_changed, mapped-has, OwnerId, What, ShelfState, Contexts, TreeState, stands_for, Plans, Owner, ResourceState, OwnerTree, Roomy, owners_of, plan_state, plans_of, AreLeft, contexts_of, level_at, Level, Portal, beside, LevelState, SessionState, file_kind, first_of, last_of, owner_of, pushed_at, snapshot_pushed, holds, Around, Scene, Ended, nothing, AreLevels, IsPortal, Stands, OwnersFit, Balances, CommonState, pinned_beside, seen_by, StoreState, level_state, levels_of, portal_state, portals_of, scene_of, session_of, IsPlaced, LevelLies, Lies, OwnerLies, PortalLies, Acted, IsSilent, Keeps, Refused, StandsIn}
 use Rattle.session_owners.specs.ResourceState as ids
-use Rattle.plan_store.specs.Plans.{Plans}
-use Rattle.session_owners.specs.ResourceState.{Owner, ResourceState, OwnerTree, Roomy, owners_of, plan_state, plans_of}
-use Rattle.session_owners.specs.Fitting.{AreLeft, contexts_of}
-use Rattle.subxact_stack.specs.Levels.{level_at}
-use Rattle.subxact_stack.specs.declared.levels.Level.{Level}
-use Rattle.portal_store.specs.declared.portal.Portal.{Portal}
-use Rattle.lock_shared.specs.Ranked.{beside}
 use Rattle.lock_local.specs.Locks.{Lock}
 use Rattle.snap_table.specs.declared.active.Active.{Active}
-use Rattle.session_rules.specs.State.{LevelState, SessionState, file_kind, first_of, last_of, owner_of}
 use Rattle.session_rules.specs.Checks.{holds_snapshot}
-use Rattle.session_rules.specs.Taking.{pushed_at, snapshot_pushed}
-use Rattle.session_rules.specs.Counts.{holds}
-use Rattle.session_rules.specs.World.{Around, Scene}
-use Rattle.session_rules.specs.Acts.{Ended, nothing}
-use Rattle.session_rules.specs.Standing.{AreLevels, IsPortal, Stands}
 use Rattle.session_owners.specs.Counted.{holds_file}
 use Rattle.session_owners.specs.Fitting as own
-use Rattle.session_owners.specs.Fitting.{OwnersFit}
-use Rattle.session_owners.specs.Commons.{Balances, CommonState, pinned_beside, seen_by}
-use Rattle.session_store.specs.State.{StoreState, level_state, levels_of, portal_state, portals_of, scene_of, session_of}
-use Rattle.session_store.specs.Placed.{IsPlaced, LevelLies, Lies, OwnerLies, PortalLies}
-use Rattle.session_store.specs.Calls.{Acted, IsSilent, Keeps, Refused, StandsIn}
 use Rattle.session_store.specs.Owned.{OwnersAlone}
-use Rattle.session_store.proofs.Answered.{some_both, some_more}
-use Rattle.session_store.proofs.Depths.{levels_long}
-use Rattle.session_store.proofs.Lists.{all_left, all_reverse, first_map, first_reverse}
+use Rattle.session_store.proofs.Answered.{if_some, some_both, some_more}
+use Rattle.session_store.proofs.Depths.{all_level, levels_long}
+use Rattle.session_store.proofs.Lists.{all_both, all_left, all_mapped, all_reverse, first_map, first_reverse}
 use Rattle.session_store.proofs.Named.{at_end}
 use Rattle.session_store.proofs.Sums.{held_is}
-use Rattle.session_store.proofs.Kept.{at_level, nowhere}
+use Rattle.session_store.proofs.Kept.{nowhere}
 
 -- The owners change. What is there was there, and lies where it lay, and no context of a plan comes.
 pub record OwnersGo (a b : ResourceState) : Type 0 where
@@ -59,11 +29,8 @@ owner_on a b id go lies there =
     go.stays id.number now ∙ lies (sym (has_rooms id.number a) ∙ go.had id.number now)
 
 owners_levels : (tree : TreeState) (a b : ResourceState) (levels : List Level) → OwnersGo a b → All (LevelLies tree a) levels → All (LevelLies tree b) levels
-owners_levels tree a b [] go lies = All-nil (LevelLies tree b)
-owners_levels tree a b (level ∷ levels) go lies =
-    let first = All-head (LevelLies tree a) level levels lies in
-    All-cons (LevelLies tree b) level levels (record { context = first.context; owner = some_more level.owner (λ id. owner_on a b id go) first.owner })
-    (owners_levels tree a b levels go (All-tail (LevelLies tree a) level levels lies))
+owners_levels tree a b levels go =
+    All-weaker (LevelLies tree a) (LevelLies tree b) (λ level lies. record { context = lies.context; owner = some_more level.owner (λ id. owner_on a b id go) lies.owner }) levels
 
 pub portal_owners : (tree : TreeState) (a b : ResourceState) (portal : Portal) → OwnersGo a b → PortalLies tree a portal → PortalLies tree b portal
 portal_owners tree a b portal go lies = record { context = lies.context; expr = lies.expr; owner = some_more portal.owner (λ id. owner_on a b id go) lies.owner; scan = lies.scan }
@@ -133,10 +100,9 @@ abbrev pub HasOwner : ResourceState → Level → Type 0
 HasOwner table level = IfSome level.owner (λ id. has id.number (owners_of table) ≡ true)
 
 owner_there : (table : ResourceState) (o : Option OwnerId) → ((n : ℕ) → option_map (λ (id : OwnerId). id.number) o ≡ Some n → has n (owners_of table) ≡ true) → IfSome o (λ id. has id.number (owners_of table) ≡ true)
-owner_there table None there = tt
-owner_there table (Some id) there = there id.number refl
+owner_there table o there = if_some o (λ id e. there id.number (ap (option_map (λ (i : OwnerId). i.number)) e))
 
-owners_there : (contexts : Contexts) (table : ResourceState) (levels : List Level) → AreLevels (map level_state levels) contexts (owners_of table) → All (HasOwner table) levels
+pub owners_there : (contexts : Contexts) (table : ResourceState) (levels : List Level) → AreLevels (map level_state levels) contexts (owners_of table) → All (HasOwner table) levels
 owners_there contexts table [] h = All-nil (HasOwner table)
 owners_there contexts table (level ∷ levels) h =
     All-cons (HasOwner table) level levels (owner_there table level.owner (λ n e. (h.0.owner n e).there)) (owners_there contexts table levels h.1)
@@ -152,11 +118,8 @@ abbrev pub HasPortalOwner : ResourceState → Portal → Type 0
 HasPortalOwner table portal = IfSome portal.owner (λ id. has id.number (owners_of table) ≡ true)
 
 pub portal_owners_there : (levels : List LevelState) (contexts : Contexts) (table : ResourceState) (current : ℕ) (portals : List Portal) → All (λ p. IsPortal p levels contexts (owners_of table) current) (portals_of portals) → All (HasPortalOwner table) portals
-portal_owners_there levels contexts table current [] h = All-nil (HasPortalOwner table)
-portal_owners_there levels contexts table current (portal ∷ portals) h =
-    let first : IsPortal (portal_state portal) levels contexts (owners_of table) current = All-head (λ p. IsPortal p levels contexts (owners_of table) current) (portal_state portal) (portals_of portals) h in
-    All-cons (HasPortalOwner table) portal portals (owner_there table portal.owner (λ n e. (first.owner n e).there))
-    (portal_owners_there levels contexts table current portals (All-tail (λ p. IsPortal p levels contexts (owners_of table) current) (portal_state portal) (portals_of portals) h))
+portal_owners_there levels contexts table current portals =
+    all_mapped portal_state (λ p. IsPortal p levels contexts (owners_of table) current) (HasPortalOwner table) (λ portal is. owner_there table portal.owner (λ n e. (is.owner n e).there)) portals
 
 pub have_portal_owners : (a : StoreState) (s : Space) (x : ShelfState) (commons : CommonState) → StandsIn a s x commons → All (HasPortalOwner a.owners) a.portals
 unfolding session_of
@@ -166,22 +129,19 @@ have_portal_owners a s x commons stands =
 
 -- the owners of portals lie on where all that lay do
 pub portals_kept : (tree : TreeState) (a b : ResourceState) (portals : List Portal) → ((id : OwnerId) → ids.IsLive a id → ids.IsLive b id) → All (PortalLies tree a) portals → All (HasPortalOwner a) portals → All (PortalLies tree b) portals
-portals_kept tree a b [] on lies there = All-nil (PortalLies tree b)
-portals_kept tree a b (portal ∷ portals) on lies there =
-    let first = All-head (PortalLies tree a) portal portals lies in
-    All-cons (PortalLies tree b) portal portals
-    (record {
-      context = first.context;
-      expr = first.expr;
-      owner = some_both portal.owner (λ id l here _. on id (l (sym (has_rooms id.number a) ∙ here))) first.owner (All-head (HasPortalOwner a) portal portals there);
-      scan = first.scan;
-    })
-    (portals_kept tree a b portals on (All-tail (PortalLies tree a) portal portals lies) (All-tail (HasPortalOwner a) portal portals there))
+portals_kept tree a b portals on =
+    all_both (PortalLies tree a) (HasPortalOwner a) (PortalLies tree b)
+    (λ portal lies there. record {
+      context = lies.context;
+      expr = lies.expr;
+      owner = some_both portal.owner (λ id l here _. on id (l (sym (has_rooms id.number a) ∙ here))) lies.owner there;
+      scan = lies.scan;
+    }) portals
 
 pub level_owner_live : (tree : TreeState) (table : ResourceState) (levels : List Level) (portals : List Portal) (n : ℕ) (level : Level) → IsPlaced tree table levels portals → All (HasOwner table) levels → level_at levels n ≡ Some level → IfSome level.owner (ids.IsLive table)
 level_owner_live tree table levels portals n level placed there e =
-    let lies : LevelLies tree table level = at_level (LevelLies tree table) levels n level placed.levels e in
-    some_both level.owner (λ id lies here. lies (sym (has_rooms id.number table) ∙ here)) lies.owner (at_level (HasOwner table) levels n level there e)
+    let lies : LevelLies tree table level = all_level (LevelLies tree table) levels n level placed.levels e in
+    some_both level.owner (λ id lies here. lies (sym (has_rooms id.number table) ∙ here)) lies.owner (all_level (HasOwner table) levels n level there e)
 
 -- the store's owners are those of each scene of it
 pub owners_fit : (a : StoreState) (s : Space) (x : ShelfState) (commons : CommonState) (around : Around) → OwnersFit a.owners commons (scene_of a s x commons around)

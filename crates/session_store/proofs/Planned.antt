@@ -1,38 +1,9 @@
 -- What the making of a plan makes of a store.
-use Rattle.std.proofs.Common.{◌≡◌, ◌↔◌, ◌≤◌, ℕ, ◌+◌, true, false, List, [], ◌∷◌, ◌++◌, append-nil, All, Option, Some, None, Result, Ok, Err, refl, sym, ap, ◌∙◌, subst, inl, inr}
-use Rattle.std.specs.Prelude.{codes, nat_lt}
-use Rattle.std.specs.Option.{option_map}
-use Rattle.std.proofs.lemmas.Bool.{cases_Bool, ltb-false}
-use Rattle.std.proofs.lemmas.List.{map-append}
-use Rattle.std.proofs.lemmas.List.Elements.{All-push, All-weaker}
-use Rattle.addr_space.specs.Space.{Space}
-use Rattle.forest.specs.Forest.{at, has}
-use Rattle.pgs_step.specs.declared.ids.CtxId.{CtxId}
-use Rattle.pgs_step.specs.declared.events.What.{What}
+use Rattle.session_store.proofs.Words.{◌≡◌, ◌↔◌, ◌≤◌, ℕ, ◌+◌, true, false, List, [], ◌∷◌, ◌++◌, append-nil, All, Option, Some, None, Result, Ok, Err, refl, sym, ap, ◌∙◌, subst, inl, inr, codes, nat_lt, option_map, cases_Bool, ltb-false, map-append, All-push, All-weaker, Space, at, has, CtxId, What, ShelfState, Contexts, created, created_events, TreeState, IsLive, SameRegions, stands_for, stands_still, plan_of, Plan, create_refusal, plan_at, plan_refusal, ResourceState, owners_of, plan_state, plans_of, contexts_of, Balances, CommonState, seen_by, StandingPlan, cache_context, Around, Scene, plan_made, Level, Portal, StoreState, levels_of, portals_of, session_of, IsPlaced, LevelLies, Lies, PortalLies, Acted, BothAlone, Keeps, Unmade}
 use Rattle.any_ctx.specs.declared.any.CtxKind.TheVariants as kind
-use Rattle.reset_callbacks.specs.ShelfState.{ShelfState}
-use Rattle.context_rules.specs.Contexts.{Contexts, created, created_events}
-use Rattle.context_tree.specs.State.{TreeState, IsLive, SameRegions, stands_for}
-use Rattle.context_tree.proofs.Adding.{stands_still}
-use Rattle.plan_store.specs.Plans.{plan_of}
-use Rattle.plan_store.specs.declared.plan.Plan.{Plan}
 use Rattle.plan_store.specs.declared.plan.PlanError.{PlanError}
 use Rattle.plan_store.specs.declared.plan.PlanError.TheVariants.{TooMany}
-use Rattle.context_rules.specs.Refusals.{create_refusal}
 use Rattle.session_owners.proofs.PlanLemmas.{at_found}
-use Rattle.session_rules.specs.Lookup.{plan_at}
-use Rattle.session_store.specs.Plans.{plan_refusal}
-use Rattle.session_owners.specs.ResourceState.{ResourceState, owners_of, plan_state, plans_of}
-use Rattle.session_owners.specs.Fitting.{contexts_of}
-use Rattle.session_owners.specs.Commons.{Balances, CommonState, seen_by}
-use Rattle.session_rules.specs.State.{StandingPlan, cache_context}
-use Rattle.session_rules.specs.World.{Around, Scene}
-use Rattle.session_rules.specs.Making.{plan_made}
-use Rattle.subxact_stack.specs.declared.levels.Level.{Level}
-use Rattle.portal_store.specs.declared.portal.Portal.{Portal}
-use Rattle.session_store.specs.State.{StoreState, levels_of, portals_of, session_of}
-use Rattle.session_store.specs.Placed.{IsPlaced, LevelLies, Lies, PortalLies}
-use Rattle.session_store.specs.Calls.{Acted, BothAlone, Keeps, Unmade}
 use Rattle.session_store.proofs.Kept.{Goes, has_kept}
 use Rattle.session_store.proofs.Owned.{keeps_owners}
 use Rattle.session_store.proofs.Sums.{keeps_on}

@@ -1,13 +1,5 @@
 -- The search for a savepoint from the deepest level up, in the order in which a store keeps the levels and in that of the session.
-use Rattle.std.proofs.Common.{◌≡◌, ℕ, zero, suc, ◌+◌, Bool, true, false, Option, Some, None, List, [], ◌∷◌, ◌++◌, length, refl, sym, ap, ◌∙◌, arith}
-use Rattle.std.specs.Prelude.{◌&&◌, if◌then◌else◌, nat_lt}
-use Rattle.std.specs.Option.{option_or}
-use Rattle.std.proofs.lemmas.Bool.{lt-ltb}
-use Rattle.std.proofs.lemmas.List.{length-append}
-use Rattle.subxact_stack.specs.declared.levels.Level.{Level}
-use Rattle.subxact_stack.specs.Levels.{deepest_named, deepest_named_from, is_named}
-use Rattle.session_rules.specs.Commands.{savepoint}
-use Rattle.session_store.specs.State.{levels_of}
+use Rattle.session_store.proofs.Words.{◌≡◌, ℕ, zero, suc, ◌+◌, Bool, true, false, Option, Some, None, List, [], ◌∷◌, ◌++◌, length, refl, sym, ap, ◌∙◌, arith, ◌&&◌, if◌then◌else◌, nat_lt, option_or, lt-ltb, length-append, Level, deepest_named, deepest_named_from, is_named, savepoint, levels_of}
 use Rattle.session_store.proofs.Depths.{ends, levels_are, levels_long}
 
 -- the number of a level that has the name

@@ -1,15 +1,8 @@
 -- What a session's contexts hold together, and that a change of a tree keeps the account of it.
-use Rattle.std.proofs.Common.{◌≡◌, ℕ, ◌+◌, ◌-◌, sym, ap, ◌∙◌, arith}
-use Rattle.addr_space.specs.Space.{Space, held}
-use Rattle.forest.specs.Forest.{Empty, Node}
+use Rattle.session_store.proofs.Words.{◌≡◌, ℕ, ◌+◌, ◌-◌, sym, ap, ◌∙◌, arith, Space, held, Empty, Node, Contexts, summed, TreeState, Moves, left_of, stands_for, total_of, StoreState, held_in, left_in, session_of, Keeps}
 use Rattle.any_ctx.specs.Ledgers.{stats}
 use Rattle.context_report.specs.Lines.{added, no_total}
 use Rattle.context_report.specs.declared.Total.{Total}
-use Rattle.context_rules.specs.Contexts.{Contexts}
-use Rattle.context_rules.specs.Reports.{summed}
-use Rattle.context_tree.specs.State.{TreeState, Moves, left_of, stands_for, total_of}
-use Rattle.session_store.specs.State.{StoreState, held_in, left_in, session_of}
-use Rattle.session_store.specs.Calls.{Keeps}
 
 -- the sum of a report counts the bytes of each ledger once
 pub total_summed : (total : Total) (t : Contexts) → (summed total t).total ≡ total.total + total_of t

@@ -1,35 +1,7 @@
 -- What calls on the tree of a store make of the store: it is seen as a value, and the tree is one of its fields.
-use Rattle.std.proofs.Common.{◌≡◌, ℕ, ◌+◌, ◌≤◌, Bool, true, false, List, [], ◌∷◌, Option, Some, Result, OnOk, OnErr, refl, sym, ap, ◌∙◌, subst, arith}
-use Rattle.std.specs.Prelude.{if◌then◌else◌}
-use Rattle.addr_space.specs.Space.{Asks, Space, held}
-use Rattle.addr_space.proofs.Options.{both_err, either_way, on_err}
-use Rattle.forest.specs.Forest.{has}
-use Rattle.pgs_step.specs.declared.ids.CtxId.{CtxId}
-use Rattle.pgs_step.specs.declared.events.What.{What}
+use Rattle.session_store.proofs.Words.{◌≡◌, ℕ, ◌+◌, ◌≤◌, Bool, true, false, List, [], ◌∷◌, Option, Some, Result, OnOk, OnErr, refl, sym, ap, ◌∙◌, subst, arith, if◌then◌else◌, Asks, Space, held, both_err, either_way, on_err, has, CtxId, What, Hook, ShelfState, taken, CtxKind, Contexts, created, created_events, reparented, reparented_events, TreeError, Did, DidNothing, TreeState, Agrees, HooksFit, IsLive, SameRegions, StaysPut, left_of, stands_for, ResourceState, Level, Portal, allocated, registered, resized, zeros, of_contexts, switched, where_there, abort_context, first_of, context_made, context_moved, contexts_become, chunk_resized, hook_waits, memory_taken, Stands, CommonState, StoreState, contexts_in, held_in, left_in, scene_of, session_of, HasLevels, IsPlaced, Acted, ContextsAlone, IsSilent, Keeps, Refused, StandsIn, own_there}
 use Rattle.pgs_step.specs.declared.events.What.TheVariants as what
-use Rattle.reset_callbacks.specs.Hook.{Hook}
-use Rattle.reset_callbacks.specs.ShelfState.{ShelfState, taken}
-use Rattle.any_ctx.specs.declared.any.CtxKind.{CtxKind}
-use Rattle.context_rules.specs.Contexts.{Contexts, created, created_events, reparented, reparented_events}
 use Rattle.context_rules.specs.Ends.{Ended}
-use Rattle.context_rules.specs.declared.errors.TreeError.{TreeError}
-use Rattle.context_tree.specs.Calls.{Did, DidNothing}
-use Rattle.context_tree.specs.State.{TreeState, Agrees, HooksFit, IsLive, SameRegions, StaysPut, left_of, stands_for}
-use Rattle.session_owners.specs.ResourceState.{ResourceState}
-use Rattle.subxact_stack.specs.declared.levels.Level.{Level}
-use Rattle.portal_store.specs.declared.portal.Portal.{Portal}
-use Rattle.context_rules.specs.Chunks.{allocated, registered, resized, zeros}
-use Rattle.session_rules.specs.Acts.{of_contexts, switched, where_there}
-use Rattle.session_rules.specs.State.{abort_context, first_of}
-use Rattle.session_rules.specs.Making.{context_made}
-use Rattle.session_rules.specs.Parts.{context_moved, contexts_become}
-use Rattle.session_rules.specs.Taking.{chunk_resized, hook_waits, memory_taken}
-use Rattle.session_rules.specs.Standing.{Stands}
-use Rattle.session_owners.specs.Commons.{CommonState}
-use Rattle.session_store.specs.State.{StoreState, contexts_in, held_in, left_in, scene_of, session_of}
-use Rattle.session_store.specs.Placed.{HasLevels, IsPlaced}
-use Rattle.session_store.specs.Calls.{Acted, ContextsAlone, IsSilent, Keeps, Refused, StandsIn}
-use Rattle.session_rules.proofs.Standings.{own_there}
 use Rattle.session_store.proofs.Answered.{on_answer, on_both, on_three}
 use Rattle.session_store.proofs.Sums.{left_is}
 use Rattle.session_store.proofs.Kept.{AreThere, Goes, alone_on, are_there, goes_did, goes_nothing, has_kept, nowhere, placed_on, switch_alone}

@@ -1,10 +1,7 @@
 -- What the portal has lies where its id says.
-use Rattle.std.proofs.Common.{sym, ap, ◌∙◌}
-use Rattle.portal_store.specs.Portals.{portal_named}
-use Rattle.portal_store.proofs.PortalLemmas.{named_by_place}
-use Rattle.session_store.specs.State.{StoreState}
-use Rattle.session_ends.proofs.Becoming.{place_in}
-use Rattle.session_ends.proofs.Living.{context_in, expr_in, owner_in, scan_in, session_named}
+use Rattle.session_ends.proofs.Base.{sym, ap, ◌∙◌}
+use Rattle.session_ends.proofs.Words.{portal_named, named_by_place, StoreState}
+use Rattle.session_ends.proofs.Lemmas.{place_in, context_in, expr_in, owner_in, scan_in, session_named}
 use Rattle.session_ends.proofs.changing.portal_at.Goals as goal
 
 pub returns-clause-portal : goal.returns-clause-portal

@@ -1,8 +1,7 @@
 -- What the portal has lies where its id says.
-use Rattle.std.proofs.Common.{ap, ◌∙◌}
-use Rattle.portal_store.specs.Portals.{portal_named}
-use Rattle.session_store.specs.State.{StoreState}
-use Rattle.session_ends.proofs.Living.{context_in, expr_in, owner_in, scan_in, session_named}
+use Rattle.session_ends.proofs.Base.{ap, ◌∙◌}
+use Rattle.session_ends.proofs.Words.{portal_named, StoreState}
+use Rattle.session_ends.proofs.Lemmas.{context_in, expr_in, owner_in, scan_in, session_named}
 use Rattle.session_ends.proofs.changing.portal_named.Goals as goal
 
 pub returns-clause-session : goal.returns-clause-session

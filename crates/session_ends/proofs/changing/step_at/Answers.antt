@@ -1,14 +1,7 @@
 -- The scan takes its next step.
-use Rattle.std.proofs.Common.{◌≡◌, ◌∷◌, Option, IfSome, refl, sym, ap, ◌∙◌, subst}
-use Rattle.exec_core.specs.Turn.{IsScan, rest, taken}
-use Rattle.portal_store.specs.Portal.{coming}
-use Rattle.portal_store.specs.declared.portal.Portal.{Portal}
-use Rattle.portal_store.specs.Portals.{changed, portal_named}
-use Rattle.portal_store.proofs.PortalLemmas.{named_by_place, place_within}
-use Rattle.session_rules.specs.State.{OpenPortal}
-use Rattle.session_store.specs.State.{StoreState}
-use Rattle.session_ends.proofs.Becoming.{becomes_after, place_in, placed_changed}
-use Rattle.session_ends.proofs.Living.{scan_in}
+use Rattle.session_ends.proofs.Base.{◌≡◌, ◌∷◌, Option, IfSome, refl, sym, ap, ◌∙◌, subst}
+use Rattle.session_ends.proofs.Words.{IsScan, rest, taken, coming, Portal, changed, portal_named, named_by_place, place_within, OpenPortal, StoreState}
+use Rattle.session_ends.proofs.Lemmas.{becomes_after, place_in, placed_changed, scan_in}
 use Rattle.session_ends.proofs.changing.step_at.Goals as goal
 
 pub step_at-requires-clause-there : goal.step_at-requires-clause-there

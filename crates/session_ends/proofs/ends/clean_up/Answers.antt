@@ -1,5 +1,5 @@
 -- The level is aborted, so that it may go.
-use Rattle.session_ends.proofs.Freed.{freed_aborted}
+use Rattle.session_ends.proofs.Lemmas.{freed_aborted}
 use Rattle.session_ends.proofs.ends.clean_up.Goals as goal
 
 pub sweep-requires-clause-freed : goal.sweep-requires-clause-freed

@@ -1,17 +1,7 @@
 -- The session ends as the rules say, and nothing is left.
-use Rattle.std.proofs.Common.{◌≡◌, [], ◌∷◌, sym, subst}
-use Rattle.addr_space.specs.Space.{held}
-use Rattle.context_rules.specs.Ends.{gone}
-use Rattle.context_tree.specs.Calls.{Did}
-use Rattle.context_tree.specs.State.{TreeState, Agrees, HooksFit, IsLive, Moves, stands_for}
-use Rattle.session_rules.specs.Acts.{context_gone, in_order, switched}
-use Rattle.session_rules.specs.State.{top_context}
-use Rattle.session_store.specs.State.{StoreState}
-use Rattle.session_store.specs.Calls.{Acted}
-use Rattle.session_ends.proofs.Closing.{closed, holds_nothing, placed_nowhere, top_apart}
-use Rattle.session_ends.proofs.Ending.{agrees_current, hooks_current, keeps_left, moves_back}
-use Rattle.session_store.proofs.Levelled.{top_there}
-use Rattle.session_store.proofs.Through.{hooks_in, keeps_in, stands_in}
+use Rattle.session_ends.proofs.Base.{◌≡◌, [], ◌∷◌, sym, subst}
+use Rattle.session_ends.proofs.Words.{held, gone, Did, TreeState, Agrees, HooksFit, IsLive, Moves, stands_for, context_gone, in_order, switched, top_context, StoreState, Acted, top_there, hooks_in, keeps_in, stands_in}
+use Rattle.session_ends.proofs.Lemmas.{closed, holds_nothing, placed_nowhere, top_apart, agrees_current, hooks_current, keeps_left, moves_back}
 use Rattle.session_ends.proofs.ends.close.Goals as goal
 
 pub switch-requires : goal.switch-requires
@@ -19,26 +9,17 @@ switch-requires g c =
     let a : StoreState = record { tree = c.store.inside.tree; owners = c.store.inside.owners; levels = c.store.inside.levels; portals = c.store.inside.portals } in
     c.top-top.ensures.stands c.args.space.now (top_there a c.args.space.now c.args.shelf.now c.requires.stands.0 (stands_in _ _ _ _ _ c.store.view_is _ _ c.requires.stands.0 c.requires.stands.1))
 
-pub gone-requires-clause-agrees : goal.gone-requires-clause-agrees
-gone-requires-clause-agrees g c =
+pub gone-requires : goal.gone-requires
+gone-requires g c =
     let a : StoreState = record { tree = c.store.inside.tree; owners = c.store.inside.owners; levels = c.store.inside.levels; portals = c.store.inside.portals } in
-    subst (λ (t : TreeState). Agrees t c.args.space.now) (sym c.switch.ensures) (agrees_current a c.top-top.result c.args.space.now (keeps_in _ _ _ _ _ c.store.view_is c.args.space.now c.requires.keeps))
-
-pub gone-requires-clause-live : goal.gone-requires-clause-live
-gone-requires-clause-live g c =
-    let a : StoreState = record { tree = c.store.inside.tree; owners = c.store.inside.owners; levels = c.store.inside.levels; portals = c.store.inside.portals } in
-    subst (λ (t : TreeState). IsLive t c.top-top.result) (sym c.switch.ensures)
-    (c.top-top.ensures.stands c.args.space.now (top_there a c.args.space.now c.args.shelf.now c.requires.stands.0 (stands_in _ _ _ _ _ c.store.view_is _ _ c.requires.stands.0 c.requires.stands.1)))
-
-pub gone-requires-clause-hooks : goal.gone-requires-clause-hooks
-gone-requires-clause-hooks g c =
-    subst (λ (t : TreeState). HooksFit (stands_for t c.args.space.now) c.args.shelf.now) (sym c.switch.ensures)
-    (hooks_current c.store.inside.tree c.top-top.result c.args.space.now c.args.shelf.now (hooks_in _ _ _ _ _ c.store.view_is c.args.space.now c.args.shelf.now c.requires.stands.0 c.requires.stands.1))
-
-pub gone-requires-clause-apart : goal.gone-requires-clause-apart
-gone-requires-clause-apart g c =
-    let a : StoreState = record { tree = c.store.inside.tree; owners = c.store.inside.owners; levels = c.store.inside.levels; portals = c.store.inside.portals } in
-    top_apart a c.args.space.now c.args.shelf.now c.requires.stands.0 c.top-top.result c.top-top.ensures.number (stands_in _ _ _ _ _ c.store.view_is _ _ c.requires.stands.0 c.requires.stands.1) c.switch.new.self c.switch.ensures
+    record {
+      agrees = subst (λ (t : TreeState). Agrees t c.args.space.now) (sym c.switch.ensures) (agrees_current a c.top-top.result c.args.space.now (keeps_in _ _ _ _ _ c.store.view_is c.args.space.now c.requires.keeps));
+      live = subst (λ (t : TreeState). IsLive t c.top-top.result) (sym c.switch.ensures)
+          (c.top-top.ensures.stands c.args.space.now (top_there a c.args.space.now c.args.shelf.now c.requires.stands.0 (stands_in _ _ _ _ _ c.store.view_is _ _ c.requires.stands.0 c.requires.stands.1)));
+      hooks = subst (λ (t : TreeState). HooksFit (stands_for t c.args.space.now) c.args.shelf.now) (sym c.switch.ensures)
+          (hooks_current c.store.inside.tree c.top-top.result c.args.space.now c.args.shelf.now (hooks_in _ _ _ _ _ c.store.view_is c.args.space.now c.args.shelf.now c.requires.stands.0 c.requires.stands.1));
+      apart = top_apart a c.args.space.now c.args.shelf.now c.requires.stands.0 c.top-top.result c.top-top.ensures.number (stands_in _ _ _ _ _ c.store.view_is _ _ c.requires.stands.0 c.requires.stands.1) c.switch.new.self c.switch.ensures;
+    }
 
 pub invariant_of-store : goal.invariant_of-store
 invariant_of-store g c =

@@ -1,19 +1,7 @@
 -- The parts of a commit are what the rules say.
-use Rattle.std.proofs.Common.{◌≡◌, ℕ, true, List, [], ◌∷◌, ◌++◌, length, refl, sym, ap, ◌∙◌, subst, arith}
-use Rattle.std.specs.Prelude.{◌==◌}
-use Rattle.session_owners.specs.Commons.{CommonState}
-use Rattle.session_rules.specs.Ends.{stack_popped}
-use Rattle.subxact_stack.specs.declared.levels.Level.{Level}
-use Rattle.session_store.specs.State.{StoreState, level_state, levels_of}
-use Rattle.session_ends.specs.Portals.{none_left}
-use Rattle.session_ends.proofs.Freed.{begins_in}
-use Rattle.session_store.specs.Calls.{Keeps}
-use Rattle.session_store.proofs.Depths.{ends, levels_are}
-use Rattle.session_store.proofs.Owned.{go_stack, keeps_owners, owners_after, placed_owners}
-use Rattle.session_ends.specs.Parts.{MayLeave}
-use Rattle.session_ends.proofs.Ended.{commit_parts, left_top, released_as}
-use Rattle.session_ends.proofs.Ending.{alone, asked_then, moves_then}
-use Rattle.session_ends.proofs.Marked.{stacked_leaves}
+use Rattle.session_ends.proofs.Base.{◌≡◌, ℕ, true, List, [], ◌∷◌, ◌++◌, length, refl, sym, ap, ◌∙◌, subst, arith, ◌==◌}
+use Rattle.session_ends.proofs.Words.{CommonState, stack_popped, Level, StoreState, level_state, levels_of, none_left, Keeps, ends, levels_are, go_stack, keeps_owners, owners_after, placed_owners, MayLeave}
+use Rattle.session_ends.proofs.Lemmas.{begins_in, commit_parts, left_top, released_as, alone, asked_then, moves_then, stacked_leaves}
 use Rattle.session_ends.proofs.ends.commit_top.Goals as goal
 
 pub close_portals-requires-clause-ending : goal.close_portals-requires-clause-ending
@@ -35,22 +23,18 @@ release_level-requires-clause-level g c =
 pub invariant_of-store : goal.invariant_of-store
 invariant_of-store g c = placed_owners _ _ _ _ _ c.store.invariant (go_stack _ _ c.pop_from.ensures.stack_alone)
 
-pub leave_level-requires-clause-keeps : goal.leave_level-requires-clause-keeps
-leave_level-requires-clause-keeps g c =
+pub leave_level-requires : goal.leave_level-requires
+leave_level-requires g c =
     let b : StoreState = record { tree = c.store.inside.tree; owners = c.store.inside.owners; levels = c.store.inside.levels; portals = c.store.inside.portals } in
-    keeps_owners b c.pop_from.new.self c.release_level.new.space (subst (λ (v : StoreState). Keeps v c.release_level.new.space) (sym c.store.view_is) c.release_level.ensures.alone.keeps)
-
-pub leave_level-requires-clause-free : goal.leave_level-requires-clause-free
-leave_level-requires-clause-free g c =
-    let b : StoreState = record { tree = c.store.inside.tree; owners = c.store.inside.owners; levels = c.store.inside.levels; portals = c.store.inside.portals } in
-    stacked_leaves b c.pop_from.new.self c.release_level.new.space c.release_level.new.shelf c.pop_from.ensures.stack_alone
-    (subst (λ (v : StoreState). MayLeave v c.release_level.new.space c.release_level.new.shelf) (sym c.store.view_is) c.release_level.ensures.free)
-
-pub leave_level-requires-clause-level : goal.leave_level-requires-clause-level
-leave_level-requires-clause-level g c =
-    let same : c.store.inside.levels ≡ c.args.store.now.levels = ap (λ (v : StoreState). v.levels) c.store.view_is ∙ c.release_level.ensures.alone.levels ∙ c.close_portals.ensures.out.levels in
-    let one : length c.store.inside.levels ≡ 1 = ap length same ∙ c.requires.level in
-    omega (arith, one)
+    record {
+      keeps = keeps_owners b c.pop_from.new.self c.release_level.new.space (subst (λ (v : StoreState). Keeps v c.release_level.new.space) (sym c.store.view_is) c.release_level.ensures.alone.keeps);
+      free = stacked_leaves b c.pop_from.new.self c.release_level.new.space c.release_level.new.shelf c.pop_from.ensures.stack_alone
+          (subst (λ (v : StoreState). MayLeave v c.release_level.new.space c.release_level.new.shelf) (sym c.store.view_is) c.release_level.ensures.free);
+      level =
+          let same : c.store.inside.levels ≡ c.args.store.now.levels = ap (λ (v : StoreState). v.levels) c.store.view_is ∙ c.release_level.ensures.alone.levels ∙ c.close_portals.ensures.out.levels in
+          let one : length c.store.inside.levels ≡ 1 = ap length same ∙ c.requires.level in
+          omega (arith, one);
+    }
 
 pub returns-clause-acted : goal.returns-clause-acted
 returns-clause-acted g c =

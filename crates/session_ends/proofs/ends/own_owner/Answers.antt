@@ -1,13 +1,7 @@
-use Rattle.std.proofs.Common.{List, IfSome, sym, ap, ◌∙◌, subst}
-use Rattle.subxact_stack.specs.declared.levels.Level.{Level}
+use Rattle.session_ends.proofs.Base.{List, IfSome, sym, ap, ◌∙◌, subst}
+use Rattle.session_ends.proofs.Words.{Level, LevelState, first_of, owner_of, StoreState, levels_of, LevelLies, all_deepest, levels_are, owner_live, stands_in}
 use Rattle.session_owners.specs.ResourceState as owners
-use Rattle.session_rules.specs.State.{LevelState, first_of, owner_of}
-use Rattle.session_store.specs.State.{StoreState, levels_of}
-use Rattle.session_store.specs.Placed.{LevelLies}
-use Rattle.session_store.proofs.Depths.{all_deepest, levels_are}
 use Rattle.session_store.proofs.Owned.{HasOwner, have_owners}
-use Rattle.session_store.proofs.Levelled.{owner_live}
-use Rattle.session_store.proofs.Through.{stands_in}
 use Rattle.session_ends.proofs.ends.own_owner.Goals as goal
 
 pub returns-clause-number : goal.returns-clause-number

@@ -1,16 +1,6 @@
-use Rattle.std.proofs.Common.{◌<◌, ◌-◌, Option, IfSome, length, sym, ap, ◌∙◌, subst, arith}
-use Rattle.std.specs.Prelude.{drop}
-use Rattle.std.specs.Option.{option_and_then}
-use Rattle.subxact_stack.specs.declared.levels.Level.{Level}
-use Rattle.subxact_stack.specs.Levels.{level_at}
+use Rattle.session_ends.proofs.Base.{◌<◌, ◌-◌, Option, IfSome, length, sym, ap, ◌∙◌, subst, arith, drop, option_and_then}
+use Rattle.session_ends.proofs.Words.{Level, level_at, first_of, owner_of, StoreState, levels_of, above_first, above_live, owner_number, stands_in, number_in}
 use Rattle.session_owners.specs.ResourceState as owners
-use Rattle.session_rules.specs.State.{first_of, owner_of}
-use Rattle.session_store.specs.State.{StoreState, levels_of}
-use Rattle.session_store.proofs.Depths.{above_first}
-use Rattle.session_store.proofs.Levelled.{above_live}
-use Rattle.session_store.proofs.Owned.{owner_number}
-use Rattle.session_store.proofs.Through.{stands_in}
-use Rattle.session_ends.specs.Portals.{number_in}
 use Rattle.session_ends.proofs.ends.owner_above.Goals as goal
 
 pub returns-in-Some-clause-number : goal.returns-in-Some-clause-number

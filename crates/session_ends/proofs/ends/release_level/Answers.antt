@@ -1,29 +1,7 @@
 -- The level's owner is released as the rules say, what lies elsewhere still does, and the level may go.
-use Rattle.std.proofs.Common.{◌≡◌, ℕ, Bool, List, [], Option, length, sym, ap, ◌∙◌, subst}
-use Rattle.std.specs.Prelude.{◌==◌}
-use Rattle.addr_space.specs.Space.{Asks, Space}
-use Rattle.reset_callbacks.specs.ShelfState.{ShelfState}
-use Rattle.forest.specs.Forest.{Forest, at}
-use Rattle.session_owners.specs.Commons.{Serves}
-use Rattle.session_rules.specs.State.{LevelState, first_of, owner_of}
-use Rattle.session_rules.specs.Acts.{where_there}
-use Rattle.session_rules.specs.Releases.{owner_released}
-use Rattle.session_rules.specs.Ends.{level_released}
-use Rattle.subxact_stack.specs.declared.levels.Level.{Level}
-use Rattle.session_store.specs.State.{StoreState, levels_of, scene_of, session_of}
-use Rattle.session_store.specs.Placed.{LevelLies}
-use Rattle.session_store.specs.Calls.{Acted, BothAlone}
-use Rattle.session_store.proofs.Depths.{all_deepest, levels_are}
-use Rattle.session_store.proofs.Levelled.{owner_live}
-use Rattle.session_store.proofs.Owned.{acted_as}
-use Rattle.session_store.proofs.Planned.{both_alone}
-use Rattle.session_store.proofs.Through.{keeps_in}
-use Rattle.session_ends.specs.Parts.{MayLeave}
-use Rattle.session_ends.specs.Portals.{IsEnding, number_in}
-use Rattle.session_ends.proofs.Acting.{acted_on}
-use Rattle.session_ends.proofs.Freed.{leaves, level_owner_has, level_owner_top, may_ended}
-use Rattle.session_ends.proofs.Going.{go_by, goes_of, plans_can}
-use Rattle.session_ends.proofs.Out.{out_owners, placed_out}
+use Rattle.session_ends.proofs.Base.{◌≡◌, ℕ, Bool, List, [], Option, length, sym, ap, ◌∙◌, subst, ◌==◌}
+use Rattle.session_ends.proofs.Words.{Asks, Space, ShelfState, Forest, at, Serves, LevelState, first_of, owner_of, where_there, owner_released, level_released, Level, StoreState, levels_of, scene_of, session_of, LevelLies, Acted, BothAlone, all_deepest, levels_are, owner_live, acted_as, both_alone, keeps_in, MayLeave, IsEnding, number_in}
+use Rattle.session_ends.proofs.Lemmas.{acted_on, leaves, level_owner_has, level_owner_top, may_ended, go_by, goes_of, plans_can, out_owners, placed_out}
 use Rattle.session_ends.proofs.ends.release_level.Goals as goal
 
 pub release_owner-requires-clause-live : goal.release_owner-requires-clause-live

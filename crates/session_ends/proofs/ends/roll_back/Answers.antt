@@ -1,11 +1,7 @@
 -- An abort, and what is left goes.
-use Rattle.std.proofs.Common.{◌≡◌, ◌<◌, List, [], ◌∷◌, ◌++◌, length, refl, sym, ap, ◌∙◌, subst, arith}
-use Rattle.std.proofs.lemmas.List.{length-append}
-use Rattle.subxact_stack.specs.declared.levels.Level.{Level}
-use Rattle.session_store.proofs.Depths.{deepest_new, ends}
-use Rattle.session_ends.proofs.Ended.{roll_parts}
-use Rattle.session_ends.proofs.Ending.{asked_then, moves_then, same_before}
-use Rattle.session_ends.proofs.Marked.{marked}
+use Rattle.session_ends.proofs.Base.{◌≡◌, ◌<◌, List, [], ◌∷◌, ◌++◌, length, refl, sym, ap, ◌∙◌, subst, arith, length-append}
+use Rattle.session_ends.proofs.Words.{Level, deepest_new, ends}
+use Rattle.session_ends.proofs.Lemmas.{roll_parts, asked_then, moves_then, same_before, marked}
 use Rattle.session_ends.proofs.ends.roll_back.Goals as goal
 
 pub returns-clause-acted : goal.returns-clause-acted

@@ -1,23 +1,7 @@
 -- The parts of a commit into the level above are what the rules say.
-use Rattle.std.proofs.Common.{◌≡◌, ◌<◌, true, false, [], length, refl, sym, ap, ◌∙◌, subst, arith}
-use Rattle.std.specs.Prelude.{◌==◌}
-use Rattle.std.proofs.lemmas.Bool.{ne_eqb}
-use Rattle.session_owners.specs.Commons.{CommonState}
-use Rattle.session_rules.specs.Ends.{stack_lowered}
-use Rattle.session_store.specs.State.{StoreState, levels_of}
-use Rattle.session_owners.proofs.Balances.{serves_still}
-use Rattle.session_store.proofs.Depths.{levels_long}
-use Rattle.session_ends.specs.Portals.{left_by}
-use Rattle.session_ends.specs.declared.portals.LevelEnd.TheVariants.{Merges}
-use Rattle.session_ends.proofs.Freed.{begins_in}
-use Rattle.session_ends.proofs.Sweeping.{merges_so}
-use Rattle.session_store.specs.Calls.{Keeps}
-use Rattle.session_store.proofs.Owned.{go_stack, keeps_owners, owners_after, placed_owners}
-use Rattle.session_ends.specs.Parts.{MayLeave}
-use Rattle.session_ends.proofs.Acting.{acted_quiet}
-use Rattle.session_ends.proofs.Ended.{merge_parts, released_as}
-use Rattle.session_ends.proofs.Ending.{asked_then, moves_then}
-use Rattle.session_ends.proofs.Marked.{stacked_leaves}
+use Rattle.session_ends.proofs.Base.{◌≡◌, ◌<◌, true, false, [], length, refl, sym, ap, ◌∙◌, subst, arith, ◌==◌, ne_eqb}
+use Rattle.session_ends.proofs.Words.{CommonState, stack_lowered, StoreState, levels_of, serves_still, levels_long, left_by, Merges, Keeps, go_stack, keeps_owners, owners_after, placed_owners, MayLeave}
+use Rattle.session_ends.proofs.Lemmas.{begins_in, merges_so, acted_quiet, merge_parts, released_as, asked_then, moves_then, stacked_leaves}
 use Rattle.session_ends.proofs.ends.subcommit.Goals as goal
 
 pub owner_above-above-requires-clause-stands : goal.owner_above-above-requires-clause-stands
@@ -38,20 +22,15 @@ settle_portals-requires-clause-to g c = c.owner_above-above.ensures.live
 pub settle_portals-requires-clause-ending : goal.settle_portals-requires-clause-ending
 settle_portals-requires-clause-ending g c = (c.args.commons.now, begins_in (left_by (Merges c.owner_above-above.result)) c.args.store.now c.args.space.now c.args.shelf.now c.args.commons.now c.requires.stands (let more = c.requires.level in omega (arith, more)))
 
-pub release_level-requires-clause-keeps : goal.release_level-requires-clause-keeps
-release_level-requires-clause-keeps g c = c.settle_portals.ensures.out.keeps
-
-pub release_level-requires-clause-ending : goal.release_level-requires-clause-ending
-release_level-requires-clause-ending g c = (left_by (Merges c.owner_above-above.result), c.settle_portals.ensures.ending c.args.commons.now (begins_in (left_by (Merges c.owner_above-above.result)) c.args.store.now c.args.space.now c.args.shelf.now c.args.commons.now c.requires.stands (let more = c.requires.level in omega (arith, more))))
-
-pub release_level-requires-clause-serves : goal.release_level-requires-clause-serves
-release_level-requires-clause-serves g c =
-    serves_still c.args.store.now.owners c.settle_portals.new.store.owners c.args.commons.now c.args.commons.now c.requires.serves (c.settle_portals.ensures.acted c.args.commons.now).balances
-
-pub release_level-requires-clause-level : goal.release_level-requires-clause-level
-release_level-requires-clause-level g c =
-    let more = c.requires.level in
-    omega (arith, more, ap length c.settle_portals.ensures.out.levels)
+pub release_level-requires : goal.release_level-requires
+release_level-requires g c = record {
+  keeps = c.settle_portals.ensures.out.keeps;
+  ending = (left_by (Merges c.owner_above-above.result), c.settle_portals.ensures.ending c.args.commons.now (begins_in (left_by (Merges c.owner_above-above.result)) c.args.store.now c.args.space.now c.args.shelf.now c.args.commons.now c.requires.stands (let more = c.requires.level in omega (arith, more))));
+  serves = serves_still c.args.store.now.owners c.settle_portals.new.store.owners c.args.commons.now c.args.commons.now c.requires.serves (c.settle_portals.ensures.acted c.args.commons.now).balances;
+  level =
+      let more = c.requires.level in
+      omega (arith, more, ap length c.settle_portals.ensures.out.levels);
+}
 
 pub invariant_of-store : goal.invariant_of-store
 invariant_of-store g c = placed_owners _ _ _ _ _ c.store.invariant (go_stack _ _ c.lower_stack.ensures.stack_alone)
@@ -59,22 +38,18 @@ invariant_of-store g c = placed_owners _ _ _ _ _ c.store.invariant (go_stack _ _
 pub lower_stack-requires : goal.lower_stack-requires
 lower_stack-requires g c = let more = c.requires.level in let n = c.depth-number.ensures.depth in omega (arith, more, n)
 
-pub leave_level-requires-clause-keeps : goal.leave_level-requires-clause-keeps
-leave_level-requires-clause-keeps g c =
+pub leave_level-requires : goal.leave_level-requires
+leave_level-requires g c =
     let b : StoreState = record { tree = c.store.inside.tree; owners = c.store.inside.owners; levels = c.store.inside.levels; portals = c.store.inside.portals } in
-    keeps_owners b c.lower_stack.new.self c.release_level.new.space (subst (λ (v : StoreState). Keeps v c.release_level.new.space) (sym c.store.view_is) c.release_level.ensures.alone.keeps)
-
-pub leave_level-requires-clause-free : goal.leave_level-requires-clause-free
-leave_level-requires-clause-free g c =
-    let b : StoreState = record { tree = c.store.inside.tree; owners = c.store.inside.owners; levels = c.store.inside.levels; portals = c.store.inside.portals } in
-    stacked_leaves b c.lower_stack.new.self c.release_level.new.space c.release_level.new.shelf c.lower_stack.ensures.stack_alone
-    (subst (λ (v : StoreState). MayLeave v c.release_level.new.space c.release_level.new.shelf) (sym c.store.view_is) c.release_level.ensures.free)
-
-pub leave_level-requires-clause-level : goal.leave_level-requires-clause-level
-leave_level-requires-clause-level g c =
-    let same : length c.store.inside.levels ≡ length c.args.store.now.levels = ap length (ap (λ (v : StoreState). v.levels) c.store.view_is ∙ c.release_level.ensures.alone.levels ∙ c.settle_portals.ensures.out.levels) in
-    let more = c.requires.level in
-    omega (arith, same, more)
+    record {
+      keeps = keeps_owners b c.lower_stack.new.self c.release_level.new.space (subst (λ (v : StoreState). Keeps v c.release_level.new.space) (sym c.store.view_is) c.release_level.ensures.alone.keeps);
+      free = stacked_leaves b c.lower_stack.new.self c.release_level.new.space c.release_level.new.shelf c.lower_stack.ensures.stack_alone
+          (subst (λ (v : StoreState). MayLeave v c.release_level.new.space c.release_level.new.shelf) (sym c.store.view_is) c.release_level.ensures.free);
+      level =
+          let same : length c.store.inside.levels ≡ length c.args.store.now.levels = ap length (ap (λ (v : StoreState). v.levels) c.store.view_is ∙ c.release_level.ensures.alone.levels ∙ c.settle_portals.ensures.out.levels) in
+          let more = c.requires.level in
+          omega (arith, same, more);
+    }
 
 pub returns-clause-acted : goal.returns-clause-acted
 returns-clause-acted g c =

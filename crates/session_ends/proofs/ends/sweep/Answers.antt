@@ -1,13 +1,7 @@
 -- What is left of the level goes as the rules say.
-use Rattle.std.proofs.Common.{◌<◌, List, length, refl, sym, ◌∙◌, subst}
-use Rattle.subxact_stack.specs.declared.levels.Level.{Level}
-use Rattle.session_store.specs.State.{levels_of, portals_of}
-use Rattle.session_ends.specs.Portals.{left_by}
-use Rattle.session_ends.specs.declared.portals.LevelEnd.TheVariants.{Goes}
-use Rattle.session_ends.proofs.Ended.{sweep_parts}
-use Rattle.session_ends.proofs.Ending.{asked_then, moves_then}
-use Rattle.session_ends.proofs.Freed.{leaves_swept}
-use Rattle.session_ends.proofs.Sweeping.{goes_so, still_idle}
+use Rattle.session_ends.proofs.Base.{◌<◌, List, length, refl, sym, ◌∙◌, subst}
+use Rattle.session_ends.proofs.Words.{Level, levels_of, portals_of, left_by, Goes}
+use Rattle.session_ends.proofs.Lemmas.{sweep_parts, asked_then, moves_then, leaves_swept, goes_so, still_idle}
 use Rattle.session_ends.proofs.ends.sweep.Goals as goal
 
 pub settle_portals-requires-clause-level : goal.settle_portals-requires-clause-level
@@ -21,18 +15,16 @@ settle_portals-requires-clause-so g c =
 pub settle_portals-requires-clause-ending : goal.settle_portals-requires-clause-ending
 settle_portals-requires-clause-ending g c = let f = c.requires.freed in (f.commons, f.ending)
 
-pub leave_level-requires-clause-keeps : goal.leave_level-requires-clause-keeps
-leave_level-requires-clause-keeps g c = c.settle_portals.ensures.out.keeps
-
-pub leave_level-requires-clause-free : goal.leave_level-requires-clause-free
-leave_level-requires-clause-free g c =
-    let f = c.requires.freed in
-    leaves_swept (left_by Goes) c.settle_portals.new.store c.settle_portals.new.space c.settle_portals.new.shelf f.commons (c.settle_portals.ensures.ending f.commons f.ending)
-    (still_idle c.args.store.now c.settle_portals.new.store c.args.space.now c.settle_portals.new.space c.args.shelf.now c.settle_portals.new.shelf f.commons (λ events. g.E.Emit.emits c.emit.new.self events c.settle_portals.new.out) c.depth-number.result (portals_of c.args.store.now.portals)
-    (c.settle_portals.ensures.acted f.commons) c.settle_portals.ensures.out.levels f.idle)
-
-pub leave_level-requires-clause-level : goal.leave_level-requires-clause-level
-leave_level-requires-clause-level g c = subst (λ (ls : List Level). 0 < length ls) (sym c.settle_portals.ensures.out.levels) c.requires.level
+pub leave_level-requires : goal.leave_level-requires
+leave_level-requires g c = record {
+  keeps = c.settle_portals.ensures.out.keeps;
+  free =
+      let f = c.requires.freed in
+      leaves_swept (left_by Goes) c.settle_portals.new.store c.settle_portals.new.space c.settle_portals.new.shelf f.commons (c.settle_portals.ensures.ending f.commons f.ending)
+      (still_idle c.args.store.now c.settle_portals.new.store c.args.space.now c.settle_portals.new.space c.args.shelf.now c.settle_portals.new.shelf f.commons (λ events. g.E.Emit.emits c.emit.new.self events c.settle_portals.new.out) c.depth-number.result (portals_of c.args.store.now.portals)
+      (c.settle_portals.ensures.acted f.commons) c.settle_portals.ensures.out.levels f.idle);
+  level = subst (λ (ls : List Level). 0 < length ls) (sym c.settle_portals.ensures.out.levels) c.requires.level;
+}
 
 pub returns-clause-acted : goal.returns-clause-acted
 returns-clause-acted g c commons =

@@ -1,5 +1,5 @@
 -- The owner's release has not begun: the call is refused only where the owner has no such item.
-use Rattle.session_ends.proofs.Giving.{forgets, still_unbegun}
+use Rattle.session_ends.proofs.Lemmas.{forgets, still_unbegun}
 use Rattle.session_ends.proofs.items.forget_item.Goals as goal
 
 pub returns-clause-acted : goal.returns-clause-acted

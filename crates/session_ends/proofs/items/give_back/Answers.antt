@@ -1,20 +1,7 @@
 -- The owner remembers one item fewer, and a plan may have gone with its context; or nothing changed.
-use Rattle.std.proofs.Common.{ℕ, OnErr, OnOk, sym, ap, subst}
-use Rattle.addr_space.specs.Space.{Asks, Space}
-use Rattle.forest.specs.Forest.{Forest, at}
-use Rattle.reset_callbacks.specs.ShelfState.{ShelfState}
-use Rattle.session_owners.specs.Commons.{Serves}
-use Rattle.session_rules.specs.Releases.{item_released}
-use Rattle.session_store.specs.State.{StoreState}
-use Rattle.session_store.specs.Calls.{Acted, BothAlone, Refused}
-use Rattle.session_store.proofs.Answered.{on_answer}
-use Rattle.session_store.proofs.Owned.{go_left}
-use Rattle.session_store.proofs.Planned.{both_alone}
-use Rattle.session_store.proofs.Through.{keeps_in}
-use Rattle.session_ends.proofs.Acting.{acted_on}
-use Rattle.session_ends.specs.Portals.{GoesOut, PlansMayGo}
-use Rattle.session_ends.proofs.Going.{err_three, goes_of, plans_can, plans_spare, refused_still}
-use Rattle.session_ends.proofs.Out.{out_owners, placed_out}
+use Rattle.session_ends.proofs.Base.{ℕ, OnErr, OnOk, sym, ap, subst}
+use Rattle.session_ends.proofs.Words.{Asks, Space, Forest, at, ShelfState, Serves, item_released, StoreState, Acted, BothAlone, Refused, on_answer, go_left, both_alone, keeps_in, GoesOut, PlansMayGo}
+use Rattle.session_ends.proofs.Lemmas.{acted_on, err_three, goes_of, plans_can, plans_spare, refused_still, out_owners, placed_out}
 use Rattle.session_ends.proofs.items.give_back.Goals as goal
 
 pub give_back-requires-clause-serves : goal.give_back-requires-clause-serves

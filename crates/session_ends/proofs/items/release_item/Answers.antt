@@ -1,5 +1,5 @@
 -- Where the session stands contexts of plans may go.
-use Rattle.session_ends.proofs.Going.{may_stand}
+use Rattle.session_ends.proofs.Lemmas.{may_stand}
 use Rattle.session_ends.proofs.items.release_item.Goals as goal
 
 pub give_back-requires-clause-plans : goal.give_back-requires-clause-plans

@@ -1,9 +1,7 @@
 -- The new portal is the deepest level's.
-use Rattle.std.proofs.Common.{◌∷◌, ap, ◌∙◌}
-use Rattle.exec_core.specs.declared.scan.Scan.{Scan}
-use Rattle.portal_store.specs.Portals.{new_portal}
-use Rattle.session_store.proofs.Answered.{on_answer}
-use Rattle.session_ends.proofs.Becoming.{made_after}
+use Rattle.session_ends.proofs.Base.{◌∷◌, ap, ◌∙◌}
+use Rattle.session_ends.proofs.Words.{Scan, new_portal, on_answer}
+use Rattle.session_ends.proofs.Lemmas.{made_after}
 use Rattle.session_ends.proofs.making.make_portal.Goals as goal
 
 pub returns-clause-acted : goal.returns-clause-acted

@@ -1,21 +1,8 @@
 -- The new context is below that for portals, and the portal has it.
-use Rattle.std.proofs.Common.{◌≡◌, ◌⊎◌, true, ℕ, Some, None, refl, subst, arith}
-use Rattle.std.specs.Prelude.{codes}
+use Rattle.session_ends.proofs.Base.{◌≡◌, ◌⊎◌, true, ℕ, Some, None, refl, subst, arith, codes}
+use Rattle.session_ends.proofs.Words.{Contexts, create_refusal, Memory, Portal, PortalContext, new_context_made, StoreState, Acted, Refused, goes_made, keeps_on, keeps_in, left_through, own_in, placed_after, refused_regions}
 use Rattle.any_ctx.specs.declared.any.CtxKind.TheVariants as kind
-use Rattle.context_rules.specs.Contexts.{Contexts}
-use Rattle.context_rules.specs.Refusals.{create_refusal}
-use Rattle.context_rules.specs.declared.errors.TreeError.TheVariants.{Memory}
-use Rattle.portal_store.specs.declared.portal.Portal.{Portal}
-use Rattle.session_rules.specs.Elements.{PortalContext}
-use Rattle.session_rules.specs.Making.{new_context_made}
-use Rattle.session_store.specs.State.{StoreState}
-use Rattle.session_store.specs.Calls.{Acted, Refused}
-use Rattle.session_store.proofs.Kept.{goes_made}
-use Rattle.session_store.proofs.Sums.{keeps_on}
-use Rattle.session_store.proofs.Through.{keeps_in, left_through, own_in, placed_after}
-use Rattle.session_store.proofs.Led.{refused_regions}
-use Rattle.session_ends.proofs.Becoming.{placed_changed}
-use Rattle.session_ends.proofs.Equipping.{context_acted, keeps_open}
+use Rattle.session_ends.proofs.Lemmas.{placed_changed, context_acted, keeps_open}
 use Rattle.session_ends.proofs.making.make_portal_context.Goals as goal
 
 pub create-requires-clause-live : goal.create-requires-clause-live

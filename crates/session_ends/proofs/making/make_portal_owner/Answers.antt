@@ -1,14 +1,7 @@
 -- The new owner is below the deepest level's, and the portal has it.
-use Rattle.std.proofs.Common.{◌∙◌, ap, sym, subst}
-use Rattle.std.specs.Option.{option_map}
-use Rattle.pgs_step.specs.declared.ids.OwnerId.{OwnerId}
-use Rattle.session_rules.specs.State.{level_owner}
-use Rattle.session_rules.specs.Elements.{OfPortal}
-use Rattle.session_rules.specs.Making.{new_owner_made}
-use Rattle.session_store.specs.State.{StoreState, session_of}
-use Rattle.session_store.specs.Calls.{Acted}
-use Rattle.session_store.proofs.Through.{keeps_in, stands_in}
-use Rattle.session_ends.proofs.Equipping.{keeps_open, owner_acted, owner_placed}
+use Rattle.session_ends.proofs.Base.{◌∙◌, ap, sym, subst, option_map}
+use Rattle.session_ends.proofs.Words.{OwnerId, level_owner, OfPortal, new_owner_made, StoreState, session_of, Acted, keeps_in, stands_in}
+use Rattle.session_ends.proofs.Lemmas.{keeps_open, owner_acted, owner_placed}
 use Rattle.session_ends.proofs.making.make_portal_owner.Goals as goal
 
 pub invariant_of-store : goal.invariant_of-store

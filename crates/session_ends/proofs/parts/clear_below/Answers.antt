@@ -1,8 +1,6 @@
-use Rattle.std.proofs.Common.{◌∙◌, ap, sym}
-use Rattle.forest.specs.Forest.{has}
-use Rattle.context_tree.specs.State.{stands_for}
-use Rattle.session_store.proofs.Kept.{has_kept}
-use Rattle.session_ends.proofs.Out.{had_below}
+use Rattle.session_ends.proofs.Base.{◌∙◌, ap, sym}
+use Rattle.session_ends.proofs.Words.{has, stands_for, has_kept}
+use Rattle.session_ends.proofs.Lemmas.{had_below}
 use Rattle.session_ends.proofs.parts.clear_below.Goals as goal
 
 pub returns-in-Some-clause-stays : goal.returns-in-Some-clause-stays

@@ -1,14 +1,7 @@
 -- The owner goes, whatever the commons are.
-use Rattle.std.proofs.Common.{Option, sym, ap, ◌∙◌, subst}
-use Rattle.std.specs.Option.{option_map}
-use Rattle.forest.specs.Forest.{has}
-use Rattle.forest.proofs.Trees.{has_of_removed}
-use Rattle.pgs_step.specs.declared.ids.OwnerId.{OwnerId}
-use Rattle.session_rules.specs.Acts.{where_there}
-use Rattle.session_rules.specs.Releases.{owner_gone}
-use Rattle.session_owners.specs.ResourceState.{owners_of}
+use Rattle.session_ends.proofs.Base.{Option, sym, ap, ◌∙◌, subst, option_map}
+use Rattle.session_ends.proofs.Words.{has, has_of_removed, OwnerId, where_there, owner_gone, owners_of, acted_nothing}
 use Rattle.session_owners.specs.Fitting as fitting
-use Rattle.session_owners.proofs.Acts.{acted_nothing}
 use Rattle.session_ends.proofs.parts.discard_owner.Goals as goal
 
 pub returns-in-Some-clause-acted : goal.returns-in-Some-clause-acted

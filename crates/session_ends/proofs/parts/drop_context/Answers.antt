@@ -1,8 +1,5 @@
-use Rattle.std.proofs.Common.{◌∙◌, ap, sym}
-use Rattle.forest.specs.Forest.{has}
-use Rattle.forest.proofs.Trees.{has_of_removed}
-use Rattle.context_tree.specs.State.{stands_for}
-use Rattle.session_store.proofs.Kept.{has_kept}
+use Rattle.session_ends.proofs.Base.{◌∙◌, ap, sym}
+use Rattle.session_ends.proofs.Words.{has, has_of_removed, stands_for, has_kept}
 use Rattle.session_ends.proofs.parts.drop_context.Goals as goal
 
 pub returns-in-Some-clause-stays : goal.returns-in-Some-clause-stays

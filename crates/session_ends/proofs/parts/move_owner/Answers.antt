@@ -1,16 +1,10 @@
 -- The owner moves, or nothing is done.
-use Rattle.std.proofs.Common.{◌≡◌, ◌≢◌, true, Option, IfSome, sym, ap, ◌∙◌, subst}
-use Rattle.std.specs.Option.{option_map}
-use Rattle.forest.specs.Forest.{Empty, children, has}
+use Rattle.session_ends.proofs.Base.{◌≡◌, ◌≢◌, true, Option, IfSome, sym, ap, ◌∙◌, subst, option_map}
+use Rattle.session_ends.proofs.Words.{Empty, children, has, OwnerId, owners_of, acted_nothing, where_there, owner_moved, HasMoved, has_moved}
 use Rattle.forest.proofs.Trees.{Moves}
-use Rattle.pgs_step.specs.declared.ids.OwnerId.{OwnerId}
-use Rattle.session_owners.specs.ResourceState.{OwnerTree, owners_of}
+use Rattle.session_owners.specs.ResourceState.{OwnerTree}
 use Rattle.session_owners.specs.Fitting as fitting
-use Rattle.session_owners.proofs.Acts.{acted_nothing}
-use Rattle.session_rules.specs.Acts.{where_there}
-use Rattle.session_rules.specs.Releases.{owner_moved}
-use Rattle.session_rules.proofs.Passing.{HasMoved, has_moved}
-use Rattle.session_ends.proofs.Out.{some_is}
+use Rattle.session_ends.proofs.Lemmas.{some_is}
 use Rattle.session_ends.proofs.parts.move_owner.Goals as goal
 
 pub move_owner-requires-clause-apart : goal.move_owner-requires-clause-apart

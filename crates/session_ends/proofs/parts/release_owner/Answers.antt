@@ -1,19 +1,6 @@
-use Rattle.std.proofs.Common.{Option, ◌∙◌, ap, sym, subst}
-use Rattle.std.specs.Option.{option_map}
-use Rattle.pgs_step.specs.declared.ids.OwnerId.{OwnerId}
-use Rattle.pgs_step.specs.declared.ids.Phase.TheVariants.{BeforeLocks, Locks, AfterLocks}
-use Rattle.forest.specs.Forest.{has}
-use Rattle.session_owners.specs.ResourceState.{owners_of}
-use Rattle.owner_core.specs.Released.{own_released, released}
-use Rattle.session_rules.specs.Acts.{where_there}
-use Rattle.session_rules.specs.Releases.{owner_released}
-use Rattle.session_rules.proofs.Swept.{has_swept}
-use Rattle.owner_kinds.specs.KindShelf.{table_of}
-use Rattle.session_owners.specs.Fitting.{ActedOn}
-use Rattle.session_owners.proofs.Balances.{balances_none}
-use Rattle.session_ends.specs.Place.{hosting}
-use Rattle.session_ends.specs.PlaceLaws.{goes_nothing}
-use Rattle.session_ends.proofs.Acting.{acted_on_nothing}
+use Rattle.session_ends.proofs.Base.{Option, ◌∙◌, ap, sym, subst, option_map}
+use Rattle.session_ends.proofs.Words.{OwnerId, BeforeLocks, Locks, AfterLocks, has, owners_of, own_released, released, where_there, owner_released, has_swept, table_of, ActedOn, balances_none, hosting, goes_nothing}
+use Rattle.session_ends.proofs.Lemmas.{acted_on_nothing}
 use Rattle.session_ends.proofs.parts.release_owner.Goals as goal
 
 pub returns-in-Some-clause-stays : goal.returns-in-Some-clause-stays

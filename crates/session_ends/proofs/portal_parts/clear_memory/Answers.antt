@@ -1,28 +1,20 @@
 -- What is below the context goes, or nothing is done.
-use Rattle.std.proofs.Common.{subst}
-use Rattle.std.specs.Option.{option_map}
-use Rattle.pgs_step.specs.declared.ids.CtxId.{CtxId}
+use Rattle.session_ends.proofs.Base.{subst, option_map}
+use Rattle.session_ends.proofs.Words.{CtxId, children_gone, where_there, StoreState, Acted, keeps_in, GoesOut}
 use Rattle.context_rules.specs.Ends.{children_gone as below_gone}
-use Rattle.session_rules.specs.Acts.{children_gone, where_there}
-use Rattle.session_store.specs.State.{StoreState}
-use Rattle.session_store.specs.Calls.{Acted}
-use Rattle.session_store.proofs.Through.{keeps_in}
-use Rattle.session_ends.specs.Portals.{GoesOut}
-use Rattle.session_ends.proofs.Out.{out_tree, placed_out}
-use Rattle.session_ends.proofs.Memory.{is_above_none, is_once, is_hooked, is_live, memory_acted}
+use Rattle.session_ends.proofs.Lemmas.{out_tree, placed_out, is_above_none, is_once, is_hooked, is_live, memory_acted}
 use Rattle.session_ends.proofs.portal_parts.clear_memory.Goals as goal
 
-pub clear_below-requires-clause-agrees : goal.clear_below-requires-clause-agrees
-clear_below-requires-clause-agrees g c = let k = keeps_in _ _ _ _ _ c.store.view_is _ c.requires.keeps in k.agrees
-
-pub clear_below-requires-clause-hooks : goal.clear_below-requires-clause-hooks
-clear_below-requires-clause-hooks g c = is_hooked _ _ _ _ _ c.store.view_is c.args.space.now c.args.shelf.now c.requires.hooks
-
-pub clear_below-requires-clause-live : goal.clear_below-requires-clause-live
-clear_below-requires-clause-live g c = is_live _ _ _ _ _ c.store.view_is c.args.context c.requires.live
-
-pub clear_below-requires-clause-apart : goal.clear_below-requires-clause-apart
-clear_below-requires-clause-apart g c = is_above_none _ _ _ _ _ c.store.view_is c.args.space.now c.args.context c.requires.apart
+pub clear_below-requires : goal.clear_below-requires
+clear_below-requires g c = record {
+  agrees =
+      let k = keeps_in _ _ _ _ _ c.store.view_is _ c.requires.keeps in
+      k.agrees;
+  hooks = is_hooked _ _ _ _ _ c.store.view_is c.args.space.now c.args.shelf.now c.requires.hooks;
+  live = is_live _ _ _ _ _ c.store.view_is c.args.context c.requires.live;
+  apart = is_above_none _ _ _ _ _ c.store.view_is c.args.space.now c.args.context c.requires.apart;
+  once = is_once _ _ _ _ _ c.store.view_is c.args.space.now c.requires.once;
+}
 
 pub invariant_of-store : goal.invariant_of-store
 invariant_of-store g c =
@@ -47,6 +39,3 @@ returns-clause-out g c =
     let r = c.clear_below.ensures in
     subst (λ (v : StoreState). GoesOut v b c.args.space.now c.clear_below.new.space) c.store.view_is
     (out_tree a b.tree c.args.space.now c.clear_below.new.space (keeps_in _ _ _ _ _ c.store.view_is _ c.requires.keeps) (record { moves = r.moves; asked = r.asked; had = r.had; stays = r.stays; current = r.current; next = r.next }))
-
-pub clear_below-requires-clause-once : goal.clear_below-requires-clause-once
-clear_below-requires-clause-once g c = is_once _ _ _ _ _ c.store.view_is c.args.space.now c.requires.once

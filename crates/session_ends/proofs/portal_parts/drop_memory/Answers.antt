@@ -1,28 +1,18 @@
 -- The context goes, or nothing is done.
-use Rattle.std.proofs.Common.{subst}
-use Rattle.std.specs.Option.{option_map}
-use Rattle.pgs_step.specs.declared.ids.CtxId.{CtxId}
-use Rattle.context_rules.specs.Ends.{gone}
-use Rattle.session_rules.specs.Acts.{context_gone, where_there}
-use Rattle.session_store.specs.State.{StoreState}
-use Rattle.session_store.specs.Calls.{Acted}
-use Rattle.session_store.proofs.Through.{keeps_in}
-use Rattle.session_ends.specs.Portals.{GoesOut}
-use Rattle.session_ends.proofs.Out.{out_tree, placed_out}
-use Rattle.session_ends.proofs.Memory.{is_apart, is_hooked, is_live, memory_acted}
+use Rattle.session_ends.proofs.Base.{subst, option_map}
+use Rattle.session_ends.proofs.Words.{CtxId, gone, context_gone, where_there, StoreState, Acted, keeps_in, GoesOut}
+use Rattle.session_ends.proofs.Lemmas.{out_tree, placed_out, is_apart, is_hooked, is_live, memory_acted}
 use Rattle.session_ends.proofs.portal_parts.drop_memory.Goals as goal
 
-pub drop_context-requires-clause-agrees : goal.drop_context-requires-clause-agrees
-drop_context-requires-clause-agrees g c = let k = keeps_in _ _ _ _ _ c.store.view_is _ c.requires.keeps in k.agrees
-
-pub drop_context-requires-clause-hooks : goal.drop_context-requires-clause-hooks
-drop_context-requires-clause-hooks g c = is_hooked _ _ _ _ _ c.store.view_is c.args.space.now c.args.shelf.now c.requires.hooks
-
-pub drop_context-requires-clause-live : goal.drop_context-requires-clause-live
-drop_context-requires-clause-live g c = is_live _ _ _ _ _ c.store.view_is c.args.context c.requires.live
-
-pub drop_context-requires-clause-apart : goal.drop_context-requires-clause-apart
-drop_context-requires-clause-apart g c = is_apart _ _ _ _ _ c.store.view_is c.args.space.now c.args.context c.requires.apart
+pub drop_context-requires : goal.drop_context-requires
+drop_context-requires g c = record {
+  agrees =
+      let k = keeps_in _ _ _ _ _ c.store.view_is _ c.requires.keeps in
+      k.agrees;
+  hooks = is_hooked _ _ _ _ _ c.store.view_is c.args.space.now c.args.shelf.now c.requires.hooks;
+  live = is_live _ _ _ _ _ c.store.view_is c.args.context c.requires.live;
+  apart = is_apart _ _ _ _ _ c.store.view_is c.args.space.now c.args.context c.requires.apart;
+}
 
 pub invariant_of-store : goal.invariant_of-store
 invariant_of-store g c =

@@ -1,9 +1,6 @@
-use Rattle.std.proofs.Common.{Option, IfSome, sym, ◌∙◌, subst}
-use Rattle.portal_store.specs.declared.portal.Portal.{Portal}
-use Rattle.portal_store.specs.Portals.{has_name}
-use Rattle.session_store.specs.State.{StoreState}
-use Rattle.session_store.specs.Placed.{PortalLies}
-use Rattle.session_ends.proofs.Lasts.{found_all}
+use Rattle.session_ends.proofs.Base.{Option, IfSome, sym, ◌∙◌, subst}
+use Rattle.session_ends.proofs.Words.{Portal, has_name, StoreState, PortalLies}
+use Rattle.session_ends.proofs.Lemmas.{found_all}
 use Rattle.session_ends.proofs.portal_parts.found.Goals as goal
 
 pub returns-clause-lies : goal.returns-clause-lies

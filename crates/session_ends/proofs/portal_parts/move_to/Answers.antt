@@ -1,17 +1,8 @@
 -- The owner moves, or nothing is done.
-use Rattle.std.proofs.Common.{◌≡◌, true, IfSome, sym, subst}
-use Rattle.std.specs.Option.{option_map}
-use Rattle.forest.specs.Forest.{Empty, Once, children, has}
-use Rattle.pgs_step.specs.declared.ids.OwnerId.{OwnerId}
+use Rattle.session_ends.proofs.Base.{◌≡◌, true, IfSome, sym, subst, option_map}
+use Rattle.session_ends.proofs.Words.{Empty, Once, children, has, OwnerId, owners_of, where_there, owner_moved, StoreState, owners_after, keeps_in, GoesOut}
 use Rattle.session_owners.specs.ResourceState as owners
-use Rattle.session_owners.specs.ResourceState.{ResourceState, owners_of}
-use Rattle.session_rules.specs.Acts.{where_there}
-use Rattle.session_rules.specs.Releases.{owner_moved}
-use Rattle.session_store.specs.State.{StoreState}
-use Rattle.session_store.proofs.Owned.{owners_after}
-use Rattle.session_store.proofs.Through.{keeps_in}
-use Rattle.session_ends.specs.Portals.{GoesOut}
-use Rattle.session_ends.proofs.Out.{out_moved, placed_owned}
+use Rattle.session_ends.proofs.Lemmas.{out_moved, placed_owned}
 use Rattle.session_ends.proofs.portal_parts.move_to.Goals as goal
 
 pub move_owner-requires-clause-live : goal.move_owner-requires-clause-live

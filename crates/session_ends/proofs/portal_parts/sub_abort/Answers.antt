@@ -1,7 +1,6 @@
-use Rattle.std.proofs.Common.{◌≡◌, ◌-◌, ◌<◌, ◌≤◌, arith, length, sym, subst}
-use Rattle.session_store.specs.State.{StoreState}
-use Rattle.session_ends.proofs.Lasts.{all_aborted}
-use Rattle.session_ends.proofs.Out.{placed_portals}
+use Rattle.session_ends.proofs.Base.{◌≡◌, ◌-◌, ◌<◌, ◌≤◌, arith, length, sym, subst}
+use Rattle.session_ends.proofs.Words.{StoreState}
+use Rattle.session_ends.proofs.Lemmas.{all_aborted, placed_portals}
 use Rattle.session_ends.proofs.portal_parts.sub_abort.Goals as goal
 
 pub invariant_of-store : goal.invariant_of-store

@@ -1,8 +1,6 @@
-use Rattle.std.proofs.Common.{List, All, sym, subst}
-use Rattle.portal_store.specs.declared.portal.Portal.{Portal}
-use Rattle.session_store.specs.Placed.{PortalLies}
-use Rattle.session_ends.proofs.Lasts.{all_without}
-use Rattle.session_ends.proofs.Out.{placed_portals}
+use Rattle.session_ends.proofs.Base.{List, All, sym, subst}
+use Rattle.session_ends.proofs.Words.{Portal, PortalLies}
+use Rattle.session_ends.proofs.Lemmas.{all_without, placed_portals}
 use Rattle.session_ends.proofs.portal_parts.take_out.Goals as goal
 
 pub invariant_of-store : goal.invariant_of-store

@@ -1,7 +1,6 @@
-use Rattle.std.proofs.Common.{◌≡◌, ◌-◌, ◌<◌, All, List, ap, arith, drop, length, subst, sym}
-use Rattle.portal_store.specs.declared.portal.Portal.{Portal}
-use Rattle.session_store.specs.State.{StoreState, portals_of}
-use Rattle.session_ends.proofs.Quiet.{IsQuiet, quiet_states}
+use Rattle.session_ends.proofs.Base.{◌≡◌, ◌-◌, ◌<◌, All, List, ap, arith, drop, length, subst, sym}
+use Rattle.session_ends.proofs.Words.{Portal, StoreState, portals_of}
+use Rattle.session_ends.proofs.Lemmas.{IsQuiet, quiet_states}
 use Rattle.session_ends.proofs.portal_parts.untouched.Goals as goal
 
 pub returns-clause-others : goal.returns-clause-others

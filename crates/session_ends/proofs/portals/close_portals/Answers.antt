@@ -1,15 +1,7 @@
 -- Each turn closes the first of the portals that are left.
-use Rattle.std.proofs.Common.{List, [], ◌∷◌, length, refl, sym, ap, ◌∙◌, subst, arith}
-use Rattle.std.proofs.lemmas.List.{length-map}
-use Rattle.session_rules.specs.State.{OpenPortal}
-use Rattle.session_rules.specs.Acts.{for_each}
-use Rattle.session_rules.specs.Portals.{portal_closed}
-use Rattle.session_store.specs.State.{StoreState, portal_state, portals_of}
-use Rattle.session_store.specs.Calls.{Acted}
-use Rattle.session_ends.specs.Portals.{IsEnding, none_left}
-use Rattle.session_ends.proofs.Dealing.{ending_step}
-use Rattle.session_ends.proofs.Out.{out_more, out_nothing}
-use Rattle.session_ends.proofs.Walking.{acted_more, acted_none, all_done, closing_leads, left_within, next_is, next_none, one_more}
+use Rattle.session_ends.proofs.Base.{List, [], ◌∷◌, length, refl, sym, ap, ◌∙◌, subst, arith, length-map}
+use Rattle.session_ends.proofs.Words.{OpenPortal, for_each, portal_closed, StoreState, portal_state, portals_of, Acted, IsEnding, none_left}
+use Rattle.session_ends.proofs.Lemmas.{ending_step, out_more, out_nothing, acted_more, acted_none, all_done, closing_leads, left_within, next_is, next_none, one_more}
 use Rattle.session_ends.proofs.portals.close_portals.Goals as goal
 
 pub loop-portal-init : goal.loop-portal-init
@@ -74,23 +66,17 @@ loop-portal-preserved g c =
       serves = c.close_portal.ensures.serves;
     }
 
-pub returns-clause-acted : goal.returns-clause-acted
-returns-clause-acted g c =
+pub returns : goal.returns
+returns g c =
     let inv = c.loop-portal.invariant in
-    all_done (λ (ps : List OpenPortal). Acted (λ scene. for_each portal_closed ps scene) c.args.store.now c.loop-portal.store c.args.space.now c.loop-portal.space c.args.shelf.now c.loop-portal.shelf c.args.commons.now c.loop-portal.commons (λ events. g.E.Emit.emits c.args.out.now events c.loop-portal.out))
-    (portals_of c.args.store.now.portals) inv.on.done inv.on.back inv.on.all
-    (next_none none_left c.loop-portal.store c.loop-portal.space c.loop-portal.shelf c.loop-portal.commons inv.on.back c.loop-portal.left inv.ending inv.on.long (sym c.portal_at.ensures.portal ∙ c.in_default.is))
-    inv.acted
-
-pub returns-clause-out : goal.returns-clause-out
-returns-clause-out g c = c.loop-portal.invariant.out
-
-pub returns-clause-serves : goal.returns-clause-serves
-returns-clause-serves g c = c.loop-portal.invariant.serves
-
-pub returns-clause-ending : goal.returns-clause-ending
-returns-clause-ending g c =
-    let inv = c.loop-portal.invariant in
-    subst (λ (back : List OpenPortal). IsEnding none_left c.loop-portal.store c.loop-portal.space c.loop-portal.shelf c.loop-portal.commons back)
-    (next_none none_left c.loop-portal.store c.loop-portal.space c.loop-portal.shelf c.loop-portal.commons inv.on.back c.loop-portal.left inv.ending inv.on.long (sym c.portal_at.ensures.portal ∙ c.in_default.is))
-    inv.ending
+    record {
+      acted = all_done (λ (ps : List OpenPortal). Acted (λ scene. for_each portal_closed ps scene) c.args.store.now c.loop-portal.store c.args.space.now c.loop-portal.space c.args.shelf.now c.loop-portal.shelf c.args.commons.now c.loop-portal.commons (λ events. g.E.Emit.emits c.args.out.now events c.loop-portal.out))
+          (portals_of c.args.store.now.portals) inv.on.done inv.on.back inv.on.all
+          (next_none none_left c.loop-portal.store c.loop-portal.space c.loop-portal.shelf c.loop-portal.commons inv.on.back c.loop-portal.left inv.ending inv.on.long (sym c.portal_at.ensures.portal ∙ c.in_default.is))
+          inv.acted;
+      out = c.loop-portal.invariant.out;
+      serves = c.loop-portal.invariant.serves;
+      ending = subst (λ (back : List OpenPortal). IsEnding none_left c.loop-portal.store c.loop-portal.space c.loop-portal.shelf c.loop-portal.commons back)
+          (next_none none_left c.loop-portal.store c.loop-portal.space c.loop-portal.shelf c.loop-portal.commons inv.on.back c.loop-portal.left inv.ending inv.on.long (sym c.portal_at.ensures.portal ∙ c.in_default.is))
+          inv.ending;
+    }

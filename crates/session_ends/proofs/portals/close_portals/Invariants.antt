@@ -1,7 +1,6 @@
 -- Portals are closed, and so many are left.
-use Rattle.session_rules.specs.Portals.{portal_closed}
-use Rattle.session_ends.specs.Portals.{none_left}
-use Rattle.session_ends.proofs.Walking.{IsClosing}
+use Rattle.session_ends.proofs.Words.{portal_closed, none_left}
+use Rattle.session_ends.proofs.Lemmas.{IsClosing}
 use Rattle.session_ends.proofs.portals.close_portals.Given as goal
 
 abbrev pub invariant-loop-portal : goal.invariant-loop-portal

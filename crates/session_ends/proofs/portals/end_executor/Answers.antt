@@ -1,14 +1,7 @@
 -- The three kinds of items are given back in order.
-use Rattle.std.proofs.Common.{ℕ, Option, [], ◌∷◌, refl, sym, subst}
-use Rattle.pgs_step.specs.declared.ids.OwnerId.{OwnerId}
-use Rattle.session_rules.specs.State.{buffer_pin, relcache_reference, snapshot_reference}
-use Rattle.session_rules.specs.World.{Scene}
-use Rattle.session_rules.specs.Acts.{Ended, where_there}
-use Rattle.session_rules.specs.Releases.{item_released}
-use Rattle.session_store.specs.Calls.{Acted}
-use Rattle.session_ends.specs.Portals.{executor_at, number_in}
-use Rattle.session_ends.proofs.Acting.{acted_end, acted_nowhere, acted_then}
-use Rattle.session_ends.proofs.Out.{out_more}
+use Rattle.session_ends.proofs.Base.{ℕ, Option, [], ◌∷◌, refl, sym, subst}
+use Rattle.session_ends.proofs.Words.{OwnerId, buffer_pin, relcache_reference, snapshot_reference, Scene, Ended, where_there, item_released, Acted, executor_at, number_in}
+use Rattle.session_ends.proofs.Lemmas.{acted_end, acted_nowhere, acted_then, out_more}
 use Rattle.session_ends.proofs.portals.end_executor.Goals as goal
 
 pub returns-in-None-clause-acted : goal.returns-in-None-clause-acted

@@ -1,44 +1,20 @@
 -- The owner is released and goes.
-use Rattle.std.proofs.Common.{◌≡◌, ℕ, true, false, Some, [], ◌∷◌, IfSome, refl, sym, subst}
-use Rattle.std.specs.Option.{option_map}
-use Rattle.addr_space.specs.Space.{Space}
-use Rattle.forest.specs.Forest.{Forest, at, parent_of}
-use Rattle.pgs_step.specs.declared.ids.OwnerId.{OwnerId}
-use Rattle.reset_callbacks.specs.ShelfState.{ShelfState}
+use Rattle.session_ends.proofs.Base.{◌≡◌, ℕ, true, false, Some, [], ◌∷◌, IfSome, refl, sym, subst, option_map}
+use Rattle.session_ends.proofs.Words.{Space, Forest, at, parent_of, OwnerId, ShelfState, owners_of, Serves, serves_still, AreLeft, Scene, Ended, in_order, where_there, owner_gone, owner_released, StoreState, scene_of, Acted, acted_as, owners_acted, keeps_in, GoesOut, PlansMayGo, number_in, owner_ended}
 use Rattle.session_owners.specs.ResourceState as owners
-use Rattle.session_owners.specs.ResourceState.{ResourceState, owners_of}
-use Rattle.session_owners.specs.Commons.{Serves}
-use Rattle.session_owners.proofs.Balances.{serves_still}
-use Rattle.session_owners.specs.Placing.{AreLeft}
-use Rattle.session_rules.specs.World.{Scene}
-use Rattle.session_rules.specs.Acts.{Ended, in_order, where_there}
-use Rattle.session_rules.specs.Releases.{owner_gone, owner_released}
-use Rattle.session_store.specs.State.{StoreState, scene_of}
-use Rattle.session_store.specs.Calls.{Acted}
-use Rattle.session_store.proofs.Owned.{acted_as, owners_acted}
-use Rattle.session_store.proofs.Through.{keeps_in}
-use Rattle.session_ends.specs.Portals.{GoesOut, PlansMayGo, number_in, owner_ended}
-use Rattle.session_ends.proofs.Acting.{acted_end, acted_on, acted_then}
-use Rattle.session_ends.proofs.Going.{go_by, plans_can}
-use Rattle.session_ends.proofs.Out.{out_gone, out_more, out_owners, placed_out}
-use Rattle.session_ends.proofs.Owning.{ended_is, has_parent}
+use Rattle.session_ends.proofs.Lemmas.{acted_end, acted_on, acted_then, go_by, plans_can, out_gone, out_more, out_owners, placed_out, ended_is, has_parent}
 use Rattle.session_ends.proofs.portals.end_owner.Goals as goal
 
-pub release_owner-requires-clause-live : goal.release_owner-requires-clause-live
-release_owner-requires-clause-live g c = subst (λ (v : StoreState). IfSome c.args.owner (owners.IsLive v.owners)) (sym c.store.view_is) c.requires.live
-
-pub release_owner-requires-clause-top : goal.release_owner-requires-clause-top
-release_owner-requires-clause-top g c =
-    has_parent c.args.owner c.store.inside.owners
-    (subst (λ (v : StoreState). IfSome c.args.owner (λ (o : OwnerId). (p : ℕ) × (parent_of o.number (owners_of v.owners) ≡ Some p))) (sym c.store.view_is) c.requires.below)
-
-pub release_owner-requires-clause-serves : goal.release_owner-requires-clause-serves
-release_owner-requires-clause-serves g c = subst (λ (v : StoreState). Serves v.owners c.args.commons.now) (sym c.store.view_is) c.requires.serves
-
-pub release_owner-requires-clause-fit : goal.release_owner-requires-clause-fit
-release_owner-requires-clause-fit g c =
-    let a : StoreState = record { tree = c.store.inside.tree; owners = c.store.inside.owners; levels = c.store.inside.levels; portals = c.store.inside.portals } in
-    plans_can a c.args.space.now c.args.shelf.now (keeps_in _ _ _ _ _ c.store.view_is _ c.requires.keeps) (subst (λ (v : StoreState). PlansMayGo v c.args.space.now c.args.shelf.now) (sym c.store.view_is) c.requires.plans) c.store.invariant
+pub release_owner-requires : goal.release_owner-requires
+release_owner-requires g c = record {
+  live = subst (λ (v : StoreState). IfSome c.args.owner (owners.IsLive v.owners)) (sym c.store.view_is) c.requires.live;
+  top = has_parent c.args.owner c.store.inside.owners
+      (subst (λ (v : StoreState). IfSome c.args.owner (λ (o : OwnerId). (p : ℕ) × (parent_of o.number (owners_of v.owners) ≡ Some p))) (sym c.store.view_is) c.requires.below);
+  serves = subst (λ (v : StoreState). Serves v.owners c.args.commons.now) (sym c.store.view_is) c.requires.serves;
+  fit =
+      let a : StoreState = record { tree = c.store.inside.tree; owners = c.store.inside.owners; levels = c.store.inside.levels; portals = c.store.inside.portals } in
+      plans_can a c.args.space.now c.args.shelf.now (keeps_in _ _ _ _ _ c.store.view_is _ c.requires.keeps) (subst (λ (v : StoreState). PlansMayGo v c.args.space.now c.args.shelf.now) (sym c.store.view_is) c.requires.plans) c.store.invariant;
+}
 
 pub discard_owner-requires-clause-live : goal.discard_owner-requires-clause-live
 discard_owner-requires-clause-live g c =

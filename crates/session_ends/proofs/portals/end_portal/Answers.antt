@@ -1,8 +1,7 @@
 -- Where there is a portal of that name it ends, else nothing is done.
-use Rattle.std.proofs.Common.{◌≡◌, Some, refl, sym, ap, ◌∙◌}
-use Rattle.portal_store.specs.Portals.{portal_named}
-use Rattle.session_ends.proofs.Acting.{acted_nowhere}
-use Rattle.session_ends.proofs.PortalEnding.{at_none, at_some, named_title}
+use Rattle.session_ends.proofs.Base.{◌≡◌, Some, refl, sym, ap, ◌∙◌}
+use Rattle.session_ends.proofs.Words.{portal_named}
+use Rattle.session_ends.proofs.Lemmas.{acted_nowhere, at_none, at_some, named_title}
 use Rattle.session_ends.proofs.portals.end_portal.Goals as goal
 
 pub end_found-requires-clause-there : goal.end_found-requires-clause-there

@@ -1,26 +1,8 @@
 -- The owner moves where the portal is of the level, and then its levels are lowered.
-use Rattle.std.proofs.Common.{◌≡◌, ◌≢◌, ◌-◌, ◌≤◌, ℕ, true, Option, List, [], ◌∷◌, IfSome, arith, length, refl, sym, ap, ◌∙◌, subst}
-use Rattle.std.specs.Prelude.{◌==◌, slice_get, slice_set}
-use Rattle.forest.specs.Forest.{Empty, children, has}
-use Rattle.pgs_step.specs.declared.ids.OwnerId.{OwnerId}
-use Rattle.portal_store.specs.declared.portal.Portal.{Portal}
-use Rattle.portal_store.specs.Portal.{lowered as level_lowered, to_parent}
+use Rattle.session_ends.proofs.Base.{◌≡◌, ◌≢◌, ◌-◌, ◌≤◌, ℕ, true, Option, List, [], ◌∷◌, IfSome, arith, length, refl, sym, ap, ◌∙◌, subst, ◌==◌, slice_get, slice_set}
+use Rattle.session_ends.proofs.Words.{Empty, children, has, OwnerId, Portal, lowered as level_lowered, to_parent, owners_of, OpenPortal, Scene, Ended, portal_becomes, where_so, where_there, owner_moved, StoreState, portal_state, portals_of, scene_of, levels_long, acted_as, EndsSo, IsEnding, left_by, number_in, Merges}
 use Rattle.session_owners.specs.ResourceState as owners
-use Rattle.session_owners.specs.ResourceState.{owners_of}
-use Rattle.session_rules.specs.State.{OpenPortal}
-use Rattle.session_rules.specs.World.{Scene}
-use Rattle.session_rules.specs.Acts.{Ended, portal_becomes, where_so, where_there}
-use Rattle.session_rules.specs.Releases.{owner_moved}
-use Rattle.session_store.specs.State.{StoreState, portal_state, portals_of, scene_of}
-use Rattle.session_store.proofs.Depths.{levels_long}
-use Rattle.session_store.proofs.Owned.{acted_as}
-use Rattle.session_ends.specs.Portals.{EndsSo, IsEnding, left_by, number_in}
-use Rattle.session_ends.specs.declared.portals.LevelEnd.TheVariants.{Merges}
-use Rattle.session_ends.proofs.Acting.{acted_end, acted_quiet, acted_then}
-use Rattle.session_ends.proofs.Dealing.{ending_are, if_taken, is_to, owner_live, owner_lone, owner_other, owner_there, owners_once, set_acted, to_there}
-use Rattle.session_ends.proofs.Out.{out_alone, out_more, some_is}
-use Rattle.session_ends.proofs.Passed.{moves_where}
-use Rattle.session_ends.proofs.Walking.{left_within}
+use Rattle.session_ends.proofs.Lemmas.{acted_end, acted_quiet, acted_then, ending_are, if_taken, is_to, owner_live, owner_lone, owner_other, owner_there, owners_once, set_acted, to_there, out_alone, out_more, some_is, moves_where, left_within}
 use Rattle.session_ends.proofs.portals.pass_portal.Goals as goal
 
 pub move_to-requires-clause-live : goal.move_to-requires-clause-live

@@ -1,8 +1,5 @@
-use Rattle.std.proofs.Common.{sym, subst}
-use Rattle.session_store.specs.State.{portal_state}
-use Rattle.session_store.specs.Calls.{Acted}
-use Rattle.session_ends.specs.Portals.{portal_after}
-use Rattle.session_ends.specs.declared.portals.LevelEnd.{LevelEnd}
+use Rattle.session_ends.proofs.Base.{sym, subst}
+use Rattle.session_ends.proofs.Words.{portal_state, Acted, portal_after, LevelEnd}
 use Rattle.session_ends.proofs.portals.settle_portal.Goals as goal
 
 pub returns-in-Merges-clause-acted : goal.returns-in-Merges-clause-acted

@@ -1,16 +1,7 @@
 -- Each turn settles the first of the portals that are left.
-use Rattle.std.proofs.Common.{◌≡◌, ◌+◌, ◌-◌, ◌≤◌, List, [], ◌∷◌, All, length, refl, sym, ap, ◌∙◌, subst, arith}
-use Rattle.std.proofs.lemmas.List.{length-append, length-map}
-use Rattle.session_owners.specs.Commons.{CommonState}
-use Rattle.session_rules.specs.State.{OpenPortal}
-use Rattle.session_rules.specs.Acts.{for_each}
-use Rattle.session_store.specs.State.{StoreState, levels_of, portal_state, portals_of}
-use Rattle.session_store.specs.Calls.{Acted}
-use Rattle.session_ends.specs.Portals.{EndsSo, GoesOut, IsEnding, left_by, owner_to, portal_after}
-use Rattle.session_ends.proofs.Dealing.{ending_step}
-use Rattle.session_ends.proofs.Out.{out_more, out_nothing, some_on}
-use Rattle.session_ends.proofs.Walking.{acted_more, acted_none, left_within, next_is, one_more, settling_leads}
-use Rattle.session_ends.proofs.Quiet.{IsQuiet, ending_front, quiet_back, quiet_ending, quiet_more}
+use Rattle.session_ends.proofs.Base.{◌≡◌, ◌+◌, ◌-◌, ◌≤◌, List, [], ◌∷◌, All, length, refl, sym, ap, ◌∙◌, subst, arith, length-append, length-map}
+use Rattle.session_ends.proofs.Words.{CommonState, OpenPortal, for_each, StoreState, levels_of, portal_state, portals_of, Acted, EndsSo, GoesOut, IsEnding, left_by, owner_to, portal_after}
+use Rattle.session_ends.proofs.Lemmas.{ending_step, out_more, out_nothing, some_on, acted_more, acted_none, left_within, next_is, one_more, settling_leads, IsQuiet, ending_front, quiet_back, quiet_ending, quiet_more}
 use Rattle.session_ends.proofs.portals.settle_portals.Given as given
 use Rattle.session_ends.proofs.portals.settle_portals.Goals as goal
 
@@ -104,22 +95,18 @@ quiet g c =
     let long : length ps ≡ length inv.on.done + length inv.on.back = ap length inv.on.all ∙ length-append inv.on.done inv.on.back in
     quiet_back c.args.level (length c.args.store.now.portals - c.untouched-rest.result) ps inv.on.done inv.on.back inv.on.all (omega (arith, few, long, inv.on.long, length-map c.args.store.now.portals portal_state)) c.untouched-rest.ensures.others
 
-pub returns-clause-acted : goal.returns-clause-acted
-returns-clause-acted g c m =
-    let inv = c.loop-portal.invariant in
-    let b : StoreState = c.loop-portal.store in
-    let n : CommonState = c.requires.ending.0 in
-    let e : IsEnding (left_by c.args.end) b c.loop-portal.space c.loop-portal.shelf n inv.on.back = inv.ending n c.requires.ending.1 in
-    subst (λ (v : StoreState). Acted (λ scene. for_each (portal_after c.args.end c.args.level) (portals_of c.args.store.now.portals) scene) c.args.store.now v c.args.space.now c.loop-portal.space c.args.shelf.now c.loop-portal.shelf m m (λ events. g.E.Emit.emits c.args.out.now events c.loop-portal.out))
-    (sym c.settled.ensures)
-    (quiet_more _ (λ o events p. g.E.Emit.emits o events p) g.met.E.Emit.emits_none (λ o p q xs ys h k. g.met.E.Emit.emits_more _ _ _ _ _ _ h k refl) c.args.end c.args.level c.args.store.now b c.args.space.now c.loop-portal.space c.args.shelf.now c.loop-portal.shelf m c.args.out.now c.loop-portal.out
-    (portals_of c.args.store.now.portals) inv.on.done e.front inv.on.back inv.on.all (ending_front (left_by c.args.end) b c.loop-portal.space c.loop-portal.shelf n inv.on.back e) e.ending.different (quiet g c) (inv.acted m))
-
-pub returns-clause-out : goal.returns-clause-out
-returns-clause-out g c = subst (λ (v : StoreState). GoesOut c.args.store.now v c.args.space.now c.loop-portal.space) (sym c.settled.ensures) c.loop-portal.invariant.out
-
-pub returns-clause-ending : goal.returns-clause-ending
-returns-clause-ending g c m e =
-    let inv = c.loop-portal.invariant in
-    subst (λ (v : StoreState). IsEnding (left_by c.args.end) v c.loop-portal.space c.loop-portal.shelf m []) (sym c.settled.ensures)
-    (quiet_ending c.args.end c.args.level c.loop-portal.store c.loop-portal.space c.loop-portal.shelf m inv.on.back (subst (EndsSo c.args.end) (sym (ap levels_of inv.out.levels)) c.requires.so) (ap length inv.out.levels ∙ c.requires.level) (quiet g c) (inv.ending m e))
+pub returns : goal.returns
+returns g c = record {
+  acted = λ m. let inv = c.loop-portal.invariant in
+      let b : StoreState = c.loop-portal.store in
+      let n : CommonState = c.requires.ending.0 in
+      let e : IsEnding (left_by c.args.end) b c.loop-portal.space c.loop-portal.shelf n inv.on.back = inv.ending n c.requires.ending.1 in
+      subst (λ (v : StoreState). Acted (λ scene. for_each (portal_after c.args.end c.args.level) (portals_of c.args.store.now.portals) scene) c.args.store.now v c.args.space.now c.loop-portal.space c.args.shelf.now c.loop-portal.shelf m m (λ events. g.E.Emit.emits c.args.out.now events c.loop-portal.out))
+      (sym c.settled.ensures)
+      (quiet_more _ (λ o events p. g.E.Emit.emits o events p) g.met.E.Emit.emits_none (λ o p q xs ys h k. g.met.E.Emit.emits_more _ _ _ _ _ _ h k refl) c.args.end c.args.level c.args.store.now b c.args.space.now c.loop-portal.space c.args.shelf.now c.loop-portal.shelf m c.args.out.now c.loop-portal.out
+      (portals_of c.args.store.now.portals) inv.on.done e.front inv.on.back inv.on.all (ending_front (left_by c.args.end) b c.loop-portal.space c.loop-portal.shelf n inv.on.back e) e.ending.different (quiet g c) (inv.acted m));
+  out = subst (λ (v : StoreState). GoesOut c.args.store.now v c.args.space.now c.loop-portal.space) (sym c.settled.ensures) c.loop-portal.invariant.out;
+  ending = λ m e. let inv = c.loop-portal.invariant in
+      subst (λ (v : StoreState). IsEnding (left_by c.args.end) v c.loop-portal.space c.loop-portal.shelf m []) (sym c.settled.ensures)
+      (quiet_ending c.args.end c.args.level c.loop-portal.store c.loop-portal.space c.loop-portal.shelf m inv.on.back (subst (EndsSo c.args.end) (sym (ap levels_of inv.out.levels)) c.requires.so) (ap length inv.out.levels ∙ c.requires.level) (quiet g c) (inv.ending m e));
+}

@@ -1,5 +1,5 @@
 -- Portals are settled, and so many are left.
-use Rattle.session_ends.proofs.Walking.{IsSettling}
+use Rattle.session_ends.proofs.Lemmas.{IsSettling}
 use Rattle.session_ends.proofs.portals.settle_portals.Given as goal
 
 abbrev pub invariant-loop-portal : goal.invariant-loop-portal

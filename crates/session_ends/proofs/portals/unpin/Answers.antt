@@ -1,10 +1,7 @@
 -- The page is released, or nothing is done.
-use Rattle.std.proofs.Common.{ℕ, Option, refl, sym, subst}
-use Rattle.session_rules.specs.State.{buffer_pin}
-use Rattle.session_rules.specs.Acts.{where_there}
-use Rattle.session_rules.specs.Releases.{item_released}
-use Rattle.session_store.specs.Calls.{Acted}
-use Rattle.session_ends.proofs.Acting.{acted_nowhere}
+use Rattle.session_ends.proofs.Base.{ℕ, Option, refl, sym, subst}
+use Rattle.session_ends.proofs.Words.{buffer_pin, where_there, item_released, Acted}
+use Rattle.session_ends.proofs.Lemmas.{acted_nowhere}
 use Rattle.session_ends.proofs.portals.unpin.Goals as goal
 
 pub returns-in-None-clause-acted : goal.returns-in-None-clause-acted

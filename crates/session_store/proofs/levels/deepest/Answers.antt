@@ -1,4 +1,4 @@
-use Rattle.std.proofs.Common.{sym}
+use Rattle.session_store.proofs.Words.{sym}
 use Rattle.session_store.proofs.Depths.{deepest_is}
 use Rattle.session_store.proofs.levels.deepest.Goals as goal
 

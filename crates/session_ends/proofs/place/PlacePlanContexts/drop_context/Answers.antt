@@ -1,6 +1,6 @@
 -- One context is gone, and the others can go as before.
-use Rattle.std.proofs.Common.{refl}
-use Rattle.session_ends.proofs.Going.{have_gone, others_go}
+use Rattle.session_ends.proofs.Base.{refl}
+use Rattle.session_ends.proofs.Lemmas.{have_gone, others_go}
 use Rattle.session_ends.proofs.place.PlacePlanContexts.drop_context.Goals as goal
 
 pub returns-clause-others : goal.returns-clause-others

@@ -19,10 +19,8 @@ returns-clause-acted g c =
     λ commons.
     let says : List What → Type 0 = λ (events : List What). g.E.Emit.emits c.args.out.now events c.discard.new.out in
     let now : ResourceState = state_of c.discard.new.self c.self.inside.tables.files c.self.inside.locks c.self.inside.tables.snapshots.stack c.self.inside.tables.plans in
-    acted_gone c.args.owner.number c.args.self.now now commons says
-    (c.discard.ensures.owners ∙ ap (λ (t : ResourceState). removed c.args.owner.number (owners_of t)) c.self.view_is)
+    acted_gone _ _ now commons says (c.discard.ensures.owners ∙ ap (λ (t : ResourceState). removed c.args.owner.number (owners_of t)) c.self.view_is)
     (c.discard.ensures.next_owner ∙ ap (λ (t : ResourceState). t.next_owner) c.self.view_is) (c.discard.ensures.next_serial ∙ ap (λ (t : ResourceState). t.next_serial) c.self.view_is)
     (record { recent = ap (λ (t : ResourceState). t.recent) c.self.view_is; descriptors = ap (λ (t : ResourceState). t.descriptors) c.self.view_is })
     (record { session = ap (λ (t : ResourceState). t.session) c.self.view_is; locks = ap (λ (t : ResourceState). t.locks) c.self.view_is; stack = ap (λ (t : ResourceState). t.stack) c.self.view_is; plans = ap (λ (t : ResourceState). t.plans) c.self.view_is })
-    (returns-clause-balances g c commons).pins
-    (subst (λ (t : ResourceState). says (gone_events c.args.owner.number (owners_of t))) c.self.view_is c.discard.ensures.emits)
+    (returns-clause-balances g c commons).pins (subst (λ (t : ResourceState). says (gone_events c.args.owner.number (owners_of t))) c.self.view_is c.discard.ensures.emits)

@@ -1,21 +1,8 @@
-use Rattle.std.proofs.Common.{◌≡◌, ◌↔◌, ◌∙◌, Bool, List, [], None, Option, true, ap, refl, subst, sym, ℕ}
-use Rattle.pgs_step.specs.declared.events.What.{What}
-use Rattle.pgs_step.specs.declared.ids.Phase.{Phase}
-use Rattle.pgs_step.specs.declared.ids.Phase.TheVariants.{BeforeLocks, Locks, AfterLocks}
-use Rattle.forest.specs.Forest.{parent_of}
-use Rattle.owner_kinds.specs.KindShelf.{table_of}
-use Rattle.owner_kinds.specs.KindTable.{KindTable}
-use Rattle.owner_core.specs.Released.{own_released, released}
+use Rattle.session_owners.proofs.Base.{arith, nat_tests, ◌≡◌, ◌↔◌, ◌∙◌, Bool, List, None, Option, true, ap, refl, subst, sym, ℕ}
+use Rattle.session_owners.proofs.Words.{What, Phase, BeforeLocks, Locks, parent_of, table_of, KindTable, own_released, released, owners_of, hosting_of}
+use Rattle.session_owners.proofs.Lemmas.{acted_release, balances_more, nothing_left}
 use Rattle.owner_core.proofs.Swept.{parent_swept}
-use Rattle.forest.specs.Forest.{Once, Empty, children}
-use Rattle.owner_core.specs.Owners.{items_of}
-use Rattle.owner_core.proofs.Sounds.{once_of}
-use Rattle.session_owners.specs.ResourceState.{AllAt, HoldsNothing, OwnerTree, owners_of}
-use Rattle.session_owners.specs.Fitting.{hosting_of}
-use Rattle.session_owners.proofs.Acts.{acted_release}
-use Rattle.session_owners.proofs.Balances.{balances_more}
-use Rattle.session_owners.proofs.Bare.{IsBare, acted_bare, released_bare}
-use Rattle.session_owners.proofs.Left.{nothing_left}
+use Rattle.session_owners.specs.ResourceState.{AllAt, HoldsNothing, OwnerTree}
 use Rattle.session_owners.proofs.resources.Resources.release_in_turn.Goals as goal
 
 -- a phase leaves each owner its parent
@@ -33,13 +20,7 @@ release_phase-requires-3-clause-top g c =
     (top_still (table_of c.args.commons.now.kinds) BeforeLocks c.args.owner.number c.args.top (owners_of c.args.self.now) (owners_of c.release_phase.new.self) c.release_phase.ensures.owners c.requires.top)
 
 pub returns-clause-owners : goal.returns-clause-owners
-returns-clause-owners g c =
-    let n = c.args.owner.number in
-    let kinds : KindTable = table_of c.args.commons.now.kinds in
-    let second = c.release_phase.ensures.balances.table in
-    c.release_phase-3.ensures.owners
-    ∙ ap (λ (k : KindTable). released k AfterLocks n (owners_of c.release_phase-2.new.self)) (c.release_phase-2.ensures.balances.table ∙ second)
-    ∙ ap (released kinds AfterLocks n) (c.release_phase-2.ensures.owners ∙ ap (λ (k : KindTable). released k Locks n (owners_of c.release_phase.new.self)) second ∙ ap (released kinds Locks n) c.release_phase.ensures.owners)
+returns-clause-owners g c = grind (arith, nat_tests, c.args.owner.number, c.release_phase.ensures.balances.table, c.release_phase-3.ensures.owners, c.release_phase-2.ensures.balances.table, c.release_phase-2.ensures.owners)
 
 pub returns-clause-nothing_left : goal.returns-clause-nothing_left
 returns-clause-nothing_left g c =
@@ -51,22 +32,7 @@ returns-clause-balances g c =
     balances_more _ _ _ _ _ _ (balances_more _ _ _ _ _ _ c.release_phase.ensures.balances c.release_phase-2.ensures.balances) c.release_phase-3.ensures.balances
 
 pub returns-clause-acted : goal.returns-clause-acted
-returns-clause-acted g c =
-    acted_release c.args.commit c.args.top c.args.owner.number c.args.self.now c.release_phase.new.self c.release_phase-2.new.self c.release_phase-3.new.self
-    (hosting_of (g.P.PlanContexts.contexts c.args.place.now) (g.P.PlanContexts.shelf c.args.place.now)) (hosting_of (g.P.PlanContexts.contexts c.release_phase.new.place) (g.P.PlanContexts.shelf c.release_phase.new.place))
-    (hosting_of (g.P.PlanContexts.contexts c.release_phase-2.new.place) (g.P.PlanContexts.shelf c.release_phase-2.new.place)) (hosting_of (g.P.PlanContexts.contexts c.release_phase-3.new.place) (g.P.PlanContexts.shelf c.release_phase-3.new.place))
-    c.args.commons.now c.release_phase.new.commons c.release_phase-2.new.commons c.release_phase-3.new.commons
-    (λ (events : List What). g.E.Emit.emits c.args.out.now events c.release_phase.new.out)
-    (λ (events : List What). g.E.Emit.emits c.release_phase.new.out events c.release_phase-2.new.out)
-    (λ (events : List What). g.E.Emit.emits c.release_phase-2.new.out events c.release_phase-3.new.out)
-    (λ (events : List What). g.E.Emit.emits c.release_phase-3.new.out events c.release_phase-3.new.out)
-    (λ (events : List What). g.E.Emit.emits c.release_phase.new.out events c.release_phase-3.new.out)
-    (λ (events : List What). g.E.Emit.emits c.args.out.now events c.release_phase-3.new.out)
-    (g.met.E.Emit.emits_none _)
-    (λ xs ys p q. g.met.E.Emit.emits_more _ _ _ _ _ _ p q refl)
-    (λ xs ys p q. g.met.E.Emit.emits_more _ _ _ _ _ _ p q refl)
-    (λ xs ys p q. g.met.E.Emit.emits_more _ _ _ _ _ _ p q refl)
-    c.release_phase.ensures.acted c.release_phase-2.ensures.acted c.release_phase-3.ensures.acted
+returns-clause-acted g c = grind (arith, nat_tests, acted_release c.args.commit c.args.top c.args.owner.number c.args.self.now c.release_phase.new.self c.release_phase-2.new.self c.release_phase-3.new.self (hosting_of (g.P.PlanContexts.contexts c.args.place.now) (g.P.PlanContexts.shelf c.args.place.now)) (hosting_of (g.P.PlanContexts.contexts c.release_phase.new.place) (g.P.PlanContexts.shelf c.release_phase.new.place)) (hosting_of (g.P.PlanContexts.contexts c.release_phase-2.new.place) (g.P.PlanContexts.shelf c.release_phase-2.new.place)) (hosting_of (g.P.PlanContexts.contexts c.release_phase-3.new.place) (g.P.PlanContexts.shelf c.release_phase-3.new.place)) c.args.commons.now c.release_phase.new.commons c.release_phase-2.new.commons c.release_phase-3.new.commons (λ (events : List What). g.E.Emit.emits c.args.out.now events c.release_phase.new.out) (λ (events : List What). g.E.Emit.emits c.release_phase.new.out events c.release_phase-2.new.out) (λ (events : List What). g.E.Emit.emits c.release_phase-2.new.out events c.release_phase-3.new.out) (λ (events : List What). g.E.Emit.emits c.release_phase-3.new.out events c.release_phase-3.new.out) (λ (events : List What). g.E.Emit.emits c.release_phase.new.out events c.release_phase-3.new.out) (λ (events : List What). g.E.Emit.emits c.args.out.now events c.release_phase-3.new.out) (g.met.E.Emit.emits_none _) (λ xs ys p q. g.met.E.Emit.emits_more _ _ _ _ _ _ p q refl) (λ xs ys p q. g.met.E.Emit.emits_more _ _ _ _ _ _ p q refl) (λ xs ys p q. g.met.E.Emit.emits_more _ _ _ _ _ _ p q refl) c.release_phase.ensures.acted c.release_phase-2.ensures.acted c.release_phase-3.ensures.acted)
 
 pub returns-clause-went : goal.returns-clause-went
 returns-clause-went g c =

@@ -1,4 +1,4 @@
-use Rattle.session_owners.proofs.Base.{◌≡◌, [], ap, refl, subst, sym, ◌∙◌, ◌∷◌, arith, eqb-true}
+use Rattle.session_owners.proofs.Base.{nat_tests, ◌≡◌, [], ap, refl, subst, sym, ◌∙◌, ◌∷◌, arith, eqb-true}
 use Rattle.session_owners.proofs.Words.{total, Contexts, ShelfState, GivesBack, Held, TablesDo, lending_of}
 use Rattle.session_owners.proofs.Lemmas.{does_close, does_give, does_refer_less, pin_is_none, pin_is_other}
 use Rattle.session_owners.proofs.tables.Tables.give_back.Goals as goal
@@ -33,10 +33,4 @@ returns-then-eq-3-clause-done g c =
     )
 
 pub returns-clause-done : goal.returns-clause-done
-returns-clause-done g c =
-    λ kinds ls. (
-      [],
-      does_give c.args.self.now c.drop_reference.new.self kinds ls (g.P.PlanContexts.contexts c.args.place.now) (g.P.PlanContexts.shelf c.args.place.now) c.args.item c.requires.built_in (sym c.eq-2.ensures ∙ c.if-eq-2.false) (sym c.eq-3.ensures ∙ c.if-eq-3.false)
-          c.drop_reference.ensures.files c.drop_reference.ensures.stack c.drop_reference.ensures.plans c.drop_reference.ensures.fewer,
-      g.met.E.Emit.emits_none c.args.out.now,
-    )
+returns-clause-done g c = grind (arith, nat_tests, does_give, g.P.PlanContexts.contexts c.args.place.now, g.P.PlanContexts.shelf c.args.place.now, c.if-eq-2.false, c.if-eq-3.false, g.met.E.Emit.emits_none c.args.out.now)

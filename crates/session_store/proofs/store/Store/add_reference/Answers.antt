@@ -1,7 +1,6 @@
 -- The owner remembers one reference more, or nothing changed.
-use Rattle.session_rules.specs.Taking.{item_taken}
-use Rattle.session_store.proofs.Answered.{on_answer}
-use Rattle.session_store.proofs.Owned.{go_answered, go_alone, owners_after, owners_alone_after, placed_owners}
+use Rattle.session_store.proofs.Words.{item_taken}
+use Rattle.session_store.proofs.Lemmas.{on_answer, go_answered, go_alone, owners_after, owners_alone_after, placed_owners}
 use Rattle.session_store.proofs.store.Store.add_reference.Goals as goal
 
 pub invariant_of-self : goal.invariant_of-self

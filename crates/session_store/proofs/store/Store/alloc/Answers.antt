@@ -1,10 +1,5 @@
 -- The chunk is taken in the current context.
-use Rattle.std.proofs.Common.{false, OnOk, subst}
-use Rattle.pgs_step.specs.declared.ids.CtxId.{CtxId}
-use Rattle.reset_callbacks.specs.ShelfState.{ShelfState}
-use Rattle.session_owners.specs.Commons.{CommonState}
-use Rattle.session_rules.specs.Taking.{memory_taken}
-use Rattle.session_store.specs.Calls.{Acted, IsSilent}
+use Rattle.session_store.proofs.Words.{false, OnOk, subst, CtxId, ShelfState, CommonState, memory_taken, Acted, IsSilent}
 use Rattle.session_store.proofs.store.Store.alloc.Goals as goal
 
 pub returns-clause-acted : goal.returns-clause-acted

@@ -1,13 +1,7 @@
 -- A level more is what the rules say.
-use Rattle.std.proofs.Common.{◌≡◌, ◌+◌, List, [], ◌∷◌, length, sym, ap, ◌∙◌, subst, ℕ}
-use Rattle.std.proofs.lemmas.List.{length-append}
+use Rattle.session_store.proofs.Words.{◌≡◌, ◌+◌, List, [], ◌∷◌, length, sym, ap, ◌∙◌, subst, ℕ, length-append, Level, new_level, level_made, StoreState, Acted, Keeps}
+use Rattle.session_store.proofs.Lemmas.{begun_acted, keeps_parts}
 use Rattle.pgs_step.specs.declared.events.What.TheVariants as what
-use Rattle.subxact_stack.specs.declared.levels.Level.{Level}
-use Rattle.subxact_stack.specs.Levels.{new_level}
-use Rattle.session_rules.specs.Making.{level_made}
-use Rattle.session_store.specs.State.{StoreState}
-use Rattle.session_store.specs.Calls.{Acted, Keeps}
-use Rattle.session_store.proofs.Levelled.{begun_acted, keeps_parts}
 use Rattle.session_store.proofs.store.Store.begin_level.Goals as goal
 
 pub returns-clause-acted : goal.returns-clause-acted

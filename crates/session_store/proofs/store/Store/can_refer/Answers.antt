@@ -1,9 +1,5 @@
 -- The session's plans are those of its owners.
-use Rattle.std.proofs.Common.{◌≡◌, false, subst}
-use Rattle.std.specs.Prelude.{not}
-use Rattle.std.specs.Option.{option_map_or}
-use Rattle.session_rules.specs.Lookup.{plan_at}
-use Rattle.session_store.specs.State.{StoreState, session_of}
+use Rattle.session_store.proofs.Words.{◌≡◌, false, subst, not, option_map_or, plan_at, StoreState, session_of}
 use Rattle.session_store.proofs.store.Store.can_refer.Goals as goal
 
 pub returns-clause-session : goal.returns-clause-session

@@ -1,7 +1,5 @@
 -- What the tree answers is what the session's contexts are.
-use Rattle.std.proofs.Common.{ap, ◌∙◌}
-use Rattle.forest.specs.Forest.{size}
-use Rattle.session_store.specs.State.{StoreState, session_of}
+use Rattle.session_store.proofs.Words.{ap, ◌∙◌, size, StoreState, session_of}
 use Rattle.session_store.proofs.store.Store.context_count.Goals as goal
 
 pub returns : goal.returns

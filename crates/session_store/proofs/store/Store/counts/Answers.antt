@@ -1,10 +1,6 @@
 -- What the owners count, in as many contexts as the tree has, is what the session counts.
-use Rattle.std.proofs.Common.{◌≡◌, [], sym, subst}
-use Rattle.session_rules.specs.Counts.{counts}
-use Rattle.session_owners.specs.Commons.{CommonState}
-use Rattle.session_store.specs.State.{StoreState, scene_of, session_of}
-use Rattle.session_store.proofs.Kept.{nowhere}
-use Rattle.session_store.proofs.Owned.{owners_fit}
+use Rattle.session_store.proofs.Words.{◌≡◌, [], sym, subst, counts, CommonState, StoreState, scene_of, session_of}
+use Rattle.session_store.proofs.Lemmas.{nowhere, owners_fit}
 use Rattle.session_store.proofs.store.Store.counts.Goals as goal
 
 pub returns : goal.returns

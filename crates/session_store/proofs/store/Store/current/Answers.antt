@@ -1,9 +1,6 @@
 -- The current context is there where the session stands, and then it lies where its id says.
-use Rattle.std.proofs.Common.{sym, subst}
-use Rattle.pgs_step.specs.declared.ids.CtxId.{CtxId}
-use Rattle.context_tree.specs.State.{IsLive}
-use Rattle.session_store.specs.State.{StoreState}
-use Rattle.session_store.proofs.Through.{there_in}
+use Rattle.session_store.proofs.Words.{sym, subst, CtxId, IsLive, StoreState}
+use Rattle.session_store.proofs.Lemmas.{there_in}
 use Rattle.session_store.proofs.store.Store.current.Goals as goal
 
 pub returns-clause-live : goal.returns-clause-live

@@ -1,8 +1,5 @@
 -- The session's plans are those of its owners.
-use Rattle.std.proofs.Common.{◌≡◌, subst}
-use Rattle.std.specs.Prelude.{is_some}
-use Rattle.session_rules.specs.Lookup.{plan_at}
-use Rattle.session_store.specs.State.{StoreState, session_of}
+use Rattle.session_store.proofs.Words.{◌≡◌, subst, is_some, plan_at, StoreState, session_of}
 use Rattle.session_store.proofs.store.Store.has_plan.Goals as goal
 
 pub returns : goal.returns

@@ -1,14 +1,5 @@
 -- A chunk of the name is there where none of its bytes can be read.
-use Rattle.std.proofs.Common.{◌≡◌, ◌+◌, Option, Some, None, Result, Ok, Err, refl, ap, ◌∙◌, arith}
-use Rattle.std.specs.Prelude.{is_ok, is_none, is_some, length, nat_lt}
-use Rattle.std.specs.Option.{option_map_or}
-use Rattle.std.proofs.lemmas.Bool.{le-ltb}
-use Rattle.context_rules.specs.Contexts.{Found, found}
-use Rattle.context_rules.specs.Refusals.{where_so}
-use Rattle.context_rules.specs.declared.errors.TreeError.{TreeError}
-use Rattle.context_rules.specs.declared.errors.TreeError.TheVariants.{NoName, Range}
-use Rattle.context_tree.specs.State.{error_of}
-use Rattle.session_store.specs.State.{StoreState, session_of}
+use Rattle.session_store.proofs.Words.{◌≡◌, ◌+◌, Option, Some, None, Result, Ok, Err, refl, ap, ◌∙◌, arith, is_ok, is_none, is_some, length, nat_lt, option_map_or, le-ltb, Found, found, where_so, TreeError, NoName, Range, error_of, StoreState, session_of}
 use Rattle.session_store.proofs.store.Store.is_chunk.Goals as goal
 
 by_error : (r : Result (Unit {0}) TreeError) → is_ok r ≡ is_none (error_of r)

@@ -1,9 +1,6 @@
 -- Whether the owners hold the file.
-use Rattle.std.proofs.Common.{◌∙◌, ap}
-use Rattle.session_rules.specs.State.{file_kind}
-use Rattle.session_rules.specs.Counts.{holds}
-use Rattle.session_store.specs.State.{StoreState, session_of}
-use Rattle.session_store.proofs.Owned.{file_held}
+use Rattle.session_store.proofs.Words.{◌∙◌, ap, file_kind, holds, StoreState, session_of}
+use Rattle.session_store.proofs.Lemmas.{file_held}
 use Rattle.session_store.proofs.store.Store.is_open.Goals as goal
 
 pub returns-clause-session : goal.returns-clause-session

@@ -1,12 +1,5 @@
 -- The name is kept for sessions, or leads to a context.
-use Rattle.std.proofs.Common.{◌≡◌, ℕ, List, true, false, Option, Some, None, refl, sym, ap, ◌∙◌}
-use Rattle.std.specs.Prelude.{is_some}
-use Rattle.std.specs.Option.{option_map}
-use Rattle.pgs_step.specs.declared.ids.CtxId.{CtxId}
-use Rattle.context_rules.specs.Contexts.{Contexts, context_named}
-use Rattle.context_rules.specs.Refusals.{is_taken}
-use Rattle.context_rules.specs.Names.{is_reserved}
-use Rattle.session_store.specs.State.{StoreState, session_of}
+use Rattle.session_store.proofs.Words.{◌≡◌, ℕ, List, true, false, Option, Some, None, refl, sym, ap, ◌∙◌, is_some, option_map, CtxId, Contexts, context_named, is_taken, is_reserved, StoreState, session_of}
 use Rattle.session_store.proofs.store.Store.is_taken.Goals as goal
 
 by_number : (o : Option CtxId) → is_some o ≡ is_some (option_map (λ (id : CtxId). id.number) o)

@@ -1,10 +1,6 @@
 -- A level's context is there where the session stands, and then it lies where its id says.
-use Rattle.std.proofs.Common.{IfSome, sym, ap, ◌∙◌, subst}
-use Rattle.std.specs.Prelude.{option_copied}
-use Rattle.context_tree.specs.State.{IsLive}
-use Rattle.session_store.specs.State.{StoreState}
-use Rattle.session_store.proofs.Kept.{level_live}
-use Rattle.session_store.proofs.Through.{there_in}
+use Rattle.session_store.proofs.Words.{IfSome, sym, ap, ◌∙◌, subst, option_copied, IsLive, StoreState}
+use Rattle.session_store.proofs.Lemmas.{level_live, there_in}
 use Rattle.session_store.proofs.store.Store.level_context.Goals as goal
 
 pub returns-in-Some-clause-live : goal.returns-in-Some-clause-live

@@ -1,12 +1,6 @@
 -- The owner of the deepest level.
-use Rattle.std.proofs.Common.{◌≡◌, ℕ, length, sym, ap, ◌∙◌}
-use Rattle.std.specs.Option.{option_and_then, option_map}
-use Rattle.pgs_step.specs.declared.ids.OwnerId.{OwnerId}
-use Rattle.subxact_stack.specs.Levels.{level_at}
-use Rattle.subxact_stack.specs.declared.levels.Level.{Level}
-use Rattle.session_rules.specs.State.{owner_of}
-use Rattle.session_store.specs.State.{StoreState, session_of}
-use Rattle.session_store.proofs.Owned.{deepest_is, owner_number}
+use Rattle.session_store.proofs.Words.{◌≡◌, ℕ, length, sym, ap, ◌∙◌, option_and_then, option_map, OwnerId, level_at, Level, owner_of, StoreState, session_of}
+use Rattle.session_store.proofs.Lemmas.{deepest_is, owner_number}
 use Rattle.session_store.proofs.store.Store.level_owner.Goals as goal
 
 pub returns-clause-owner : goal.returns-clause-owner

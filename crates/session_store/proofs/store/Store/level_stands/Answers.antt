@@ -1,16 +1,6 @@
 -- The level's context is there, and lies where its id says.
-use Rattle.std.proofs.Common.{◌≡◌, false, List, sym, ap, ◌∙◌, subst}
-use Rattle.std.specs.Prelude.{unwrap_or}
-use Rattle.pgs_step.specs.declared.ids.CtxId.{CtxId}
-use Rattle.context_tree.specs.State.{TreeState}
-use Rattle.subxact_stack.specs.declared.levels.Level.{Level}
-use Rattle.session_rules.specs.Parts.{level_stands}
-use Rattle.session_store.specs.State.{StoreState}
-use Rattle.session_store.specs.Placed.{IsPlaced, IsThere, LevelLies}
-use Rattle.session_store.specs.Calls.{Acted, IsSilent, Keeps}
-use Rattle.session_store.proofs.Depths.{all_deepest, deepest_new}
-use Rattle.session_store.proofs.Levelled.{context_live, current_lies, deepest_placed, have_owners, keeps_current, lies_at, portals_at, stood_acted}
-use Rattle.session_store.proofs.Through.{stands_in, there_in}
+use Rattle.session_store.proofs.Words.{rules, ◌≡◌, false, List, sym, ap, ◌∙◌, subst, unwrap_or, CtxId, TreeState, Level, level_stands, StoreState, IsPlaced, IsThere, LevelLies, Acted, IsSilent, Keeps}
+use Rattle.session_store.proofs.Lemmas.{all_deepest, deepest_new, context_live, current_lies, deepest_placed, have_owners, keeps_current, lies_at, portals_at, stood_acted, stands_in, there_in}
 use Rattle.session_store.proofs.store.Store.level_stands.Goals as goal
 
 pub switch_to-requires : goal.switch_to-requires

@@ -1,21 +1,17 @@
 -- The owner holds a lock once more, or nothing changed.
-use Rattle.std.proofs.Common.{◌≡◌, ◌↔◌, ℕ, Some, ap, sym, subst}
-use Rattle.std.specs.Prelude.{IsErrOf}
+use Rattle.session_store.proofs.Words.{rules, ◌≡◌, ◌↔◌, ℕ, Some, ap, sym, subst, IsErrOf, beside, least_conflict, lock_taken, Serves, ResourceState, owners_of, StoreState}
+use Rattle.session_store.proofs.Lemmas.{on_answer, go_same, owners_after, owners_alone_after, placed_owners}
 use Rattle.pgs_step.specs.declared.lock_modes.Mode.{Mode}
-use Rattle.lock_shared.specs.Ranked.{beside, least_conflict}
 use Rattle.lock_local.specs.declared.errors.LockError.TheVariants.{Conflict}
-use Rattle.session_rules.specs.Taking.{lock_taken}
-use Rattle.session_owners.specs.Commons.{Serves}
-use Rattle.session_owners.specs.ResourceState.{ResourceState, owners_of}
-use Rattle.session_store.specs.State.{StoreState}
-use Rattle.session_store.proofs.Answered.{on_answer}
-use Rattle.session_store.proofs.Owned.{go_same, owners_after, owners_alone_after, placed_owners}
 use Rattle.session_store.proofs.store.Store.lock.Goals as goal
 
 pub invariant_of-self : goal.invariant_of-self
 invariant_of-self g c =
     placed_owners _ _ _ _ _ c.self.invariant
     (go_same _ _ (ap owners_of c.lock.ensures.locks_alone) (ap (λ (r : ResourceState). r.places) c.lock.ensures.locks_alone) (ap (λ (r : ResourceState). r.plans) c.lock.ensures.locks_alone))
+
+pub returns-clause-conflict : goal.returns-clause-conflict
+returns-clause-conflict g c = subst (λ (v : StoreState). (s : ℕ) (m : Mode) → IsErrOf c.lock.result (Conflict s m) ↔ (least_conflict c.args.object c.args.mode (beside v.owners.session c.args.commons.now.locks) ≡ Some (s, m))) c.self.view_is c.lock.ensures.conflict
 
 pub returns-clause-acted : goal.returns-clause-acted
 returns-clause-acted g c =
@@ -32,6 +28,3 @@ returns-clause-alone g c =
 
 pub lock-requires : goal.lock-requires
 lock-requires g c = subst (λ (v : StoreState). Serves v.owners c.args.commons.now) (sym c.self.view_is) c.requires
-
-pub returns-clause-conflict : goal.returns-clause-conflict
-returns-clause-conflict g c = subst (λ (v : StoreState). (s : ℕ) (m : Mode) → IsErrOf c.lock.result (Conflict s m) ↔ (least_conflict c.args.object c.args.mode (beside v.owners.session c.args.commons.now.locks) ≡ Some (s, m))) c.self.view_is c.lock.ensures.conflict

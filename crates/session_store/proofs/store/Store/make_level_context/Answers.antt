@@ -1,35 +1,17 @@
 -- The new context is below that of the level above, and the level knows it.
-use Rattle.std.proofs.Common.{◌≡◌, ◌⊎◌, ◌<◌, ◌^◌, true, ℕ, List, Some, None, length, refl, sym, ap, ◌∙◌, subst}
-use Rattle.std.specs.Prelude.{codes, drop}
-use Rattle.std.specs.Option.{option_map}
+use Rattle.session_store.proofs.Words.{rules, ◌≡◌, ◌⊎◌, ◌<◌, ◌^◌, true, ℕ, List, Some, None, length, refl, sym, ap, ◌∙◌, subst, codes, drop, option_map, Contexts, create_refusal, Memory, AsksInVain, Level, LevelState, first_of, LevelContext, level_context_name, level_parent, new_context_made, StoreState, level_state, levels_of, IsPlaced, Acted, Refused}
+use Rattle.session_store.proofs.Lemmas.{deepest_new, ends, levels_are, goes_made, above_in, context_acted, deepest_placed, have_owners, keeps_parts, agrees_in, keeps_in, left_through, levels_in, live_in, placed_after, stands_in, refused_regions}
 use Rattle.any_ctx.specs.declared.any.CtxKind.TheVariants as kind
-use Rattle.context_rules.specs.Contexts.{Contexts}
-use Rattle.context_rules.specs.Refusals.{create_refusal}
-use Rattle.context_rules.specs.declared.errors.TreeError.TheVariants.{Memory}
-use Rattle.context_tree.specs.Making.{AsksInVain}
-use Rattle.subxact_stack.specs.declared.levels.Level.{Level}
-use Rattle.session_rules.specs.State.{LevelState, first_of}
-use Rattle.session_rules.specs.Elements.{LevelContext}
-use Rattle.session_rules.specs.Making.{level_context_name, level_parent, new_context_made}
-use Rattle.session_store.specs.State.{StoreState, level_state, levels_of}
-use Rattle.session_store.specs.Placed.{IsPlaced}
-use Rattle.session_store.specs.Calls.{Acted, Refused}
-use Rattle.session_store.proofs.Depths.{deepest_new, ends, levels_are}
-use Rattle.session_store.proofs.Kept.{goes_made}
-use Rattle.session_store.proofs.Levelled.{above_in, context_acted, deepest_placed, have_owners, keeps_parts}
 use Rattle.session_store.proofs.Sums.{keeps_on}
-use Rattle.session_store.proofs.Through.{agrees_in, keeps_in, left_through, levels_in, live_in, placed_after, stands_in}
-use Rattle.session_store.proofs.Led.{refused_regions}
 use Rattle.session_store.proofs.store.Store.make_level_context.Goals as goal
 
-pub create-requires-clause-agrees : goal.create-requires-clause-agrees
-create-requires-clause-agrees g c = agrees_in _ _ _ _ _ c.self.view_is c.args.space.now c.requires.keeps
-
-pub create-requires-clause-live : goal.create-requires-clause-live
-create-requires-clause-live g c = live_in _ _ _ _ _ c.self.view_is c.context_above-parent.result c.context_above-parent.ensures.live
-
-pub create-requires-clause-room : goal.create-requires-clause-room
-create-requires-clause-room g c = subst (λ (a : StoreState). a.tree.next < 2 ^ 62) (sym c.self.view_is) c.requires.room
+pub create-requires : goal.create-requires
+create-requires g c = record {
+  agrees = agrees_in _ _ _ _ _ c.self.view_is c.args.space.now c.requires.keeps;
+  live = live_in _ _ _ _ _ c.self.view_is c.context_above-parent.result c.context_above-parent.ensures.live;
+  room = subst (λ (a : StoreState). a.tree.next < 2 ^ 62) (sym c.self.view_is) c.requires.room;
+  slab = search rules;
+}
 
 pub context_above-parent-requires-clause-there : goal.context_above-parent-requires-clause-there
 context_above-parent-requires-clause-there g c = (c.args.space.now, levels_in _ _ _ _ _ c.self.view_is _ _ c.requires.stands.1.0 c.requires.stands.1.1)
@@ -73,11 +55,6 @@ returns-in-Err-clause-keeps g c =
     let a : StoreState = record { tree = c.self.inside.tree; owners = c.self.inside.owners; levels = c.self.inside.levels; portals = c.self.inside.portals } in
     keeps_on a c.create.new.self c.args.space.now c.create.new.space (keeps_in _ _ _ _ _ c.self.view_is c.args.space.now c.requires.keeps) c.create.ensures.moves
 
-pub returns-in-Ok-clause-served : goal.returns-in-Ok-clause-served
-returns-in-Ok-clause-served g c =
-    left_through _ _ _ _ _ c.self.view_is (λ (account n left : ℕ) (contexts : Contexts). create_refusal left (codes "CurTransactionContext") kind.Default true contexts ≡ None) c.args.space.now _ refl c.requires.keeps
-    c.in-Ok.ensures.served
-
 pub returns-in-Err-clause-cause : goal.returns-in-Err-clause-cause
 returns-in-Err-clause-cause g c =
     left_through _ _ _ _ _ c.self.view_is (λ (account n left : ℕ) (contexts : Contexts). (c.in-Err.error ≡ Memory) ⊎ (create_refusal left (codes "CurTransactionContext") kind.Default true contexts ≡ Some c.in-Err.error)) c.args.space.now _ refl c.requires.keeps
@@ -92,3 +69,8 @@ returns-in-Err-clause-refused g c x commons =
 pub returns-in-Err-clause-err_asked : goal.returns-in-Err-clause-err_asked
 returns-in-Err-clause-err_asked g c =
     subst (λ (v : StoreState). AsksInVain c.in-Err.error v.tree.account 8192 c.args.space.now c.create.new.space) c.self.view_is c.in-Err.ensures.err_asked
+
+pub returns-in-Ok-clause-served : goal.returns-in-Ok-clause-served
+returns-in-Ok-clause-served g c =
+    left_through _ _ _ _ _ c.self.view_is (λ (account n left : ℕ) (contexts : Contexts). create_refusal left (codes "CurTransactionContext") kind.Default true contexts ≡ None) c.args.space.now _ refl c.requires.keeps
+    c.in-Ok.ensures.served

@@ -1,21 +1,7 @@
 -- The owner of the level above lies where its id says, and the new one is below it.
-use Rattle.std.proofs.Common.{◌<◌, All, List, Option, Some, length, IfSome, sym, ap, ◌∙◌, subst}
-use Rattle.std.specs.Prelude.{◌-◌}
-use Rattle.std.specs.Option.{option_and_then, option_map}
-use Rattle.pgs_step.specs.declared.ids.OwnerId.{OwnerId}
-use Rattle.plan_store.specs.Plans.{Plans}
+use Rattle.session_store.proofs.Words.{◌<◌, All, List, Option, Some, length, IfSome, sym, ap, ◌∙◌, subst, ◌-◌, option_and_then, option_map, OwnerId, Plans, contexts_of, Level, OfLevel, new_owner_made, StoreState, IsPlaced, Lies, Acted, Keeps}
+use Rattle.session_store.proofs.Lemmas.{deepest_new, ends, above_live, above_owner, deepest_placed, have_owners, keeps_parts, owner_acted, owner_on, have_portal_owners, portals_kept, stands_in}
 use Rattle.session_owners.specs.ResourceState as owners
-use Rattle.session_owners.specs.Fitting.{contexts_of}
-use Rattle.subxact_stack.specs.declared.levels.Level.{Level}
-use Rattle.session_rules.specs.Elements.{OfLevel}
-use Rattle.session_rules.specs.Making.{new_owner_made}
-use Rattle.session_store.specs.State.{StoreState}
-use Rattle.session_store.specs.Placed.{IsPlaced, Lies}
-use Rattle.session_store.specs.Calls.{Acted, Keeps}
-use Rattle.session_store.proofs.Depths.{deepest_new, ends}
-use Rattle.session_store.proofs.Levelled.{above_live, above_owner, deepest_placed, have_owners, keeps_parts, owner_acted, owner_on}
-use Rattle.session_store.proofs.Owned.{have_portal_owners, portals_kept}
-use Rattle.session_store.proofs.Through.{stands_in}
 use Rattle.session_store.proofs.store.Store.make_level_owner.Goals as goal
 
 pub make_owner-requires-clause-parent : goal.make_owner-requires-clause-parent

@@ -1,22 +1,8 @@
 -- Room is reserved, the context is made, and then the plan, which can't fail.
-use Rattle.std.proofs.Common.{◌≡◌, ◌⊎◌, ℕ, true, List, Some, None, refl, sym, ap, ◌∙◌, subst, inl, inr, arith}
-use Rattle.std.specs.Prelude.{codes, length}
-use Rattle.forest.specs.Forest.{at}
+use Rattle.session_store.proofs.Words.{rules, ◌≡◌, ◌⊎◌, ℕ, true, List, Some, None, refl, sym, ap, ◌∙◌, subst, inl, inr, arith, codes, length, at, Contexts, created, created_events, create_refusal, Memory, stands_for, ResourceState, balances_more, plan_at, plan_made, StoreState, contexts_in, left_in, session_of, Acted, BothAlone, Unmade, plan_refusal}
+use Rattle.session_store.proofs.Lemmas.{goes_made, goes_nowhere, keeps_in, left_through, own_in, placed_after}
 use Rattle.any_ctx.specs.declared.any.CtxKind.TheVariants as kind
-use Rattle.context_rules.specs.Contexts.{Contexts, created, created_events}
-use Rattle.context_rules.specs.Refusals.{create_refusal}
-use Rattle.context_rules.specs.declared.errors.TreeError.TheVariants.{Memory}
-use Rattle.context_tree.specs.State.{stands_for}
-use Rattle.session_owners.specs.ResourceState.{ResourceState}
-use Rattle.session_owners.proofs.Balances.{balances_more}
-use Rattle.session_rules.specs.Lookup.{plan_at}
-use Rattle.session_rules.specs.Making.{plan_made}
-use Rattle.session_store.specs.State.{StoreState, contexts_in, left_in, session_of}
-use Rattle.session_store.specs.Calls.{Acted, BothAlone, Unmade}
-use Rattle.session_store.specs.Plans.{plan_refusal}
-use Rattle.session_store.proofs.Kept.{goes_made, goes_nowhere}
 use Rattle.session_store.proofs.Planned.{both_alone, is_unused, planned_acted, planned_placed, room_left, unmade_context, with_plan}
-use Rattle.session_store.proofs.Through.{keeps_in, left_through, own_in, placed_after}
 use Rattle.session_store.proofs.store.Store.make_plan.Goals as goal
 
 pub reserve_plan-requires : goal.reserve_plan-requires

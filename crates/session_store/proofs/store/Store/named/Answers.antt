@@ -1,13 +1,7 @@
 -- What the names mean, and that it is there where the session stands.
-use Rattle.std.proofs.Common.{◌≡◌, ℕ, length, sym, ap, ◌∙◌, subst, arith}
-use Rattle.std.specs.Option.{option_map}
-use Rattle.pgs_step.specs.declared.ids.CtxId.{CtxId}
-use Rattle.context_rules.specs.Contexts.{context_named}
-use Rattle.context_tree.specs.State.{IsLive, stands_for}
-use Rattle.subxact_stack.specs.Levels.{level_at}
-use Rattle.session_store.specs.State.{StoreState}
+use Rattle.session_store.proofs.Words.{◌≡◌, ℕ, length, sym, ap, ◌∙◌, subst, arith, option_map, CtxId, context_named, IsLive, stands_for, level_at, StoreState}
+use Rattle.session_store.proofs.Lemmas.{own_in}
 use Rattle.session_store.proofs.Named.{named_deepest, named_outermost, named_script, number_of}
-use Rattle.session_store.proofs.Through.{own_in}
 use Rattle.session_store.proofs.store.Store.named.Goals as goal
 
 pub returns-then-is_word-clause-live : goal.returns-then-is_word-clause-live

@@ -1,10 +1,8 @@
 -- A level's owner is there where the session stands, and then it lies where its id says.
-use Rattle.std.proofs.Common.{IfSome, sym, ap, ◌∙◌, subst}
-use Rattle.std.specs.Prelude.{option_copied}
+use Rattle.session_store.proofs.Words.{IfSome, sym, ap, ◌∙◌, subst, option_copied, StoreState}
+use Rattle.session_store.proofs.Lemmas.{level_owner_live, stands_in}
 use Rattle.session_owners.specs.ResourceState.{IsLive}
-use Rattle.session_store.specs.State.{StoreState}
-use Rattle.session_store.proofs.Owned.{have_owners, level_owner_live}
-use Rattle.session_store.proofs.Through.{stands_in}
+use Rattle.session_store.proofs.Owned.{have_owners}
 use Rattle.session_store.proofs.store.Store.owner_at.Goals as goal
 
 pub returns-in-Some-clause-live : goal.returns-in-Some-clause-live

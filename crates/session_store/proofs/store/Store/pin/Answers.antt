@@ -1,10 +1,6 @@
 -- The owner remembers one pin more.
-use Rattle.std.proofs.Common.{sym, subst}
-use Rattle.session_rules.specs.State.{buffer_pin}
-use Rattle.session_rules.specs.Taking.{item_taken}
-use Rattle.session_owners.specs.Commons.{Serves}
-use Rattle.session_store.specs.State.{StoreState}
-use Rattle.session_store.proofs.Owned.{go_alone, owners_after, owners_alone_after, placed_owners}
+use Rattle.session_store.proofs.Words.{rules, sym, subst, buffer_pin, item_taken, Serves, StoreState}
+use Rattle.session_store.proofs.Lemmas.{go_alone, owners_after, owners_alone_after, placed_owners}
 use Rattle.session_store.proofs.store.Store.pin.Goals as goal
 
 pub invariant_of-self : goal.invariant_of-self

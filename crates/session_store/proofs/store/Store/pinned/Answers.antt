@@ -1,9 +1,6 @@
 -- The owners answer at each scene of the store.
-use Rattle.std.proofs.Common.{◌≡◌, sym, subst}
-use Rattle.session_rules.specs.Parts.{pinning}
-use Rattle.session_owners.specs.Commons.{Serves}
-use Rattle.session_store.specs.State.{StoreState, scene_of}
-use Rattle.session_store.proofs.Owned.{owners_fit}
+use Rattle.session_store.proofs.Words.{◌≡◌, sym, subst, pinning, Serves, StoreState, scene_of}
+use Rattle.session_store.proofs.Lemmas.{owners_fit}
 use Rattle.session_store.proofs.store.Store.pinned.Goals as goal
 
 pub pinned-requires-clause-serves : goal.pinned-requires-clause-serves

@@ -1,7 +1,5 @@
 -- What the tree answers is what the session's contexts have.
-use Rattle.std.proofs.Common.{ap, ◌∙◌}
-use Rattle.context_rules.specs.Contexts.{is_protected}
-use Rattle.session_store.specs.State.{StoreState, session_of}
+use Rattle.session_store.proofs.Words.{ap, ◌∙◌, is_protected, StoreState, session_of}
 use Rattle.session_store.proofs.store.Store.protected.Goals as goal
 
 pub returns : goal.returns

@@ -1,11 +1,6 @@
 -- What the tree did is what the session's rules say.
-use Rattle.std.proofs.Common.{◌≡◌, length, subst}
-use Rattle.context_rules.specs.Chunks.{written}
-use Rattle.context_rules.specs.Refusals.{put_refusal}
-use Rattle.context_tree.specs.State.{error_of}
-use Rattle.session_store.specs.State.{StoreState, session_of}
-use Rattle.session_store.proofs.Kept.{goes_put}
-use Rattle.session_store.proofs.Through.{agrees_in, alone_after, change_after, placed_after, same_after}
+use Rattle.session_store.proofs.Words.{rules, ◌≡◌, length, subst, written, put_refusal, error_of, StoreState, session_of}
+use Rattle.session_store.proofs.Lemmas.{goes_put, agrees_in, alone_after, change_after, placed_after, same_after}
 use Rattle.session_store.proofs.store.Store.put.Goals as goal
 
 pub put-requires : goal.put-requires
@@ -15,16 +10,14 @@ pub invariant_of-self : goal.invariant_of-self
 invariant_of-self g c =
     placed_after _ _ _ _ _ c.self.view_is _ _ _ c.requires.stands.0 c.requires.stands.1.0 c.requires.stands.1.1 c.self.invariant (goes_put _ _ _ _ c.put.ensures.moves c.put.ensures.stays)
 
-pub returns-clause-answer : goal.returns-clause-answer
+pub returns : goal.returns
 unfolding session_of
-returns-clause-answer g c = subst (λ (a : StoreState). error_of c.put.result ≡ put_refusal c.args.chunk.now c.args.at (length c.args.bytes.now) (session_of a c.args.space.now).contexts) c.self.view_is c.put.ensures.answer
-
-pub returns-clause-acted : goal.returns-clause-acted
-returns-clause-acted g c =
-    change_after _ _ _ _ _ c.self.view_is _ _ _ c.put.result (written c.args.chunk.now c.args.at c.args.bytes.now) c.put.ensures.contexts c.put.ensures.stays c.put.ensures.moves.limit
-
-pub returns-clause-alone : goal.returns-clause-alone
-returns-clause-alone g c commons = alone_after _ _ _ _ _ c.self.view_is _ _ _ commons c.requires.keeps (goes_put _ _ _ _ c.put.ensures.moves c.put.ensures.stays)
-
-pub returns-clause-refused : goal.returns-clause-refused
-returns-clause-refused g c = same_after _ _ _ _ _ c.self.view_is _ _ _ c.put.result c.put.ensures.err c.put.ensures.err_space
+returns g c = record {
+  answer = subst (λ (a : StoreState). error_of c.put.result ≡ put_refusal c.args.chunk.now c.args.at (length c.args.bytes.now) (session_of a c.args.space.now).contexts) c.self.view_is c.put.ensures.answer;
+  acted =
+      change_after _ _ _ _ _ c.self.view_is _ _ _ c.put.result (written c.args.chunk.now c.args.at c.args.bytes.now) c.put.ensures.contexts c.put.ensures.stays c.put.ensures.moves.limit;
+  alone = λ commons. alone_after _ _ _ _ _ c.self.view_is _ _ _ commons c.requires.keeps (goes_put _ _ _ _ c.put.ensures.moves c.put.ensures.stays);
+  asked = search rules;
+  refused = same_after _ _ _ _ _ c.self.view_is _ _ _ c.put.result c.put.ensures.err c.put.ensures.err_space;
+  err_space = search rules;
+}

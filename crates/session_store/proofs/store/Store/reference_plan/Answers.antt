@@ -1,8 +1,6 @@
 -- The owner remembers one reference to the plan more, or nothing changed.
-use Rattle.session_rules.specs.State.{plan_reference}
-use Rattle.session_rules.specs.Taking.{item_taken}
-use Rattle.session_store.proofs.Answered.{on_answer}
-use Rattle.session_store.proofs.Owned.{go_changed, go_left, owners_after, owners_alone_after, placed_owners}
+use Rattle.session_store.proofs.Words.{plan_reference, item_taken}
+use Rattle.session_store.proofs.Lemmas.{on_answer, go_changed, go_left, owners_after, owners_alone_after, placed_owners}
 use Rattle.session_store.proofs.store.Store.reference_plan.Goals as goal
 
 pub invariant_of-self : goal.invariant_of-self

@@ -1,9 +1,7 @@
 -- The hook waits, or is back on the shelf.
-use Rattle.std.proofs.Common.{ℕ, [], ◌∷◌, ap, subst}
+use Rattle.session_store.proofs.Words.{ℕ, [], ◌∷◌, ap, subst, first_of}
+use Rattle.session_store.proofs.Lemmas.{goes_put, placed_put, agrees_in, alone_after, there_in, waits_after}
 use Rattle.pgs_step.specs.declared.events.What.TheVariants.{Hook}
-use Rattle.session_rules.specs.State.{first_of}
-use Rattle.session_store.proofs.Kept.{goes_put, placed_put}
-use Rattle.session_store.proofs.Through.{agrees_in, alone_after, there_in, waits_after}
 use Rattle.session_store.proofs.store.Store.register.Goals as goal
 
 pub invariant_of-self : goal.invariant_of-self

@@ -1,7 +1,5 @@
 -- What the tree says is what the session's contexts hold.
-use Rattle.std.proofs.Common.{subst}
-use Rattle.context_rules.specs.Reports.{report}
-use Rattle.session_store.specs.State.{StoreState, session_of}
+use Rattle.session_store.proofs.Words.{subst, report, StoreState, session_of}
 use Rattle.session_store.proofs.store.Store.report.Goals as goal
 
 pub returns : goal.returns

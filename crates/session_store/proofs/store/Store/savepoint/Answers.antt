@@ -1,7 +1,5 @@
 -- The search in the stack is that of the rules.
-use Rattle.std.proofs.Common.{◌≤◌, length, IfSome, ◌∙◌, ap, subst}
-use Rattle.session_rules.specs.Commands.{savepoint}
-use Rattle.session_store.specs.State.{StoreState, levels_of}
+use Rattle.session_store.proofs.Words.{rules, ◌≤◌, length, IfSome, ◌∙◌, ap, subst, savepoint, StoreState, levels_of}
 use Rattle.session_store.proofs.Savepoints.{savepoint_is}
 use Rattle.session_store.proofs.store.Store.savepoint.Goals as goal
 

@@ -1,9 +1,5 @@
 -- What the tree answers is what the session's contexts have.
-use Rattle.std.proofs.Common.{◌≡◌, length, OnOk, subst}
-use Rattle.context_rules.specs.Chunks.{shown}
-use Rattle.context_rules.specs.Refusals.{bytes_refusal}
-use Rattle.context_tree.specs.State.{error_of}
-use Rattle.session_store.specs.State.{StoreState, session_of}
+use Rattle.session_store.proofs.Words.{rules, ◌≡◌, length, OnOk, subst, shown, bytes_refusal, error_of, StoreState, session_of}
 use Rattle.session_store.proofs.store.Store.show.Goals as goal
 
 pub returns-clause-answer : goal.returns-clause-answer

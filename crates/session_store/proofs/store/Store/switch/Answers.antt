@@ -1,5 +1,6 @@
 -- Only the current context is another one.
-use Rattle.session_store.proofs.Through.{switched_after, switched_alone}
+use Rattle.std.proofs.Common.{rules}
+use Rattle.session_store.proofs.Lemmas.{switched_after, switched_alone}
 use Rattle.session_store.proofs.store.Store.switch.Goals as goal
 
 pub returns-clause-acted : goal.returns-clause-acted

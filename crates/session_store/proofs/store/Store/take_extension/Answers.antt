@@ -1,10 +1,6 @@
 -- The owner remembers one item more, of an extension kind, or nothing changed.
-use Rattle.std.proofs.Common.{sym, subst}
-use Rattle.session_rules.specs.Taking.{item_taken}
-use Rattle.session_owners.specs.Commons.{Serves}
-use Rattle.session_store.specs.State.{StoreState}
-use Rattle.session_store.proofs.Answered.{on_answer}
-use Rattle.session_store.proofs.Owned.{go_answered, go_alone, owners_after, owners_alone_after, placed_owners}
+use Rattle.session_store.proofs.Words.{sym, subst, item_taken, Serves, StoreState}
+use Rattle.session_store.proofs.Lemmas.{on_answer, go_answered, go_alone, owners_after, owners_alone_after, placed_owners}
 use Rattle.session_store.proofs.store.Store.take_extension.Goals as goal
 
 pub invariant_of-self : goal.invariant_of-self

@@ -1,7 +1,6 @@
 -- A file has a descriptor, or nothing changed.
-use Rattle.session_rules.specs.Taking.{descriptor_given}
-use Rattle.session_store.proofs.Answered.{on_answer}
-use Rattle.session_store.proofs.Owned.{go_same, owners_after, owners_alone_after, placed_owners}
+use Rattle.session_store.proofs.Words.{descriptor_given}
+use Rattle.session_store.proofs.Lemmas.{on_answer, go_same, owners_after, owners_alone_after, placed_owners}
 use Rattle.session_store.proofs.store.Store.touch.Goals as goal
 
 pub invariant_of-self : goal.invariant_of-self

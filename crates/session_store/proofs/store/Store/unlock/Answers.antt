@@ -1,11 +1,6 @@
 -- The owner holds a lock once less, or nothing changed.
-use Rattle.std.proofs.Common.{ap, sym, subst}
-use Rattle.session_rules.specs.Parts.{lock_given_back}
-use Rattle.session_owners.specs.Commons.{Serves}
-use Rattle.session_owners.specs.ResourceState.{ResourceState, owners_of}
-use Rattle.session_store.specs.State.{StoreState}
-use Rattle.session_store.proofs.Answered.{on_answer}
-use Rattle.session_store.proofs.Owned.{go_same, owners_after, owners_alone_after, placed_owners}
+use Rattle.session_store.proofs.Words.{ap, sym, subst, lock_given_back, Serves, ResourceState, owners_of, StoreState}
+use Rattle.session_store.proofs.Lemmas.{on_answer, go_same, owners_after, owners_alone_after, placed_owners}
 use Rattle.session_store.proofs.store.Store.unlock.Goals as goal
 
 pub invariant_of-self : goal.invariant_of-self
