@@ -2,7 +2,7 @@
 use Rattle.std.proofs.Common.{◌≡◌, ℕ, ◌<◌, ◌≤◌, ◌^◌, ◌/◌, Bool, true, false, List, length, Option, Some, None, IsSome, refl, sym, ◌∙◌, ap, subst, get_or, arith}
 use Rattle.std.specs.Prelude.{nat_le, ◌&&◌, if◌then◌else◌, IfSome, ◌↔◌}
 use Rattle.std.specs.List.{list_all}
-use Rattle.std.proofs.lemmas.Bool.{and_parts}
+use Rattle.std.proofs.lemmas.Bool.{and_parts, false_from_ne_true}
 use Rattle.std.proofs.lemmas.Bool.Decides.{nat_tests}
 use Rattle.std.proofs.lemmas.Str.Parse.{IsNumeralModel, numerals_by_value, tells_digits, digit_at}
 use Rattle.std.proofs.lemmas.Fmt.{digits_value-decimal, decimal_is_IsNumeral}
@@ -14,7 +14,10 @@ use lib.Pointwise.{bytes_decides}
 use Rattle.hex.specs.Hex.{decode_of, decode_sized}
 use Rattle.pgs_step.specs.Name.{IsName, is_name_byte}
 use Rattle.pgs_command.specs.Words.{is_text}
-use Rattle.pgs_command.specs.Values.{name_of, number_between}
+use Rattle.pgs_step.specs.declared.lock_modes.Mode.{Mode}
+use Rattle.pgs_step.specs.declared.lock_modes.Mode.TheVariants.{AccessShareLock, RowShareLock, RowExclusiveLock, ShareUpdateExclusiveLock, ShareLock, ShareRowExclusiveLock, ExclusiveLock, AccessExclusiveLock}
+use Rattle.pgs_step.specs.Mode.{mode_name}
+use Rattle.pgs_command.specs.Values.{mode_of, name_of, number_between}
 
 -- ---- texts
 
@@ -64,6 +67,32 @@ name_of-space word i at e =
     no_name true true letters word h = rw h refl
     no_name true false letters word h = refl
     no_name false short letters word h = refl
+
+-- ---- modes
+
+mode_is_name : (mode : Mode) → name_of (mode_name mode) ≡ Some (mode_name mode)
+unfolding name_of
+mode_is_name AccessShareLock = refl
+mode_is_name RowShareLock = refl
+mode_is_name RowExclusiveLock = refl
+mode_is_name ShareUpdateExclusiveLock = refl
+mode_is_name ShareLock = refl
+mode_is_name ShareRowExclusiveLock = refl
+mode_is_name ExclusiveLock = refl
+mode_is_name AccessExclusiveLock = refl
+
+-- what is no name is no mode
+no_mode : (word : List ℕ) → name_of word ≡ None → (mode : Mode) → is_text word (mode_name mode) ≡ false
+no_mode word none mode = false_from_ne_true (is_text word (mode_name mode)) (λ same.
+    let is : word ≡ mode_name mode = is_text-means word (mode_name mode) same in
+    let some : None ≡ Some (mode_name mode) = sym none ∙ ap name_of is ∙ mode_is_name mode in cc)
+
+-- a mode has no space
+pub mode_of-space : (word : List ℕ) (i : ℕ) → i < length word → get_or word i 0 ≡ 32 → mode_of word ≡ None
+unfolding mode_of
+mode_of-space word i at e =
+    let no = no_mode word (name_of-space word i at e) in
+    rw (no AccessShareLock, no RowShareLock, no RowExclusiveLock, no ShareUpdateExclusiveLock, no ShareLock, no ShareRowExclusiveLock, no ExclusiveLock, no AccessExclusiveLock) refl
 
 -- ---- numbers
 

@@ -102,6 +102,18 @@ impl<'a> Words<'a> {
         }
     }
 
+    /// The one word that is left, the mode of a lock.
+    #[inline(always)]
+    fn only_mode(self) -> Option<Mode>
+        ensures { result ≡ only mode_of self.entry }
+    {
+        // A text with a second word has a space, and is no mode.
+        match self.text {
+            Some(text) => read_mode(text),
+            None => None,
+        }
+    }
+
     /// The two words that are left, a name and a number.
     #[inline(always)]
     pub(crate) fn name_and_number(mut self, least: u32, most: u32) -> Option<(Name, u32)>
@@ -128,8 +140,8 @@ impl<'a> Words<'a> {
         ensures { result ≡ pair number_of mode_of self.entry }
     {
         let number = self.number(0, u32::MAX)?;
-        let mode = read_mode(self.next()?)?;
-        self.end((number, mode))
+        let mode = self.only_mode()?;
+        Some((number, mode))
     }
 
     /// The two words that are left, a class of references and a number.

@@ -4,7 +4,8 @@ ghost use Rattle.std.specs.Prelude.{◌≡◌, ◌≢◌, ◌<◌, ◌≤◌, �
 /// How many bytes are looked at together.
 const PIECE: usize = 8;
 
-/// The index of the first such byte. Others are passed over by pieces, which serves where they are many.
+/// The index of the first such byte: the first byte of all, as in an empty line, or one behind others, which are passed over by pieces.
+#[inline(always)]
 pub(crate) fn first_of(bytes: &[u8], byte: u8) -> Option<usize>
     ensures position { result ≡ position (λ b. b == byte) bytes.now }
     ensures bound { IfSome result (λ at. at < length bytes.now) }
@@ -12,7 +13,10 @@ pub(crate) fn first_of(bytes: &[u8], byte: u8) -> Option<usize>
     ensures first { IfSome result (λ at. All (λ b. b ≢ byte) (take at bytes.now)) }
     ensures absent { IfNone result (All (λ b. b ≢ byte) bytes.now) }
 {
-    first_from(bytes, free_pieces(bytes, byte), byte)
+    match bytes {
+        [first, ..] if *first == byte => Some(0),
+        _ => first_from(bytes, free_pieces(bytes, byte), byte),
+    }
 }
 
 /// The index of the first such byte, where the bytes before `start` are others.
@@ -37,18 +41,12 @@ pub(crate) fn first_from(bytes: &[u8], start: usize, byte: u8) -> Option<usize>
     None
 }
 
-/// How many bytes at the beginning are certainly others, by whole pieces. No piece is read where the first byte is that one, as in an
-/// empty line.
+/// How many bytes at the beginning are certainly others, by whole pieces.
 #[inline(always)]
 fn free_pieces(bytes: &[u8], byte: u8) -> usize
     ensures within { result ≤ length bytes.now }
     ensures others { All (λ b. b ≢ byte) (take result bytes.now) }
 {
-    if let [first, ..] = bytes
-        && *first == byte
-    {
-        return 0;
-    }
     let mut at = 0;
     while bytes.len() - at >= PIECE && is_free(&bytes[at..at + PIECE], byte) {
         at += PIECE;

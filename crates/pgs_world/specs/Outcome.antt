@@ -133,9 +133,9 @@ pub record IsTooLong (setting : Setting) (outcome : Outcome) (left left' written
 abbrev pub refused_call : ℕ → Option ℕ
 refused_call call = if call == 0 then None else Some call
 
--- Status 4: the sink failed, and a front of the transcript of the lines that were performed was written. No line was performed behind a write
--- that failed: but for the last line, perhaps, all that the lines said is in that front or was gathered to be written. Nothing more was read, unless
--- all lines whose newline was read were performed.
+-- Status 4: the sink failed, and a front of the transcript of the lines that were performed was written. Of what all these lines but perhaps the last
+-- one said, at most the 8,192 bytes that are gathered before a write aren't in that front. Nothing more was read, unless all lines whose newline was
+-- read were performed.
 pub record IsUnwritten (setting : Setting) (outcome : Outcome) (left left' written written' : Option (List ℕ)) (shelf' : ShelfState) (kinds' : List Kind) : Type 0 where
   pub bytes : List ℕ
   pub given : HasGiven bytes left left'
