@@ -1,22 +1,24 @@
 -- What holds of a node behind each call.
-use Rattle.std.proofs.Common.{◌≡◌, ℕ, ◌+◌, ◌-◌, ◌<◌, ◌≤◌, Bool, true, false, List, [], ◌∷◌, ◌++◌, length, take, drop, Option, Some, None, Result, Ok, Err, OnOk, OnErr, refl, ap, sym, ◌∙◌, subst, arith}
+use Rattle.std.proofs.Common.{◌≡◌, ℕ, ◌+◌, ◌-◌, ◌*◌, ◌<◌, ◌≤◌, Bool, true, false, List, [], ◌∷◌, ◌++◌, length, take, drop, Option, Some, None, Result, Ok, Err, OnOk, OnErr, refl, ap, sym, ◌∙◌, subst, arith}
 use Rattle.std.specs.Prelude.{slice_get, IfNone}
 use Rattle.std.proofs.lemmas.List.{drop_all, length-map}
 use Rattle.addr_space.specs.Space.{Space, Asks}
 use Rattle.addr_space.specs.Footprint.{Agrees}
 use Rattle.addr_space.proofs.Asked.{Asks-more}
-use Rattle.temp_store.specs.Temp.{Temp}
+use Rattle.temp_store.specs.Temp.{Temp, held as stored, file_at, bytes_of}
 use Rattle.agg_rules.specs.declared.Row.{Row}
 use Rattle.agg_rules.specs.Rows.{results_of, result_of}
 use Rattle.agg_rules.specs.Passes.{is_outside, kept_groups, pass_results, spilled_rows}
-use Rattle.agg_rules.specs.Steps.{Pass}
+use Rattle.agg_rules.specs.Steps.{Pass, meets_all}
 use Rattle.agg_rules.proofs.Filters.{length-filter_le}
 use Rattle.agg_rules.proofs.Given.{results_of-pass}
+use Rattle.row_files.specs.RowBytes.{HasRows}
 use Rattle.held_groups.specs.Held.{footprint, HasTotals}
-use Rattle.agg_pass.specs.PassState.{PassState, HasSpilled, Spends}
+use Rattle.agg_pass.specs.PassState.{PassState, HasSpilled, Spends, way_of, anew}
 use Rattle.exec_agg.specs.declared.stage.Stage.{Stage}
 use Rattle.exec_agg.specs.declared.stage.Stage.TheVariants.{Putting, Giving, Refused}
-use Rattle.exec_agg.specs.Nodes.{Node, Holds, IsNode}
+use Rattle.exec_agg.specs.Nodes.{Node, Holds, Goes, IsNode, next_pass, way_over}
+use Rattle.exec_agg.proofs.Files.{rows_bytes}
 use Rattle.exec_agg.proofs.Places.{at_place, behind_place, none_kept, none_left, length-results}
 
 pub not_both : (s : Stage) → s ≡ Giving → s ≡ Putting → ⊥
@@ -100,6 +102,43 @@ pub Spends-turned : (account own : ℕ) (first begun last : Pass) (s r t : Space
 Spends-turned account own first begun last s r t temp mid temps same begins asked spends written =
     let all : Spends account first last r t temp mid = subst (λ b. Spends account b last r t temp mid) begins (subst (λ a. Spends a begun last r t temp mid) same spends) in
     record { less = all.less; fewer = all.fewer; asked = subst (λ k. Asks account k s t) (omega arith) (Asks-more account 0 (first.left - last.left) s r t asked all.asked); written = written ∙ all.written }
+
+-- what the next pass does, which begins behind a reset, and behind which the old file is dropped
+module _
+  (before after : Node)
+  (begun : PassState)
+  (s r t : Space)
+  (temp mid temps : Temp)
+  (file : ℕ)
+  (rows : List Row)
+  (are : rows ≡ spilled_rows before.pass.budget before.pass.rows)
+  (has : HasRows mid file rows)
+  (limit : temps.limit ≡ mid.limit)
+  (gone : stored temps + length (bytes_of (file_at mid file)) ≡ stored mid)
+  where
+  -- where it is, the old file is still there
+  over_then : way_of after.pass t mid ≡ way_over before after t temps
+  over_then =
+      let room : mid.limit - stored mid ≡ temps.limit - (stored temps + 8 * length (spilled_rows before.pass.budget before.pass.rows)) = omega (arith, limit, gone, rows_bytes mid file rows has, ap (λ (rs : List Row). length rs) are) in
+      ap (λ (k : ℕ). record (way_of after.pass t mid) { room = k }) room
+
+  pub goes_over : begun.budget ≡ before.pass.budget → way_of begun r temp ≡ anew before.pass s temp → begun.groups.state.layout.account ≡ before.pass.groups.state.layout.account → Asks before.pass.groups.state.layout.account 0 s r
+      → after.pass.rows ≡ take (length after.pass.rows) rows → meets_all begun.budget (Ok (way_of begun r temp)) after.pass.rows ≡ Ok (way_of after.pass t mid)
+      → Spends begun.groups.state.layout.account (way_of begun r temp) (way_of after.pass t mid) r t temp mid → temps.written ≡ mid.written → Goes before after s t temp temps
+  goes_over budget way account asked reached went spends written = record {
+    met = reached ∙ ap (take (length after.pass.rows)) are;
+    went =
+        ap (λ b. meets_all b (Ok (anew before.pass s temp)) after.pass.rows) (sym budget) ∙ ap (λ (w : Pass). meets_all begun.budget (Ok w) after.pass.rows) (sym way) ∙ went ∙ ap (λ (w : Pass). Ok w) over_then;
+    spends =
+        subst (λ (w : Pass). Spends before.pass.groups.state.layout.account (anew before.pass s temp) w s t temp temps) over_then
+        (Spends-turned before.pass.groups.state.layout.account begun.groups.state.layout.account (anew before.pass s temp) (way_of begun r temp) (way_of after.pass t mid) s r t temp mid temps account way asked spends written);
+  }
+
+-- all rows were met
+pub went_over : {A E : Type 0} (r : Result A E) (before after : Node) (s t : Space) (temp temps : Temp) (rows : List Row) → rows ≡ spilled_rows before.pass.budget before.pass.rows → OnOk r (after.pass.rows ≡ rows) → Goes before after s t temp temps
+    → OnOk r (next_pass before s temp ≡ Ok (way_over before after t temps))
+went_over (Ok a) before after s t temp temps rows are all goes = ap (meets_all before.pass.budget (Ok (anew before.pass s temp))) (sym (all ∙ are)) ∙ goes.went
+went_over (Err e) before after s t temp temps rows are all goes = tt
 
 pub none_as : {A P : Type 0} (r : Option A) → (r ≡ None → P) → IfNone r P
 none_as None f = f refl

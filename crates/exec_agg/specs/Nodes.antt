@@ -1,8 +1,8 @@
 -- What a contract sees of a hash aggregate node.
-use Rattle.std.specs.Prelude.{◌≡◌, ℕ, ◌+◌, ◌*◌, ◌≤◌, ◌<◌, List, [], ◌++◌, length, drop, Result, Ok}
+use Rattle.std.specs.Prelude.{◌≡◌, ℕ, ◌+◌, ◌-◌, ◌*◌, ◌≤◌, ◌<◌, List, [], ◌++◌, length, take, drop, Result, Ok, IsSome}
 use Rattle.addr_space.specs.Space.{Space}
 use Rattle.addr_space.specs.Footprint.{Agrees}
-use Rattle.temp_store.specs.Temp.{Temp}
+use Rattle.temp_store.specs.Temp.{Temp, held as stored}
 use Rattle.agg_rules.specs.declared.TheConstants.{ROW_BYTES}
 use Rattle.agg_rules.specs.declared.Row.{Row}
 use Rattle.agg_rules.specs.declared.NodeError.{NodeError}
@@ -34,10 +34,23 @@ pub record Holds (n : Node) (s : Space) (temp : Temp) : Type 0 where
 abbrev pub next_pass : Node → Space → Temp → Result Pass NodeError
 next_pass n s temp = meets_all n.pass.budget (Ok (anew n.pass s temp)) (spilled_rows n.pass.budget n.pass.rows)
 
--- the next pass went to a place on its way: so much was taken and written
-pub record Goes (n : Node) (s t : Space) (temp temps : Temp) : Type 0 where
-  pub last : Pass
-  pub spends : Spends n.pass.groups.state.layout.account (anew n.pass s temp) last s t temp temps
+-- the groups of the pass at hand were all given, and there is a file: `next` begins a pass over it
+pub record IsTurn (n : Node) : Type 0 where
+  pub done : length (kept_groups n.pass.budget n.pass.rows) ≤ n.place
+  pub file : IsSome n.pass.file
+
+-- where the next pass is, of which a node, the space and the store are what became of an earlier node. The old file is
+-- dropped only behind the rows, so its bytes aren't counted among those that are left of the store
+abbrev pub way_over : Node → Node → Space → Temp → Pass
+way_over before after t temps =
+    record (way_of after.pass t temps) { room = temps.limit - (stored temps + ROW_BYTES * length (spilled_rows before.pass.budget before.pass.rows)) }
+
+-- the next pass went over the first rows of those that were spilled, by the rules, and the account and the store gave
+-- what it took so far
+pub record Goes (before after : Node) (s t : Space) (temp temps : Temp) : Type 0 where
+  pub met : after.pass.rows ≡ take (length after.pass.rows) (spilled_rows before.pass.budget before.pass.rows)
+  pub went : meets_all before.pass.budget (Ok (anew before.pass s temp)) after.pass.rows ≡ Ok (way_over before after t temps)
+  pub spends : Spends before.pass.groups.state.layout.account (anew before.pass s temp) (way_over before after t temps) s t temp temps
 
 -- no file is the node's own
 abbrev pub NoFile : ℕ → Type 0

@@ -1,5 +1,5 @@
 //! A node.
-ghost use Rattle.std.specs.Prelude.{◌≡◌, ℕ, ◌+◌, ◌*◌, ◌<◌, ◌≤◌, ◌⊎◌, ◌↔◌, [], ◌∷◌, ◌++◌, length, Some, None, Ok, Err, IfOk, IfErr, IfSome, IfNone, OnOk, OnErr, slice_get};
+ghost use Rattle.std.specs.Prelude.{◌≡◌, ◌≢◌, ℕ, ◌+◌, ◌*◌, ◌<◌, ◌≤◌, ◌⊎◌, ◌↔◌, [], ◌∷◌, ◌++◌, length, Some, None, Ok, Err, IfOk, IfErr, IfSome, IfNone, OnOk, OnErr, slice_get};
 ghost use Rattle.addr_space.specs.Space.{Space, accounts, held, Asks};
 ghost use Rattle.addr_space.specs.Footprint.{nothing, Moves};
 ghost use Rattle.chunk_header.specs.declared.TheConstants.{LARGEST_BLOCK};
@@ -14,7 +14,7 @@ ghost use Rattle.held_groups.specs.Held.{footprint};
 ghost use Rattle.agg_pass.specs.PassState.{Spends, way_of};
 ghost use Rattle.agg_pass.specs.Spilled.{IsOf, KeepsFiles};
 ghost use Rattle.exec_agg.specs.declared.stage.Stage.TheVariants.{Putting, Giving, Refused};
-ghost use Rattle.exec_agg.specs.Nodes.{Node, Holds, Goes, next_pass, NoFile};
+ghost use Rattle.exec_agg.specs.Nodes.{Node, Holds, Goes, IsTurn, next_pass, way_over, NoFile};
 
 use crate::over::go_over;
 use crate::stage::Stage;
@@ -85,6 +85,7 @@ impl AggNode {
         requires budget { 0 < budget }
         ensures rows { IfOk result (λ n. n.rows ≡ []) }
         ensures given { IfOk result (λ n. n.given ≡ 0) }
+        ensures place { IfOk result (λ n. n.place ≡ 0) }
         ensures stage { IfOk result (λ n. n.stage ≡ Putting) }
         ensures budget { IfOk result (λ n. n.pass.budget ≡ budget) }
         ensures file { IfOk result (λ n. n.pass.file ≡ None) }
@@ -126,6 +127,8 @@ impl AggNode {
         requires few { length self.old.rows < MOST_ROWS }
         ensures rows { OnOk result (self.new.rows ≡ self.old.rows ++ record { group = group; value = value } ∷ []) }
         ensures err_rows { OnErr result (self.new.rows ≡ self.old.rows) }
+        ensures given { self.new.given ≡ self.old.given }
+        ensures place { self.new.place ≡ self.old.place }
         ensures stage { self.new.stage ≡ Putting }
         ensures budget { self.new.pass.budget ≡ self.old.pass.budget }
         ensures holds { Holds self.new space.new temp.new }
@@ -159,6 +162,8 @@ impl AggNode {
 
     // The file that the next pass goes over, where the groups of the pass at hand were all given.
     fn next_file(&self) -> Option<u32>
+        ensures turn { IfSome result (λ _. IsTurn self.now) }
+        ensures no_turn { IfNone result (IsTurn self.now → ⊥) }
         ensures some { IfSome result (λ file. (self.now.pass.file ≡ Some file) × (length (kept_groups self.now.pass.budget self.now.pass.rows) ≤ self.now.place)) }
         ensures none { IfNone result (length (kept_groups self.now.pass.budget self.now.pass.rows) ≤ self.now.place → spilled_rows self.now.pass.budget self.now.pass.rows ≡ []) }
     {
@@ -193,7 +198,8 @@ impl AggNode {
         ensures others { KeepsFiles (IsOf self.old.pass.file) temp.old (IsOf self.new.pass.file) temp.new }
         ensures limit { temp.new.limit ≡ temp.old.limit }
         ensures refused { IfErr result (λ e. (e ≡ NodeError.Memory) ⊎ (next_pass self.old space.old temp.old ≡ Err e)) }
-        ensures goes { Goes self.old space.old space.new temp.old temp.new }
+        ensures went { OnOk result (next_pass self.old space.old temp.old ≡ Ok (way_over self.old self.new space.new temp.new)) }
+        ensures goes { Goes self.old self.new space.old space.new temp.old temp.new }
     {
         let rows = Told::of::<AggPass, SpilledRows>(&self.pass);
         let _ = self.pass.restart(space);
@@ -214,6 +220,7 @@ impl AggNode {
         ensures rows { self.new.rows ≡ self.old.rows }
         ensures stage { self.new.stage ≡ Giving }
         ensures pass { self.new.pass ≡ self.old.pass }
+        ensures place { IfSome result (λ _. self.new.place ≡ self.old.place + 1) }
     {
         if self.place < self.pass.len() {
             let group = self.pass.result_at(space, self.place);
@@ -243,12 +250,21 @@ impl AggNode {
         ensures budget { self.new.pass.budget ≡ self.old.pass.budget }
         ensures stage { OnOk result (self.new.stage ≡ Giving) }
         ensures err_stage { OnErr result (self.new.stage ≡ Refused) }
+        ensures err_given { OnErr result (self.new.given ≡ self.old.given) }
         ensures holds { Holds self.new space.new temp.new }
         ensures moves { Moves (footprint self.old.pass.groups) (footprint self.new.pass.groups) space.old space.new }
         ensures others { KeepsFiles (IsOf self.old.pass.file) temp.old (IsOf self.new.pass.file) temp.new }
         ensures limit { temp.new.limit ≡ temp.old.limit }
         ensures refused { IfErr result (λ e. (e ≡ NodeError.Memory) ⊎ (next_pass self.old space.old temp.old ≡ Err e)) }
-        ensures goes { ((space.new ≡ space.old) × (temp.new ≡ temp.old)) ⊎ Goes self.old space.old space.new temp.old temp.new }
+
+        // Where it is the next pass's turn, that pass goes over what was spilled, and takes what the rules say. Else
+        // nothing but how much was given changes.
+        ensures turn { length (kept_groups self.old.pass.budget self.old.pass.rows) ≤ self.old.place → spilled_rows self.old.pass.budget self.old.pass.rows ≢ [] → IsTurn self.old }
+        ensures place { IfOk result (λ it. IfSome it (λ _. (IsTurn self.old → self.new.place ≡ 1) × ((IsTurn self.old → ⊥) → self.new.place ≡ self.old.place + 1))) }
+        ensures met { IsTurn self.old → OnOk result (self.new.pass.rows ≡ spilled_rows self.old.pass.budget self.old.pass.rows) }
+        ensures went { IsTurn self.old → OnOk result (next_pass self.old space.old temp.old ≡ Ok (way_over self.old self.new space.new temp.new)) }
+        ensures goes { IsTurn self.old → Goes self.old self.new space.old space.new temp.old temp.new }
+        ensures stays { (IsTurn self.old → ⊥) → (space.new ≡ space.old) × (temp.new ≡ temp.old) × (self.new.pass ≡ self.old.pass) }
     {
         let Some(file) = self.next_file() else {
             return Ok(self.give(space));

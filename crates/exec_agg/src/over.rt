@@ -1,5 +1,5 @@
 //! A pass over the rows of a file.
-ghost use Rattle.std.specs.Prelude.{◌≡◌, ◌⊎◌, ◌≤◌, [], length, None, Ok, Err, IfErr, OnOk};
+ghost use Rattle.std.specs.Prelude.{◌≡◌, ◌⊎◌, ◌≤◌, [], length, take, None, Ok, Err, IfErr, OnOk};
 ghost use Rattle.addr_space.specs.Footprint.{Agrees, Moves};
 ghost use Rattle.agg_rules.specs.Steps.{meets_all};
 ghost use Rattle.held_groups.specs.declared.held.TheConstants.{MOST_ROWS};
@@ -30,13 +30,14 @@ pub(crate) fn go_over(
     requires rows { HasRows temp.old file rows.now.entries }
     requires few { length rows.now.entries ≤ MOST_ROWS }
     ensures rows { OnOk result (pass.new.rows ≡ rows.now.entries) }
+    ensures reached { pass.new.rows ≡ take (length pass.new.rows) rows.now.entries }
     ensures budget { pass.new.budget ≡ pass.old.budget }
     ensures totals { HasTotals pass.new.groups space.new }
     ensures spilled { HasSpilled pass.new temp.new }
     ensures moves { Moves (footprint pass.old.groups) (footprint pass.new.groups) space.old space.new }
     ensures limit { temp.new.limit ≡ temp.old.limit }
     ensures others { KeepsFiles (IsOf pass.old.file) temp.old (IsOf pass.new.file) temp.new }
-    ensures went { OnOk result (meets_all pass.old.budget (Ok (way_of pass.old space.old temp.old)) rows.now.entries ≡ Ok (way_of pass.new space.new temp.new)) }
+    ensures went { meets_all pass.old.budget (Ok (way_of pass.old space.old temp.old)) pass.new.rows ≡ Ok (way_of pass.new space.new temp.new) }
     ensures refused { IfErr result (λ e. (e ≡ NodeError.Memory) ⊎ (meets_all pass.old.budget (Ok (way_of pass.old space.old temp.old)) rows.now.entries ≡ Err e)) }
     ensures spends { Spends pass.old.groups.state.layout.account (way_of pass.old space.old temp.old) (way_of pass.new space.new temp.new) space.old space.new temp.old temp.new }
 {
