@@ -1,11 +1,11 @@
 -- What is left of lists behind a place.
-use Rattle.std.proofs.Common.{◌≡◌, ℕ, ◌+◌, ◌<◌, ◌≤◌, List, [], ◌∷◌, ◌++◌, length, take, drop, Option, Some, None, refl, ap, sym, ◌∙◌, suc, zero, arith}
+use Rattle.std.proofs.Common.{◌≡◌, ℕ, ◌+◌, ◌<◌, ◌≤◌, List, [], ◌∷◌, length, drop, Some, refl, ap, suc, zero, arith}
 use Rattle.std.proofs.lemmas.Bool.Decides.{nat_tests}
-use Rattle.std.proofs.lemmas.List.{length-drop, length-map, drop_all}
-use Rattle.std.specs.Prelude.{slice_get, map, filter}
+use Rattle.std.proofs.lemmas.List.{length-drop, length-map}
+use Rattle.std.specs.Prelude.{slice_get}
 use Rattle.agg_rules.specs.declared.Row.{Row}
 use Rattle.agg_rules.specs.Rows.{groups_of, is_other, results_of, result_of}
-use Rattle.agg_rules.specs.Passes.{kept_groups, spilled_rows}
+use Rattle.agg_rules.specs.Passes.{kept_groups}
 use Rattle.agg_rules.proofs.Filters.{length-filter_le}
 
 module _ {X : Type 0} where

@@ -1,5 +1,5 @@
 -- What holds of a node behind each call.
-use Rattle.std.proofs.Common.{◌≡◌, ℕ, ◌+◌, ◌-◌, ◌*◌, ◌<◌, ◌≤◌, Bool, true, false, List, [], ◌∷◌, ◌++◌, length, take, drop, Option, Some, None, Result, Ok, Err, OnOk, OnErr, refl, ap, sym, ◌∙◌, subst, arith}
+use Rattle.std.proofs.Common.{◌≡◌, ℕ, ◌+◌, ◌-◌, ◌*◌, ◌<◌, ◌≤◌, List, [], ◌∷◌, ◌++◌, length, take, drop, Option, Some, None, Result, Ok, Err, OnOk, OnErr, refl, ap, sym, ◌∙◌, subst, arith}
 use Rattle.std.specs.Prelude.{slice_get, IfNone}
 use Rattle.std.proofs.lemmas.List.{drop_all, length-map}
 use Rattle.addr_space.specs.Space.{Space, Asks}
@@ -105,34 +105,34 @@ Spends-turned account own first begun last s r t temp mid temps same begins aske
 
 -- what the next pass does, which begins behind a reset, and behind which the old file is dropped
 module _
-  (before after : Node)
-  (begun : PassState)
-  (s r t : Space)
-  (temp mid temps : Temp)
-  (file : ℕ)
-  (rows : List Row)
-  (are : rows ≡ spilled_rows before.pass.budget before.pass.rows)
-  (has : HasRows mid file rows)
-  (limit : temps.limit ≡ mid.limit)
-  (gone : stored temps + length (bytes_of (file_at mid file)) ≡ stored mid)
+    (before after : Node)
+    (begun : PassState)
+    (s r t : Space)
+    (temp mid temps : Temp)
+    (file : ℕ)
+    (rows : List Row)
+    (are : rows ≡ spilled_rows before.pass.budget before.pass.rows)
+    (has : HasRows mid file rows)
+    (limit : temps.limit ≡ mid.limit)
+    (gone : stored temps + length (bytes_of (file_at mid file)) ≡ stored mid)
   where
-  -- where it is, the old file is still there
-  over_then : way_of after.pass t mid ≡ way_over before after t temps
-  over_then =
-      let room : mid.limit - stored mid ≡ temps.limit - (stored temps + 8 * length (spilled_rows before.pass.budget before.pass.rows)) = omega (arith, limit, gone, rows_bytes mid file rows has, ap (λ (rs : List Row). length rs) are) in
-      ap (λ (k : ℕ). record (way_of after.pass t mid) { room = k }) room
+    -- where it is, the old file is still there
+    over_then : way_of after.pass t mid ≡ way_over before after t temps
+    over_then =
+        let room : mid.limit - stored mid ≡ temps.limit - (stored temps + 8 * length (spilled_rows before.pass.budget before.pass.rows)) = omega (arith, limit, gone, rows_bytes mid file rows has, ap (λ (rs : List Row). length rs) are) in
+        ap (λ (k : ℕ). record (way_of after.pass t mid) { room = k }) room
 
-  pub goes_over : begun.budget ≡ before.pass.budget → way_of begun r temp ≡ anew before.pass s temp → begun.groups.state.layout.account ≡ before.pass.groups.state.layout.account → Asks before.pass.groups.state.layout.account 0 s r
-      → after.pass.rows ≡ take (length after.pass.rows) rows → meets_all begun.budget (Ok (way_of begun r temp)) after.pass.rows ≡ Ok (way_of after.pass t mid)
-      → Spends begun.groups.state.layout.account (way_of begun r temp) (way_of after.pass t mid) r t temp mid → temps.written ≡ mid.written → Goes before after s t temp temps
-  goes_over budget way account asked reached went spends written = record {
-    met = reached ∙ ap (take (length after.pass.rows)) are;
-    went =
-        ap (λ b. meets_all b (Ok (anew before.pass s temp)) after.pass.rows) (sym budget) ∙ ap (λ (w : Pass). meets_all begun.budget (Ok w) after.pass.rows) (sym way) ∙ went ∙ ap (λ (w : Pass). Ok w) over_then;
-    spends =
-        subst (λ (w : Pass). Spends before.pass.groups.state.layout.account (anew before.pass s temp) w s t temp temps) over_then
-        (Spends-turned before.pass.groups.state.layout.account begun.groups.state.layout.account (anew before.pass s temp) (way_of begun r temp) (way_of after.pass t mid) s r t temp mid temps account way asked spends written);
-  }
+    pub goes_over : begun.budget ≡ before.pass.budget → way_of begun r temp ≡ anew before.pass s temp → begun.groups.state.layout.account ≡ before.pass.groups.state.layout.account → Asks before.pass.groups.state.layout.account 0 s r
+        → after.pass.rows ≡ take (length after.pass.rows) rows → meets_all begun.budget (Ok (way_of begun r temp)) after.pass.rows ≡ Ok (way_of after.pass t mid)
+        → Spends begun.groups.state.layout.account (way_of begun r temp) (way_of after.pass t mid) r t temp mid → temps.written ≡ mid.written → Goes before after s t temp temps
+    goes_over budget way account asked reached went spends written = record {
+      met = reached ∙ ap (take (length after.pass.rows)) are;
+      went =
+          ap (λ b. meets_all b (Ok (anew before.pass s temp)) after.pass.rows) (sym budget) ∙ ap (λ (w : Pass). meets_all begun.budget (Ok w) after.pass.rows) (sym way) ∙ went ∙ ap (λ (w : Pass). Ok w) over_then;
+      spends =
+          subst (λ (w : Pass). Spends before.pass.groups.state.layout.account (anew before.pass s temp) w s t temp temps) over_then
+          (Spends-turned before.pass.groups.state.layout.account begun.groups.state.layout.account (anew before.pass s temp) (way_of begun r temp) (way_of after.pass t mid) s r t temp mid temps account way asked spends written);
+    }
 
 -- all rows were met
 pub went_over : {A E : Type 0} (r : Result A E) (before after : Node) (s t : Space) (temp temps : Temp) (rows : List Row) → rows ≡ spilled_rows before.pass.budget before.pass.rows → OnOk r (after.pass.rows ≡ rows) → Goes before after s t temp temps

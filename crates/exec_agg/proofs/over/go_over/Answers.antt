@@ -1,8 +1,7 @@
-use Rattle.std.proofs.Common.{◌≡◌, ℕ, ◌<◌, ◌∷◌, [], ◌++◌, List, length, take, Option, Some, Ok, inl, inr, arith, sym, ap, ◌∙◌, subst}
+use Rattle.std.proofs.Common.{◌≡◌, ◌∷◌, [], ◌++◌, List, Some, inl, inr, arith, sym, ap, ◌∙◌, subst}
 use Rattle.std.specs.Prelude.{slice_get}
 use Rattle.agg_rules.specs.declared.Row.{Row}
 use Rattle.agg_rules.specs.Steps.{Pass, meets}
-use Rattle.row_files.specs.RowBytes.{HasRows}
 use Rattle.agg_pass.specs.PassState.{Spends, way_of}
 use Rattle.agg_pass.proofs.Files.{KeepsFiles-more}
 use Rattle.agg_pass.proofs.Spending.{Spends-more}

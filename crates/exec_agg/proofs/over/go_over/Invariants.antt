@@ -1,4 +1,4 @@
-use Rattle.std.proofs.Common.{◌≡◌, ℕ, ◌-◌, ◌≤◌, length, take, Ok}
+use Rattle.std.proofs.Common.{◌≡◌, ◌-◌, ◌≤◌, length, take, Ok}
 use Rattle.addr_space.specs.Footprint.{Moves}
 use Rattle.agg_rules.specs.Steps.{meets_all}
 use Rattle.held_groups.specs.Held.{footprint, HasTotals}

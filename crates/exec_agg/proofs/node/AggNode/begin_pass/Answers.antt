@@ -1,4 +1,4 @@
-use Rattle.std.proofs.Common.{◌≡◌, ℕ, ◌≤◌, List, [], length, Option, Some, None, refl, sym, ap, ◌∙◌, subst, arith}
+use Rattle.std.proofs.Common.{◌≤◌, List, length, sym, ap, ◌∙◌, subst, arith}
 use Rattle.addr_space.specs.Footprint.{Moves}
 use Rattle.addr_space.proofs.Steps.{Moves-more}
 use Rattle.agg_rules.specs.declared.Row.{Row}
@@ -7,8 +7,7 @@ use Rattle.agg_rules.proofs.Filters.{length-filter_le}
 use Rattle.row_files.specs.RowBytes.{HasRows}
 use Rattle.held_groups.specs.Held.{footprint}
 use Rattle.agg_pass.specs.PassState.{HasSpilled}
-use Rattle.agg_pass.specs.Spilled.{IsOf, KeepsFiles}
-use Rattle.exec_agg.specs.Nodes.{Node, Goes, Holds}
+use Rattle.exec_agg.specs.Nodes.{Node, Goes}
 use Rattle.exec_agg.proofs.InOrder.{rows_stay}
 use Rattle.exec_agg.proofs.Files.{HasSpilled-dropped, KeepsFiles-turned, not_own, rows_file}
 use Rattle.exec_agg.proofs.Standing.{goes_over, went_over, not_putting, turned, was_ok}

@@ -1,4 +1,4 @@
-use Rattle.std.proofs.Common.{◌≡◌, ℕ, ◌+◌, ◌<◌, ◌≤◌, [], length, Some, slice_get, refl, sym, ap, ◌∙◌, subst, arith}
+use Rattle.std.proofs.Common.{◌≡◌, ◌+◌, ◌≤◌, [], length, Some, slice_get, refl, sym, ap, ◌∙◌, subst, arith}
 use Rattle.held_groups.specs.Held.{HasTotals}
 use Rattle.agg_rules.specs.Rows.{results_of}
 use Rattle.agg_rules.specs.Passes.{kept_groups, spilled_rows}

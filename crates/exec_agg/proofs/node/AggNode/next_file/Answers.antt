@@ -1,4 +1,4 @@
-use Rattle.std.proofs.Common.{◌≡◌, ◌≤◌, [], length, ap, subst}
+use Rattle.std.proofs.Common.{◌≡◌, ◌≤◌, [], length, subst}
 use Rattle.agg_rules.specs.Passes.{kept_groups, spilled_rows}
 use Rattle.exec_agg.specs.Nodes.{Node}
 use Rattle.exec_agg.proofs.Standing.{none_as}

@@ -1,4 +1,4 @@
-use Rattle.std.proofs.Common.{◌≡◌, sym, ap, subst}
+use Rattle.std.proofs.Common.{sym, subst}
 use Rattle.held_groups.specs.Held.{HasTotals}
 use Rattle.agg_pass.specs.PassState.{HasSpilled}
 use Rattle.agg_pass.specs.Spilled.{IsOf, KeepsFiles}
