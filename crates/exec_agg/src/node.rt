@@ -1,5 +1,5 @@
 //! A node.
-ghost use Rattle.std.specs.Prelude.{◌≡◌, ◌≢◌, ℕ, ◌+◌, ◌*◌, ◌<◌, ◌≤◌, ◌⊎◌, ◌↔◌, [], ◌∷◌, ◌++◌, length, Some, None, Ok, Err, IfOk, IfErr, IfSome, IfNone, OnOk, OnErr, slice_get};
+ghost use Rattle.std.specs.Prelude.{◌≡◌, ◌≢◌, ◌+◌, ◌*◌, ◌<◌, ◌≤◌, ◌⊎◌, ◌↔◌, [], ◌∷◌, ◌++◌, length, Some, None, Ok, Err, IfOk, IfErr, IfSome, IfNone, OnOk, OnErr, slice_get};
 ghost use Rattle.addr_space.specs.Space.{Space, accounts, held, Asks};
 ghost use Rattle.addr_space.specs.Footprint.{nothing, Moves};
 ghost use Rattle.chunk_header.specs.declared.TheConstants.{LARGEST_BLOCK};
@@ -7,7 +7,7 @@ ghost use Rattle.bump_ctx.specs.Ledger.{created};
 ghost use Rattle.temp_store.specs.Temp.{Temp, held as stored};
 ghost use Rattle.agg_rules.specs.declared.TheConstants.{ROW_BYTES};
 ghost use Rattle.agg_rules.specs.Rows.{results_of};
-ghost use Rattle.agg_rules.specs.Passes.{kept_groups, pass_results, spilled_rows};
+ghost use Rattle.agg_rules.specs.Passes.{kept_groups, spilled_rows};
 ghost use Rattle.agg_rules.specs.Steps.{meets};
 ghost use Rattle.held_groups.specs.declared.held.TheConstants.{FIRST_BLOCK, MOST_ROWS};
 ghost use Rattle.held_groups.specs.Held.{footprint};
@@ -88,6 +88,7 @@ impl AggNode {
         ensures place { IfOk result (λ n. n.place ≡ 0) }
         ensures stage { IfOk result (λ n. n.stage ≡ Putting) }
         ensures budget { IfOk result (λ n. n.pass.budget ≡ budget) }
+        ensures met { IfOk result (λ n. n.pass.rows ≡ []) }
         ensures file { IfOk result (λ n. n.pass.file ≡ None) }
         ensures ledger { IfOk result (λ n. n.pass.groups.state.ledger ≡ created FIRST_BLOCK LARGEST_BLOCK) }
         ensures account { IfOk result (λ n. (footprint n.pass.groups).account ≡ account) }
@@ -127,6 +128,7 @@ impl AggNode {
         requires few { length self.old.rows < MOST_ROWS }
         ensures rows { OnOk result (self.new.rows ≡ self.old.rows ++ record { group = group; value = value } ∷ []) }
         ensures err_rows { OnErr result (self.new.rows ≡ self.old.rows) }
+        ensures met { self.new.pass.rows ≡ self.new.rows }
         ensures given { self.new.given ≡ self.old.given }
         ensures place { self.new.place ≡ self.old.place }
         ensures stage { self.new.stage ≡ Putting }
@@ -162,9 +164,8 @@ impl AggNode {
 
     // The file that the next pass goes over, where the groups of the pass at hand were all given.
     fn next_file(&self) -> Option<u32>
-        ensures turn { IfSome result (λ _. IsTurn self.now) }
+        ensures some { IfSome result (λ file. (self.now.pass.file ≡ Some file) × IsTurn self.now) }
         ensures no_turn { IfNone result (IsTurn self.now → ⊥) }
-        ensures some { IfSome result (λ file. (self.now.pass.file ≡ Some file) × (length (kept_groups self.now.pass.budget self.now.pass.rows) ≤ self.now.place)) }
         ensures none { IfNone result (length (kept_groups self.now.pass.budget self.now.pass.rows) ≤ self.now.place → spilled_rows self.now.pass.budget self.now.pass.rows ≡ []) }
     {
         if self.place < self.pass.len() {
@@ -257,8 +258,8 @@ impl AggNode {
         ensures limit { temp.new.limit ≡ temp.old.limit }
         ensures refused { IfErr result (λ e. (e ≡ NodeError.Memory) ⊎ (next_pass self.old space.old temp.old ≡ Err e)) }
 
-        // Where it is the next pass's turn, that pass goes over what was spilled, and takes what the rules say. Else
-        // nothing but how much was given changes.
+        // It is the next pass's turn where the groups of the pass at hand were all given and a row was spilled. Then the
+        // next pass goes over the spilled rows, and takes what the rules say. Else the pass, the account and the store stay.
         ensures turn { length (kept_groups self.old.pass.budget self.old.pass.rows) ≤ self.old.place → spilled_rows self.old.pass.budget self.old.pass.rows ≢ [] → IsTurn self.old }
         ensures place { IfOk result (λ it. IfSome it (λ _. (IsTurn self.old → self.new.place ≡ 1) × ((IsTurn self.old → ⊥) → self.new.place ≡ self.old.place + 1))) }
         ensures met { IsTurn self.old → OnOk result (self.new.pass.rows ≡ spilled_rows self.old.pass.budget self.old.pass.rows) }
