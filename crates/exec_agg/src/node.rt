@@ -252,6 +252,7 @@ impl AggNode {
         ensures stage { OnOk result (self.new.stage ≡ Giving) }
         ensures err_stage { OnErr result (self.new.stage ≡ Refused) }
         ensures err_given { OnErr result (self.new.given ≡ self.old.given) }
+        ensures err_turn { OnErr result (IsTurn self.old) }
         ensures holds { Holds self.new space.new temp.new }
         ensures moves { Moves (footprint self.old.pass.groups) (footprint self.new.pass.groups) space.old space.new }
         ensures others { KeepsFiles (IsOf self.old.pass.file) temp.old (IsOf self.new.pass.file) temp.new }
