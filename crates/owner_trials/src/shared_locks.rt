@@ -1,6 +1,7 @@
 //! The table of conflicts whole, and each call once.
 use lock_shared::{SharedLocks, conflicts};
 use pgs_step::Mode;
+use std::alloc::AllocError;
 use std::test::Fail;
 
 const MODES: [Mode; 8] = [
@@ -41,32 +42,42 @@ fn table_of_conflicts(rt: HostRuntime) {
     }
 }
 
+/// Three sessions hold the object 5 in four modes, and one holds the object 6.
+fn grant_all(locks: &mut SharedLocks) -> Result<(), AllocError> {
+    for (object, mode, session) in [
+        (5, Mode::AccessExclusiveLock, 1),
+        (5, Mode::ShareLock, 3),
+        (5, Mode::RowShareLock, 2),
+        (5, Mode::AccessShareLock, 2),
+        (6, Mode::AccessShareLock, 0),
+    ] {
+        locks.grant(object, mode, session)?;
+    }
+    Ok(())
+}
+
 #[test]
 fn least_session_and_mode(rt: HostRuntime) -> Result<(), Fail> {
     let mut locks = SharedLocks::new(rt.alloc());
     assert_eq!(rt; locks.conflict(5, Mode::AccessExclusiveLock, 1), None);
-    locks.grant(5, Mode::AccessExclusiveLock, 1)?;
-    locks.grant(5, Mode::ShareLock, 3)?;
-    locks.grant(5, Mode::RowShareLock, 2)?;
-    locks.grant(5, Mode::AccessShareLock, 2)?;
-    locks.grant(6, Mode::AccessShareLock, 0)?;
-    assert_eq!(rt;
-        locks.conflict(5, Mode::AccessExclusiveLock, 1),
-        Some((2, Mode::AccessShareLock))
-    );
-    assert_eq!(rt;
-        locks.conflict(5, Mode::ExclusiveLock, 1),
-        Some((2, Mode::RowShareLock))
-    );
-    assert_eq!(rt;
-        locks.conflict(5, Mode::RowExclusiveLock, 1),
-        Some((3, Mode::ShareLock))
-    );
-    assert_eq!(rt; locks.conflict(5, Mode::AccessShareLock, 1), None);
-    assert_eq!(rt;
-        locks.conflict(5, Mode::AccessShareLock, 2),
-        Some((1, Mode::AccessExclusiveLock))
-    );
+    grant_all(&mut locks)?;
+    for (mode, session, conflict) in [
+        (
+            Mode::AccessExclusiveLock,
+            1,
+            Some((2, Mode::AccessShareLock)),
+        ),
+        (Mode::ExclusiveLock, 1, Some((2, Mode::RowShareLock))),
+        (Mode::RowExclusiveLock, 1, Some((3, Mode::ShareLock))),
+        (Mode::AccessShareLock, 1, None),
+        (
+            Mode::AccessShareLock,
+            2,
+            Some((1, Mode::AccessExclusiveLock)),
+        ),
+    ] {
+        assert_eq!(rt; locks.conflict(5, mode, session), conflict);
+    }
     Ok(())
 }
 

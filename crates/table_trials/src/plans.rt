@@ -1,54 +1,123 @@
 //! Each call once, each refusal, who must go, and 1,024 plans.
+ghost use Rattle.std.specs.Prelude.{◌≡◌, ◌≤◌, [], None, OnOk};
+ghost use Rattle.plan_store.specs.Plans.{references};
+
 use pgs_step::CtxId;
 use plan_store::{PlanError, PlanStore};
 use std::test::Fail;
 
 const CONTEXT: CtxId = CtxId { number: 7, slot: 3 };
 
+/// What a call answers that may let a plan go: its context.
+type Gone = Result<Option<CtxId>, PlanError>;
+
+/// The plan 2, made and then referred to once.
+fn refer(store: &mut PlanStore) -> Result<(), PlanError>
+    requires { store.old ≡ record { standing = []; reserved = None } }
+    ensures { OnOk result (references store.new ≡ 1) }
+{
+    store.reserve(2)?;
+    store.make(2, CONTEXT);
+    store.add_ref(2)
+}
+
+/// Whether the plan is usable, what its discard answers, and whether it stands and is usable then.
+fn discarded(store: &mut PlanStore) -> (bool, Gone, bool, bool) {
+    let before = store.usable(2);
+    let gone = store.discard(2);
+    (before, gone, store.stands(2), store.usable(2))
+}
+
+/// How many plans stand, what the last reference gives, and what stands then.
+fn let_go(store: &mut PlanStore) -> (u64, Gone, bool, u64) {
+    let before = store.count();
+    let gone = store.drop_ref(2);
+    (before, gone, store.stands(2), store.count())
+}
+
 #[test]
 fn goes_with_the_last_reference(rt: HostRuntime) -> Result<(), Fail> {
     let mut store = PlanStore::new(rt.alloc());
-    store.reserve(2)?;
-    store.make(2, CONTEXT);
-    assert_eq!(rt; store.usable(2), true);
-    store.add_ref(2)?;
-    assert_eq!(rt; store.discard(2), Ok(None));
-    assert_eq!(rt; store.stands(2), true);
-    assert_eq!(rt; store.usable(2), false);
-    assert_eq!(rt; store.count(), 1);
-    assert_eq!(rt; store.drop_ref(2), Ok(Some(CONTEXT)));
-    assert_eq!(rt; store.stands(2), false);
-    assert_eq!(rt; store.count(), 0);
+    refer(&mut store)?;
+    assert_eq!(rt; discarded(&mut store), (true, Ok(None), true, false));
+    assert_eq!(rt; let_go(&mut store), (1, Ok(Some(CONTEXT)), false, 0));
     Ok(())
+}
+
+/// Two references given back, of which there is one, a discard, and how many plans stand then.
+fn given_back(store: &mut PlanStore) -> (Gone, Gone, Gone, u64) {
+    let first = store.drop_ref(2);
+    let second = store.drop_ref(2);
+    let gone = store.discard(2);
+    (first, second, gone, store.count())
 }
 
 #[test]
 fn goes_at_once(rt: HostRuntime) -> Result<(), Fail> {
     let mut store = PlanStore::new(rt.alloc());
-    store.reserve(2)?;
-    store.make(2, CONTEXT);
-    store.add_ref(2)?;
-    assert_eq!(rt; store.drop_ref(2), Ok(None));
-    assert_eq!(rt; store.drop_ref(2), Err(PlanError::NotHeld));
-    assert_eq!(rt; store.discard(2), Ok(Some(CONTEXT)));
-    assert_eq!(rt; store.count(), 0);
+    refer(&mut store)?;
+    assert_eq!(rt;
+        given_back(&mut store),
+        (Ok(None), Err(PlanError::NotHeld), Ok(Some(CONTEXT)), 0)
+    );
     Ok(())
+}
+
+/// A reference to the plan 2, one given back and a discard.
+fn asked(store: &mut PlanStore) -> (Result<(), PlanError>, Gone, Gone)
+    requires { references store.old ≤ 1 }
+{
+    let referred = store.add_ref(2);
+    let given = store.drop_ref(2);
+    let gone = store.discard(2);
+    (referred, given, gone)
 }
 
 #[test]
 fn refuses_plans(rt: HostRuntime) -> Result<(), Fail> {
     let mut store = PlanStore::new(rt.alloc());
-    assert_eq!(rt; store.add_ref(2), Err(PlanError::NoPlan));
-    assert_eq!(rt; store.drop_ref(2), Err(PlanError::NoPlan));
-    assert_eq!(rt; store.discard(2), Err(PlanError::NoPlan));
-    store.reserve(2)?;
-    store.make(2, CONTEXT);
-    assert_eq!(rt; store.reserve(2), Err(PlanError::Taken));
-    store.add_ref(2)?;
-    store.discard(2)?;
-    assert_eq!(rt; store.reserve(2), Err(PlanError::Taken));
-    assert_eq!(rt; store.add_ref(2), Err(PlanError::NoPlan));
-    assert_eq!(rt; store.discard(2), Err(PlanError::NoPlan));
+    assert_eq!(rt;
+        asked(&mut store),
+        (
+            Err(PlanError::NoPlan),
+            Err(PlanError::NoPlan),
+            Err(PlanError::NoPlan)
+        )
+    );
+    Ok(())
+}
+
+/// A reference to the discarded plan 2, and another discard.
+fn asked_again(store: &mut PlanStore) -> (Result<(), PlanError>, Gone)
+    requires { references store.old ≤ 1 }
+{
+    (store.add_ref(2), store.discard(2))
+}
+
+/// The number of a plan stays taken until its last reference goes.
+fn discard_referred(
+    store: &mut PlanStore,
+) -> (Gone, Result<(), PlanError>, Gone, Result<(), PlanError>)
+    requires { references store.old ≡ 1 }
+{
+    let first = store.discard(2);
+    let (referred, gone) = asked_again(store);
+    (first, referred, gone, store.reserve(2))
+}
+
+#[test]
+fn refuses_a_plan_that_is_discarded(rt: HostRuntime) -> Result<(), Fail> {
+    let mut store = PlanStore::new(rt.alloc());
+    refer(&mut store)?;
+    assert_eq!(rt;
+        discard_referred(&mut store),
+        (
+            Ok(None),
+            Err(PlanError::NoPlan),
+            Err(PlanError::NoPlan),
+            Err(PlanError::Taken)
+        )
+    );
     Ok(())
 }
 
