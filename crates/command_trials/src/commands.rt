@@ -23,13 +23,22 @@ fn written(line: &[u8]) -> Option<ChunkBytes> {
     }
 }
 
+/// The first of these lines that session 1 is not to perform as the command beside it says.
+fn misread<'a>(rows: &[(&'a [u8], Command<'_>)]) -> Option<&'a [u8]> {
+    for (line, command) in rows {
+        if !is_read(line, command) {
+            return Some(*line);
+        }
+    }
+    None
+}
+
 /// Whether session 1 is to perform the command.
-fn is_read(line: &[u8], command: Command<'_>) -> bool {
-    parse_line(line, false)
-        == Ok(Line {
-            session: 1,
-            command,
-        })
+fn is_read(line: &[u8], wanted: &Command<'_>) -> bool {
+    match parse_line(line, false) {
+        Ok(Line { session, command }) => session == 1 && command == *wanted,
+        Err(_) => false,
+    }
 }
 
 fn command(line: &[u8]) -> Option<Command<'_>> {
@@ -44,35 +53,30 @@ fn transactions_are_read(rt: HostRuntime) {
     let s_1 = name(&rt, b"s_1");
     let upper = name(&rt, b"S");
     let s = name(&rt, b"s");
-    assert!(rt; is_read(b"begin", Command::Transaction(TransactionCommand::Begin)));
-    assert!(rt; is_read(b"commit", Command::Transaction(TransactionCommand::Commit)));
-    assert!(rt;
-        is_read(
+    let rows: [(&[u8], Command<'_>); 9] = [
+        (b"begin", Command::Transaction(TransactionCommand::Begin)),
+        (b"commit", Command::Transaction(TransactionCommand::Commit)),
+        (
             b"rollback",
-            Command::Transaction(TransactionCommand::Rollback)
-        )
-    );
-    assert!(rt;
-        is_read(
+            Command::Transaction(TransactionCommand::Rollback),
+        ),
+        (
             b"savepoint s_1",
-            Command::Transaction(TransactionCommand::Savepoint(s_1))
-        )
-    );
-    assert!(rt;
-        is_read(
+            Command::Transaction(TransactionCommand::Savepoint(s_1)),
+        ),
+        (
             b"release S",
-            Command::Transaction(TransactionCommand::Release(upper))
-        )
-    );
-    assert!(rt;
-        is_read(
+            Command::Transaction(TransactionCommand::Release(upper)),
+        ),
+        (
             b"rollback to s",
-            Command::Transaction(TransactionCommand::RollbackTo(s))
-        )
-    );
-    assert!(rt; is_read(b"raise", Command::Work(Work::Raise)));
-    assert!(rt; is_read(b"report", Command::Work(Work::Tells(TellCommand::Report))));
-    assert!(rt; is_read(b"stat", Command::Work(Work::Tells(TellCommand::Stat))));
+            Command::Transaction(TransactionCommand::RollbackTo(s)),
+        ),
+        (b"raise", Command::Work(Work::Raise)),
+        (b"report", Command::Work(Work::Tells(TellCommand::Report))),
+        (b"stat", Command::Work(Work::Tells(TellCommand::Stat))),
+    ];
+    assert_eq!(rt; misread(&rows), None);
 }
 
 #[test]
@@ -80,336 +84,266 @@ fn contexts_are_read(rt: HostRuntime) {
     let w = name(&rt, b"w");
     let current = name(&rt, b"CurTransactionContext");
     let p = name(&rt, b"p");
-    assert!(rt;
-        is_read(
+    let rows: [(&[u8], Command<'_>); 12] = [
+        (
             b"context w CurTransactionContext default",
             Command::Work(Work::Contexts(ContextCommand::Create {
                 name: w,
                 parent: current,
                 kind: ContextKind::Default,
-            }))
-        )
-    );
-    assert!(rt;
-        is_read(
+            })),
+        ),
+        (
             b"context w p small",
             Command::Work(Work::Contexts(ContextCommand::Create {
                 name: w,
                 parent: p,
                 kind: ContextKind::Small,
-            }))
-        )
-    );
-    assert!(rt;
-        is_read(
+            })),
+        ),
+        (
             b"context w p slab 1024",
             Command::Work(Work::Contexts(ContextCommand::Create {
                 name: w,
                 parent: p,
                 kind: ContextKind::Slab(1024),
-            }))
-        )
-    );
-    assert!(rt;
-        is_read(
+            })),
+        ),
+        (
             b"context w p generation",
             Command::Work(Work::Contexts(ContextCommand::Create {
                 name: w,
                 parent: p,
                 kind: ContextKind::Generation,
-            }))
-        )
-    );
-    assert!(rt;
-        is_read(
+            })),
+        ),
+        (
             b"context w p bump",
             Command::Work(Work::Contexts(ContextCommand::Create {
                 name: w,
                 parent: p,
                 kind: ContextKind::Bump,
-            }))
-        )
-    );
-    assert!(rt;
-        is_read(
+            })),
+        ),
+        (
             b"switch w",
-            Command::Work(Work::Contexts(ContextCommand::Switch(w)))
-        )
-    );
-    assert!(rt;
-        is_read(
+            Command::Work(Work::Contexts(ContextCommand::Switch(w))),
+        ),
+        (
             b"onreset w",
-            Command::Work(Work::Contexts(ContextCommand::OnReset(w)))
-        )
-    );
-    assert!(rt;
-        is_read(
+            Command::Work(Work::Contexts(ContextCommand::OnReset(w))),
+        ),
+        (
             b"reset w",
-            Command::Work(Work::Contexts(ContextCommand::Reset(w)))
-        )
-    );
-    assert!(rt;
-        is_read(
+            Command::Work(Work::Contexts(ContextCommand::Reset(w))),
+        ),
+        (
             b"resetonly w",
-            Command::Work(Work::Contexts(ContextCommand::ResetOnly(w)))
-        )
-    );
-    assert!(rt;
-        is_read(
+            Command::Work(Work::Contexts(ContextCommand::ResetOnly(w))),
+        ),
+        (
             b"delete w",
-            Command::Work(Work::Contexts(ContextCommand::Delete(w)))
-        )
-    );
-    assert!(rt;
-        is_read(
+            Command::Work(Work::Contexts(ContextCommand::Delete(w))),
+        ),
+        (
             b"deletechildren w",
-            Command::Work(Work::Contexts(ContextCommand::DeleteChildren(w)))
-        )
-    );
-    assert!(rt;
-        is_read(
+            Command::Work(Work::Contexts(ContextCommand::DeleteChildren(w))),
+        ),
+        (
             b"reparent w p",
-            Command::Work(Work::Contexts(ContextCommand::Reparent { name: w, parent: p }))
-        )
-    );
+            Command::Work(Work::Contexts(ContextCommand::Reparent { name: w, parent: p })),
+        ),
+    ];
+    assert_eq!(rt; misread(&rows), None);
 }
 
 #[test]
 fn chunks_are_read(rt: HostRuntime) {
     let a = name(&rt, b"a");
-    assert!(rt;
-        is_read(
+    let rows: [(&[u8], Command<'_>); 6] = [
+        (
             b"alloc a 100",
             Command::Work(Work::Chunks(ChunkCommand::Alloc {
                 chunk: a,
                 size: 100,
-            }))
-        )
-    );
-    assert!(rt;
-        is_read(
+            })),
+        ),
+        (
             b"alloc0 a 0",
-            Command::Work(Work::Chunks(ChunkCommand::AllocZeroed { chunk: a, size: 0 }))
-        )
-    );
-    assert!(rt;
-        is_read(
+            Command::Work(Work::Chunks(ChunkCommand::AllocZeroed { chunk: a, size: 0 })),
+        ),
+        (
             b"realloc a 4294967295",
             Command::Work(Work::Chunks(ChunkCommand::Realloc {
                 chunk: a,
                 size: 4294967295,
-            }))
-        )
-    );
-    assert!(rt;
-        is_read(
+            })),
+        ),
+        (
             b"free a",
-            Command::Work(Work::Chunks(ChunkCommand::Free(a)))
-        )
-    );
-    assert!(rt;
-        is_read(
+            Command::Work(Work::Chunks(ChunkCommand::Free(a))),
+        ),
+        (
             b"put a 10 0aFF",
             Command::Work(Work::Chunks(ChunkCommand::Put {
                 chunk: a,
                 at: 10,
                 bytes: bytes(&rt, b"0aFF"),
-            }))
-        )
-    );
-    assert_eq!(rt; written(b"put a 10 0aFF"), ChunkBytes::new(&[10, 255]));
-    assert!(rt;
-        is_read(
+            })),
+        ),
+        (
             b"show a 0 128",
             Command::Work(Work::Chunks(ChunkCommand::Show {
                 chunk: a,
                 at: 0,
                 length: 128,
-            }))
-        )
-    );
+            })),
+        ),
+    ];
+    assert_eq!(rt; misread(&rows), None);
+    assert_eq!(rt; written(b"put a 10 0aFF"), ChunkBytes::new(&[10, 255]));
 }
 
 #[test]
 fn resources_are_read(rt: HostRuntime) {
     let conn = name(&rt, b"conn");
-    assert!(rt; is_read(b"pin 7", Command::Work(Work::Items(ItemCommand::Pin(7)))));
-    assert!(rt;
-        is_read(
+    let rows: [(&[u8], Command<'_>); 14] = [
+        (b"pin 7", Command::Work(Work::Items(ItemCommand::Pin(7)))),
+        (
             b"unpin 2000",
-            Command::Work(Work::Items(ItemCommand::Unpin(2000)))
-        )
-    );
-    assert!(rt;
-        is_read(
+            Command::Work(Work::Items(ItemCommand::Unpin(2000))),
+        ),
+        (
             b"buffer 7",
-            Command::Work(Work::Tells(TellCommand::Buffer(7)))
-        )
-    );
-    assert!(rt; is_read(b"open 3", Command::Work(Work::Items(ItemCommand::Open(3)))));
-    assert!(rt;
-        is_read(
+            Command::Work(Work::Tells(TellCommand::Buffer(7))),
+        ),
+        (b"open 3", Command::Work(Work::Items(ItemCommand::Open(3)))),
+        (
             b"touch 3",
-            Command::Work(Work::Items(ItemCommand::Touch(3)))
-        )
-    );
-    assert!(rt;
-        is_read(
+            Command::Work(Work::Items(ItemCommand::Touch(3))),
+        ),
+        (
             b"close 3",
-            Command::Work(Work::Items(ItemCommand::Close(3)))
-        )
-    );
-    assert!(rt;
-        is_read(
+            Command::Work(Work::Items(ItemCommand::Close(3))),
+        ),
+        (
             b"lock 5 AccessShareLock",
             Command::Work(Work::Locks(LockCommand::Lock {
                 object: 5,
                 mode: Mode::AccessShareLock,
-            }))
-        )
-    );
-    assert!(rt;
-        is_read(
+            })),
+        ),
+        (
             b"unlock 5 AccessExclusiveLock",
             Command::Work(Work::Locks(LockCommand::Unlock {
                 object: 5,
                 mode: Mode::AccessExclusiveLock,
-            }))
-        )
-    );
-    assert!(rt;
-        is_read(
+            })),
+        ),
+        (
             b"ref relcache 9",
             Command::Work(Work::Items(ItemCommand::Reference {
                 class: ReferenceClass::Relcache,
                 key: 9,
-            }))
-        )
-    );
-    assert!(rt;
-        is_read(
+            })),
+        ),
+        (
             b"unref catcache 9",
             Command::Work(Work::Items(ItemCommand::Unreference {
                 class: ReferenceClass::Catcache,
                 key: 9,
-            }))
-        )
-    );
-    assert!(rt;
-        is_read(
+            })),
+        ),
+        (
             b"ref catlist 9",
             Command::Work(Work::Items(ItemCommand::Reference {
                 class: ReferenceClass::CatcacheList,
                 key: 9,
-            }))
-        )
-    );
-    assert!(rt;
-        is_read(
+            })),
+        ),
+        (
             b"ref tupdesc 9",
             Command::Work(Work::Items(ItemCommand::Reference {
                 class: ReferenceClass::TupleDescriptor,
                 key: 9,
-            }))
-        )
-    );
-    assert!(rt;
-        is_read(
+            })),
+        ),
+        (
             b"acquire conn 4",
-            Command::Work(Work::Items(ItemCommand::Acquire { kind: conn, key: 4 }))
-        )
-    );
-    assert!(rt;
-        is_read(
+            Command::Work(Work::Items(ItemCommand::Acquire { kind: conn, key: 4 })),
+        ),
+        (
             b"drop conn 4",
-            Command::Work(Work::Items(ItemCommand::Drop { kind: conn, key: 4 }))
-        )
-    );
+            Command::Work(Work::Items(ItemCommand::Drop { kind: conn, key: 4 })),
+        ),
+    ];
+    assert_eq!(rt; misread(&rows), None);
 }
 
 #[test]
 fn snapshots_plans_and_portals_are_read(rt: HostRuntime) {
     let p = name(&rt, b"p");
-    assert!(rt;
-        is_read(
+    let rows: [(&[u8], Command<'_>); 12] = [
+        (
             b"snapshot 4",
-            Command::Work(Work::Items(ItemCommand::Snapshot(4)))
-        )
-    );
-    assert!(rt;
-        is_read(
+            Command::Work(Work::Items(ItemCommand::Snapshot(4))),
+        ),
+        (
             b"unsnapshot 4",
-            Command::Work(Work::Items(ItemCommand::Unsnapshot(4)))
-        )
-    );
-    assert!(rt;
-        is_read(
+            Command::Work(Work::Items(ItemCommand::Unsnapshot(4))),
+        ),
+        (
             b"push 4",
-            Command::Work(Work::Snapshots(SnapshotCommand::Push(4)))
-        )
-    );
-    assert!(rt; is_read(b"pop", Command::Work(Work::Snapshots(SnapshotCommand::Pop))));
-    assert!(rt;
-        is_read(
+            Command::Work(Work::Snapshots(SnapshotCommand::Push(4))),
+        ),
+        (b"pop", Command::Work(Work::Snapshots(SnapshotCommand::Pop))),
+        (
             b"plan 4",
-            Command::Work(Work::Plans(PlanCommand::Create(4)))
-        )
-    );
-    assert!(rt;
-        is_read(
+            Command::Work(Work::Plans(PlanCommand::Create(4))),
+        ),
+        (
             b"planref 4",
-            Command::Work(Work::Plans(PlanCommand::Reference(4)))
-        )
-    );
-    assert!(rt;
-        is_read(
+            Command::Work(Work::Plans(PlanCommand::Reference(4))),
+        ),
+        (
             b"planunref 4",
-            Command::Work(Work::Plans(PlanCommand::Unreference(4)))
-        )
-    );
-    assert!(rt;
-        is_read(
+            Command::Work(Work::Plans(PlanCommand::Unreference(4))),
+        ),
+        (
             b"plandrop 4",
-            Command::Work(Work::Plans(PlanCommand::Drop(4)))
-        )
-    );
-    assert!(rt;
-        is_read(
+            Command::Work(Work::Plans(PlanCommand::Drop(4))),
+        ),
+        (
             b"portal p 1000000 25",
             Command::Work(Work::Portals(PortalCommand::Open {
                 name: p,
                 object: 1000000,
                 rows: 25,
                 bad: None,
-            }))
-        )
-    );
-    assert!(rt;
-        is_read(
+            })),
+        ),
+        (
             b"portal p 7 25 0",
             Command::Work(Work::Portals(PortalCommand::Open {
                 name: p,
                 object: 7,
                 rows: 25,
                 bad: Some(0),
-            }))
-        )
-    );
-    assert!(rt;
-        is_read(
+            })),
+        ),
+        (
             b"fetch p 1000000",
             Command::Work(Work::Portals(PortalCommand::Fetch {
                 name: p,
                 count: 1000000,
-            }))
-        )
-    );
-    assert!(rt;
-        is_read(
+            })),
+        ),
+        (
             b"endportal p",
-            Command::Work(Work::Portals(PortalCommand::End(p)))
-        )
-    );
+            Command::Work(Work::Portals(PortalCommand::End(p))),
+        ),
+    ];
+    assert_eq!(rt; misread(&rows), None);
 }
 
 #[test]
