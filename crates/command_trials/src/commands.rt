@@ -17,8 +17,13 @@ fn bytes<'a>(rt: &impl Abort, digits: &'a [u8]) -> HexBytes<'a> {
 
 /// The bytes that a line writes.
 fn written(line: &[u8]) -> Option<ChunkBytes> {
-    match command(line) {
-        Some(Command::Work(Work::Chunks(ChunkCommand::Put { bytes, .. }))) => Some(bytes.decoded()),
+    match parse_line(line, false) {
+        Ok(
+            Line {
+                command: Command::Work(Work::Chunks(ChunkCommand::Put { bytes, .. })),
+                ..
+            },
+        ) => Some(bytes.decoded()),
         _ => None,
     }
 }
@@ -26,26 +31,37 @@ fn written(line: &[u8]) -> Option<ChunkBytes> {
 /// The first of these lines that session 1 is not to perform as the command beside it says.
 fn misread<'a>(rows: &[(&'a [u8], Command<'_>)]) -> Option<&'a [u8]> {
     for (line, command) in rows {
-        if !is_read(line, command) {
+        if !is_read(1, line, command) {
             return Some(*line);
         }
     }
     None
 }
 
-/// Whether session 1 is to perform the command.
-fn is_read(line: &[u8], wanted: &Command<'_>) -> bool {
+/// Whether this session is to perform the command.
+fn is_read(performer: u8, line: &[u8], wanted: &Command<'_>) -> bool {
     match parse_line(line, false) {
-        Ok(Line { session, command }) => session == 1 && command == *wanted,
+        Ok(Line { session, command }) => session == performer && command == *wanted,
         Err(_) => false,
     }
 }
 
-fn command(line: &[u8]) -> Option<Command<'_>> {
-    match parse_line(line, false) {
-        Ok(Line { command, .. }) => Some(command),
-        Err(_) => None,
+/// The session of a bad line, which may have been cut.
+fn bad_session(line: &[u8], long: bool) -> Option<u8> {
+    match parse_line(line, long) {
+        Ok(_) => None,
+        Err(BadLine { session }) => Some(session),
     }
+}
+
+/// The first of these lines that is not a bad one of this session.
+fn not_bad<'a>(lines: &[&'a [u8]], session: u8) -> Option<&'a [u8]> {
+    for line in lines {
+        if bad_session(line, false) != Some(session) {
+            return Some(*line);
+        }
+    }
+    None
 }
 
 #[test]
@@ -348,200 +364,180 @@ fn snapshots_plans_and_portals_are_read(rt: HostRuntime) {
 
 #[test]
 fn transactions_lines_are_bad(rt: HostRuntime) {
-    for line in [
-        b"begin ".as_slice(),
-        b" begin".as_slice(),
-        b"begin  ".as_slice(),
-        b"Begin".as_slice(),
-        b"beginx".as_slice(),
-        b"begin x".as_slice(),
-        b"release".as_slice(),
-        b"release  s".as_slice(),
-        b"release s ".as_slice(),
-        b"release a-b".as_slice(),
-        b"rollback  to s".as_slice(),
-        b"rollback to".as_slice(),
-        b"rollback s".as_slice(),
-        b"rollback to s t".as_slice(),
-    ] {
-        assert_eq!(rt; parse_line(line, false), Err(BadLine { session: 1 }));
-    }
+    let lines: [&[u8]; 14] = [
+        b"begin ",
+        b" begin",
+        b"begin  ",
+        b"Begin",
+        b"beginx",
+        b"begin x",
+        b"release",
+        b"release  s",
+        b"release s ",
+        b"release a-b",
+        b"rollback  to s",
+        b"rollback to",
+        b"rollback s",
+        b"rollback to s t",
+    ];
+    assert_eq!(rt; not_bad(&lines, 1), None);
 }
 
 #[test]
 fn contexts_lines_are_bad(rt: HostRuntime) {
-    for line in [
-        b"context w p".as_slice(),
-        b"context w p slab".as_slice(),
-        b"context w p slab 0".as_slice(),
-        b"context w p slab 1025".as_slice(),
-        b"context w p slab 01".as_slice(),
-        b"context w p default 8".as_slice(),
-        b"context w p Default".as_slice(),
-        b"switch".as_slice(),
-        b"reparent w".as_slice(),
-    ] {
-        assert_eq!(rt; parse_line(line, false), Err(BadLine { session: 1 }));
-    }
+    let lines: [&[u8]; 9] = [
+        b"context w p",
+        b"context w p slab",
+        b"context w p slab 0",
+        b"context w p slab 1025",
+        b"context w p slab 01",
+        b"context w p default 8",
+        b"context w p Default",
+        b"switch",
+        b"reparent w",
+    ];
+    assert_eq!(rt; not_bad(&lines, 1), None);
 }
 
 #[test]
 fn chunks_lines_are_bad(rt: HostRuntime) {
-    for line in [
-        b"alloc a".as_slice(),
-        b"alloc a 01".as_slice(),
-        b"alloc a 4294967296".as_slice(),
-        b"alloc a +1".as_slice(),
-        b"alloc a 1 2".as_slice(),
-        b"alloc  1".as_slice(),
-        b"free".as_slice(),
-        b"put a 0".as_slice(),
-        b"put a 0 0".as_slice(),
-        b"put a 0 0aF".as_slice(),
-        b"put a 0 0g".as_slice(),
-        b"put a 0 00 1".as_slice(),
-        b"show a 0 0".as_slice(),
-        b"show a 0 129".as_slice(),
-        b"show a 0 08".as_slice(),
-        b"show a 0".as_slice(),
-    ] {
-        assert_eq!(rt; parse_line(line, false), Err(BadLine { session: 1 }));
-    }
+    let lines: [&[u8]; 16] = [
+        b"alloc a",
+        b"alloc a 01",
+        b"alloc a 4294967296",
+        b"alloc a +1",
+        b"alloc a 1 2",
+        b"alloc  1",
+        b"free",
+        b"put a 0",
+        b"put a 0 0",
+        b"put a 0 0aF",
+        b"put a 0 0g",
+        b"put a 0 00 1",
+        b"show a 0 0",
+        b"show a 0 129",
+        b"show a 0 08",
+        b"show a 0",
+    ];
+    assert_eq!(rt; not_bad(&lines, 1), None);
 }
 
 #[test]
 fn resources_lines_are_bad(rt: HostRuntime) {
-    for line in [
-        b"pin".as_slice(),
-        b"pin 007".as_slice(),
-        b"pin -7".as_slice(),
-        b"pin 7 7".as_slice(),
-        b"pin a".as_slice(),
-        b"pin 18446744073709551616".as_slice(),
-        b"lock 5".as_slice(),
-        b"lock 5 accesssharelock".as_slice(),
-        b"lock 5 Access".as_slice(),
-        b"lock AccessShareLock 5".as_slice(),
-        b"ref relcache".as_slice(),
-        b"ref 9 relcache".as_slice(),
-        b"ref plan 9".as_slice(),
-        b"pop 1".as_slice(),
-    ] {
-        assert_eq!(rt; parse_line(line, false), Err(BadLine { session: 1 }));
-    }
+    let lines: [&[u8]; 14] = [
+        b"pin",
+        b"pin 007",
+        b"pin -7",
+        b"pin 7 7",
+        b"pin a",
+        b"pin 18446744073709551616",
+        b"lock 5",
+        b"lock 5 accesssharelock",
+        b"lock 5 Access",
+        b"lock AccessShareLock 5",
+        b"ref relcache",
+        b"ref 9 relcache",
+        b"ref plan 9",
+        b"pop 1",
+    ];
+    assert_eq!(rt; not_bad(&lines, 1), None);
 }
 
 #[test]
 fn portals_lines_are_bad(rt: HostRuntime) {
-    for line in [
-        b"portal p 1000001 25".as_slice(),
-        b"portal p 7 1000001".as_slice(),
-        b"portal p 7 25 1000001".as_slice(),
-        b"portal p 7".as_slice(),
-        b"portal p 7 25 01".as_slice(),
-        b"portal p 7 25 0 0".as_slice(),
-        b"fetch p 0".as_slice(),
-        b"fetch p 1000001".as_slice(),
-        b"endportal".as_slice(),
-    ] {
-        assert_eq!(rt; parse_line(line, false), Err(BadLine { session: 1 }));
-    }
+    let lines: [&[u8]; 9] = [
+        b"portal p 1000001 25",
+        b"portal p 7 1000001",
+        b"portal p 7 25 1000001",
+        b"portal p 7",
+        b"portal p 7 25 01",
+        b"portal p 7 25 0 0",
+        b"fetch p 0",
+        b"fetch p 1000001",
+        b"endportal",
+    ];
+    assert_eq!(rt; not_bad(&lines, 1), None);
 }
 
 #[test]
 fn other_lines_are_bad(rt: HostRuntime) {
-    for line in [
-        b"slock 5 AccessShareLock".as_slice(),
-        b"hold p 7 25".as_slice(),
-        b"version 2".as_slice(),
-        b"x#".as_slice(),
-        b"@".as_slice(),
-        b"@2".as_slice(),
-        b"@0 begin".as_slice(),
-        b"@9 begin".as_slice(),
-        b"@12 begin".as_slice(),
-        b"@ 2 begin".as_slice(),
-        b"@2begin".as_slice(),
-    ] {
-        assert_eq!(rt; parse_line(line, false), Err(BadLine { session: 1 }));
-    }
+    let lines: [&[u8]; 11] = [
+        b"slock 5 AccessShareLock",
+        b"hold p 7 25",
+        b"version 2",
+        b"x#",
+        b"@",
+        b"@2",
+        b"@0 begin",
+        b"@9 begin",
+        b"@12 begin",
+        b"@ 2 begin",
+        b"@2begin",
+    ];
+    assert_eq!(rt; not_bad(&lines, 1), None);
 }
 
 #[test]
 fn a_prefix_names_the_session(rt: HostRuntime) {
-    for (line, session) in [
-        (b"pin 7".as_slice(), 1),
-        (b"@1 pin 7".as_slice(), 1),
-        (b"@8 pin 7".as_slice(), 8),
-    ] {
-        let command = Command::Work(Work::Items(ItemCommand::Pin(7)));
-        assert_eq!(rt; parse_line(line, false), Ok(Line { session, command }));
-    }
+    let pin = Command::Work(Work::Items(ItemCommand::Pin(7)));
+    let read = [
+        is_read(1, b"pin 7", &pin),
+        is_read(1, b"@1 pin 7", &pin),
+        is_read(8, b"@8 pin 7", &pin),
+    ];
+    assert_eq!(rt; read, [true; 3]);
 }
 
 #[test]
 fn a_bad_line_keeps_its_session(rt: HostRuntime) {
-    for line in [
-        b"@2 ".as_slice(),
-        b"@2 #".as_slice(),
-        b"@2 @1 begin".as_slice(),
-        b"@2 begin ".as_slice(),
-        b"@2 pin 01".as_slice(),
-    ] {
-        assert_eq!(rt; parse_line(line, false), Err(BadLine { session: 2 }));
-    }
+    let lines: [&[u8]; 5] = [b"@2 ", b"@2 #", b"@2 @1 begin", b"@2 begin ", b"@2 pin 01"];
+    assert_eq!(rt; not_bad(&lines, 2), None);
 }
 
 #[test]
 fn comments_ask_for_nothing(rt: HostRuntime) {
-    for line in [
-        b"".as_slice(),
-        b"#".as_slice(),
-        b"# @2 begin".as_slice(),
-        [b'#'; 512].as_slice(),
-    ] {
-        assert_eq!(rt;
-            parse_line(line, false),
-            Ok(Line {
-                session: 1,
-                command: Command::Nothing
-            })
-        );
-    }
-    assert_eq!(rt; parse_line(&[b'#'; 512], true), Err(BadLine { session: 1 }));
+    let rows: [(&[u8], Command<'_>); 4] = [
+        (b"", Command::Nothing),
+        (b"#", Command::Nothing),
+        (b"# @2 begin", Command::Nothing),
+        (&[b'#'; 512], Command::Nothing),
+    ];
+    assert_eq!(rt; misread(&rows), None);
+    assert_eq!(rt; bad_session(&[b'#'; 512], true), Some(1));
 }
 
 #[test]
 fn long_lines_are_bad(rt: HostRuntime) {
     let mut line = [b'x'; 512];
-    assert_eq!(rt; parse_line(&line, true), Err(BadLine { session: 1 }));
+    let plain = bad_session(&line, true);
     line[..8].copy_from_slice(b"@3 begin");
-    assert_eq!(rt; parse_line(&line, true), Err(BadLine { session: 3 }));
-    assert_eq!(rt; parse_line(b"@3 begin", true), Err(BadLine { session: 3 }));
+    let said = [
+        plain,
+        bad_session(&line, true),
+        bad_session(b"@3 begin", true),
+    ];
+    assert_eq!(rt; said, [Some(1), Some(3), Some(3)]);
 }
 
 #[test]
 fn other_bytes_are_bytes(rt: HostRuntime) {
-    for line in [
-        b"begin\r".as_slice(),
-        b"begin\0".as_slice(),
-        b"release s\0".as_slice(),
-        b"\r".as_slice(),
-        b"release \xc3\xa4".as_slice(),
-    ] {
-        assert_eq!(rt; command(line), None);
-    }
+    let lines: [&[u8]; 5] = [
+        b"begin\r",
+        b"begin\0",
+        b"release s\0",
+        b"\r",
+        b"release \xc3\xa4",
+    ];
+    assert_eq!(rt; not_bad(&lines, 1), None);
 }
 
 #[test]
 fn names_have_at_most_32_bytes(rt: HostRuntime) {
     let mut line = [b'n'; 38];
     line[..5].copy_from_slice(b"free ");
-    assert_eq!(rt;
-        command(&line[..37]),
-        Some(Command::Work(Work::Chunks(ChunkCommand::Free(name(&rt, &[b'n'; 32])))))
-    );
-    assert_eq!(rt; command(&line), None);
+    let free = Command::Work(Work::Chunks(ChunkCommand::Free(name(&rt, &[b'n'; 32]))));
+    assert!(rt; is_read(1, &line[..37], &free));
+    assert_eq!(rt; bad_session(&line, false), Some(1));
 }
 
 #[test]
@@ -553,10 +549,10 @@ fn lines_write_at_most_128_bytes(rt: HostRuntime) {
         at: 9,
         bytes: bytes(&rt, &[b'E'; 256]),
     }));
-    assert_eq!(rt; command(&line[..264]), Some(put));
+    assert!(rt; is_read(1, &line[..264], &put));
     assert_eq!(rt; written(&line[..264]), ChunkBytes::new(&[0xee; 128]));
-    assert_eq!(rt; command(&line[..265]), None);
-    assert_eq!(rt; command(&line), None);
+    let longer = [bad_session(&line[..265], false), bad_session(&line, false)];
+    assert_eq!(rt; longer, [Some(1); 2]);
 }
 
 #[test]
