@@ -10,7 +10,6 @@ use addr_space::{Addr, Space};
 use chunk_header::{CtxError, Header, Kind};
 use ctx_blocks::{Block, Blocks};
 use std::alloc::Global;
-use std::process::Abort;
 use std::test::Fail;
 
 #[test]
@@ -79,36 +78,58 @@ fn blocks_go(rt: HostRuntime) -> Result<(), Fail> {
     Ok(())
 }
 
-/// Three blocks come, and the second of them goes.
-fn go_between(rt: &impl Abort, space: &mut Space, blocks: &mut Blocks) -> Result<(), Fail>
+// Gives a block back that is not the keeper and has no live chunk, and answers what it was.
+fn give_unused(space: &mut Space, blocks: &mut Blocks, number: u32) -> Option<Block>
+    requires { Agrees (footprint blocks.old) space.old }
+{
+    let block = blocks.block(number)?;
+    if block.live != 0 || number == blocks.keeper() {
+        return None;
+    }
+    blocks.give(space, number);
+    Some(block)
+}
+
+// Three blocks come, and the second of them goes. Answers what it was, and what the three are then.
+fn go_between(space: &mut Space, blocks: &mut Blocks) -> Result<[Option<Block>; 4], CtxError>
     requires { Agrees (footprint blocks.old) space.old }
 {
     let first = blocks.add(space, 1024)?;
     let second = blocks.add(space, 2048)?;
     let third = blocks.add(space, 4096)?;
-    let block = blocks.block(second).ok_or("no block")?;
-    assert_eq!(rt; block.number, 2);
-    assert_eq!(rt; block.live, 0);
-    assert!(rt; second != blocks.keeper());
-    blocks.give(space, second);
-    assert_eq!(rt; (blocks.len(), blocks.total()), (3, 5320));
-    assert_eq!(rt; blocks.block(second), None);
-    assert_eq!(rt;
-        blocks.block(first).map(|b| (b.number, b.size)),
-        Some((1, 1024))
-    );
-    assert_eq!(rt;
-        blocks.block(third).map(|b| (b.number, b.size)),
-        Some((3, 4096))
-    );
-    Ok(())
+    let was = give_unused(space, blocks, second);
+    Ok([
+        was,
+        blocks.block(first),
+        blocks.block(second),
+        blocks.block(third),
+    ])
+}
+
+// A block without chunks.
+fn unused(number: u64, size: u32, room: u32) -> Option<Block> {
+    Some(Block {
+        number,
+        size,
+        room,
+        live: 0,
+        freed: 0,
+    })
 }
 
 #[test]
 fn a_block_between_others_goes(rt: HostRuntime) -> Result<(), Fail> {
     let mut space = Space::new(rt.alloc(), 1, 100_000)?;
     let mut blocks = Blocks::create(rt.alloc(), &mut space, Kind::Slab, 0, 7, 0, 200)?;
-    go_between(&rt, &mut space, &mut blocks)
+    let said = go_between(&mut space, &mut blocks)?;
+    let want = [
+        unused(2, 2048, 2008),
+        unused(1, 1024, 984),
+        None,
+        unused(3, 4096, 4056),
+    ];
+    assert_eq!(rt; (said, blocks.len(), blocks.total()), (want, 3, 5320));
+    Ok(())
 }
 
 #[test]

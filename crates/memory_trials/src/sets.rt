@@ -34,41 +34,52 @@ fn stats(numbers: [u64; 4]) -> Stats {
     }
 }
 
+// What a context says when it is new, and after each of two requests.
+fn said_of_two(
+    space: &mut Space,
+    set: &mut AllocSet,
+    sizes: [u64; 2],
+) -> Result<[Stats; 3], CtxError>
+    requires { Agrees (footprint set.old) space.old }
+    ensures agrees { OnOk result (Agrees (footprint set.new) space.new) }
+    ensures accounts { accounts space.new ≡ accounts space.old }
+{
+    let [first, second] = sizes;
+    let new = set.stats();
+    set.alloc(space, first)?;
+    let one = set.stats();
+    set.alloc(space, second)?;
+    Ok([new, one, set.stats()])
+}
+
 #[test]
 fn chunks_of_a_context(rt: HostRuntime) -> Result<(), Fail> {
     let mut space = Space::new(rt.alloc(), 1, 100_000)?;
-    let mut set = AllocSet::create(
-        rt.alloc(),
-        &mut SetBoxes::new(rt.alloc()),
-        &mut space,
-        0,
-        7,
-        GREAT,
-    )?;
-    assert_eq!(rt; set.stats(), stats([8192, 1, 7952, 0]));
-    set.alloc(&mut space, 100)?;
-    assert_eq!(rt; set.stats(), stats([8192, 1, 7816, 0]));
-    set.alloc(&mut space, 8000)?;
-    assert_eq!(rt; set.stats(), stats([24576, 2, 15960, 6]));
+    let mut boxes = SetBoxes::new(rt.alloc());
+    let mut set = AllocSet::create(rt.alloc(), &mut boxes, &mut space, 0, 7, GREAT)?;
+    let said = said_of_two(&mut space, &mut set, [100, 8000])?;
+    let want = [
+        stats([8192, 1, 7952, 0]),
+        stats([8192, 1, 7816, 0]),
+        stats([24576, 2, 15960, 6]),
+    ];
+    assert_eq!(rt; said, want);
     Ok(())
 }
 
 #[test]
 fn small_sizes(rt: HostRuntime) -> Result<(), Fail> {
     let mut space = Space::new(rt.alloc(), 1, 3100)?;
-    let mut set = AllocSet::create(
-        rt.alloc(),
-        &mut SetBoxes::new(rt.alloc()),
-        &mut space,
-        0,
-        7,
-        SMALL,
-    )?;
-    set.alloc(&mut space, 1024)?;
-    assert_eq!(rt; set.stats(), stats([3072, 2, 1760, 2]));
-    set.alloc(&mut space, 256)?;
-    assert_eq!(rt; set.stats(), stats([3072, 2, 1496, 1]));
-    assert_eq!(rt; set.alloc(&mut space, 1025), Err(CtxError::NoSpace));
+    let mut boxes = SetBoxes::new(rt.alloc());
+    let mut set = AllocSet::create(rt.alloc(), &mut boxes, &mut space, 0, 7, SMALL)?;
+    let said = said_of_two(&mut space, &mut set, [1024, 256])?;
+    let refused = set.alloc(&mut space, 1025).err();
+    let want = [
+        stats([1024, 1, 784, 0]),
+        stats([3072, 2, 1760, 2]),
+        stats([3072, 2, 1496, 1]),
+    ];
+    assert_eq!(rt; (said, refused), (want, Some(CtxError::NoSpace)));
     assert_eq!(rt; space.held(0), 3072);
     Ok(())
 }

@@ -1,5 +1,6 @@
 //! What Slab contexts answer, and what they report.
 ghost use Rattle.std.specs.Prelude.{◌≤◌, ◌<◌, ◌+◌, ◌≡◌, OnOk, length, Some};
+ghost use Rattle.addr_space.specs.Space.{accounts};
 ghost use Rattle.addr_space.specs.Footprint.{Agrees};
 ghost use Rattle.slab_ctx.specs.State.{footprint};
 ghost use Rattle.memory_trials.specs.Held.{AreLive};
@@ -102,16 +103,28 @@ fn a_freed_chunk_is_taken_again(rt: HostRuntime) -> Result<(), Fail> {
     Ok(())
 }
 
+// What a context says that had a chunk and was reset.
+fn said_after_reset(slab: &mut SlabCtx, space: &mut Space) -> Result<Stats, CtxError>
+    requires { Agrees (footprint slab.old) space.old }
+    ensures agrees { OnOk result (Agrees (footprint slab.new) space.new) }
+    ensures accounts { accounts space.new ≡ accounts space.old }
+{
+    slab.alloc(space, 64)?;
+    slab.reset(space);
+    Ok(slab.stats())
+}
+
 #[test]
 fn reset_and_discarded(rt: HostRuntime) -> Result<(), Fail> {
     let mut space = Space::new(rt.alloc(), 1, 9000)?;
     let mut slab = SlabCtx::create(rt.alloc(), &mut space, 0, 7, 64)?;
-    slab.alloc(&mut space, 64)?;
-    slab.reset(&mut space);
-    let stats = slab.stats();
+    let stats = said_after_reset(&mut slab, &mut space)?;
     slab.discard(&mut space);
-    assert_eq!(rt; (stats.total, stats.blocks, stats.chunks), (200, 0, 0));
-    assert_eq!(rt; (space.held(0), space.taken(0)), (0, 8392));
+    let kept = (stats.total, stats.blocks, stats.chunks);
+    assert_eq!(rt;
+        (kept, space.held(0), space.taken(0)),
+        ((200, 0, 0), 0, 8392)
+    );
     Ok(())
 }
 

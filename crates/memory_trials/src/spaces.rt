@@ -1,4 +1,6 @@
 //! What a space answers, and whose bytes it counts.
+ghost use Rattle.std.specs.Prelude.{◌<◌};
+ghost use Rattle.addr_space.specs.Space.{accounts};
 
 use addr_space::{Addr, Space, SpaceError};
 use std::test::Fail;
@@ -16,17 +18,25 @@ fn one_account_fills_up(rt: HostRuntime) -> Result<(), Fail> {
     Ok(())
 }
 
+// What the first account has taken once its region grew, whether one more byte fits under a lower limit, and what the
+// account holds and has taken once the region went.
+fn grown_and_gone(space: &mut Space) -> Result<(u64, bool, u64, u64), SpaceError>
+    requires { 0 < accounts space.old }
+{
+    let at = space.take(0, 60)?;
+    space.resize(at, 70)?;
+    let grown = space.taken(0);
+    space.set_limit(50);
+    let fits = space.fits(0, 1);
+    space.give(at);
+    Ok((grown, fits, space.held(0), space.taken(0)))
+}
+
 #[test]
 fn a_region_grows_and_goes(rt: HostRuntime) -> Result<(), Fail> {
     let mut space = Space::new(rt.alloc(), 1, 100)?;
-    let at = space.take(0, 60)?;
-    space.resize(at, 70)?;
-    assert_eq!(rt; space.taken(0), 70);
-    space.set_limit(50);
-    assert!(rt; !space.fits(0, 1));
-    space.give(at);
-    assert_eq!(rt; space.held(0), 0);
-    assert_eq!(rt; space.taken(0), 70);
+    let said = grown_and_gone(&mut space)?;
+    assert_eq!(rt; said, (70, false, 0, 70));
     Ok(())
 }
 
