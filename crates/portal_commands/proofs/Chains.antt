@@ -1,5 +1,5 @@
 -- Steps that change portals alone.
-use Rattle.portal_commands.proofs.Base.{◌≡◌, ℕ, List, [], ◌∷◌, Option, None, refl, sym, subst, arith}
+use Rattle.portal_commands.proofs.Base.{◌≡◌, ℕ, [], ◌∷◌, Option, None, refl, sym, subst, arith}
 use Rattle.portal_commands.proofs.Words.{Asks, Moment, Scene, Ended, asks_in, unfailing, does, Element, Acted, IsSilent, Keeps, PortalsAlone, StoreState, Now, Performed, scene_in, performed_end, keeps_rises, numbers, grown, moves_same}
 use Rattle.portal_commands.proofs.Listed.{keeps_alone}
 

@@ -1,6 +1,6 @@
 -- A portal that is fetched from stands behind each step of a turn.
-use Rattle.portal_commands.proofs.Base.{◌≡◌, ℕ, Bool, true, false, List, [], ◌∷◌, ◌++◌, Option, Some, None, IsSome, IfSome, find, refl, sym, ◌∙◌, ap, subst, inl, arith, option_and_then, option_map}
-use Rattle.portal_commands.proofs.Words.{Asks, Moves, TreeState, has, Scan, ScanStep, rest, taken, Error, What, Item, OwnerId, coming, Portal, is_of, forgotten, items_of, owners_of, balances_more, balances_none, serves_still, LevelState, OpenPortal, buffer_pin, depth, Around, Moment, Scene, Ended, changes, context_cleared_alone, in_order, nothing, portal_becomes, say, where_there, unfailing, Element, Check, InRow, OfPortal, Text, does, does_all, then_done, memory_in, owner_in, portal_named, at_portal, scan_part, scanned, given_back, item_released, IsFetched, IsWorking, Stands, fallible_part, Named, active_portal, named_changed, named_in, scan_portal, Beside, becomes_fetched, beside_turns, check_beside, nothing_beside, owner_named, part_beside, portal_enlarges, portal_takes, row_allocates, then_beside, Acted, BothAlone, ContextsAlone, IsSilent, Keeps, PortalsAlone, Refused, StoreState, levels_of, portal_state, portals_of, session_of, at_calls, wants, IsOwnerOf, IsBetweenSteps, Now, Performed, scene_in, Calls, item_keeps, numbers, there_keeps, moves_nothing, performed_end, performed_none, same_scene_in, fails, keeps_rises, empty_around, fitting, fitting_fits, grown, Follows, IsAt, IsFetching, IsPage, cost_of, part_of, scan_named}
+use Rattle.portal_commands.proofs.Base.{◌≡◌, ℕ, Bool, true, false, List, [], ◌∷◌, Option, Some, None, IsSome, IfSome, find, refl, sym, ◌∙◌, ap, subst, inl, arith, append-nil, option_and_then, option_map}
+use Rattle.portal_commands.proofs.Words.{Asks, Moves, TreeState, has, Scan, ScanStep, rest, taken, Error, What, Item, OwnerId, coming, Portal, is_of, forgotten, items_of, owners_of, balances_more, balances_none, serves_still, LevelState, OpenPortal, buffer_pin, depth, Around, Moment, Scene, Ended, changes, context_cleared_alone, in_order, nothing, portal_becomes, say, where_there, unfailing, Element, Check, InRow, OfPortal, Text, does, does_all, then_done, memory_in, owner_in, portal_named, at_portal, scan_part, scanned, given_back, item_released, IsFetched, IsWorking, Stands, fallible_part, Named, active_portal, named_changed, named_in, scan_portal, Beside, becomes_fetched, beside_turns, check_beside, nothing_beside, owner_named, part_beside, portal_enlarges, portal_takes, row_allocates, then_beside, Acted, BothAlone, ContextsAlone, IsSilent, Keeps, PortalsAlone, Refused, StoreState, levels_of, portal_state, portals_of, session_of, at_calls, wants, IsOwnerOf, IsBetweenSteps, Now, Performed, scene_in, Calls, numbers, there_keeps, moves_nothing, performed_end, performed_none, same_scene_in, fails, keeps_rises, empty_around, fitting, fitting_fits, grown, Follows, IsAt, IsFetching, IsPage, cost_of, part_of, scan_named}
 use Rattle.portal_store.specs.Portals as list
 use Rattle.portal_commands.proofs.Listed.{keeps_alone, named_as}
 use Rattle.portal_commands.proofs.Places.{at_same}
@@ -122,31 +122,13 @@ at_on name place scan k es a b P r h done beside at = at_same name place a.store
 
 -- what a step does by itself is what the rules say of the portal
 part_is : (name : Text) (st : ScanStep) (s : Scene) (p : OpenPortal) → portal_named name s.session.portals ≡ Some p → p.name ≡ name → part_of name st s ≡ scan_part st p s
-part_is name ScanStep.Reset s p e n = ap (λ (o : Option OpenPortal). where_there (option_and_then (λ q. q.expr) o) context_cleared_alone s) e
-part_is name (ScanStep.Unpin page) s p e n = ap (λ (o : Option OpenPortal). where_there (option_and_then (λ q. q.owner) o) (λ owner. item_released owner buffer_pin page) s) e
-part_is name (ScanStep.Row row value) s p e n = ap (λ (t : Text). say (What.Row t row value) s) (sym n)
-part_is name (ScanStep.Pin page) s p e n = refl
-part_is name (ScanStep.Bad row) s p e n = refl
-part_is name ScanStep.Alloc s p e n = refl
-part_is name ScanStep.End s p e n = refl
+part_is name st s p e n = grind arith
 
 same_part : (st : ScanStep) (p : OpenPortal) (c : Scan) (s : Scene) → scan_part st (record p { scan = c }) s ≡ scan_part st p s
-same_part ScanStep.Reset p c s = refl
-same_part (ScanStep.Unpin page) p c s = refl
-same_part (ScanStep.Row row value) p c s = refl
-same_part (ScanStep.Pin page) p c s = refl
-same_part (ScanStep.Bad row) p c s = refl
-same_part ScanStep.Alloc p c s = refl
-same_part ScanStep.End p c s = refl
+same_part st p c s = grind arith
 
 part_keeps : (st : ScanStep) (p : OpenPortal) (s : Scene) → numbers (scan_part st p s).scene ≡ numbers s
-part_keeps ScanStep.Reset p s = there_keeps p.expr context_cleared_alone s (λ n. refl)
-part_keeps (ScanStep.Unpin page) p s = there_keeps p.owner (λ owner. item_released owner buffer_pin page) s (λ owner. item_keeps owner buffer_pin page s)
-part_keeps (ScanStep.Row row value) p s = refl
-part_keeps (ScanStep.Pin page) p s = refl
-part_keeps (ScanStep.Bad row) p s = refl
-part_keeps ScanStep.Alloc p s = refl
-part_keeps ScanStep.End p s = refl
+part_keeps st p s = grind arith
 
 -- and leaves the portals as they are
 part_besides : (name : Text) (scan : Scan) (levels : List LevelState) (st : ScanStep) (s : Scene) → IsWorking levels → Runs name scan levels s → Beside s (part_of name st s).scene
@@ -183,10 +165,6 @@ does_scan name st w m = refl
 scan_keeps : (name : Text) (st : ScanStep) (s : Scene) → numbers (at_portal name (scanned st) s).scene ≡ numbers s
 scan_keeps name st s =
     there_keeps (portal_named name s.session.portals) (scanned st) s (λ p. part_keeps st p (portal_becomes p.name (λ old. record old { scan = taken st old.scan }) s).scene)
-
-nil_behind : (es : List What) → es ++ [] ≡ es
-nil_behind [] = refl
-nil_behind (e ∷ es) = ap (λ (z : List What). e ∷ z) (nil_behind es)
 
 -- the scan has taken a step, and what that does by itself was done
 module _ (name : Text) (scan : Scan) (st : ScanStep) (a c : Now) (store : StoreState) (P : List What → Type 0) (h : IsFetching name scan a)
@@ -225,7 +203,7 @@ module _ (name : Text) (scan : Scan) (st : ScanStep) (a c : Now) (store : StoreS
     said : P (at_portal name (scanned st) (scene_in a around)).events
     said =
         subst (λ (o : Option OpenPortal). P (where_there o (scanned st) (scene_in a around)).events) (sym p.1)
-        (subst P (sym (nil_behind (scan_part st p.0 (portal_becomes p.0.name f_of (scene_in a around)).scene).events))
+        (subst P (sym (append-nil (scan_part st p.0 (portal_becomes p.0.name f_of (scene_in a around)).scene).events))
         (subst (λ (t : Text). P (scan_part st p.0 (portal_becomes t f_of (scene_in a around)).scene).events) (sym titled)
         (subst (λ (e : Ended). P e.events) (sym behind) (f.acted.says around))))
 
@@ -265,10 +243,7 @@ serves_beside name (ScanStep.Pin page) small w m h working =
 serves_beside name (ScanStep.Bad row) small w m h working =
     all_beside w (Element.Checks (Check.Refuse (Error.BadRow row)) ∷ []) m h working (λ n k v. check_beside w n k v name (Check.Refuse (Error.BadRow row)), tt)
 serves_beside name ScanStep.Alloc small w m h working = all_beside w (Element.Alloc (InRow name) None 64 false ∷ []) m h working (λ n k v. row_allocates w n k v name None 64, tt)
-serves_beside name ScanStep.Reset small w m h working = all_beside w [] m h working tt
-serves_beside name (ScanStep.Unpin page) small w m h working = all_beside w [] m h working tt
-serves_beside name (ScanStep.Row row value) small w m h working = all_beside w [] m h working tt
-serves_beside name ScanStep.End small w m h working = all_beside w [] m h working tt
+serves_beside name other small w m h working = all_beside w [] m h working tt
 
 -- the owner of a portal is there
 pub fetched_owner : (name : Text) (scan : Scan) (a : Now) (owner : OwnerId) → IsFetching name scan a → IsOwnerOf (OfPortal name) a.store owner → has owner.number (owners_of a.store.owners) ≡ true
@@ -400,43 +375,23 @@ NeedsNothing ScanStep.Alloc = ⊥
 NeedsNothing other = Unit {0}
 
 pub other_performed : (name : Text) (s : ScanStep) (a : Now) (P : List What → Type 0) → NeedsNothing s → Keeps a.store a.space → P [] → Performed (cost_of s) (fallible_part name s) a a P None
-other_performed name ScanStep.Reset a P h keeps silent = performed_none a P keeps silent
-other_performed name (ScanStep.Unpin page) a P h keeps silent = performed_none a P keeps silent
-other_performed name (ScanStep.Row row value) a P h keeps silent = performed_none a P keeps silent
-other_performed name ScanStep.End a P h keeps silent = performed_none a P keeps silent
 other_performed name (ScanStep.Pin page) a P h keeps silent = absurd h
 other_performed name (ScanStep.Bad row) a P h keeps silent = absurd h
 other_performed name ScanStep.Alloc a P h keeps silent = absurd h
+other_performed name other a P h keeps silent = performed_none a P keeps silent
 
 pub follows_as : (name : Text) (x y : ScanStep) (a b : Now) (P : List What → Type 0) → x ≡ y → Follows (part_of name y) a b P → Follows (part_of name x) a b P
 follows_as name x y a b P is h = subst (λ (z : ScanStep). Follows (part_of name z) a b P) (sym is) h
 
 -- the steps that are left
 pub needs_nothing : (s : ScanStep) → ((page : ℕ) → s ≡ ScanStep.Pin page → ⊥) → ((row : ℕ) → s ≡ ScanStep.Bad row → ⊥) → (s ≡ ScanStep.Alloc → ⊥) → NeedsNothing s
-needs_nothing ScanStep.Reset p b a = tt
-needs_nothing (ScanStep.Unpin page) p b a = tt
-needs_nothing (ScanStep.Row row value) p b a = tt
-needs_nothing ScanStep.End p b a = tt
-needs_nothing (ScanStep.Pin page) p b a = absurd (p page refl)
-needs_nothing (ScanStep.Bad row) p b a = absurd (b row refl)
-needs_nothing ScanStep.Alloc p b a = absurd (a refl)
+needs_nothing s p b a = grind arith
 
 pub other_part : (name : Text) (st : ScanStep) (s : Scene) → (st ≡ ScanStep.Reset → ⊥) → ((page : ℕ) → st ≡ ScanStep.Unpin page → ⊥) → ((row value : ℕ) → st ≡ ScanStep.Row row value → ⊥) → part_of name st s ≡ nothing s
-other_part name ScanStep.Reset s r u w = absurd (r refl)
-other_part name (ScanStep.Unpin page) s r u w = absurd (u page refl)
-other_part name (ScanStep.Row row value) s r u w = absurd (w row value refl)
-other_part name (ScanStep.Pin page) s r u w = refl
-other_part name (ScanStep.Bad row) s r u w = refl
-other_part name ScanStep.Alloc s r u w = refl
-other_part name ScanStep.End s r u w = refl
+other_part name st s r u w = grind arith
 
 -- a step that was served has no bad row
 pub served_good : (name : Text) (s : ScanStep) (k : ℕ) (a b : Now) (P : List What → Type 0) → Performed k (fallible_part name s) a b P None → is_bad_step s ≡ false
 unfolding does does_all
 served_good name (ScanStep.Bad row) k a b P h = let z : Some (Error.BadRow row) ≡ None = h.answers.answer empty_around None tt in absurd (cc z)
-served_good name ScanStep.Reset k a b P h = refl
-served_good name (ScanStep.Unpin page) k a b P h = refl
-served_good name (ScanStep.Pin page) k a b P h = refl
-served_good name (ScanStep.Row row value) k a b P h = refl
-served_good name ScanStep.Alloc k a b P h = refl
-served_good name ScanStep.End k a b P h = refl
+served_good name other k a b P h = refl

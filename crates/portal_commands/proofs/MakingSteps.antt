@@ -1,6 +1,6 @@
 -- The steps by which a portal is made.
 use Rattle.portal_commands.proofs.Base.{◌≡◌, ◌↔◌, ℕ, ◌≤◌, true, List, [], ◌∷◌, length, Option, Some, None, Result, Ok, Err, refl, sym, ◌∙◌, ap, arith, codes, option_and_then, option_map_or}
-use Rattle.portal_commands.proofs.Words.{first_size, CtxKind, Error, LimitReached, Portal, PortalError, Around, Moment, Scene, in_order, portal_becomes, where_there, PortalContext, RowContext, Text, Element, fallible, does, portal_named, context_made, limit, portal_made, portals_of, session_of, Now, scene_in, IsNew, Call, Rises, limit_free, limit_reached}
+use Rattle.portal_commands.proofs.Words.{first_size, CtxKind, LimitReached, Portal, PortalError, Around, Moment, Scene, in_order, portal_becomes, where_there, PortalContext, RowContext, Text, Element, fallible, does, portal_named, context_made, limit, portal_made, portals_of, session_of, Now, scene_in, IsNew, Call, Rises, limit_free, limit_reached}
 
 pub does_make_portal : (name : Text) (object rows : ℕ) (bad : Option ℕ) (w : Option ℕ) (m : Moment)
     → does w (Element.MakePortal name object rows bad) m ≡ fallible w m (limit 1024 (length m.scene.session.portals)) (portal_made name object rows bad)

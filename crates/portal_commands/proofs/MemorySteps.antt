@@ -1,6 +1,6 @@
 -- The steps by which memory without a name is taken in a context of a portal.
-use Rattle.portal_commands.proofs.Base.{◌≡◌, ◌≢◌, ◌⊎◌, ℕ, ◌+◌, ◌≤◌, ◌==◌, true, false, List, [], ◌∷◌, Option, Some, None, refl, sym, ◌∙◌, ap, subst, inl, inr, arith, option_map, option_map_or}
-use Rattle.portal_commands.proofs.Words.{Asks, Space, TreeError, alloc_refusal, Error, Injected, NoMemory, What, Around, Moment, Scene, Ended, where_there, MemoryRole, Element, fallible, tree_error, does, memory_in, alloc_refused, memory_taken, contexts_in, left_in, session_of, Acted, ContextsAlone, IsSilent, Keeps, Refused, CommonState, ShelfState, balances_none, Now, Performed, scene_in, tree_error_plain, performed_made, performed_step, same_scene_in, Rises, count_behind, grown, lent, still_injected, still_keeps, still_moves, still_refused, step_tree}
+use Rattle.portal_commands.proofs.Base.{◌≡◌, ◌≢◌, ◌⊎◌, ℕ, ◌+◌, ◌≤◌, ◌==◌, true, false, List, [], ◌∷◌, Option, Some, None, refl, sym, ◌∙◌, ap, subst, inl, arith, option_map, option_map_or}
+use Rattle.portal_commands.proofs.Words.{Asks, Space, TreeError, alloc_refusal, Error, Injected, NoMemory, What, Around, Moment, Scene, Ended, where_there, MemoryRole, Element, fallible, tree_error, does, memory_in, alloc_refused, memory_taken, contexts_in, left_in, session_of, Acted, ContextsAlone, IsSilent, Keeps, Refused, CommonState, ShelfState, balances_none, Now, Performed, scene_in, performed_made, performed_step, same_scene_in, Rises, count_behind, grown, lent, still_injected, still_keeps, still_moves, still_refused, step_tree}
 use Rattle.context_rules.specs.Chunks as chunks
 
 module _ (role : MemoryRole) (bytes : ℕ) where

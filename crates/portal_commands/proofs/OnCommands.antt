@@ -2,37 +2,33 @@
 use Rattle.portal_commands.proofs.Base.{◌≡◌, ℕ, ◌+◌, ◌*◌, ◌≤◌, List, [], ◌∷◌, ◌++◌, Option, Some, None, is_some, refl, sym, ◌∙◌, ap, subst, arith, Bool, false, true, is_none, not, Bor, option_copied, option_map, option_map_or}
 use Rattle.portal_commands.proofs.Words.{Asks, Moves, PortalCommand, Error, What, Portal, PortalState, OpenPortal, depth, Around, Moment, portal_becomes, say, unfailing, failure, has_failed, unless, does, Element, Check, Text, portal_named, at_portal, portal_ended, elements, fetch_steps, portal_row, portal_steps, Acted, Keeps, portal_state, portals_of, session_of, Grows, Now, Performed, most_work, scene_in, fails, passes, grows_nothing, moves_nothing, performed_both, performed_end, performed_more, balances_none, silent_then, scan_named}
 use Rattle.portal_store.specs.Portals as list
-use Rattle.portal_commands.proofs.Listed.{named_as, none_named}
+use Rattle.portal_commands.proofs.Listed.{named_as}
 
--- no portal has the name, or one has
+-- what portal has the name
 module _ (name : Text) (a : Now) where
-  pub unnamed : list.portal_named name a.store.portals ≡ None → (around : Around) → portal_named name (scene_in a around).session.portals ≡ None
+  named : (o : Option Portal) → list.portal_named name a.store.portals ≡ o → (around : Around) → portal_named name (scene_in a around).session.portals ≡ option_map portal_state o
   unfolding session_of
-  unnamed none around = none_named name a.store.portals none
-
-  pub named : (p : Portal) → list.portal_named name a.store.portals ≡ Some p → (around : Around) → portal_named name (scene_in a around).session.portals ≡ Some (portal_state p)
-  unfolding session_of
-  named p is around = sym (named_as name a.store.portals) ∙ ap (option_map portal_state) is
+  named o is around = sym (named_as name a.store.portals) ∙ ap (option_map portal_state) is
 
   pub is_new : list.portal_named name a.store.portals ≡ None → (around : Around) → failure (Check.PortalIsNew name) (scene_in a around) ≡ None
-  is_new none around = ap (λ (o : Option OpenPortal). unless (is_none o) Error.PortalTaken) (unnamed none around)
+  is_new none around = ap (λ (o : Option OpenPortal). unless (is_none o) Error.PortalTaken) (named None none around)
 
   pub is_taken : (p : Portal) → list.portal_named name a.store.portals ≡ Some p → (around : Around) → failure (Check.PortalIsNew name) (scene_in a around) ≡ Some Error.PortalTaken
-  is_taken p is around = ap (λ (o : Option OpenPortal). unless (is_none o) Error.PortalTaken) (named p is around)
+  is_taken p is around = ap (λ (o : Option OpenPortal). unless (is_none o) Error.PortalTaken) (named (Some p) is around)
 
   pub is_there : (p : Portal) → list.portal_named name a.store.portals ≡ Some p → (around : Around) → failure (Check.IsPortal name) (scene_in a around) ≡ None
-  is_there p is around = ap (λ (o : Option OpenPortal). unless (is_some o) Error.NoSuchPortal) (named p is around)
+  is_there p is around = ap (λ (o : Option OpenPortal). unless (is_some o) Error.NoSuchPortal) (named (Some p) is around)
 
   pub is_missing : list.portal_named name a.store.portals ≡ None → (around : Around) → failure (Check.IsPortal name) (scene_in a around) ≡ Some Error.NoSuchPortal
-  is_missing none around = ap (λ (o : Option OpenPortal). unless (is_some o) Error.NoSuchPortal) (unnamed none around)
+  is_missing none around = ap (λ (o : Option OpenPortal). unless (is_some o) Error.NoSuchPortal) (named None none around)
 
   pub may_be_fetched : (p : Portal) → list.portal_named name a.store.portals ≡ Some p → has_failed p.state ≡ false → (around : Around) → failure (Check.HasNotFailed name) (scene_in a around) ≡ None
   may_be_fetched p is well around =
-      ap (λ (o : Option OpenPortal). unless (option_map_or (λ q. not (has_failed q.state)) o true) Error.PortalFailed) (named p is around) ∙ ap (λ (b : Bool). unless (not b) Error.PortalFailed) well
+      ap (λ (o : Option OpenPortal). unless (option_map_or (λ q. not (has_failed q.state)) o true) Error.PortalFailed) (named (Some p) is around) ∙ ap (λ (b : Bool). unless (not b) Error.PortalFailed) well
 
   pub has_gone_bad : (p : Portal) → list.portal_named name a.store.portals ≡ Some p → has_failed p.state ≡ true → (around : Around) → failure (Check.HasNotFailed name) (scene_in a around) ≡ Some Error.PortalFailed
   has_gone_bad p is bad around =
-      ap (λ (o : Option OpenPortal). unless (option_map_or (λ q. not (has_failed q.state)) o true) Error.PortalFailed) (named p is around) ∙ ap (λ (b : Bool). unless (not b) Error.PortalFailed) bad
+      ap (λ (o : Option OpenPortal). unless (option_map_or (λ q. not (has_failed q.state)) o true) Error.PortalFailed) (named (Some p) is around) ∙ ap (λ (b : Bool). unless (not b) Error.PortalFailed) bad
 
 -- what an option is, by whether it is there
 pub some_of : {A : Type 0} (o : Option A) → is_some o ≡ true → (x : A) × (o ≡ Some x)
@@ -49,9 +45,7 @@ copied_some None = refl
 copied_some (Some x) = refl
 
 pub not_failed : (s : PortalState) → (s ≡ PortalState.Failed → ⊥) → has_failed s ≡ false
-not_failed PortalState.New h = refl
-not_failed PortalState.Ready h = refl
-not_failed PortalState.Failed h = absurd (h refl)
+not_failed s h = grind arith
 
 pub does_ready : (name : Text) (w : Option ℕ) (m : Moment) → does w (Element.PortalReady name) m ≡ unfailing m (portal_becomes name (λ p. record p { state = PortalState.Ready }))
 unfolding does

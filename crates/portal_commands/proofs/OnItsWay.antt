@@ -211,19 +211,15 @@ named_part : (store : StoreState) (s : Space) (name : Text) (c o r : Bool) → I
 unfolding session_of
 named_part store s name c o r way = go (list.portal_named name store.portals) refl (named_as name store.portals ∙ way.named)
   where
-    known : (i : Option OwnerId) → is_some (option_map (λ (id : OwnerId). id.number) i) ≡ is_some i
-    known None = refl
-    known (Some i) = refl
-
-    seen : (i : Option CtxId) → is_some (option_map (λ (id : CtxId). id.number) i) ≡ is_some i
-    seen None = refl
-    seen (Some i) = refl
+    seen : {A : Type 0} (f : A → ℕ) (i : Option A) → is_some (option_map f i) ≡ is_some i
+    seen f None = refl
+    seen f (Some i) = refl
 
     go : (f : Option Portal) → list.portal_named name store.portals ≡ f → option_map portal_state f ≡ Some way.portal → (p : Portal) × (list.portal_named name store.portals ≡ Some p) × (is_some p.context ≡ c) × (is_some p.owner ≡ o)
     go None e z = absurd (cc z)
     go (Some p) e z =
         let same : portal_state p ≡ way.portal = cc z in
-        (p, e, sym (seen p.context) ∙ ap (λ (q : OpenPortal). is_some q.context) same ∙ way.context, sym (known p.owner) ∙ ap (λ (q : OpenPortal). is_some q.owner) same ∙ way.owner)
+        (p, e, sym (seen (λ (id : CtxId). id.number) p.context) ∙ ap (λ (q : OpenPortal). is_some q.context) same ∙ way.context, sym (seen (λ (id : OwnerId). id.number) p.owner) ∙ ap (λ (q : OpenPortal). is_some q.owner) same ∙ way.owner)
 
 is_some_of : {A : Type 0} (o : Option A) → is_some o ≡ true → IsSome o
 is_some_of None e = absurd (cc e)

@@ -1,6 +1,6 @@
 -- The two calls of a pin that no owner takes.
-use Rattle.portal_commands.proofs.Base.{◌≡◌, ℕ, ◌+◌, ◌==◌, true, false, [], ◌∷◌, Option, Some, None, Result, Ok, Err, OnOk, IfErr, refl, ap, arith}
-use Rattle.portal_commands.proofs.Words.{Error, Injected, buffer_pin, Moment, Scene, Ended, where_there, fallible, does, Element, OwnerRole, owner_in, at_owner, keeper_of, item_taken, take_refused, takes, balances_none, Keeps, session_of, refusal_of, Now, Performed, scene_in, Calls, no_room_for, take, taken_in_room, enlarge, call_done, call_injected}
+use Rattle.portal_commands.proofs.Base.{◌≡◌, ℕ, ◌+◌, ◌==◌, true, false, [], ◌∷◌, Option, Some, None, Result, Ok, Err, OnOk, IfErr, refl, ap}
+use Rattle.portal_commands.proofs.Words.{Error, Injected, buffer_pin, where_there, Element, OwnerRole, owner_in, item_taken, takes, balances_none, Keeps, session_of, refusal_of, Now, Performed, scene_in, Calls, no_room_for, take, taken_in_room, enlarge, call_done, call_injected}
 
 -- what a call of the run says
 abbrev pub Told : Result (Unit {0}) Error → Calls → Type 0

@@ -1,5 +1,5 @@
 -- The elements of a turn: what they do is what they do outside of one, and where one is refused the portal has failed.
-use Rattle.portal_commands.proofs.Base.{◌≡◌, ℕ, false, List, [], ◌∷◌, ◌++◌, map, Option, Some, None, refl, sym, ◌∙◌, ap, subst, arith, flat_map}
+use Rattle.portal_commands.proofs.Base.{◌≡◌, ℕ, false, List, [], ◌∷◌, ◌++◌, map, Option, Some, None, refl, sym, ◌∙◌, ap, subst, arith, flat_map, map-append}
 use Rattle.portal_commands.proofs.Words.{Moves, TreeState, Error, What, Scan, ScanStep, turn, PortalState, Around, Moment, Scene, portal_becomes, asked, asked_all, then_asked, Done, does, does_all, done_behind, failing_turn, then_done, Element, Text, turn_steps, ResourceState, balances_more, Acted, IsSilent, PortalsAlone, StoreState, Fits, at_calls, wants, Now, Performed, Takes, scene_in, step_elements}
 use Rattle.portal_commands.proofs.Listed.{keeps_alone}
 
@@ -25,6 +25,9 @@ pub turned_all : (w : Option ℕ) (name : Text) (xs : List Element) (m : Moment)
 unfolding does does_all
 turned_all w name [] m = refl
 turned_all w name (x ∷ xs) m = one_more name (does_all w xs) (does_all w (map (Element.InTurn name) xs)) (turned_all w name xs) (does w x m) (does w x m).refusal refl
+
+turned_as : (w : Option ℕ) (name : Text) (xs : List Element) (m : Moment) (r : Option Error) → (does_all w xs m).refusal ≡ r → does_all w (map (Element.InTurn name) xs) m ≡ failing_turn name (does_all w xs m) r
+turned_as w name xs m r e = turned_all w name xs m ∙ ap (failing_turn name (does_all w xs m)) e
 
 asked_more : (name : Text) (A B : Moment → ℕ) → ((m : Moment) → B m ≡ A m) → (d : Done) (r : Option Error) → d.refusal ≡ r → then_asked (failing_turn name d r) (failing_turn name d r).refusal B ≡ then_asked d r A
 asked_more name A B all d None is = ap (λ (o : Option Error). then_asked d o B) is ∙ all d.moment
@@ -58,9 +61,7 @@ turn_done name k xs a b P x = record {
 }
   where
     same : (around : Around) (w : Option ℕ) → Fits false b.calls.count w → does_all w (map (Element.InTurn name) xs) (at_calls (scene_in a) a.calls.count a.calls.fail around) ≡ does_all w xs (at_calls (scene_in a) a.calls.count a.calls.fail around)
-    same around w f =
-        turned_all w name xs (at_calls (scene_in a) a.calls.count a.calls.fail around)
-        ∙ ap (failing_turn name (does_all w xs (at_calls (scene_in a) a.calls.count a.calls.fail around))) (x.answers.answer around w f)
+    same around w f = turned_as w name xs (at_calls (scene_in a) a.calls.count a.calls.fail around) None (x.answers.answer around w f)
 
 -- a turn of which an element was refused: the portal fails
 pub turn_failed : (name : Text) (k : ℕ) (xs : List Element) (a b : Now) (st : StoreState) (P : List What → Type 0) (e : Error) → Performed k xs a b P (Some e)
@@ -94,20 +95,14 @@ turn_failed name k xs a b st P e x acted alone = record {
   where
     same : (around : Around) (w : Option ℕ) → Fits (wants (Some e)) b.calls.count w
         → does_all w (map (Element.InTurn name) xs) (at_calls (scene_in a) a.calls.count a.calls.fail around) ≡ failing_turn name (does_all w xs (at_calls (scene_in a) a.calls.count a.calls.fail around)) (Some e)
-    same around w f =
-        turned_all w name xs (at_calls (scene_in a) a.calls.count a.calls.fail around)
-        ∙ ap (failing_turn name (does_all w xs (at_calls (scene_in a) a.calls.count a.calls.fail around))) (x.answers.answer around w f)
-
-map_both : (f : Element → Element) (xs ys : List Element) → map f (xs ++ ys) ≡ map f xs ++ map f ys
-map_both f [] ys = refl
-map_both f (x ∷ xs) ys = ap (λ (zs : List Element). f x ∷ zs) (map_both f xs ys)
+    same around w f = turned_as w name xs (at_calls (scene_in a) a.calls.count a.calls.fail around) (Some e) (x.answers.answer around w f)
 
 -- the elements of steps, each in its turn
 pub turn_is : (name : Text) (ss : List ScanStep) → flat_map (λ s. map (Element.InTurn name) (step_elements name s)) ss ≡ map (Element.InTurn name) (flat_map (step_elements name) ss)
 turn_is name [] = refl
 turn_is name (s ∷ ss) =
     ap (λ (zs : List Element). map (Element.InTurn name) (step_elements name s) ++ zs) (turn_is name ss)
-    ∙ sym (map_both (Element.InTurn name) (step_elements name s) (flat_map (step_elements name) ss))
+    ∙ sym (map-append (Element.InTurn name) (step_elements name s) (flat_map (step_elements name) ss))
 
 pub turn_as : (name : Text) (scan : Scan) (k : ℕ) (a b : Now) (P : List What → Type 0) (r : Option Error) → Performed k (map (Element.InTurn name) (flat_map (step_elements name) (turn scan))) a b P r → Performed k (turn_steps name scan) a b P r
 turn_as name scan k a b P r h = subst (λ (es : List Element). Performed k es a b P r) (sym (turn_is name (turn scan))) h

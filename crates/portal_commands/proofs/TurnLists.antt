@@ -1,5 +1,5 @@
 -- The steps of a turn as a list: which pages they pin, how many calls they make, which step is the last.
-use Rattle.portal_commands.proofs.Base.{◌≡◌, ◌≢◌, ℕ, ◌+◌, ◌<◌, ◌≤◌, ◌==◌, Bool, true, false, List, [], ◌∷◌, ◌++◌, Option, Some, None, refl, sym, ◌∙◌, ap, subst, arith, fold, if◌then◌else◌, flat_map, append_assoc}
+use Rattle.portal_commands.proofs.Base.{◌≡◌, ◌≢◌, ℕ, ◌+◌, ◌<◌, ◌≤◌, ◌==◌, Bool, true, false, List, [], ◌∷◌, ◌++◌, Option, Some, None, refl, sym, ◌∙◌, ap, subst, arith, fold, if◌then◌else◌, flat_map, append-nil, flat_map-append, fold-append}
 use Rattle.portal_commands.proofs.Words.{Scan, Stage, ScanStep, is_bad, is_tenth, left, page_of, page_steps, rest, row_step, row_steps, taken, turn, unpinned, coming, Element, Text, IsPage, cost_of, step_elements}
 use Rattle.exec_core.specs.Turn.{left_in}
 
@@ -32,10 +32,7 @@ turn_pages true scan = both_pages (unpinned scan.page) (ScanStep.End ∷ []) (un
 turn_pages false scan = (tt, both_pages (page_steps scan) (row_steps scan) (page_pages (is_tenth scan) scan) (row_pages (is_bad scan) scan))
 
 left_pages : (in_turn : Stage) (scan : Scan) → ArePages (left_in in_turn scan)
-left_pages Stage.AtRest scan = turn_pages (scan.at == scan.rows) scan
-left_pages Stage.Reset scan = both_pages (page_steps scan) (row_steps scan) (page_pages (is_tenth scan) scan) (row_pages (is_bad scan) scan)
-left_pages Stage.Pinned scan = row_pages (is_bad scan) scan
-left_pages Stage.Allocated scan = (tt, tt)
+left_pages in_turn scan = grind arith
 
 coming_pages : (begins : Bool) (scan : Scan) → ArePages (coming begins scan)
 coming_pages true scan = turn_pages (scan.at == scan.rows) scan
@@ -77,25 +74,11 @@ abbrev pub after : List ScanStep → Scan → Scan
 after ss scan = fold (λ c s. taken s c) scan ss
 
 pub after_more : (xs : List ScanStep) (s : ScanStep) (scan : Scan) → after (xs ++ (s ∷ [])) scan ≡ taken s (after xs scan)
-after_more [] s scan = refl
-after_more (x ∷ xs) s scan = after_more xs s (taken x scan)
+after_more xs s scan = fold-append (λ c t. taken t c) scan xs (s ∷ [])
 
 -- the elements of steps
 pub elements_more : (name : Text) (xs : List ScanStep) (s : ScanStep) → flat_map (step_elements name) (xs ++ (s ∷ [])) ≡ flat_map (step_elements name) xs ++ step_elements name s
-elements_more name [] s = nil_behind (step_elements name s)
-  where
-    nil_behind : (es : List Element) → es ++ [] ≡ es
-    nil_behind [] = refl
-    nil_behind (x ∷ es) = ap (λ (zs : List Element). x ∷ zs) (nil_behind es)
-elements_more name (x ∷ xs) s =
-    ap (λ (zs : List Element). step_elements name x ++ zs) (elements_more name xs s)
-    ∙ sym (append_assoc (step_elements name x) (flat_map (step_elements name) xs) (step_elements name s))
-
-pub elements_both : (name : Text) (xs ys : List ScanStep) → flat_map (step_elements name) (xs ++ ys) ≡ flat_map (step_elements name) xs ++ flat_map (step_elements name) ys
-elements_both name [] ys = refl
-elements_both name (x ∷ xs) ys =
-    ap (λ (zs : List Element). step_elements name x ++ zs) (elements_both name xs ys)
-    ∙ sym (append_assoc (step_elements name x) (flat_map (step_elements name) xs) (flat_map (step_elements name) ys))
+elements_more name xs s = flat_map-append (step_elements name) xs (s ∷ []) ∙ ap (λ (zs : List Element). flat_map (step_elements name) xs ++ zs) (append-nil (step_elements name s))
 
 -- whether a step gives a row, ends the scan, or is another one
 abbrev pub closing : ScanStep → ℕ
@@ -133,13 +116,7 @@ gives_end scan xs s e = (turn_last (scan.at == scan.rows) scan s 0 (ap (λ (ss :
 
 -- what comes behind a step: nothing where it is the turn's last one
 pub rest_last : (s : ScanStep) (scan : Scan) → closing s ≢ 0 → rest s scan ≡ []
-rest_last (ScanStep.Row row value) scan h = refl
-rest_last ScanStep.End scan h = refl
-rest_last (ScanStep.Bad row) scan h = refl
-rest_last ScanStep.Reset scan h = absurd (h refl)
-rest_last (ScanStep.Unpin page) scan h = absurd (h refl)
-rest_last (ScanStep.Pin page) scan h = absurd (h refl)
-rest_last ScanStep.Alloc scan h = absurd (h refl)
+rest_last s scan h = grind arith
 
 -- whether a step can't be served
 abbrev pub is_bad_step : ScanStep → Bool
@@ -147,20 +124,8 @@ is_bad_step (ScanStep.Bad row) = true
 is_bad_step other = false
 
 pub rest_left : (s : ScanStep) (scan : Scan) → closing s ≡ 0 → is_bad_step s ≡ false → rest s scan ≡ left scan
-rest_left (ScanStep.Row row value) scan h n = absurd (omega (arith, h))
-rest_left ScanStep.End scan h n = absurd (omega (arith, h))
-rest_left (ScanStep.Bad row) scan h n = absurd (cc n)
-rest_left ScanStep.Reset scan h n = refl
-rest_left (ScanStep.Unpin page) scan h n = refl
-rest_left (ScanStep.Pin page) scan h n = refl
-rest_left ScanStep.Alloc scan h n = refl
+rest_left s scan h n = grind arith
 
 -- the steps after which a turn goes on
 pub unclosed : (s : ScanStep) → ((row value : ℕ) → s ≡ ScanStep.Row row value → ⊥) → (s ≡ ScanStep.End → ⊥) → closing s ≡ 0
-unclosed (ScanStep.Row row value) r e = absurd (r row value refl)
-unclosed ScanStep.End r e = absurd (e refl)
-unclosed (ScanStep.Bad row) r e = refl
-unclosed ScanStep.Reset r e = refl
-unclosed (ScanStep.Unpin page) r e = refl
-unclosed (ScanStep.Pin page) r e = refl
-unclosed ScanStep.Alloc r e = refl
+unclosed s r e = grind arith

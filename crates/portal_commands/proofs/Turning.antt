@@ -1,8 +1,8 @@
 -- The loops of a turn and of a fetch: what is done and what remains is what is to be done in all.
-use Rattle.portal_commands.proofs.Base.{◌≡◌, ◌≢◌, ℕ, suc, ◌+◌, ◌-◌, ◌*◌, ◌<◌, ◌≤◌, ◌==◌, Bool, true, false, List, [], ◌∷◌, ◌++◌, Option, Some, None, length, refl, sym, ◌∙◌, ap, subst, arith, not, flat_map, option_map_or, append_assoc}
-use Rattle.portal_commands.proofs.Words.{Scan, ScanStep, left, rest, taken, turn, Error, What, coming, OpenPortal, Element, Text, portal_named, after_turn, fallible_part, fetch_steps, turn_steps, StoreState, portals_of, HasRoom, Now, Performed, performed_both, performed_more, performed_none, performed_stop, IsFetching, cost_of, step_elements}
+use Rattle.portal_commands.proofs.Base.{◌≡◌, ◌≢◌, ℕ, suc, ◌+◌, ◌-◌, ◌*◌, ◌<◌, ◌≤◌, ◌==◌, Bool, true, false, List, [], ◌∷◌, ◌++◌, Option, Some, None, length, refl, sym, ◌∙◌, ap, subst, arith, not, flat_map, option_map_or, append_assoc, flat_map-append}
+use Rattle.portal_commands.proofs.Words.{Scan, ScanStep, left, rest, taken, turn, Error, What, coming, OpenPortal, Element, Text, portal_named, after_turn, fallible_part, fetch_steps, turn_steps, StoreState, portals_of, HasRoom, Now, Performed, less_room, room_left, performed_both, performed_more, performed_none, performed_stop, IsFetching, cost_of, step_elements}
 use Rattle.portal_commands.proofs.FetchSteps.{found}
-use Rattle.portal_commands.proofs.TurnLists.{after, after_more, closing, costs, costs_both, elements_both, elements_more, gives_end, gives_row, is_bad_step, rest_last, rest_left, turn_costs}
+use Rattle.portal_commands.proofs.TurnLists.{after, after_more, closing, costs, costs_both, elements_more, gives_end, gives_row, is_bad_step, rest_last, rest_left, turn_costs}
 
 -- a turn that is under way
 pub record IsTurning (name : Text) (first : Scan) (begins : Bool) (a b : Now) (Said : List What → Type 0) : Type 0 where
@@ -35,12 +35,7 @@ module _ (name : Text) (first : Scan) (begins : Bool) (a b c : Now) (P Q : List 
 
   -- there is room for what it needs besides
   pub step_room : HasRoom 3 a → HasRoom (cost_of s) c
-  step_room room = record {
-    contexts = omega (arith, cheap, room.contexts, t.performed.grows.contexts, scans.grows.contexts);
-    owners = omega (arith, cheap, room.owners, t.performed.grows.owners, scans.grows.owners);
-    serials = omega (arith, cheap, room.serials, t.performed.grows.serials, scans.grows.serials);
-    calls = omega (arith, cheap, room.calls, t.performed.grows.calls, scans.grows.calls);
-  }
+  step_room room = room_left 0 (cost_of s) b c (room_left (costs t.done) (0 + cost_of s) a b (less_room (costs t.done + (0 + cost_of s)) 3 a (omega (arith, cheap)) room) t.performed.grows) scans.grows
 
   module _ (d : Now) (R S T : List What → Type 0) (r : Option Error) (served : Performed (cost_of s) (fallible_part name s) c d R r) (near : (us vs : List What) → Q us → R vs → S (us ++ vs)) (far : (us vs : List What) → P us → S vs → T (us ++ vs)) where
     stepped : Performed (costs t.done + cost_of s) (flat_map (step_elements name) (t.done ++ (s ∷ []))) a d T r
@@ -55,7 +50,7 @@ module _ (name : Text) (first : Scan) (begins : Bool) (a b c : Now) (P Q : List 
         let stop : Performed (costs t.done + cost_of s) (flat_map (step_elements name) (t.done ++ (s ∷ [])) ++ flat_map (step_elements name) (rest s (taken s t.scan))) a d T (Some e) =
         performed_stop (costs t.done + cost_of s) (flat_map (step_elements name) (t.done ++ (s ∷ []))) (flat_map (step_elements name) (rest s (taken s t.scan))) a d T e (subst (λ (o : Option Error). Performed (costs t.done + cost_of s) (flat_map (step_elements name) (t.done ++ (s ∷ []))) a d T o) told stepped) in
         let are : flat_map (step_elements name) (t.done ++ (s ∷ [])) ++ flat_map (step_elements name) (rest s (taken s t.scan)) ≡ flat_map (step_elements name) (turn first) =
-        sym (elements_both name (t.done ++ (s ∷ [])) (rest s (taken s t.scan))) ∙ ap (flat_map (step_elements name)) (append_assoc t.done (s ∷ []) (rest s (taken s t.scan)) ∙ whole) in
+        sym (flat_map-append (step_elements name) (t.done ++ (s ∷ [])) (rest s (taken s t.scan))) ∙ ap (flat_map (step_elements name)) (append_assoc t.done (s ∷ []) (rest s (taken s t.scan)) ∙ whole) in
         performed_more (costs t.done + cost_of s) 3 _ a d T (Some e) cheap (subst (λ (es : List Element). Performed (costs t.done + cost_of s) es a d T (Some e)) are stop)
 
     -- where it wasn't, the turn goes on
@@ -128,12 +123,7 @@ module _ (name : Text) (count rows : ℕ) (first : Scan) (a b c : Now) (P Q R : 
   less = omega (arith, more)
 
   pub turn_room : HasRoom (3 * count) a → HasRoom 3 b
-  turn_room room = record {
-    contexts = omega (arith, more, room.contexts, t.performed.grows.contexts);
-    owners = omega (arith, more, room.owners, t.performed.grows.owners);
-    serials = omega (arith, more, room.serials, t.performed.grows.serials);
-    calls = omega (arith, more, room.calls, t.performed.grows.calls);
-  }
+  turn_room room = room_left (3 * rows) 3 a b (less_room (3 * rows + 3) (3 * count) a (omega (arith, more)) room) t.performed.grows
 
   turned : (r : Option Error) → Performed 3 (turn_steps name t.scan) b c Q r → Performed (3 * rows + 3) (t.done ++ turn_steps name t.scan) a c R r
   turned r x = performed_both (3 * rows) 3 t.done (turn_steps name t.scan) a b c P Q R r t.performed x joins

@@ -39,10 +39,10 @@ pub use Rattle.portal_store.specs.declared.portal.PortalState.{PortalState}
 pub use Rattle.portal_store.specs.declared.portal.PortalState.TheVariants.{Ready}
 pub use Rattle.reset_callbacks.specs.ShelfState.{ShelfState}
 pub use Rattle.session_commands.proofs.Chains.{less_room, room_left, silent_stops, silent_then, stops, then_silent}
-pub use Rattle.session_commands.proofs.Commands.{as_row, fails, passes, tree_error_plain}
+pub use Rattle.session_commands.proofs.Commands.{as_row, fails, passes}
 pub use Rattle.session_commands.proofs.HeldItems.{missing_item, no_room_for, take, taken_in_room}
 pub use Rattle.session_commands.proofs.Making.{IsNew, context_done, context_not_made, does_make_context, few_owners, make_owner, many_owners}
-pub use Rattle.session_commands.proofs.Numbering.{item_keeps, keeps_rises, numbers, there_keeps}
+pub use Rattle.session_commands.proofs.Numbering.{keeps_rises, numbers, there_keeps}
 pub use Rattle.session_commands.proofs.Performing.{grows_nothing, moves_nothing, performed_both, performed_end, performed_made, performed_more, performed_none, performed_said, performed_step, performed_stop, same_scene_in}
 pub use Rattle.session_commands.proofs.Pinning.{enlarge, owner_unbegun}
 pub use Rattle.session_commands.proofs.Refusing.{handed}
@@ -71,12 +71,12 @@ unfoldable pub use Rattle.session_rules.specs.Does.{does, does_all}
 pub use Rattle.session_rules.specs.Elements.{Check, Element, InPortal, InRow, MemoryRole, OfPortal, OwnerRole, PortalContext, RowContext, Text}
 pub use Rattle.session_rules.specs.Lookup.{memory_in, owner_in, portal_changed, portal_named}
 pub use Rattle.session_rules.specs.Making.{context_made, limit, new_context_made, new_context_refused, new_owner_made, portal_made}
-pub use Rattle.session_rules.specs.Parts.{at_owner, at_portal, scan_part, scanned}
+pub use Rattle.session_rules.specs.Parts.{at_portal, scan_part, scanned}
 pub use Rattle.session_rules.specs.Portals.{portal_ended}
 pub use Rattle.session_rules.specs.Releases.{NoOne, ThePlans, given_back, item_released, keeper_of}
 pub use Rattle.session_rules.specs.Standing.{IsFetched, IsItem, IsWorking, Stands}
 pub use Rattle.session_rules.specs.State.{LevelState, OpenPortal, SessionState, buffer_pin, depth, first_of, level_owner, owner_of}
-pub use Rattle.session_rules.specs.Taking.{alloc_refused, item_taken, memory_taken, take_refused}
+pub use Rattle.session_rules.specs.Taking.{alloc_refused, item_taken, memory_taken}
 pub use Rattle.session_rules.specs.Works.{after_turn, elements, fallible_part, fetch_steps, portal_row, portal_steps, takes, turn_steps}
 pub use Rattle.session_rules.specs.World.{Around, Moment, Scene}
 pub use Rattle.session_store.specs.Calls.{Acted, BothAlone, ContextsAlone, IsSilent, Keeps, PortalsAlone, Refused}

@@ -1,19 +1,7 @@
 -- How the answers of elements make up the answer of a command.
-use Rattle.std.proofs.Common.{◌≡◌, ℕ, ◌+◌, ◌<◌, ◌≤◌, ◌==◌, Bool, true, false, List, [], ◌∷◌, ◌++◌, Option, Some, None, refl, sym, ◌∙◌, ap, subst, arith, append-nil}
-use Rattle.std.proofs.lemmas.Bool.Decides.{nat_tests}
-use Rattle.std.proofs.lemmas.List.{append_assoc}
-use Rattle.pgs_step.specs.declared.errors.Error.{Error}
-use Rattle.pgs_step.specs.declared.errors.Error.TheVariants.{Injected, NoMemory}
-use Rattle.pgs_step.specs.declared.events.What.{What}
-use Rattle.session_rules.specs.World.{Around, Moment, Scene}
-use Rattle.session_rules.specs.Acts.{Ended, nothing}
-use Rattle.session_rules.specs.Elements.{Check, Element}
+use Rattle.session_commands.proofs.Base.{◌≡◌, ℕ, ◌+◌, ◌<◌, ◌≤◌, ◌==◌, Bool, true, false, List, [], ◌∷◌, ◌++◌, Option, Some, None, refl, sym, ◌∙◌, ap, subst, arith, append-nil, nat_tests, append_assoc}
+use Rattle.session_commands.proofs.Words.{Error, Injected, NoMemory, What, Around, Moment, Scene, Ended, nothing, Check, Element, failure, Done, IsLater, fallible, is_call, refused_call, unfailing, unless_refused, does, does_all, done_behind, then_done, is_want, Answers, Fits, at_calls, wants}
 use Rattle.session_rules.specs.Elements as element
-use Rattle.session_rules.specs.Checks.{failure}
-use Rattle.session_rules.specs.Calls.{Done, IsLater, fallible, is_call, refused_call, unfailing, unless_refused}
-use Rattle.session_rules.specs.Does.{does, does_all, done_behind, then_done}
-use Rattle.session_rules.specs.Transcript.{is_want}
-use Rattle.session_commands.specs.Answers.{Answers, Fits, at_calls, wants}
 
 -- a later call is none of those that were made
 pub later_is_no_call : (w : Option ℕ) (calls call : ℕ) → IsLater calls w → call ≤ calls → is_call w call ≡ false

@@ -1,9 +1,6 @@
 -- Steps one behind the other.
-use Rattle.std.proofs.Common.{◌≡◌, ℕ, ◌+◌, ◌≤◌, List, [], ◌∷◌, ◌++◌, Option, Some, None, refl, sym, ◌∙◌, ap, subst, arith}
-use Rattle.pgs_step.specs.declared.errors.Error.{Error}
-use Rattle.pgs_step.specs.declared.events.What.{What}
-use Rattle.session_rules.specs.Elements.{Element}
-use Rattle.session_commands.specs.Performed.{Grows, HasRoom, Now, Performed}
+use Rattle.session_commands.proofs.Base.{◌≡◌, ℕ, ◌+◌, ◌≤◌, List, [], ◌∷◌, ◌++◌, Option, Some, None, refl, sym, ◌∙◌, ap, subst, arith}
+use Rattle.session_commands.proofs.Words.{Error, What, Element, Grows, HasRoom, Now, Performed}
 use Rattle.session_commands.proofs.Performing.{performed_both, performed_more, performed_said, performed_stop}
 
 -- steps of which one was refused

@@ -1,37 +1,11 @@
 -- Checks and steps of commands on contexts and chunks.
-use Rattle.std.proofs.Common.{◌≡◌, ℕ, ◌+◌, ◌≤◌, false, is_some, OnOk, OnErr, Result, Ok, Err, List, [], ◌∷◌, ◌++◌, Option, Some, None, refl, sym, ◌∙◌, ap, subst, arith}
-use Rattle.std.specs.Option.{option_map, option_and_then}
-use Rattle.pgs_step.specs.declared.errors.Error.{Error}
+use Rattle.session_commands.proofs.Base.{◌≡◌, ℕ, ◌+◌, ◌≤◌, false, is_some, OnOk, OnErr, Result, Ok, Err, List, [], ◌∷◌, Option, Some, None, refl, sym, ◌∙◌, ap, subst, arith, option_map, option_and_then}
+use Rattle.session_commands.proofs.Words.{Error, What, Asks, Space, ShelfState, TreeError, Moves, SessionState, Around, Moment, Scene, Ended, where_there, Check, Element, Text, reset_refusal, reset_only_refusal, delete_refusal, set_parent_refusal, error_of, unfailing, does, asked_all, asks_in, failure, refusal_at, space_error, tree_error, unless, context_named, at_context, is_want, Row, elements, CommonState, StoreState, contexts_in, scene_of, session_of, Acted, ContextsAlone, Keeps, Refused, Calls, Answers, Fits, at_calls, wants, Now, Performed, most_calls, scene_in}
 use Rattle.pgs_step.specs.declared.errors.Error.TheVariants as error
-use Rattle.pgs_step.specs.declared.events.What.{What}
-use Rattle.addr_space.specs.Space.{Asks, Space}
-use Rattle.reset_callbacks.specs.ShelfState.{ShelfState}
-use Rattle.context_rules.specs.declared.errors.TreeError.{TreeError}
-use Rattle.context_tree.specs.State.{Moves}
-use Rattle.session_rules.specs.State.{SessionState}
-use Rattle.session_rules.specs.World.{Around, Moment, Scene}
-use Rattle.session_rules.specs.Acts.{Ended, where_there}
-use Rattle.session_rules.specs.Elements.{Check, Element, Text}
 use Rattle.session_rules.specs.Elements as element
 use Rattle.chunk_header.specs.declared.CtxError.{CtxError}
 use Rattle.chunk_header.specs.declared.CtxError.TheVariants as space
 use Rattle.context_rules.specs.declared.errors.TreeError.TheVariants as tree
-use Rattle.context_rules.specs.Refusals.{reset_refusal, reset_only_refusal, delete_refusal, set_parent_refusal}
-use Rattle.context_tree.specs.State.{error_of}
-use Rattle.session_rules.specs.Calls.{unfailing}
-use Rattle.session_rules.specs.Does.{does}
-use Rattle.session_rules.specs.Asked.{asked_all, asks_in}
-use Rattle.session_rules.specs.Checks.{failure, refusal_at, space_error, tree_error, unless}
-use Rattle.session_rules.specs.Lookup.{context_named}
-use Rattle.session_rules.specs.Parts.{at_context}
-use Rattle.session_rules.specs.Transcript.{is_want}
-use Rattle.session_rules.specs.Works.{Row, elements}
-use Rattle.session_owners.specs.Commons.{CommonState}
-use Rattle.session_store.specs.State.{StoreState, contexts_in, scene_of, session_of}
-use Rattle.session_store.specs.Calls.{Acted, ContextsAlone, Keeps, Refused}
-use Rattle.session_commands.specs.declared.calls.Calls.{Calls}
-use Rattle.session_commands.specs.Answers.{Answers, Fits, at_calls, wants}
-use Rattle.session_commands.specs.Performed.{Now, Performed, most_calls, scene_in}
 use Rattle.session_commands.proofs.Takings.{takes_on}
 use Rattle.session_commands.proofs.Chains.{silent_then, stops}
 use Rattle.session_commands.proofs.Performing.{Raises, performed_act, performed_check, performed_fails, performed_more, answers_as, same_scene_in}
@@ -116,21 +90,11 @@ acted_at name n act a b s t x y c d P e h = record {
 -- no refusal of a call is a want of memory, as rules tell it
 space_error_plain : (e : CtxError) → is_want (space_error e) ≡ false
 space_error_plain space.TooBig = refl
-space_error_plain space.NoSpace = refl
-space_error_plain space.WrongSize = refl
-space_error_plain space.Unsupported = refl
-space_error_plain space.Memory = refl
+space_error_plain other = refl
 
 pub tree_error_plain : (e : TreeError) → is_want (tree_error e) ≡ false
-tree_error_plain tree.NoName = refl
-tree_error_plain tree.Taken = refl
-tree_error_plain tree.Protected = refl
-tree_error_plain tree.InUse = refl
-tree_error_plain tree.Cycle = refl
-tree_error_plain tree.Range = refl
-tree_error_plain tree.TooMany = refl
 tree_error_plain (tree.Ctx e) = space_error_plain e
-tree_error_plain tree.Memory = refl
+tree_error_plain other = refl
 
 -- a command that tests the context of a name and then acts on it
 module _ (name : Text) (check : Check) (x : Element) (act : ℕ → Scene → Ended) (is : (w : Option ℕ) (m : Moment) → does w x m ≡ unfailing m (at_context name act))

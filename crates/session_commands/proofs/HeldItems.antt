@@ -1,38 +1,13 @@
 -- The steps by which an owner takes a reference, and by which the deepest level's gives an item back.
-use Rattle.std.proofs.Common.{◌≡◌, ℕ, ◌+◌, ◌==◌, true, false, find, is_some, List, [], ◌∷◌, ◌++◌, Option, Some, None, Result, Ok, Err, refl, sym, ◌∙◌, ap, subst, arith}
-use Rattle.std.specs.Option.{ok_or, option_and_then}
-use Rattle.pgs_step.specs.declared.errors.Error.{Error}
+use Rattle.session_commands.proofs.Base.{◌≡◌, ℕ, ◌+◌, ◌==◌, false, find, is_some, List, [], ◌∷◌, Option, Some, None, Result, Ok, Err, refl, sym, ◌∙◌, ap, subst, arith, ok_or, option_and_then}
+use Rattle.session_commands.proofs.Words.{Error, What, Item, KindId, OwnerId, Asks, Space, OwnerError, items_of, owners_of, level_owner, snapshot_reference, Around, Moment, Scene, Ended, in_order, where_there, OfLevel, OwnerRole, fallible, unfailing, unless, does, newest, newest_of_level, owner_in, at_owner, Keeper, NoOne, item_released, keeper_of, item_taken, remembers, take_refused, taken_by, IsReference, StoreState, session_of, Moves, Acted, Keeps, Refused, IsLevelOwner, IsOwnerOf, Now, Performed, most_calls, scene_in}
 use Rattle.pgs_step.specs.declared.errors.Error.TheVariants as error
-use Rattle.pgs_step.specs.declared.events.What.{What}
-use Rattle.pgs_step.specs.declared.ids.Item.{Item}
-use Rattle.pgs_step.specs.declared.ids.KindId.{KindId}
-use Rattle.pgs_step.specs.declared.ids.OwnerId.{OwnerId}
 use Rattle.pgs_command.specs.declared.kinds.ReferenceClass.{ReferenceClass}
-use Rattle.pgs_command.specs.declared.kinds.ReferenceClass.TheVariants.{Relcache, Catcache, CatcacheList, TupleDescriptor}
+use Rattle.pgs_command.specs.declared.kinds.ReferenceClass.TheVariants.{Relcache}
 use Rattle.pgs_command.specs.Kinds.{class_kind}
-use Rattle.addr_space.specs.Space.{Asks, Space}
 use Rattle.owner_items.specs.ItemList.{is_of}
-use Rattle.owner_core.specs.declared.errors.OwnerError.{OwnerError}
 use Rattle.owner_core.specs.declared.errors.OwnerError.TheVariants.{NotOwned}
-use Rattle.session_owners.specs.ResourceState.{items_of, owners_of}
-use Rattle.session_rules.specs.State.{level_owner, snapshot_reference}
-use Rattle.session_rules.specs.World.{Around, Moment, Scene}
-use Rattle.session_rules.specs.Acts.{Ended, in_order, where_there}
-use Rattle.session_rules.specs.Elements.{OfLevel, OwnerRole}
 use Rattle.session_rules.specs.Elements as element
-use Rattle.session_rules.specs.Calls.{fallible, unfailing}
-use Rattle.session_rules.specs.Checks.{unless}
-use Rattle.session_rules.specs.Does.{does}
-use Rattle.session_rules.specs.Lookup.{newest, newest_of_level, owner_in}
-use Rattle.session_rules.specs.Parts.{at_owner}
-use Rattle.session_rules.specs.Releases.{Keeper, NoOne, TheDescriptors, TheKind, ThePlans, item_released, keeper_of}
-use Rattle.session_rules.specs.Taking.{item_taken, remembers, take_refused, taken_by}
-use Rattle.session_owners.specs.Counted.{IsReference}
-use Rattle.session_store.specs.State.{StoreState, session_of}
-use Rattle.context_tree.specs.State.{Moves}
-use Rattle.session_store.specs.Calls.{Acted, Keeps, Refused}
-use Rattle.session_commands.specs.Deepest.{IsLevelOwner, IsOwnerOf}
-use Rattle.session_commands.specs.Performed.{Now, Performed, most_calls, scene_in}
 use Rattle.session_commands.proofs.Commands.{fails, passes_end, unchanged}
 use Rattle.session_commands.proofs.Numbering.{item_keeps, keeps_rises, there_keeps}
 use Rattle.session_commands.proofs.Performing.{performed_end}
@@ -51,9 +26,7 @@ take_rises role kind key s = go (owner_in role s.session)
   where
     by_keeper : (n : ℕ) (k : Keeper) → Rises 1 s (in_order (taken_by k key ∷ remembers n kind key ∷ []) s).scene
     by_keeper n NoOne = record { contexts = omega arith; owners = omega arith; serials = omega arith; descriptors = refl }
-    by_keeper n ThePlans = record { contexts = omega arith; owners = omega arith; serials = omega arith; descriptors = refl }
-    by_keeper n TheDescriptors = record { contexts = omega arith; owners = omega arith; serials = omega arith; descriptors = refl }
-    by_keeper n (TheKind place) = record { contexts = omega arith; owners = omega arith; serials = omega arith; descriptors = refl }
+    by_keeper n other = record { contexts = omega arith; owners = omega arith; serials = omega arith; descriptors = refl }
 
     go : (o : Option ℕ) → Rises 1 s (where_there o (λ owner. item_taken owner kind key) s).scene
     go None = record { contexts = omega arith; owners = omega arith; serials = omega arith; descriptors = refl }
@@ -87,9 +60,7 @@ unkept_free kind a unkept around = ap (λ (k : Keeper). take_refused k (scene_in
 -- the classes of references
 pub class_counted : (class : ReferenceClass) → IsReference (class_kind class)
 class_counted Relcache = record { from = omega arith; to = omega arith; unkept = refl }
-class_counted Catcache = record { from = omega arith; to = omega arith; unkept = refl }
-class_counted CatcacheList = record { from = omega arith; to = omega arith; unkept = refl }
-class_counted TupleDescriptor = record { from = omega arith; to = omega arith; unkept = refl }
+class_counted other = record { from = omega arith; to = omega arith; unkept = refl }
 
 pub snapshot_counted : IsReference snapshot_reference
 snapshot_counted = record { from = omega arith; to = omega arith; unkept = refl }

@@ -19,3 +19,6 @@ pub mod Refusing
 pub mod OnTelling
 pub mod OnPlans
 pub mod Making
+pub mod Base
+pub mod Words
+pub mod Lemmas

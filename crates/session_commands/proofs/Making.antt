@@ -1,32 +1,9 @@
 -- The contexts and the owners that steps make.
-use Rattle.std.proofs.Common.{◌≡◌, ◌≢◌, ◌⊎◌, ◌↔◌, ℕ, ◌+◌, ◌<◌, ◌≤◌, ◌==◌, true, false, List, [], ◌∷◌, Option, Some, None, Result, Ok, Err, refl, sym, ◌∙◌, ap, subst, arith}
-use Rattle.std.specs.Option.{option_map}
-use Rattle.addr_space.specs.Space.{Asks}
-use Rattle.any_ctx.specs.Kinds.{first_size}
-use Rattle.any_ctx.specs.declared.any.CtxKind.{CtxKind}
-use Rattle.context_rules.specs.declared.errors.TreeError.{TreeError}
+use Rattle.session_commands.proofs.Base.{◌≡◌, ◌≢◌, ◌⊎◌, ◌↔◌, ℕ, ◌+◌, ◌≤◌, ◌==◌, true, false, List, [], ◌∷◌, Option, Some, None, Result, Ok, Err, refl, sym, ◌∙◌, ap, subst, arith, option_map}
+use Rattle.session_commands.proofs.Words.{Asks, first_size, CtxKind, TreeError, create_refusal, AsksInVain, Moves, size, OwnerError, Error, LimitReached, NoMemory, What, owners_of, Around, Moment, Scene, asks_in, NewContext, OfLevel, OfPortal, OwnerRole, Text, fallible, tree_error, does, left, limit, new_context_made, new_context_refused, new_owner_made, contexts_in, left_in, session_of, Acted, Keeps, Refused, Now, Performed, scene_in}
 use Rattle.context_rules.specs.declared.errors.TreeError.TheVariants as tree
-use Rattle.context_rules.specs.Refusals.{create_refusal}
-use Rattle.context_tree.specs.Making.{AsksInVain}
-use Rattle.context_tree.specs.State.{Moves}
-use Rattle.forest.specs.Forest.{size}
-use Rattle.owner_core.specs.declared.errors.OwnerError.{OwnerError}
 use Rattle.owner_core.specs.declared.errors.OwnerError.TheVariants as owner
-use Rattle.pgs_step.specs.declared.errors.Error.{Error}
-use Rattle.pgs_step.specs.declared.errors.Error.TheVariants.{LimitReached, NoMemory}
-use Rattle.pgs_step.specs.declared.events.What.{What}
-use Rattle.session_owners.specs.ResourceState.{owners_of}
-use Rattle.session_rules.specs.World.{Around, Moment, Scene}
-use Rattle.session_rules.specs.Asked.{asks_in}
-use Rattle.session_rules.specs.Elements.{NewContext, OfLevel, OfPortal, OwnerRole, Text}
 use Rattle.session_rules.specs.Elements as element
-use Rattle.session_rules.specs.Calls.{fallible}
-use Rattle.session_rules.specs.Checks.{tree_error}
-use Rattle.session_rules.specs.Does.{does}
-use Rattle.session_rules.specs.Making.{left, limit, new_context_made, new_context_refused, new_owner_made}
-use Rattle.session_store.specs.State.{contexts_in, left_in, session_of}
-use Rattle.session_store.specs.Calls.{Acted, Keeps, Refused}
-use Rattle.session_commands.specs.Performed.{Now, Performed, scene_in}
 use Rattle.session_commands.proofs.Performing.{performed_made}
 use Rattle.session_commands.proofs.Stepping.{Call, Rises, count_behind, grown, limit_free, limit_reached, step_tree}
 

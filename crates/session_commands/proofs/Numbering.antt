@@ -1,16 +1,10 @@
 -- What is given back leaves the numbers that the next context, owner and item get.
-use Rattle.std.proofs.Common.{◌≡◌, ℕ, Bool, true, false, List, [], ◌∷◌, Option, Some, None, refl, ◌∙◌, ap, arith}
-use Rattle.std.specs.Prelude.{◌==◌, ◌-◌, ◌&&◌}
+use Rattle.session_commands.proofs.Base.{◌≡◌, ℕ, Bool, true, false, List, [], ◌∷◌, Option, Some, None, refl, ◌∙◌, ap, arith, ◌-◌, ◌&&◌}
+use Rattle.session_commands.proofs.Words.{Item, KindId, StandingPlan, Scene, Ended, changes, for_each, in_order, say, where_so, where_there, newest, plan_at, Keeper, NoOne, TheDescriptors, TheKind, ThePlans, given_back, item_released, keeper_of, left_to, plan_becomes, plan_settled, plan_stays}
+use Rattle.std.specs.Prelude.{◌==◌}
 use Rattle.pgs_step.specs.declared.events.What.TheVariants as what
-use Rattle.pgs_step.specs.declared.ids.Item.{Item}
-use Rattle.pgs_step.specs.declared.ids.KindId.{KindId}
 use Rattle.file_table.specs.Descriptors.{is_among, without}
 use Rattle.owner_core.specs.Owners.{forgotten}
-use Rattle.session_rules.specs.State.{StandingPlan}
-use Rattle.session_rules.specs.World.{Scene}
-use Rattle.session_rules.specs.Acts.{Ended, changes, for_each, in_order, say, where_so, where_there}
-use Rattle.session_rules.specs.Lookup.{newest, plan_at}
-use Rattle.session_rules.specs.Releases.{Keeper, NoOne, TheDescriptors, TheKind, ThePlans, given_back, item_released, keeper_of, left_to, plan_becomes, plan_settled, plan_stays}
 use Rattle.session_commands.proofs.Stepping.{Rises}
 
 -- the three numbers, and how many descriptors there are

@@ -1,35 +1,12 @@
 -- What the commands on chunks perform.
-use Rattle.std.proofs.Common.{◌≡◌, ◌≢◌, ◌⊎◌, ℕ, ◌+◌, ◌==◌, Bool, true, false, not, OnOk, OnErr, IfOk, IfErr, Result, Ok, Err, List, [], ◌∷◌, length, Option, Some, None, refl, sym, ◌∙◌, ap, subst, arith, inl, inr}
-use Rattle.std.specs.Option.{option_map}
-use Rattle.pgs_step.specs.declared.errors.Error.{Error}
+use Rattle.session_commands.proofs.Base.{◌≡◌, ◌≢◌, ◌⊎◌, ℕ, ◌+◌, ◌==◌, Bool, true, false, OnOk, OnErr, IfOk, IfErr, Result, Ok, Err, List, [], ◌∷◌, length, Option, Some, None, refl, sym, ◌∙◌, ap, subst, arith, inl, inr, option_map}
+use Rattle.session_commands.proofs.Words.{Error, What, Asks, Space, ShelfState, TreeError, alloc_refusal, bytes_refusal, free_refusal, is_chunk, put_refusal, realloc_refusal, error_of, Around, Moment, Scene, Ended, say, where_there, Check, Element, InCurrent, Text, fallible, unfailing, failure, tree_error, unless, does, asks_in, memory_in, contexts_become, alloc_refused, chunk_resized, memory_taken, resize_refused, is_want, CommonState, balances_none, StoreState, contexts_in, held_in, left_in, session_of, Acted, ContextsAlone, IsSilent, Keeps, Refused, Calls, Now, Performed, most_calls, scene_in}
+use Rattle.std.proofs.Common.{not}
 use Rattle.pgs_step.specs.declared.errors.Error.TheVariants as error
-use Rattle.pgs_step.specs.declared.events.What.{What}
 use Rattle.pgs_step.specs.declared.events.What.TheVariants as what
-use Rattle.addr_space.specs.Space.{Asks, Space}
-use Rattle.reset_callbacks.specs.ShelfState.{ShelfState}
-use Rattle.context_rules.specs.declared.errors.TreeError.{TreeError}
 use Rattle.context_rules.specs.declared.errors.TreeError.TheVariants as tree
 use Rattle.context_rules.specs.Chunks.{asked, freed, resized_asked, shown, written}
-use Rattle.context_rules.specs.Refusals.{alloc_refusal, bytes_refusal, free_refusal, is_chunk, put_refusal, realloc_refusal}
-use Rattle.context_tree.specs.State.{TreeState, Agrees, Moves, error_of}
-use Rattle.session_rules.specs.World.{Around, Moment, Scene}
-use Rattle.session_rules.specs.Acts.{Ended, say, where_there}
-use Rattle.session_rules.specs.Elements.{Check, Element, InCurrent, Text}
 use Rattle.session_rules.specs.Elements as element
-use Rattle.session_rules.specs.Calls.{fallible, unfailing}
-use Rattle.session_rules.specs.Checks.{failure, tree_error, unless}
-use Rattle.session_rules.specs.Does.{does}
-use Rattle.session_rules.specs.Asked.{asks_in}
-use Rattle.session_rules.specs.Lookup.{memory_in}
-use Rattle.session_rules.specs.Parts.{contexts_become}
-use Rattle.session_rules.specs.Taking.{alloc_refused, chunk_resized, memory_taken, resize_refused}
-use Rattle.session_rules.specs.Transcript.{is_want}
-use Rattle.session_owners.specs.Commons.{CommonState}
-use Rattle.session_owners.proofs.Balances.{balances_none}
-use Rattle.session_store.specs.State.{StoreState, contexts_in, held_in, left_in, session_of}
-use Rattle.session_store.specs.Calls.{Acted, ContextsAlone, IsSilent, Keeps, Refused}
-use Rattle.session_commands.specs.declared.calls.Calls.{Calls}
-use Rattle.session_commands.specs.Performed.{Now, Performed, most_calls, scene_in}
 use Rattle.session_commands.proofs.Performing.{Raises, moves_nothing, performed_act, performed_end, performed_injected, performed_own, performed_step, performed_want}
 use Rattle.session_commands.proofs.Commands.{fails, passes, passes_call, tree_error_plain, unchanged}
 use Rattle.session_commands.proofs.Stepping.{memory_or_not}

@@ -1,23 +1,7 @@
 -- What the commands on contexts perform.
-use Rattle.std.proofs.Common.{◌≡◌, ℕ, List, [], ◌∷◌, Option, Some, OnOk, OnErr, Result, refl, sym, ◌∙◌, ap, arith}
-use Rattle.std.specs.Option.{option_map}
-use Rattle.pgs_step.specs.declared.events.What.{What}
-use Rattle.addr_space.specs.Space.{Asks, Space}
-use Rattle.context_rules.specs.declared.errors.TreeError.{TreeError}
-use Rattle.context_rules.specs.Refusals.{reset_refusal, reset_only_refusal, delete_refusal}
-use Rattle.context_tree.specs.State.{error_of}
-use Rattle.session_rules.specs.World.{Moment}
-use Rattle.session_rules.specs.Acts.{children_gone, context_cleared, context_cleared_alone, context_gone}
-use Rattle.session_rules.specs.Elements.{Text}
+use Rattle.session_commands.proofs.Base.{◌≡◌, ℕ, List, [], ◌∷◌, Option, Some, OnOk, OnErr, Result, refl, sym, ◌∙◌, ap, arith, option_map}
+use Rattle.session_commands.proofs.Words.{What, Asks, TreeError, reset_refusal, reset_only_refusal, delete_refusal, error_of, Moment, children_gone, context_cleared, context_cleared_alone, context_gone, Text, tree_error, context_named, at_context, unfailing, does, contexts_in, session_of, Acted, ContextsAlone, Keeps, Refused, Now, Performed, most_calls}
 use Rattle.session_rules.specs.Elements as element
-use Rattle.session_rules.specs.Checks.{tree_error}
-use Rattle.session_rules.specs.Lookup.{context_named}
-use Rattle.session_rules.specs.Parts.{at_context}
-use Rattle.session_rules.specs.Calls.{unfailing}
-use Rattle.session_rules.specs.Does.{does}
-use Rattle.session_store.specs.State.{StoreState, contexts_in, session_of}
-use Rattle.session_store.specs.Calls.{Acted, ContextsAlone, Keeps, Refused}
-use Rattle.session_commands.specs.Performed.{Now, Performed, most_calls}
 use Rattle.session_commands.proofs.Commands.{may_delete, may_reset, may_reset_only, on_context}
 
 does_reset : (name : Text) (w : Option ℕ) (m : Moment) → does w (element.Reset name) m ≡ unfailing m (at_context name context_cleared)

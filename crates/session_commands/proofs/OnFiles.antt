@@ -1,27 +1,9 @@
 -- The steps by which the deepest level's owner takes a file, and by which a file gets a descriptor.
-use Rattle.std.proofs.Common.{◌≡◌, ◌≢◌, ◌↔◌, ℕ, ◌+◌, ◌≤◌, ◌==◌, Bool, true, false, List, [], ◌∷◌, length, Option, Some, None, Result, Ok, Err, refl, sym, ◌∙◌, ap, subst, inl, inr, arith}
-use Rattle.std.specs.Prelude.{not}
-use Rattle.std.proofs.lemmas.Bool.{cases_lt}
-use Rattle.pgs_step.specs.declared.errors.Error.{Error}
-use Rattle.pgs_step.specs.declared.errors.Error.TheVariants.{LimitReached, NameTaken, NoMemory, NoSuchName}
-use Rattle.pgs_step.specs.declared.events.What.{What}
+use Rattle.session_commands.proofs.Base.{◌≡◌, ◌≢◌, ◌↔◌, ℕ, ◌+◌, ◌≤◌, ◌==◌, Bool, true, false, List, [], ◌∷◌, length, Option, Some, None, Result, Ok, Err, refl, sym, ◌∙◌, ap, subst, inl, inr, arith, not, cases_lt}
+use Rattle.session_commands.proofs.Words.{Error, LimitReached, NameTaken, NoMemory, NoSuchName, What, owners_of, files_held, file_kind, holds, Around, Moment, Scene, OfLevel, fallible, failure, unless, does, TheDescriptors, descriptor_given, take_refused, session_of, Keeps, Now, Performed, most_calls, scene_in}
 use Rattle.file_table.specs.declared.files.FileError.{FileError}
 use Rattle.file_table.specs.declared.files.FileError.TheVariants.{Memory, NoFile, Taken, TooMany}
-use Rattle.session_owners.specs.ResourceState.{owners_of}
-use Rattle.session_owners.specs.Counted.{files_held}
-use Rattle.session_rules.specs.State.{file_kind}
-use Rattle.session_rules.specs.Counts.{holds}
-use Rattle.session_rules.specs.World.{Around, Moment, Scene}
-use Rattle.session_rules.specs.Elements.{Element, OfLevel}
 use Rattle.session_rules.specs.Elements as element
-use Rattle.session_rules.specs.Calls.{fallible}
-use Rattle.session_rules.specs.Checks.{failure, unless}
-use Rattle.session_rules.specs.Does.{does}
-use Rattle.session_rules.specs.Releases.{TheDescriptors}
-use Rattle.session_rules.specs.Taking.{descriptor_given, take_refused}
-use Rattle.session_store.specs.State.{session_of}
-use Rattle.session_store.specs.Calls.{Keeps}
-use Rattle.session_commands.specs.Performed.{Now, Performed, most_calls, scene_in}
 use Rattle.session_commands.proofs.Commands.{fails, passes, passes_call}
 use Rattle.session_commands.proofs.HeldItems.{no_room_for, take, taken_in_room}
 use Rattle.session_commands.proofs.Stepping.{Call, Rises, call_refused, call_wants, lent, limit_free, limit_reached}

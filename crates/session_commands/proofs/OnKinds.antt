@@ -1,38 +1,12 @@
 -- The steps by which the deepest level's owner takes an item of an extension kind, and by which it gives one back.
-use Rattle.std.proofs.Common.{◌≡◌, ◌↔◌, ℕ, zero, suc, ◌+◌, ◌-◌, ◌<◌, ◌≤◌, ◌==◌, Bool, true, false, List, [], ◌∷◌, ◌++◌, length, IfSome, Option, Some, None, Result, Ok, Err, refl, sym, ◌∙◌, ap, subst, arith}
-use Rattle.std.specs.Prelude.{if◌then◌else◌, is_some, nat_le, slice_get}
-use Rattle.std.specs.Option.{option_and_then}
-use Rattle.std.proofs.lemmas.Bool.{ne_eqb}
-use Rattle.std.proofs.lemmas.Bool.Decides.{nat_tests}
-use Rattle.std.proofs.lemmas.List.{length-map}
-use Rattle.pgs_step.specs.declared.errors.Error.{Error}
-use Rattle.pgs_step.specs.declared.errors.Error.TheVariants.{KindLimit, NoMemory, NoSuchName, NotHeld}
-use Rattle.pgs_step.specs.declared.events.What.{What}
-use Rattle.pgs_step.specs.declared.ids.KindId.{KindId}
-use Rattle.pgs_step.specs.declared.ids.OwnerId.{OwnerId}
+use Rattle.session_commands.proofs.Base.{◌≡◌, ◌↔◌, ℕ, zero, suc, ◌+◌, ◌<◌, ◌≤◌, ◌==◌, Bool, true, false, List, [], ◌∷◌, length, IfSome, Option, Some, None, Result, Ok, Err, refl, sym, ◌∙◌, ap, subst, arith, if◌then◌else◌, nat_le, slice_get, option_and_then, ne_eqb, nat_tests, length-map}
+use Rattle.session_commands.proofs.Words.{Error, KindLimit, NoMemory, NoSuchName, NotHeld, What, KindId, OwnerId, table_of, IsExtension, level_owner, Around, Moment, Scene, Ended, in_order, nothing, where_there, Check, Element, OfLevel, Text, asked_all, asks_in, then_asked, where_done, Done, fallible, unfailing, unless_refused, failure, unless, does, does_all, done_behind, then_done, kind_named, newest_of_level, at_kind, at_owner, Keeper, NoOne, TheKind, item_released, keeper_of, full, item_taken, remembers, take_refused, taken_by, asked_both, asked_one, asked_so, Acted, Keeps, at_calls, wants, IsLevelOwner, Now, Performed, Takes, most_calls, scene_in}
+use Rattle.std.proofs.Common.{◌-◌}
+use Rattle.std.specs.Prelude.{is_some}
 use Rattle.owner_kinds.specs.Kind.{IsFull, Kind}
-use Rattle.owner_kinds.specs.KindShelf.{table_of}
-use Rattle.owner_kinds.specs.KindTable.{IsExtension}
 use Rattle.owner_kinds.specs.declared.ext_kind.KindError.{KindError}
 use Rattle.owner_kinds.specs.declared.ext_kind.KindError.TheVariants.{Full, Memory}
-use Rattle.session_rules.specs.State.{level_owner}
-use Rattle.session_rules.specs.World.{Around, Moment, Scene}
-use Rattle.session_rules.specs.Acts.{Ended, in_order, nothing, where_there}
-use Rattle.session_rules.specs.Elements.{Check, Element, OfLevel, Text}
 use Rattle.session_rules.specs.Elements as element
-use Rattle.session_rules.specs.Asked.{asked_all, asks_in, then_asked, where_done}
-use Rattle.session_rules.specs.Calls.{Done, fallible, unfailing, unless_refused}
-use Rattle.session_rules.specs.Checks.{failure, unless}
-use Rattle.session_rules.specs.Does.{does, does_all, done_behind, then_done}
-use Rattle.session_rules.specs.Lookup.{kind_named, newest_of_level}
-use Rattle.session_rules.specs.Parts.{at_kind, at_owner}
-use Rattle.session_rules.specs.Releases.{Keeper, NoOne, TheDescriptors, TheKind, ThePlans, item_released, keeper_of}
-use Rattle.session_rules.specs.Taking.{full, item_taken, remembers, take_refused, taken_by}
-use Rattle.session_rules.proofs.Asking.{asked_both, asked_one, asked_so}
-use Rattle.session_store.specs.Calls.{Acted, Keeps}
-use Rattle.session_commands.specs.Answers.{at_calls, wants}
-use Rattle.session_commands.specs.Deepest.{IsLevelOwner}
-use Rattle.session_commands.specs.Performed.{Now, Performed, Takes, most_calls, scene_in}
 use Rattle.session_commands.proofs.Answered.{does_one}
 use Rattle.session_commands.proofs.Commands.{fails, passes}
 use Rattle.session_commands.proofs.Chains.{silent_stops, silent_then}
@@ -54,9 +28,7 @@ named_rises name key s = by_kind (kind_named name s.around.kinds)
   where
     by_keeper : (n : ℕ) (kind : KindId) (k : Keeper) → Rises 1 s (in_order (taken_by k key ∷ remembers n kind key ∷ []) s).scene
     by_keeper n kind NoOne = record { contexts = omega arith; owners = omega arith; serials = omega arith; descriptors = refl }
-    by_keeper n kind ThePlans = record { contexts = omega arith; owners = omega arith; serials = omega arith; descriptors = refl }
-    by_keeper n kind TheDescriptors = record { contexts = omega arith; owners = omega arith; serials = omega arith; descriptors = refl }
-    by_keeper n kind (TheKind place) = record { contexts = omega arith; owners = omega arith; serials = omega arith; descriptors = refl }
+    by_keeper n kind other = record { contexts = omega arith; owners = omega arith; serials = omega arith; descriptors = refl }
 
     by_owner : (kind : KindId) (o : Option ℕ) → Rises 1 s (where_there o (λ owner. item_taken owner kind key) s).scene
     by_owner kind None = record { contexts = omega arith; owners = omega arith; serials = omega arith; descriptors = refl }

@@ -1,34 +1,13 @@
 -- The steps by which the deepest level's owner takes a lock and gives one back.
-use Rattle.std.proofs.Common.{◌≡◌, ◌↔◌, ℕ, ◌+◌, ◌==◌, Bool, true, false, List, [], ◌∷◌, Option, Some, None, Result, Ok, Err, refl, sym, ◌∙◌, ap, subst, arith}
-use Rattle.std.specs.Option.{option_map, option_map_or}
-use Rattle.std.specs.Prelude.{IsErrOf, IsOkUnless, nat_lt}
-use Rattle.std.proofs.lemmas.Bool.Decides.{nat_tests}
-use Rattle.pgs_step.specs.declared.errors.Error.{Error}
+use Rattle.session_commands.proofs.Base.{◌≡◌, ◌↔◌, ℕ, ◌+◌, ◌==◌, Bool, true, false, List, [], ◌∷◌, Option, Some, None, Result, Ok, Err, refl, sym, ◌∙◌, ap, subst, arith, option_map, option_map_or, IsErrOf, IsOkUnless, nat_lt, nat_tests}
+use Rattle.session_commands.proofs.Words.{Error, LockHeld, NoMemory, What, OwnerId, Space, ResourceState, Around, Moment, Scene, Ended, where_there, OfLevel, OwnerRole, owner_in, fallible, unfailing, lock_count, unless, does, at_owner, lock_given_back, lock_refused, lock_taken, StoreState, session_of, Acted, Keeps, IsLevelOwner, IsOwnerOf, Now, Performed, most_calls, scene_in}
 use Rattle.pgs_step.specs.declared.errors.Error.TheVariants as error
-use Rattle.pgs_step.specs.declared.errors.Error.TheVariants.{LockHeld, NoMemory}
-use Rattle.pgs_step.specs.declared.events.What.{What}
-use Rattle.pgs_step.specs.declared.ids.OwnerId.{OwnerId}
 use Rattle.pgs_step.specs.declared.lock_modes.Mode.{Mode}
-use Rattle.addr_space.specs.Space.{Space}
 use Rattle.lock_shared.specs.Ranked.{beside, least_conflict}
 use Rattle.lock_local.specs.declared.errors.LockError.{LockError}
 use Rattle.lock_local.specs.declared.errors.LockError.TheVariants.{Conflict, Memory, NotHeld}
 use Rattle.lock_local.specs.Locks.{Lock, count_of}
-use Rattle.session_owners.specs.ResourceState.{ResourceState}
-use Rattle.session_rules.specs.World.{Around, Moment, Scene}
-use Rattle.session_rules.specs.Acts.{Ended, where_there}
-use Rattle.session_rules.specs.Elements.{OfLevel, OwnerRole}
-use Rattle.session_rules.specs.Lookup.{owner_in}
 use Rattle.session_rules.specs.Elements as element
-use Rattle.session_rules.specs.Calls.{fallible, unfailing}
-use Rattle.session_rules.specs.Checks.{lock_count, unless}
-use Rattle.session_rules.specs.Does.{does}
-use Rattle.session_rules.specs.Parts.{at_owner, lock_given_back}
-use Rattle.session_rules.specs.Taking.{lock_refused, lock_taken}
-use Rattle.session_store.specs.State.{StoreState, session_of}
-use Rattle.session_store.specs.Calls.{Acted, Keeps}
-use Rattle.session_commands.specs.Deepest.{IsLevelOwner, IsOwnerOf}
-use Rattle.session_commands.specs.Performed.{Now, Performed, most_calls, scene_in}
 use Rattle.session_commands.proofs.Commands.{fails, passes, unchanged}
 use Rattle.session_commands.proofs.Performing.{performed_end}
 use Rattle.session_commands.proofs.Stepping.{Call, Rises, call_done, call_refused, call_wants, lent, moves_same, still_keeps, still_moves, still_refused}

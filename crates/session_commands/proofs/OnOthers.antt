@@ -1,37 +1,13 @@
 -- What the other commands on contexts perform.
-use Rattle.std.proofs.Common.{◌≡◌, ℕ, ◌+◌, ◌==◌, ◌≤◌, ◌↔◌, ◌≢◌, ◌⊎◌, inl, inr, not, Bool, true, false, List, [], ◌∷◌, Option, Some, None, OnOk, OnErr, Result, Ok, Err, refl, sym, ◌∙◌, ap, subst, arith}
-use Rattle.std.specs.Option.{option_map, option_map_or}
-use Rattle.pgs_step.specs.declared.errors.Error.{Error}
+use Rattle.session_commands.proofs.Base.{◌≡◌, ℕ, ◌+◌, ◌==◌, ◌≤◌, ◌↔◌, ◌≢◌, ◌⊎◌, inl, inr, Bool, true, false, List, [], ◌∷◌, Option, Some, None, OnOk, OnErr, Result, Ok, Err, refl, sym, ◌∙◌, ap, subst, arith, option_map, option_map_or}
+use Rattle.session_commands.proofs.Words.{Error, What, Asks, Space, ShelfState, TreeError, create_refusal, is_taken, set_parent_refusal, first_size, AsksInVain, error_of, first_of, Moment, Scene, Ended, switched, where_there, hook_refused, hook_registered, hook_waits, Element, NewContext, Text, context_made, new_context_made, new_context_refused, CtxKind, tree_error, unless, context_named, at_context, context_moved, fallible, unfailing, does, CommonState, StoreState, contexts_in, left_in, session_of, Acted, ContextsAlone, Keeps, Refused, Now, Performed, most_calls, scene_in}
+use Rattle.std.proofs.Common.{not}
 use Rattle.pgs_step.specs.declared.errors.Error.TheVariants as error
-use Rattle.pgs_step.specs.declared.events.What.{What}
-use Rattle.addr_space.specs.Space.{Asks, Space}
 use Rattle.reset_callbacks.specs.Hook.{Hook}
-use Rattle.reset_callbacks.specs.ShelfState.{ShelfState}
-use Rattle.context_rules.specs.declared.errors.TreeError.{TreeError}
-use Rattle.context_rules.specs.Refusals.{create_refusal, is_taken, set_parent_refusal}
-use Rattle.any_ctx.specs.Kinds.{first_size}
-use Rattle.context_tree.specs.Making.{AsksInVain}
-use Rattle.context_tree.specs.State.{error_of}
-use Rattle.session_rules.specs.State.{first_of}
-use Rattle.session_rules.specs.World.{Moment, Scene}
-use Rattle.session_rules.specs.Acts.{Ended, switched, where_there}
-use Rattle.session_rules.specs.Taking.{hook_refused, hook_registered, hook_waits}
-use Rattle.session_rules.specs.Elements.{Element, NewContext, Text}
-use Rattle.session_rules.specs.Making.{context_made, new_context_made, new_context_refused}
-use Rattle.any_ctx.specs.declared.any.CtxKind.{CtxKind}
 use Rattle.context_rules.specs.declared.errors.TreeError.TheVariants as tree
 use Rattle.session_rules.specs.Elements as element
-use Rattle.session_rules.specs.Checks.{tree_error, unless}
-use Rattle.session_rules.specs.Lookup.{context_named}
-use Rattle.session_rules.specs.Parts.{at_context, context_moved}
-use Rattle.session_rules.specs.Calls.{fallible, unfailing}
-use Rattle.session_rules.specs.Does.{does}
-use Rattle.session_owners.specs.Commons.{CommonState}
 use Rattle.session_store.specs.declared.hooks.RegisterError.{RegisterError}
 use Rattle.session_store.specs.declared.hooks.RegisterError.TheVariants as register
-use Rattle.session_store.specs.State.{StoreState, contexts_in, left_in, session_of}
-use Rattle.session_store.specs.Calls.{Acted, ContextsAlone, Keeps, Refused}
-use Rattle.session_commands.specs.Performed.{Now, Performed, most_calls, scene_in}
 use Rattle.session_commands.proofs.Making.{does_make_context}
 use Rattle.session_commands.proofs.Stepping.{step_tree}
 use Rattle.session_commands.proofs.Performing.{Raises, performed_act, performed_injected, performed_own, performed_step, performed_want}

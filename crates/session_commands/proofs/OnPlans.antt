@@ -1,39 +1,12 @@
 -- What the commands on plans perform.
-use Rattle.std.proofs.Common.{◌≡◌, ◌≢◌, ◌⊎◌, ℕ, ◌+◌, ◌==◌, Bool, true, false, is_some, List, [], ◌∷◌, length, Option, Some, None, refl, sym, ◌∙◌, ap, inl, inr, arith}
-use Rattle.std.proofs.lemmas.List.{length-map}
-use Rattle.std.specs.Prelude.{codes, is_none, nat_lt, not}
-use Rattle.std.proofs.lemmas.Bool.{cases_lt}
-use Rattle.std.proofs.lemmas.Bool.Decides.{nat_tests}
-use Rattle.std.specs.Option.{option_map, option_map_or, option_or}
-use Rattle.pgs_step.specs.declared.errors.Error.{Error}
+use Rattle.session_commands.proofs.Base.{◌≡◌, ◌≢◌, ◌⊎◌, ℕ, ◌+◌, ◌==◌, Bool, true, false, is_some, List, [], ◌∷◌, length, Option, Some, None, refl, sym, ◌∙◌, ap, inl, inr, arith, length-map, codes, is_none, nat_lt, not, cases_lt, nat_tests, option_map, option_map_or, option_or}
+use Rattle.session_commands.proofs.Words.{Error, What, Asks, ShelfState, first_size, TreeError, create_refusal, AsksInVain, SessionState, StandingPlan, plan_reference, Around, Moment, Scene, Ended, where_there, Element, OfLevel, fallible, unfailing, tree_error, unless, does, plan_at, context_refused, limit, plan_made, plan_becomes, CommonState, plan_state, StoreState, contexts_in, left_in, session_of, Acted, BothAlone, Keeps, Unmade, Grows, Now, Performed, most_calls, scene_in}
 use Rattle.pgs_step.specs.declared.errors.Error.TheVariants as error
-use Rattle.pgs_step.specs.declared.events.What.{What}
-use Rattle.addr_space.specs.Space.{Asks}
-use Rattle.reset_callbacks.specs.ShelfState.{ShelfState}
-use Rattle.any_ctx.specs.Kinds.{first_size}
 use Rattle.any_ctx.specs.declared.any.CtxKind.TheVariants as kind
-use Rattle.context_rules.specs.declared.errors.TreeError.{TreeError}
 use Rattle.context_rules.specs.declared.errors.TreeError.TheVariants as tree
-use Rattle.context_rules.specs.Refusals.{create_refusal, where_so}
-use Rattle.context_tree.specs.Making.{AsksInVain}
-use Rattle.context_tree.specs.State.{Moves}
-use Rattle.session_rules.specs.State.{SessionState, StandingPlan, plan_reference}
-use Rattle.session_rules.specs.World.{Around, Moment, Scene}
-use Rattle.session_rules.specs.Acts.{Ended, where_there}
-use Rattle.session_rules.specs.Elements.{Element, OfLevel}
+use Rattle.context_rules.specs.Refusals.{where_so}
 use Rattle.session_rules.specs.Elements as element
-use Rattle.session_rules.specs.Calls.{fallible, unfailing}
-use Rattle.session_rules.specs.Checks.{tree_error, unless}
-use Rattle.session_rules.specs.Does.{does}
-use Rattle.session_rules.specs.Lookup.{plan_at}
-use Rattle.session_rules.specs.Making.{context_refused, limit, plan_made}
-use Rattle.session_rules.specs.Releases.{plan_becomes}
-use Rattle.session_owners.specs.Commons.{CommonState}
-use Rattle.session_owners.specs.ResourceState.{plan_state}
-use Rattle.session_store.specs.State.{StoreState, contexts_in, left_in, session_of}
-use Rattle.session_store.specs.Calls.{Acted, BothAlone, Keeps, Unmade}
 use Rattle.session_store.specs.Plans.{plan_refusal}
-use Rattle.session_commands.specs.Performed.{Grows, Now, Performed, most_calls, scene_in}
 use Rattle.session_commands.proofs.Commands.{fails, no_call, passes, passes_call, tree_error_plain}
 use Rattle.session_commands.proofs.HeldItems.{no_room_for, taken_in_room}
 use Rattle.session_commands.proofs.Numbering.{becomes_keeps, keeps_rises, there_keeps}

@@ -1,25 +1,9 @@
 -- The steps by which a snapshot becomes active, and by which it is active no more.
-use Rattle.std.proofs.Common.{◌≡◌, ◌↔◌, ℕ, ◌+◌, ◌==◌, Bool, true, false, List, [], ◌∷◌, length, Option, Some, None, Result, Ok, Err, refl, ap, arith}
-use Rattle.std.specs.Prelude.{◌-◌, take, IsErr}
-use Rattle.pgs_step.specs.declared.errors.Error.{Error}
-use Rattle.pgs_step.specs.declared.errors.Error.TheVariants.{NotHeld}
-use Rattle.pgs_step.specs.declared.events.What.{What}
+use Rattle.session_commands.proofs.Base.{◌≡◌, ◌↔◌, ℕ, Bool, true, false, List, [], ◌∷◌, length, Option, Some, None, Result, Ok, Err, refl, ap, arith, ◌-◌, take, IsErr}
+use Rattle.session_commands.proofs.Words.{NotHeld, What, Space, last_of, Moment, Scene, changes, in_order, say, where_there, fallible, unfailing, holds_snapshot, unless, does, snapshot_popped, snapshot_pushed, session_of, Acted, Keeps, Calls, Now, Performed, most_calls}
 use Rattle.pgs_step.specs.declared.events.What.TheVariants as what
-use Rattle.addr_space.specs.Space.{Space}
 use Rattle.snap_table.specs.declared.active.Active.{Active}
-use Rattle.session_rules.specs.State.{last_of}
-use Rattle.session_rules.specs.World.{Moment, Scene}
-use Rattle.session_rules.specs.Acts.{changes, in_order, say, where_there}
 use Rattle.session_rules.specs.Elements as element
-use Rattle.session_rules.specs.Calls.{fallible, unfailing}
-use Rattle.session_rules.specs.Checks.{holds_snapshot, unless}
-use Rattle.session_rules.specs.Does.{does}
-use Rattle.session_rules.specs.Parts.{snapshot_popped}
-use Rattle.session_rules.specs.Taking.{snapshot_pushed}
-use Rattle.session_store.specs.State.{session_of}
-use Rattle.session_store.specs.Calls.{Acted, Keeps}
-use Rattle.session_commands.specs.declared.calls.Calls.{Calls}
-use Rattle.session_commands.specs.Performed.{Now, Performed, most_calls}
 use Rattle.session_commands.proofs.Commands.{fails, passes_end, unchanged}
 use Rattle.session_commands.proofs.Performing.{performed_end}
 use Rattle.session_commands.proofs.Stepping.{Call, Rises, grown, lent, moves_same, still_keeps, still_moves, still_refused}

@@ -1,23 +1,10 @@
 -- Commands that only tell what is there.
-use Rattle.std.proofs.Common.{◌≡◌, ℕ, ◌<◌, ◌≤◌, List, [], ◌∷◌, Option, Some, None, refl, sym, subst}
+use Rattle.session_commands.proofs.Base.{◌≡◌, ℕ, ◌<◌, ◌≤◌, List, [], ◌∷◌, Option, Some, None, refl, sym, subst}
+use Rattle.session_commands.proofs.Words.{NoSuchBuffer, What, Asks, counts, Around, Moment, Scene, Element, unfailing, does, asks_in, pinning, tells, balances_none, contexts_in, session_of, Keeps, Now, Performed, most_calls, scene_in}
 use Rattle.pgs_step.specs.declared.counters.SessionCounts.{SessionCounts}
-use Rattle.pgs_step.specs.declared.errors.Error.TheVariants.{NoSuchBuffer}
-use Rattle.pgs_step.specs.declared.events.What.{What}
 use Rattle.pgs_step.specs.declared.events.What.TheVariants as what
-use Rattle.addr_space.specs.Space.{Asks}
 use Rattle.context_rules.specs.Reports.{report}
-use Rattle.session_rules.specs.Counts.{counts}
-use Rattle.session_rules.specs.World.{Around, Moment, Scene}
-use Rattle.session_rules.specs.Elements.{Element}
 use Rattle.session_rules.specs.Elements as element
-use Rattle.session_rules.specs.Calls.{unfailing}
-use Rattle.session_rules.specs.Does.{does}
-use Rattle.session_rules.specs.Asked.{asks_in}
-use Rattle.session_rules.specs.Parts.{pinning, tells}
-use Rattle.session_owners.proofs.Balances.{balances_none}
-use Rattle.session_store.specs.State.{contexts_in, session_of}
-use Rattle.session_store.specs.Calls.{Keeps}
-use Rattle.session_commands.specs.Performed.{Now, Performed, most_calls, scene_in}
 use Rattle.session_commands.proofs.Commands.{fails, passes}
 use Rattle.session_commands.proofs.Performing.{grows_nothing, moves_nothing, performed_end}
 use Rattle.session_commands.proofs.Pinning.{buffer_fails, buffer_passes}

@@ -1,30 +1,8 @@
 -- How what methods perform makes up what a command performs.
-use Rattle.std.proofs.Common.{◌≡◌, ℕ, ◌+◌, ◌≤◌, ◌==◌, true, false, List, [], ◌∷◌, ◌++◌, Option, Some, None, refl, sym, ◌∙◌, ap, subst, arith}
-use Rattle.pgs_step.specs.declared.errors.Error.{Error}
-use Rattle.pgs_step.specs.declared.errors.Error.TheVariants.{Injected, NoMemory}
-use Rattle.pgs_step.specs.declared.events.What.{What}
-use Rattle.addr_space.specs.Space.{Asks, Space}
-use Rattle.reset_callbacks.specs.ShelfState.{ShelfState}
-use Rattle.context_tree.specs.State.{TreeState, Agrees, Moves}
+use Rattle.session_commands.proofs.Base.{◌≡◌, ℕ, ◌+◌, ◌≤◌, ◌==◌, true, false, List, [], ◌∷◌, ◌++◌, Option, Some, None, refl, sym, ◌∙◌, ap, subst, arith}
+use Rattle.session_commands.proofs.Words.{Error, Injected, NoMemory, What, Asks, Space, ShelfState, TreeState, Agrees, Moves, SessionState, Around, Moment, Scene, Ended, Check, Element, failure, fallible, unfailing, does, asks_in, is_want, ResourceState, Balances, CommonState, seen_by, balances_more, balances_none, StoreState, scene_of, session_of, Acted, ContextsAlone, Keeps, Refused, Calls, Answers, Now, Grows, Performed, Takes, scene_in}
 use Rattle.context_tree.proofs.Composed.{tree_more}
-use Rattle.session_rules.specs.State.{SessionState}
-use Rattle.session_rules.specs.World.{Around, Moment, Scene}
-use Rattle.session_rules.specs.Acts.{Ended}
-use Rattle.session_rules.specs.Elements.{Check, Element}
 use Rattle.session_rules.specs.Elements as element
-use Rattle.session_rules.specs.Checks.{failure}
-use Rattle.session_rules.specs.Calls.{fallible, unfailing}
-use Rattle.session_rules.specs.Does.{does}
-use Rattle.session_rules.specs.Asked.{asks_in}
-use Rattle.session_rules.specs.Transcript.{is_want}
-use Rattle.session_owners.specs.ResourceState.{ResourceState}
-use Rattle.session_owners.specs.Commons.{Balances, CommonState, seen_by}
-use Rattle.session_owners.proofs.Balances.{balances_more, balances_none}
-use Rattle.session_store.specs.State.{StoreState, scene_of, session_of}
-use Rattle.session_store.specs.Calls.{Acted, ContextsAlone, Keeps, Refused}
-use Rattle.session_commands.specs.declared.calls.Calls.{Calls}
-use Rattle.session_commands.specs.Answers.{Answers}
-use Rattle.session_commands.specs.Performed.{Now, Grows, Performed, Takes, scene_in}
 use Rattle.session_commands.proofs.Standing.{empty_around}
 use Rattle.session_commands.proofs.Takings.{taken_both, taken_none, taken_one, taken_stop, takes_nothing}
 use Rattle.session_commands.proofs.Answered.{answers_act, answers_both, answers_check, answers_fails, answers_injected, answers_none, answers_own, answers_step, answers_stop, answers_want}

@@ -1,31 +1,10 @@
 -- Room for an item, the owner that takes it, and the check of a buffer.
-use Rattle.std.proofs.Common.{◌≡◌, ℕ, ◌+◌, ◌<◌, ◌≤◌, ◌==◌, true, false, List, [], ◌∷◌, ◌++◌, Option, Some, None, refl, sym, ◌∙◌, ap, subst, arith}
-use Rattle.std.proofs.lemmas.Bool.Decides.{nat_tests}
-use Rattle.std.specs.Prelude.{nat_lt}
-use Rattle.pgs_step.specs.declared.errors.Error.{Error}
-use Rattle.pgs_step.specs.declared.errors.Error.TheVariants.{NoSuchBuffer}
-use Rattle.pgs_step.specs.declared.events.What.{What}
-use Rattle.pgs_step.specs.declared.ids.OwnerId.{OwnerId}
-use Rattle.addr_space.specs.Space.{Space}
-use Rattle.forest.specs.Forest.{has}
-use Rattle.session_owners.specs.ResourceState.{has_begun, owners_of}
-use Rattle.session_rules.specs.State.{LevelState, SessionState, buffer_pin, level_owner}
-use Rattle.session_rules.specs.World.{Moment, Scene}
-use Rattle.session_rules.specs.Acts.{nothing}
-use Rattle.session_rules.specs.Elements.{Element, OfLevel, OwnerRole}
+use Rattle.session_commands.proofs.Base.{◌≡◌, ℕ, ◌<◌, ◌≤◌, true, false, List, [], ◌∷◌, Option, Some, None, refl, ◌∙◌, ap, arith, nat_tests, nat_lt}
+use Rattle.session_commands.proofs.Words.{Error, NoSuchBuffer, What, OwnerId, Space, has, has_begun, owners_of, LevelState, SessionState, buffer_pin, level_owner, Moment, Scene, nothing, OfLevel, OwnerRole, fallible, failure, does, owner_in, StoreState, levels_of, session_of, Keeps, IsWorking, IsOwnerOf, Now, IsBetweenSteps, Performed, most_calls, scene_in}
 use Rattle.session_rules.specs.Elements as element
-use Rattle.session_rules.specs.Calls.{fallible}
-use Rattle.session_rules.specs.Checks.{failure}
-use Rattle.session_rules.specs.Does.{does}
-use Rattle.session_rules.specs.Lookup.{owner_in}
 use Rattle.session_rules.proofs.LevelsKept.{is_there}
 use Rattle.session_rules.proofs.Standings.{not_begun}
 use Rattle.session_rules.proofs.StepsStand.{settled_as}
-use Rattle.session_store.specs.State.{StoreState, levels_of, session_of}
-use Rattle.session_store.specs.Calls.{Keeps}
-use Rattle.session_rules.specs.Standing.{IsWorking}
-use Rattle.session_commands.specs.Deepest.{IsOwnerOf}
-use Rattle.session_commands.specs.Performed.{Now, IsBetweenSteps, Performed, most_calls, scene_in}
 use Rattle.session_commands.proofs.Commands.{fails, passes}
 use Rattle.session_commands.proofs.Standing.{empty_around}
 use Rattle.session_commands.proofs.Stepping.{Call}

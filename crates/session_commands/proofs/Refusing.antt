@@ -1,21 +1,8 @@
 -- The refusals of calls on a store, as answers of commands.
-use Rattle.std.proofs.Common.{◌≡◌, ℕ, List, [], Some, None, OnErr, OnOk, Result, Ok, Err, refl, sym, ap, subst}
-use Rattle.std.specs.Option.{option_map}
+use Rattle.session_commands.proofs.Base.{◌≡◌, ℕ, List, [], Some, OnErr, OnOk, Result, Ok, Err, refl, sym, ap, subst, option_map}
+use Rattle.session_commands.proofs.Words.{Error, What, Space, ShelfState, TreeError, error_of, Element, tree_error, CommonState, StoreState, session_of, ContextsAlone, Keeps, Refused, refusal_of, Now, Performed}
 use Rattle.std.specs.Result.{IsErrAnd, MatchResult}
 use Rattle.std.proofs.lemmas.Result.{err_from_is_err_and}
-use Rattle.pgs_step.specs.declared.errors.Error.{Error}
-use Rattle.pgs_step.specs.declared.events.What.{What}
-use Rattle.addr_space.specs.Space.{Space}
-use Rattle.reset_callbacks.specs.ShelfState.{ShelfState}
-use Rattle.context_rules.specs.declared.errors.TreeError.{TreeError}
-use Rattle.context_tree.specs.State.{error_of}
-use Rattle.session_rules.specs.Elements.{Element}
-use Rattle.session_rules.specs.Checks.{tree_error}
-use Rattle.session_owners.specs.Commons.{CommonState}
-use Rattle.session_store.specs.State.{StoreState, session_of}
-use Rattle.session_store.specs.Calls.{ContextsAlone, Keeps, Refused}
-use Rattle.session_commands.specs.Answers.{refusal_of}
-use Rattle.session_commands.specs.Performed.{Now, Performed}
 use Rattle.session_commands.proofs.Performing.{moves_nothing}
 
 module _ {A : Type 0} {k : ℕ} {es : List Element} {a b : Now} {P : List What → Type 0} where

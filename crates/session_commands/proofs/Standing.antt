@@ -1,21 +1,8 @@
 -- A session stands behind what it performed.
-use Rattle.std.proofs.Common.{◌≡◌, ℕ, Bool, true, false, List, [], ◌∷◌, Option, Some, None, OnOk, Result, Ok, Err, refl, ◌∙◌, subst}
-use Rattle.std.specs.Prelude.{All}
-use Rattle.pgs_step.specs.declared.errors.Error.{Error}
-use Rattle.pgs_step.specs.declared.events.What.{What}
+use Rattle.session_commands.proofs.Base.{◌≡◌, ℕ, Bool, true, false, List, [], Option, Some, None, OnOk, Result, Ok, Err, refl, ◌∙◌, subst, All}
+use Rattle.session_commands.proofs.Words.{Error, What, LevelState, OpenPortal, opening, Around, Moment, Scene, Element, does_all, IsAtRest, IsWorking, Stands, elements, row_of, Serves, serves_still, levels_of, portals_of, session_of, Fits, at_calls, refusal_of, wants, Now, IsBetweenSteps, Performed, scene_in}
 use Rattle.pgs_command.specs.declared.commands.Work.{Work}
-use Rattle.session_rules.specs.State.{LevelState, OpenPortal, opening}
-use Rattle.session_rules.specs.World.{Around, Moment, Scene}
-use Rattle.session_rules.specs.Elements.{Element}
-use Rattle.session_rules.specs.Does.{does_all}
-use Rattle.session_rules.specs.Standing.{IsAtRest, IsWorking, Stands}
-use Rattle.session_rules.specs.Works.{elements, row_of}
 use Rattle.session_rules.proofs.TurnStands.{At, Leads, work_leads}
-use Rattle.session_owners.specs.Commons.{Serves}
-use Rattle.session_owners.proofs.Balances.{serves_still}
-use Rattle.session_store.specs.State.{levels_of, portals_of, session_of}
-use Rattle.session_commands.specs.Answers.{Fits, at_calls, refusal_of, wants}
-use Rattle.session_commands.specs.Performed.{Now, IsBetweenSteps, Performed, scene_in}
 
 -- a refused call that an answer speaks of
 pub fitting : Bool → ℕ → Option ℕ

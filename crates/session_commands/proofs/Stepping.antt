@@ -1,31 +1,7 @@
 -- Steps of a session that are one fallible call.
-use Rattle.std.proofs.Common.{◌≡◌, ◌≢◌, ◌⊎◌, ℕ, ◌+◌, ◌<◌, ◌≤◌, ◌==◌, true, false, List, [], ◌∷◌, Option, Some, None, refl, sym, ◌∙◌, ap, subst, inl, inr, arith}
-use Rattle.std.specs.Prelude.{nat_le}
-use Rattle.std.specs.Option.{option_map}
-use Rattle.std.proofs.lemmas.Bool.Decides.{nat_tests}
-use Rattle.pgs_step.specs.declared.errors.Error.{Error}
-use Rattle.pgs_step.specs.declared.errors.Error.TheVariants.{Injected, LimitReached, NoMemory}
-use Rattle.pgs_step.specs.declared.events.What.{What}
-use Rattle.addr_space.specs.Space.{Asks, Space}
-use Rattle.reset_callbacks.specs.ShelfState.{ShelfState}
-use Rattle.context_rules.specs.declared.errors.TreeError.{TreeError}
+use Rattle.session_commands.proofs.Base.{◌≡◌, ◌≢◌, ◌⊎◌, ℕ, ◌+◌, ◌<◌, ◌≤◌, ◌==◌, true, false, List, [], ◌∷◌, Option, Some, None, refl, sym, ◌∙◌, ap, subst, inl, inr, arith, nat_le, option_map, nat_tests}
+use Rattle.session_commands.proofs.Words.{Error, Injected, LimitReached, NoMemory, What, Asks, Space, ShelfState, TreeError, AsksInVain, TreeState, Agrees, Moves, Around, Moment, Scene, Ended, Element, fallible, tree_error, does, asks_in, is_want, limit, CommonState, StoreState, session_of, Acted, Keeps, Refused, Calls, Now, Grows, Performed, scene_in}
 use Rattle.context_rules.specs.declared.errors.TreeError.TheVariants as tree
-use Rattle.context_tree.specs.Making.{AsksInVain}
-use Rattle.context_tree.specs.State.{TreeState, Agrees, Moves}
-use Rattle.session_rules.specs.World.{Around, Moment, Scene}
-use Rattle.session_rules.specs.Acts.{Ended}
-use Rattle.session_rules.specs.Elements.{Element}
-use Rattle.session_rules.specs.Calls.{fallible}
-use Rattle.session_rules.specs.Checks.{tree_error}
-use Rattle.session_rules.specs.Does.{does}
-use Rattle.session_rules.specs.Asked.{asks_in}
-use Rattle.session_rules.specs.Transcript.{is_want}
-use Rattle.session_rules.specs.Making.{limit}
-use Rattle.session_owners.specs.Commons.{CommonState}
-use Rattle.session_store.specs.State.{StoreState, session_of}
-use Rattle.session_store.specs.Calls.{Acted, Keeps, Refused}
-use Rattle.session_commands.specs.declared.calls.Calls.{Calls}
-use Rattle.session_commands.specs.Performed.{Now, Grows, Performed, scene_in}
 use Rattle.session_commands.proofs.Performing.{moves_nothing, performed_injected, performed_made, performed_own, performed_want}
 use Rattle.session_commands.proofs.Commands.{tree_error_plain}
 use Rattle.session_commands.proofs.Standing.{empty_around}
@@ -58,15 +34,8 @@ limit_reached most n more = let e : nat_le most n ≡ true = grind (arith, nat_t
 
 -- what is refused for want of memory, and what isn't
 pub memory_or_not : (e : TreeError) → (e ≡ tree.Memory) ⊎ (e ≢ tree.Memory)
-memory_or_not tree.NoName = inr (λ z. cc z)
-memory_or_not tree.Taken = inr (λ z. cc z)
-memory_or_not tree.Protected = inr (λ z. cc z)
-memory_or_not tree.InUse = inr (λ z. cc z)
-memory_or_not tree.Cycle = inr (λ z. cc z)
-memory_or_not tree.Range = inr (λ z. cc z)
-memory_or_not tree.TooMany = inr (λ z. cc z)
-memory_or_not (tree.Ctx e) = inr (λ z. cc z)
 memory_or_not tree.Memory = inl refl
+memory_or_not other = inr (λ z. cc z)
 
 -- the count behind a call
 pub count_behind : (a b : Now) → b.calls ≡ record a.calls { count = a.calls.count + 1 } → b.calls.count ≡ a.calls.count + 1

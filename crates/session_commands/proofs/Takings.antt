@@ -1,20 +1,8 @@
 -- What accounts take by elements, one behind the other.
-use Rattle.std.proofs.Common.{◌≡◌, ◌≢◌, ℕ, ◌+◌, Bool, true, false, List, [], ◌∷◌, ◌++◌, Option, Some, None, refl, sym, ◌∙◌, ap, subst, inl, inr, arith}
-use Rattle.pgs_step.specs.declared.errors.Error.{Error}
-use Rattle.pgs_step.specs.declared.events.What.{What}
-use Rattle.addr_space.specs.Space.{Space, Asks}
+use Rattle.session_commands.proofs.Base.{◌≡◌, ◌≢◌, ℕ, ◌+◌, Bool, true, false, List, [], ◌∷◌, ◌++◌, Option, Some, None, refl, sym, ◌∙◌, ap, subst, inl, inr, arith}
+use Rattle.session_commands.proofs.Words.{Error, What, Space, Asks, TreeError, AsksInVain, Around, Moment, Element, Done, IsLater, does, does_all, asked_all, asks_in, then_asked, where_done, asked_both, asked_one, asked_so, Answers, at_calls, wants, Now, Taken, Takes, scene_in}
 use Rattle.addr_space.proofs.Asked.{Asks-more}
-use Rattle.context_rules.specs.declared.errors.TreeError.{TreeError}
 use Rattle.context_rules.specs.declared.errors.TreeError.TheVariants as tree
-use Rattle.context_tree.specs.Making.{AsksInVain}
-use Rattle.session_rules.specs.World.{Around, Moment}
-use Rattle.session_rules.specs.Elements.{Element}
-use Rattle.session_rules.specs.Calls.{Done, IsLater}
-use Rattle.session_rules.specs.Does.{does, does_all}
-use Rattle.session_rules.specs.Asked.{asked_all, asks_in, then_asked, where_done}
-use Rattle.session_rules.proofs.Asking.{asked_both, asked_one, asked_so}
-use Rattle.session_commands.specs.Answers.{Answers, at_calls, wants}
-use Rattle.session_commands.specs.Performed.{Now, Taken, Takes, scene_in}
 use Rattle.session_commands.proofs.Answered.{does_one, fits_later}
 
 -- nothing was taken

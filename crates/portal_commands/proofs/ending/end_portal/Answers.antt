@@ -4,9 +4,7 @@ use Rattle.portal_commands.proofs.Lemmas.{end_of_none, portal_ends}
 use Rattle.portal_commands.proofs.ending.end_portal.Goals as goal
 
 pub returns-in-None : goal.returns-in-None
-returns-in-None g c = record {
-  performed = end_of_none c.args.name (now c.args.store.now c.args.shared.now) _ c.requires.between.keeps (sym c.in-None.ensures.portal) (g.met.E.Emit.emits_none c.args.out.now);
-}
+returns-in-None g c = record { performed = end_of_none c.args.name (now c.args.store.now c.args.shared.now) _ c.requires.between.keeps (sym c.in-None.ensures.portal) (g.met.E.Emit.emits_none c.args.out.now) }
 
 pub returns-in-Some : goal.returns-in-Some
 returns-in-Some g c = record {

@@ -10,14 +10,10 @@ pub begin_fetch-requires : goal.begin_fetch-requires
 begin_fetch-requires g c = record { there = (c.args.name, sym c.in-Some.ensures) }
 
 pub returns-in_default : goal.returns-in_default
-returns-in_default g c = record {
-  performed = fetch_of_none c.args.name c.args.count (now c.args.store.now c.args.shared.now) _ c.requires.between.keeps (named_nowhere c.args.name c.args.store.now.portals (sym c.in_default.ensures)) (g.met.E.Emit.emits_none c.args.out.now);
-}
+returns-in_default g c = record { performed = fetch_of_none c.args.name c.args.count (now c.args.store.now c.args.shared.now) _ c.requires.between.keeps (named_nowhere c.args.name c.args.store.now.portals (sym c.in_default.ensures)) (g.met.E.Emit.emits_none c.args.out.now) }
 
 pub returns-in-Failed : goal.returns-in-Failed
-returns-in-Failed g c = record {
-  performed = fetch_of_failed c.args.name c.args.count (now c.args.store.now c.args.shared.now) _ c.requires.between.keeps c.in-Some-portal_at.portal.now (sym (c.in-Some-portal_at.ensures.portal c.args.name (sym c.in-Some.ensures))) (ap has_failed c.in-Failed.is) (g.met.E.Emit.emits_none c.args.out.now);
-}
+returns-in-Failed g c = record { performed = fetch_of_failed c.args.name c.args.count (now c.args.store.now c.args.shared.now) _ c.requires.between.keeps c.in-Some-portal_at.portal.now (sym (c.in-Some-portal_at.ensures.portal c.args.name (sym c.in-Some.ensures))) (ap has_failed c.in-Failed.is) (g.met.E.Emit.emits_none c.args.out.now) }
 
 pub fetch_rows-requires : goal.fetch_rows-requires
 fetch_rows-requires g c = record {

@@ -11,9 +11,7 @@ returns-in_err-next g c = record {
 }
 
 pub returns-in_default : goal.returns-in_default
-returns-in_default g c = record {
-  performed = memory_nowhere (InRow c.args.portal.now.name) 64 _ _ _ c.next.ensures.counted c.in_ok-next.ensures.goes (c.in_default.ensures.context c.args.portal.now.name c.requires.place c.args.shared.now.space.now) refl refl c.requires.fetching.1.between.keeps refl (g.met.E.Emit.emits_none c.args.out.now);
-}
+returns-in_default g c = record { performed = memory_nowhere (InRow c.args.portal.now.name) 64 _ _ _ c.next.ensures.counted c.in_ok-next.ensures.goes (c.in_default.ensures.context c.args.portal.now.name c.requires.place c.args.shared.now.space.now) refl refl c.requires.fetching.1.between.keeps refl (g.met.E.Emit.emits_none c.args.out.now) }
 
 pub alloc_at-requires-clause-stands : goal.alloc_at-requires-clause-stands
 alloc_at-requires-clause-stands g c = (c.args.shared.now.shelf.now, (c.args.shared.now.commons.now, c.requires.fetching.1.between.stands))

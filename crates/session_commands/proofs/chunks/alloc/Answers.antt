@@ -1,7 +1,6 @@
-use Rattle.std.proofs.Common.{false, ap}
-use Rattle.session_commands.specs.declared.calls.Calls.{Calls}
-use Rattle.session_commands.proofs.OnChunks.{alloc_done, alloc_injected, alloc_refuses, alloc_taken}
-use Rattle.session_commands.proofs.Refusing.{handed}
+use Rattle.session_commands.proofs.Base.{false, ap}
+use Rattle.session_commands.proofs.Words.{Calls}
+use Rattle.session_commands.proofs.Lemmas.{alloc_done, alloc_injected, alloc_refuses, alloc_taken, handed}
 use Rattle.session_commands.proofs.chunks.alloc.Goals as goal
 
 pub returns-then-is_chunk : goal.returns-then-is_chunk

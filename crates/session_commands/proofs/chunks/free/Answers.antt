@@ -1,5 +1,4 @@
-use Rattle.session_commands.proofs.OnChunks.{free_performed}
-use Rattle.session_commands.proofs.Refusing.{told_errors}
+use Rattle.session_commands.proofs.Lemmas.{free_performed, told_errors}
 use Rattle.session_commands.proofs.chunks.free.Goals as goal
 
 pub free-requires-clause-stands : goal.free-requires-clause-stands

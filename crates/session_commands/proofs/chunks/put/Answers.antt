@@ -1,6 +1,5 @@
-use Rattle.std.proofs.Common.{◌∙◌}
-use Rattle.session_commands.proofs.OnChunks.{put_performed}
-use Rattle.session_commands.proofs.Refusing.{told_errors}
+use Rattle.session_commands.proofs.Base.{◌∙◌}
+use Rattle.session_commands.proofs.Lemmas.{put_performed, told_errors}
 use Rattle.session_commands.proofs.chunks.put.Goals as goal
 
 pub put-requires-clause-stands : goal.put-requires-clause-stands

@@ -1,7 +1,6 @@
-use Rattle.std.proofs.Common.{ap}
-use Rattle.session_commands.specs.declared.calls.Calls.{Calls}
-use Rattle.session_commands.proofs.OnChunks.{realloc_done, realloc_injected, realloc_refuses, realloc_unknown}
-use Rattle.session_commands.proofs.Refusing.{handed}
+use Rattle.session_commands.proofs.Base.{ap}
+use Rattle.session_commands.proofs.Words.{Calls}
+use Rattle.session_commands.proofs.Lemmas.{realloc_done, realloc_injected, realloc_refuses, realloc_unknown, handed}
 use Rattle.session_commands.proofs.chunks.realloc.Goals as goal
 
 pub returns-then-not-is_chunk : goal.returns-then-not-is_chunk

@@ -1,4 +1,4 @@
-use Rattle.session_commands.proofs.OnChunks.{show_performed, show_refused}
+use Rattle.session_commands.proofs.Lemmas.{show_performed, show_refused}
 use Rattle.session_commands.proofs.chunks.show.Goals as goal
 
 pub returns-in-Err : goal.returns-in-Err

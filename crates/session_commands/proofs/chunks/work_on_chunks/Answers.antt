@@ -1,5 +1,5 @@
-use Rattle.session_rules.specs.Works.{chunk_row}
-use Rattle.session_commands.proofs.Commands.{as_row}
+use Rattle.session_commands.proofs.Words.{chunk_row}
+use Rattle.session_commands.proofs.Lemmas.{as_row}
 use Rattle.session_commands.proofs.chunks.work_on_chunks.Goals as goal
 
 pub returns-in-Alloc : goal.returns-in-Alloc

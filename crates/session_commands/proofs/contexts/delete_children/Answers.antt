@@ -1,7 +1,5 @@
-use Rattle.std.proofs.Common.{refl, sym}
-use Rattle.session_commands.proofs.Commands.{on_no_context}
-use Rattle.session_commands.proofs.OnContexts.{delete_children_performed}
-use Rattle.session_commands.proofs.Refusing.{err_with, ok_with, silent_where, told_errors}
+use Rattle.session_commands.proofs.Base.{refl, sym}
+use Rattle.session_commands.proofs.Lemmas.{on_no_context, delete_children_performed, err_with, ok_with, silent_where, told_errors}
 use Rattle.session_commands.proofs.contexts.delete_children.Goals as goal
 
 pub returns-in_default : goal.returns-in_default

@@ -1,10 +1,8 @@
-use Rattle.std.proofs.Common.{arith, refl, sym, subst, ap, ◌∙◌, []}
+use Rattle.session_commands.proofs.Base.{refl, sym, subst, ◌∙◌, []}
+use Rattle.session_commands.proofs.Words.{most_calls, now}
+use Rattle.session_commands.proofs.Lemmas.{answer_of, make_nowhere, alone_same, err_of, told_as, nothing_changed, handed}
 use Rattle.pgs_step.specs.declared.errors.Error.TheVariants as error
-use Rattle.session_commands.specs.declared.calls.Calls.{Calls}
-use Rattle.session_commands.specs.Performed.{most_calls, now}
-use Rattle.session_commands.proofs.OnOthers.{answer_of, make_done, make_injected, make_nowhere, make_refused, make_taken}
-use Rattle.session_commands.proofs.Refusing.{alone_same, err_of, told_as, nothing_changed}
-use Rattle.session_commands.proofs.Refusing.{handed}
+use Rattle.session_commands.proofs.OnOthers.{make_done, make_injected, make_refused, make_taken}
 use Rattle.session_commands.proofs.contexts.make_context.Goals as goal
 
 pub returns-then-is_taken : goal.returns-then-is_taken

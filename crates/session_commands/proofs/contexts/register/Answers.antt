@@ -1,11 +1,7 @@
-use Rattle.std.proofs.Common.{arith, refl, sym, subst, ap, ◌∙◌, []}
+use Rattle.session_commands.proofs.Base.{refl, sym, subst, ap, ◌∙◌, []}
+use Rattle.session_commands.proofs.Words.{Calls, most_calls}
+use Rattle.session_commands.proofs.Lemmas.{on_no_context, answer_of, register_done, register_injected, register_refused, alone_same, both_still, err_of, told_as, nothing_changed, handed}
 use Rattle.pgs_step.specs.declared.errors.Error.TheVariants as error
-use Rattle.session_commands.specs.declared.calls.Calls.{Calls}
-use Rattle.session_commands.specs.Performed.{most_calls}
-use Rattle.session_commands.proofs.Commands.{on_no_context}
-use Rattle.session_commands.proofs.OnOthers.{answer_of, register_done, register_injected, register_refused}
-use Rattle.session_commands.proofs.Refusing.{alone_same, both_still, err_of, told_as, nothing_changed}
-use Rattle.session_commands.proofs.Refusing.{handed}
 use Rattle.session_commands.proofs.contexts.register.Goals as goal
 
 pub returns-in_default : goal.returns-in_default

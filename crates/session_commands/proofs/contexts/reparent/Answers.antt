@@ -1,7 +1,5 @@
-use Rattle.std.proofs.Common.{refl, sym}
-use Rattle.session_commands.proofs.Commands.{on_no_context}
-use Rattle.session_commands.proofs.OnOthers.{here, no_parent, reparent_performed}
-use Rattle.session_commands.proofs.Refusing.{refused_still, silent_where, told_errors}
+use Rattle.session_commands.proofs.Base.{refl, sym}
+use Rattle.session_commands.proofs.Lemmas.{on_no_context, here, no_parent, reparent_performed, refused_still, silent_where, told_errors}
 use Rattle.session_commands.proofs.contexts.reparent.Goals as goal
 
 pub returns-in_default : goal.returns-in_default

@@ -1,7 +1,6 @@
-use Rattle.std.proofs.Common.{refl, sym, subst, List}
-use Rattle.pgs_step.specs.declared.events.What.{What}
-use Rattle.session_commands.proofs.Commands.{on_no_context}
-use Rattle.session_commands.proofs.OnOthers.{acted_said, switch_performed}
+use Rattle.session_commands.proofs.Base.{refl, sym, subst, List}
+use Rattle.session_commands.proofs.Words.{What}
+use Rattle.session_commands.proofs.Lemmas.{on_no_context, acted_said, switch_performed}
 use Rattle.session_commands.proofs.contexts.switch.Goals as goal
 
 pub returns-in_default : goal.returns-in_default

@@ -1,5 +1,5 @@
-use Rattle.session_rules.specs.Works.{context_row}
-use Rattle.session_commands.proofs.Commands.{as_row}
+use Rattle.session_commands.proofs.Words.{context_row}
+use Rattle.session_commands.proofs.Lemmas.{as_row}
 use Rattle.session_commands.proofs.contexts.work_on_contexts.Goals as goal
 
 pub returns-in-Create : goal.returns-in-Create

@@ -1,24 +1,11 @@
 -- The kind of the name has a key more, or nothing changed.
-use Rattle.std.proofs.Common.{◌≡◌, Some, sym, ap, ◌∙◌, subst}
-use Rattle.forest.specs.Forest.{has}
-use Rattle.owner_kinds.specs.KindShelf.{table_of}
-use Rattle.owner_kinds.specs.KindTable.{IsExtension}
-use Rattle.session_owners.specs.Commons.{CommonState}
-use Rattle.session_owners.specs.ResourceState.{has_begun}
-use Rattle.session_owners.proofs.Balances.{serves_still}
-use Rattle.session_rules.specs.Elements.{OfLevel}
-use Rattle.session_rules.specs.Lookup.{kind_named}
-use Rattle.session_commands.specs.Performed.{now}
-use Rattle.session_commands.proofs.OnKinds.{acquired, no_kind, no_room_named}
-use Rattle.session_commands.proofs.Pinning.{owner_there, owner_unbegun, owners_same}
-use Rattle.session_commands.proofs.Chains.{room_left}
-use Rattle.session_commands.proofs.Refusing.{handed}
+use Rattle.session_commands.proofs.Base.{◌≡◌, Some, sym, ap, ◌∙◌, subst}
+use Rattle.session_commands.proofs.Words.{has, table_of, IsExtension, CommonState, has_begun, serves_still, OfLevel, kind_named, now}
+use Rattle.session_commands.proofs.Lemmas.{acquired, no_kind, no_room_named, owner_there, owner_unbegun, owners_same, room_left, handed}
 use Rattle.session_commands.proofs.extensions.acquire.Goals as goal
 
 pub returns-in_default : goal.returns-in_default
-returns-in_default g c = record {
-  performed = no_kind c.args.name.now _ _ _ (sym c.in_default.ensures.kind) c.requires.between.keeps (g.met.E.Emit.emits_none c.args.out.now);
-}
+returns-in_default g c = record { performed = no_kind c.args.name.now _ _ _ (sym c.in_default.ensures.kind) c.requires.between.keeps (g.met.E.Emit.emits_none c.args.out.now) }
 
 pub returns-in_err-enlarge : goal.returns-in_err-enlarge
 returns-in_err-enlarge g c = record {

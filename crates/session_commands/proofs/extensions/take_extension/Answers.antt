@@ -1,9 +1,7 @@
 -- The kind has a key more, or nothing changed.
-use Rattle.std.proofs.Common.{refl, ap}
-use Rattle.session_owners.specs.Commons.{CommonState}
-use Rattle.session_commands.proofs.OnKinds.{take_named, take_named_done, take_named_refused}
-use Rattle.session_commands.proofs.Stepping.{call_injected, said_nothing}
-use Rattle.session_commands.proofs.Refusing.{handed}
+use Rattle.session_commands.proofs.Base.{refl, ap}
+use Rattle.session_commands.proofs.Words.{CommonState}
+use Rattle.session_commands.proofs.Lemmas.{take_named, take_named_done, take_named_refused, call_injected, said_nothing, handed}
 use Rattle.session_commands.proofs.extensions.take_extension.Goals as goal
 
 pub returns-in_err-next : goal.returns-in_err-next

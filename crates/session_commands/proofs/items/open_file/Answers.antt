@@ -1,13 +1,7 @@
-use Rattle.std.proofs.Common.{ap, sym, ◌∙◌}
-use Rattle.forest.specs.Forest.{has}
-use Rattle.session_owners.specs.Counted.{holds_file}
-use Rattle.session_owners.specs.ResourceState.{has_begun}
-use Rattle.session_rules.specs.Elements.{OfLevel}
-use Rattle.session_commands.specs.Performed.{now}
-use Rattle.session_commands.proofs.OnFiles.{is_taken, no_room, opened}
-use Rattle.session_commands.proofs.Pinning.{owner_there, owner_unbegun, owners_same}
-use Rattle.session_commands.proofs.Chains.{room_left}
-use Rattle.session_commands.proofs.Refusing.{handed}
+use Rattle.session_commands.proofs.Base.{ap, sym, ◌∙◌}
+use Rattle.session_commands.proofs.Words.{has, holds_file, has_begun, OfLevel, now}
+use Rattle.session_commands.proofs.Lemmas.{is_taken, opened, owner_there, owner_unbegun, owners_same, room_left, handed}
+use Rattle.session_commands.proofs.OnFiles.{no_room}
 use Rattle.session_commands.proofs.items.open_file.Goals as goal
 
 pub returns-then-is_open : goal.returns-then-is_open

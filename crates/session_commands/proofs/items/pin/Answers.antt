@@ -1,19 +1,12 @@
-use Rattle.session_rules.specs.Elements.{OfLevel}
-use Rattle.session_commands.specs.Performed.{now}
-use Rattle.session_commands.proofs.Pinning.{no_buffer, owner_there, owner_unbegun, pinned}
+use Rattle.session_commands.proofs.Words.{OfLevel, now}
+use Rattle.session_commands.proofs.Lemmas.{no_buffer, owner_there, owner_unbegun, pinned}
 use Rattle.session_commands.proofs.items.pin.Goals as goal
 
 pub returns-then-buffer-ge-BUFFERS : goal.returns-then-buffer-ge-BUFFERS
-returns-then-buffer-ge-BUFFERS g c = record {
-  performed =
-      no_buffer c.args.buffer _ c.requires.between.keeps _ (g.met.E.Emit.emits_none c.args.out.now) c.if-buffer-ge-BUFFERS.true;
-}
+returns-then-buffer-ge-BUFFERS g c = record { performed = no_buffer c.args.buffer _ c.requires.between.keeps _ (g.met.E.Emit.emits_none c.args.out.now) c.if-buffer-ge-BUFFERS.true }
 
 pub returns : goal.returns
-returns g c = record {
-  performed =
-      pinned c.args.buffer _ c.requires.between.keeps c.if-buffer-ge-BUFFERS.false _ _ _ (c.hold_pin.ensures.performed OfLevel c.owner_of_level-owner.ensures.owner);
-}
+returns g c = record { performed = pinned c.args.buffer _ c.requires.between.keeps c.if-buffer-ge-BUFFERS.false _ _ _ (c.hold_pin.ensures.performed OfLevel c.owner_of_level-owner.ensures.owner) }
 
 pub hold_pin-requires-clause-not_begun : goal.hold_pin-requires-clause-not_begun
 hold_pin-requires-clause-not_begun g c = owner_unbegun (now c.args.store.now c.args.shared.now) c.requires.between c.requires.active c.owner_of_level-owner.result.number

@@ -1,7 +1,6 @@
 -- The deepest level's owner takes a reference, as any owner does.
-use Rattle.session_rules.specs.Elements.{OfLevel}
-use Rattle.session_commands.specs.Performed.{now}
-use Rattle.session_commands.proofs.Pinning.{owner_there, owner_unbegun}
+use Rattle.session_commands.proofs.Words.{OfLevel, now}
+use Rattle.session_commands.proofs.Lemmas.{owner_there, owner_unbegun}
 use Rattle.session_commands.proofs.items.refer.Goals as goal
 
 pub returns : goal.returns

@@ -1,7 +1,7 @@
 -- A reference is an item that only owners keep count of.
-use Rattle.std.proofs.Common.{sym, subst}
-use Rattle.session_owners.specs.Counted.{IsReference}
-use Rattle.session_commands.proofs.HeldItems.{class_counted, takes_as}
+use Rattle.session_commands.proofs.Base.{sym, subst}
+use Rattle.session_commands.proofs.Words.{IsReference}
+use Rattle.session_commands.proofs.Lemmas.{class_counted, takes_as}
 use Rattle.session_commands.proofs.items.reference.Goals as goal
 
 pub refer-requires-clause-kind : goal.refer-requires-clause-kind

@@ -1,11 +1,6 @@
-use Rattle.std.proofs.Common.{refl}
-use Rattle.session_rules.specs.Elements.{OfLevel}
-use Rattle.session_rules.specs.State.{file_kind}
-use Rattle.session_commands.specs.Performed.{now}
-use Rattle.session_commands.proofs.HeldItems.{take, take_done}
-use Rattle.session_commands.proofs.OnFiles.{few_files, open_refused}
-use Rattle.session_commands.proofs.Stepping.{call_injected, said_nothing}
-use Rattle.session_commands.proofs.Refusing.{handed}
+use Rattle.session_commands.proofs.Base.{refl}
+use Rattle.session_commands.proofs.Words.{OfLevel, file_kind, now}
+use Rattle.session_commands.proofs.Lemmas.{take, take_done, few_files, open_refused, call_injected, said_nothing, handed}
 use Rattle.session_commands.proofs.items.take_file.Goals as goal
 
 pub returns-in_err-next : goal.returns-in_err-next

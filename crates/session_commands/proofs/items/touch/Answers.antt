@@ -1,8 +1,7 @@
-use Rattle.std.proofs.Common.{refl}
-use Rattle.session_commands.specs.Performed.{now}
-use Rattle.session_commands.proofs.OnFiles.{is_missing, touch, touched}
-use Rattle.session_commands.proofs.Stepping.{call_done, call_injected, call_wants, said_nothing}
-use Rattle.session_commands.proofs.Refusing.{handed}
+use Rattle.session_commands.proofs.Base.{refl}
+use Rattle.session_commands.proofs.Words.{now}
+use Rattle.session_commands.proofs.Lemmas.{touch, touched, call_done, call_injected, call_wants, said_nothing, handed}
+use Rattle.session_commands.proofs.OnFiles.{is_missing}
 use Rattle.session_commands.proofs.items.touch.Goals as goal
 
 pub returns-then-not-is_open : goal.returns-then-not-is_open

@@ -1,4 +1,4 @@
-use Rattle.session_commands.proofs.HeldItems.{give_as}
+use Rattle.session_commands.proofs.Lemmas.{give_as}
 use Rattle.session_commands.proofs.items.unreference.Goals as goal
 
 pub returns : goal.returns

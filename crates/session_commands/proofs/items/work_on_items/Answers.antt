@@ -1,5 +1,5 @@
-use Rattle.session_rules.specs.Works.{item_row}
-use Rattle.session_commands.proofs.Commands.{as_row}
+use Rattle.session_commands.proofs.Words.{item_row}
+use Rattle.session_commands.proofs.Lemmas.{as_row}
 use Rattle.session_commands.proofs.items.work_on_items.Goals as goal
 
 pub returns-in-Pin : goal.returns-in-Pin

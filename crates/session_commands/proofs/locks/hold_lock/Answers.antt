@@ -1,9 +1,7 @@
 -- The owner holds a lock once more, or nothing changed.
-use Rattle.std.proofs.Common.{refl, ap}
-use Rattle.session_owners.specs.Commons.{CommonState}
-use Rattle.session_commands.proofs.OnLocks.{lock_not_taken, take_lock, take_lock_done}
-use Rattle.session_commands.proofs.Stepping.{call_injected, said_nothing}
-use Rattle.session_commands.proofs.Refusing.{handed}
+use Rattle.session_commands.proofs.Base.{refl, ap}
+use Rattle.session_commands.proofs.Words.{CommonState}
+use Rattle.session_commands.proofs.Lemmas.{lock_not_taken, take_lock, take_lock_done, call_injected, said_nothing, handed}
 use Rattle.session_commands.proofs.locks.hold_lock.Goals as goal
 
 pub returns-in_err-next : goal.returns-in_err-next

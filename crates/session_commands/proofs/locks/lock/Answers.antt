@@ -1,5 +1,5 @@
-use Rattle.session_rules.specs.Elements.{OfLevel}
-use Rattle.session_commands.proofs.Commands.{one_call}
+use Rattle.session_commands.proofs.Words.{OfLevel}
+use Rattle.session_commands.proofs.Lemmas.{one_call}
 use Rattle.session_commands.proofs.locks.lock.Goals as goal
 
 pub returns : goal.returns

@@ -1,8 +1,7 @@
 -- The owner holds a lock once less, or it doesn't hold it.
-use Rattle.std.proofs.Common.{refl, ap}
-use Rattle.session_owners.specs.Commons.{CommonState}
-use Rattle.session_commands.proofs.OnLocks.{is_missing, lock_not_held, unlocked, was_held}
-use Rattle.session_commands.proofs.Stepping.{said_nothing}
+use Rattle.session_commands.proofs.Base.{refl, ap}
+use Rattle.session_commands.proofs.Words.{CommonState}
+use Rattle.session_commands.proofs.Lemmas.{is_missing, lock_not_held, unlocked, was_held, said_nothing}
 use Rattle.session_commands.proofs.locks.unlock.Goals as goal
 
 pub returns-in-Err : goal.returns-in-Err

@@ -1,5 +1,5 @@
-use Rattle.session_rules.specs.Works.{lock_row}
-use Rattle.session_commands.proofs.Commands.{as_row}
+use Rattle.session_commands.proofs.Words.{lock_row}
+use Rattle.session_commands.proofs.Lemmas.{as_row}
 use Rattle.session_commands.proofs.locks.work_on_locks.Goals as goal
 
 pub returns-in-Lock : goal.returns-in-Lock

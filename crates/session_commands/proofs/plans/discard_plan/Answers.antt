@@ -1,6 +1,6 @@
-use Rattle.std.proofs.Common.{refl}
-use Rattle.session_commands.specs.Performed.{now}
-use Rattle.session_commands.proofs.OnPlans.{discarded, no_plan}
+use Rattle.session_commands.proofs.Base.{refl}
+use Rattle.session_commands.proofs.Words.{now}
+use Rattle.session_commands.proofs.Lemmas.{discarded, no_plan}
 use Rattle.session_commands.proofs.plans.discard_plan.Goals as goal
 
 pub returns-then-not-can_refer : goal.returns-then-not-can_refer

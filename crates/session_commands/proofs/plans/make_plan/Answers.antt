@@ -1,10 +1,7 @@
-use Rattle.std.proofs.Common.{arith, refl, sym, subst, ap, ◌∙◌, []}
+use Rattle.session_commands.proofs.Base.{refl, sym, subst, ap, ◌∙◌, []}
+use Rattle.session_commands.proofs.Words.{Calls}
+use Rattle.session_commands.proofs.Lemmas.{answer_of, make_done, make_injected, make_refused, make_taken, err_of, handed}
 use Rattle.pgs_step.specs.declared.errors.Error.TheVariants as error
-use Rattle.session_commands.specs.declared.calls.Calls.{Calls}
-use Rattle.session_commands.proofs.OnOthers.{answer_of}
-use Rattle.session_commands.proofs.OnPlans.{make_done, make_injected, make_refused, make_taken}
-use Rattle.session_commands.proofs.Refusing.{err_of}
-use Rattle.session_commands.proofs.Refusing.{handed}
 use Rattle.session_commands.proofs.plans.make_plan.Goals as goal
 
 pub returns-then-has_plan : goal.returns-then-has_plan

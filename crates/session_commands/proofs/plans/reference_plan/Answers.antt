@@ -1,12 +1,6 @@
-use Rattle.std.proofs.Common.{ap, ◌∙◌}
-use Rattle.forest.specs.Forest.{has}
-use Rattle.session_owners.specs.ResourceState.{has_begun}
-use Rattle.session_rules.specs.Elements.{OfLevel}
-use Rattle.session_commands.specs.Performed.{now}
-use Rattle.session_commands.proofs.OnPlans.{no_plan, no_room, referred}
-use Rattle.session_commands.proofs.Pinning.{owner_there, owner_unbegun, owners_same}
-use Rattle.session_commands.proofs.Chains.{room_left}
-use Rattle.session_commands.proofs.Refusing.{handed}
+use Rattle.session_commands.proofs.Base.{ap, ◌∙◌}
+use Rattle.session_commands.proofs.Words.{has, has_begun, OfLevel, now}
+use Rattle.session_commands.proofs.Lemmas.{no_plan, no_room, referred, owner_there, owner_unbegun, owners_same, room_left, handed}
 use Rattle.session_commands.proofs.plans.reference_plan.Goals as goal
 
 pub returns-then-not-can_refer : goal.returns-then-not-can_refer

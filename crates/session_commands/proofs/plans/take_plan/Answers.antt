@@ -1,9 +1,6 @@
-use Rattle.std.proofs.Common.{refl}
-use Rattle.session_rules.specs.State.{plan_reference}
-use Rattle.session_rules.specs.Elements.{OfLevel}
-use Rattle.session_commands.proofs.HeldItems.{take, take_done}
-use Rattle.session_commands.proofs.Stepping.{call_injected, call_wants, said_nothing}
-use Rattle.session_commands.proofs.Refusing.{handed}
+use Rattle.session_commands.proofs.Base.{refl}
+use Rattle.session_commands.proofs.Words.{plan_reference, OfLevel}
+use Rattle.session_commands.proofs.Lemmas.{take, take_done, call_injected, call_wants, said_nothing, handed}
 use Rattle.session_commands.proofs.plans.take_plan.Goals as goal
 
 pub returns-in_err-next : goal.returns-in_err-next

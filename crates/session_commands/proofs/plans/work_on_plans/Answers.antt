@@ -1,5 +1,5 @@
-use Rattle.session_rules.specs.Works.{plan_row}
-use Rattle.session_commands.proofs.Commands.{as_row}
+use Rattle.session_commands.proofs.Words.{plan_row}
+use Rattle.session_commands.proofs.Lemmas.{as_row}
 use Rattle.session_commands.proofs.plans.work_on_plans.Goals as goal
 
 pub returns-in-Create : goal.returns-in-Create

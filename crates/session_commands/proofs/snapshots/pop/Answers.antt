@@ -1,7 +1,6 @@
 -- The newest active snapshot is popped, or nothing changed.
-use Rattle.std.proofs.Common.{refl}
-use Rattle.session_commands.proofs.OnSnapshots.{held_where, missing_where, not_popped, popped}
-use Rattle.session_commands.proofs.Stepping.{said_nothing}
+use Rattle.session_commands.proofs.Base.{refl}
+use Rattle.session_commands.proofs.Lemmas.{held_where, missing_where, not_popped, popped, said_nothing}
 use Rattle.session_commands.proofs.snapshots.pop.Goals as goal
 
 pub returns-in-Err : goal.returns-in-Err

@@ -1,9 +1,6 @@
 -- The snapshot is the newest active one, or nothing changed.
-use Rattle.std.proofs.Common.{refl}
-use Rattle.session_commands.proofs.Commands.{one_call}
-use Rattle.session_commands.proofs.OnSnapshots.{push}
-use Rattle.session_commands.proofs.Stepping.{call_done, call_injected, call_wants, said_nothing}
-use Rattle.session_commands.proofs.Refusing.{handed}
+use Rattle.session_commands.proofs.Base.{refl}
+use Rattle.session_commands.proofs.Lemmas.{one_call, push, call_done, call_injected, call_wants, said_nothing, handed}
 use Rattle.session_commands.proofs.snapshots.push.Goals as goal
 
 pub returns-in_err-next : goal.returns-in_err-next

@@ -1,5 +1,5 @@
-use Rattle.session_rules.specs.Works.{snapshot_row}
-use Rattle.session_commands.proofs.Commands.{as_row}
+use Rattle.session_commands.proofs.Words.{snapshot_row}
+use Rattle.session_commands.proofs.Lemmas.{as_row}
 use Rattle.session_commands.proofs.snapshots.work_on_snapshots.Goals as goal
 
 pub returns-in-Push : goal.returns-in-Push

@@ -1,7 +1,5 @@
-use Rattle.std.proofs.Common.{refl}
-use Rattle.session_commands.proofs.Pinning.{enlarge}
-use Rattle.session_commands.proofs.Stepping.{call_done, call_injected, call_wants}
-use Rattle.session_commands.proofs.Refusing.{handed}
+use Rattle.session_commands.proofs.Base.{refl}
+use Rattle.session_commands.proofs.Lemmas.{enlarge, call_done, call_injected, call_wants, handed}
 use Rattle.session_commands.proofs.steps.enlarge.Goals as goal
 
 pub returns-in_err-next-clause-performed : goal.returns-in_err-next-clause-performed

@@ -1,8 +1,6 @@
-use Rattle.std.proofs.Common.{refl}
-use Rattle.session_commands.specs.Performed.{now}
-use Rattle.session_commands.proofs.HeldItems.{found_item, given_back, missing_item, not_held}
-use Rattle.session_commands.proofs.Pinning.{owner_unbegun}
-use Rattle.session_commands.proofs.Stepping.{said_nothing}
+use Rattle.session_commands.proofs.Base.{refl}
+use Rattle.session_commands.proofs.Words.{now}
+use Rattle.session_commands.proofs.Lemmas.{found_item, given_back, missing_item, not_held, owner_unbegun, said_nothing}
 use Rattle.session_commands.proofs.steps.give_back.Goals as goal
 
 pub returns-in-Err : goal.returns-in-Err

@@ -1,14 +1,6 @@
-use Rattle.std.proofs.Common.{ap, ◌∙◌}
-use Rattle.forest.specs.Forest.{has}
-use Rattle.session_owners.specs.ResourceState.{has_begun}
-use Rattle.session_owners.proofs.Balances.{serves_still}
-use Rattle.session_rules.specs.State.{buffer_pin}
-use Rattle.session_rules.specs.Elements.{OfLevel}
-use Rattle.session_commands.specs.Performed.{now}
-use Rattle.session_commands.proofs.HeldItems.{no_room_for, taken_in_room}
-use Rattle.session_commands.proofs.Pinning.{owners_same, still_owner}
-use Rattle.session_commands.proofs.Chains.{room_left}
-use Rattle.session_commands.proofs.Refusing.{handed}
+use Rattle.session_commands.proofs.Base.{ap, ◌∙◌}
+use Rattle.session_commands.proofs.Words.{has, has_begun, serves_still, buffer_pin, OfLevel, now}
+use Rattle.session_commands.proofs.Lemmas.{no_room_for, taken_in_room, owners_same, still_owner, room_left, handed}
 use Rattle.session_commands.proofs.steps.hold_pin.Goals as goal
 
 pub returns-in_err-enlarge : goal.returns-in_err-enlarge
@@ -18,9 +10,7 @@ returns-in_err-enlarge g c = record {
 }
 
 pub returns : goal.returns
-returns g c = record {
-  performed = λ role is. taken_in_room role buffer_pin c.args.buffer _ _ _ _ _ (c.in_ok-enlarge.ensures.performed role) (c.take_pin.ensures.performed role (still_owner role c.args.owner c.args.store.now c.enlarge.new.store is c.in_ok-enlarge.ensures.session));
-}
+returns g c = record { performed = λ role is. taken_in_room role buffer_pin c.args.buffer _ _ _ _ _ (c.in_ok-enlarge.ensures.performed role) (c.take_pin.ensures.performed role (still_owner role c.args.owner c.args.store.now c.enlarge.new.store is c.in_ok-enlarge.ensures.session)) }
 
 pub take_pin-requires-clause-not_begun : goal.take_pin-requires-clause-not_begun
 take_pin-requires-clause-not_begun g c =

@@ -1,12 +1,6 @@
-use Rattle.std.proofs.Common.{ap, ◌∙◌}
-use Rattle.forest.specs.Forest.{has}
-use Rattle.session_owners.specs.ResourceState.{has_begun}
-use Rattle.session_rules.specs.Elements.{OfLevel}
-use Rattle.session_commands.specs.Performed.{now}
-use Rattle.session_commands.proofs.HeldItems.{no_room_for, taken_in_room}
-use Rattle.session_commands.proofs.Pinning.{owners_same, still_owner}
-use Rattle.session_commands.proofs.Chains.{room_left}
-use Rattle.session_commands.proofs.Refusing.{handed}
+use Rattle.session_commands.proofs.Base.{ap, ◌∙◌}
+use Rattle.session_commands.proofs.Words.{has, has_begun, OfLevel, now}
+use Rattle.session_commands.proofs.Lemmas.{no_room_for, taken_in_room, owners_same, still_owner, room_left, handed}
 use Rattle.session_commands.proofs.steps.hold_reference.Goals as goal
 
 pub returns-in_err-enlarge : goal.returns-in_err-enlarge
@@ -16,9 +10,7 @@ returns-in_err-enlarge g c = record {
 }
 
 pub returns : goal.returns
-returns g c = record {
-  performed = λ role is. taken_in_room role c.args.kind c.args.key _ _ _ _ _ (c.in_ok-enlarge.ensures.performed role) (c.take_reference.ensures.performed role (still_owner role c.args.owner c.args.store.now c.enlarge.new.store is c.in_ok-enlarge.ensures.session));
-}
+returns g c = record { performed = λ role is. taken_in_room role c.args.kind c.args.key _ _ _ _ _ (c.in_ok-enlarge.ensures.performed role) (c.take_reference.ensures.performed role (still_owner role c.args.owner c.args.store.now c.enlarge.new.store is c.in_ok-enlarge.ensures.session)) }
 
 pub take_reference-requires-clause-not_begun : goal.take_reference-requires-clause-not_begun
 take_reference-requires-clause-not_begun g c =

@@ -1,4 +1,4 @@
-use Rattle.session_commands.proofs.Pinning.{owner_known}
+use Rattle.session_commands.proofs.Lemmas.{owner_known}
 use Rattle.session_commands.proofs.steps.owner_of_level.Goals as goal
 
 pub unreachable-requires : goal.unreachable-requires

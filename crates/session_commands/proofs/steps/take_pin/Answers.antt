@@ -1,8 +1,6 @@
-use Rattle.std.proofs.Common.{refl}
-use Rattle.session_rules.specs.State.{buffer_pin}
-use Rattle.session_commands.proofs.HeldItems.{take, take_done}
-use Rattle.session_commands.proofs.Stepping.{call_injected}
-use Rattle.session_commands.proofs.Refusing.{handed}
+use Rattle.session_commands.proofs.Base.{refl}
+use Rattle.session_commands.proofs.Words.{buffer_pin}
+use Rattle.session_commands.proofs.Lemmas.{take, take_done, call_injected, handed}
 use Rattle.session_commands.proofs.steps.take_pin.Goals as goal
 
 pub returns-in_err-next : goal.returns-in_err-next

@@ -1,8 +1,6 @@
-use Rattle.std.proofs.Common.{refl}
-use Rattle.session_commands.specs.Performed.{now}
-use Rattle.session_commands.proofs.HeldItems.{take, take_done, unkept_free}
-use Rattle.session_commands.proofs.Stepping.{call_injected, call_wants, said_nothing}
-use Rattle.session_commands.proofs.Refusing.{handed}
+use Rattle.session_commands.proofs.Base.{refl}
+use Rattle.session_commands.proofs.Words.{now}
+use Rattle.session_commands.proofs.Lemmas.{take, take_done, unkept_free, call_injected, call_wants, said_nothing, handed}
 use Rattle.session_commands.proofs.steps.take_reference.Goals as goal
 
 pub returns-in_err-next : goal.returns-in_err-next

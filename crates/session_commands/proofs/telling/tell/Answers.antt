@@ -1,5 +1,5 @@
-use Rattle.session_rules.specs.Works.{tell_row}
-use Rattle.session_commands.proofs.Commands.{as_row}
+use Rattle.session_commands.proofs.Words.{tell_row}
+use Rattle.session_commands.proofs.Lemmas.{as_row}
 use Rattle.session_commands.proofs.telling.tell.Goals as goal
 
 pub returns-in-Report : goal.returns-in-Report

@@ -1,4 +1,4 @@
-use Rattle.session_commands.proofs.OnTelling.{reported}
+use Rattle.session_commands.proofs.Lemmas.{reported}
 use Rattle.session_commands.proofs.telling.tell_contexts.Goals as goal
 
 pub returns : goal.returns

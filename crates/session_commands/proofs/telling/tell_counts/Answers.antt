@@ -1,4 +1,4 @@
-use Rattle.session_commands.proofs.OnTelling.{counts_told}
+use Rattle.session_commands.proofs.Lemmas.{counts_told}
 use Rattle.session_commands.proofs.telling.tell_counts.Goals as goal
 
 pub returns : goal.returns
