@@ -1,15 +1,7 @@
 -- The lines of a script that are performed one after the other, while a counter counts their events; and what it has counted in the end.
-use Rattle.std.proofs.Common.{◌≡◌, ℕ, zero, suc, ◌+◌, ◌^◌, ◌<◌, ◌≤◌, Bool, false, List, [], ◌∷◌, ◌++◌, length, take, Option, Some, sym, ◌∙◌, ap, subst, arith}
-use Rattle.std.specs.Prelude.{slice_get}
-use Rattle.pgs_command.specs.Lines.{read_line}
-use Rattle.session_rules.specs.Transcript.{errors_in}
-use Rattle.pgs_turns.specs.declared.counter.Counter.{Counter}
-use Rattle.pgs_turns.specs.Counting.{TakesEvents, TakesEvents-both}
-use Rattle.pgs_turns.specs.Courses.{HasPerformed, IsOver}
-use Rattle.pgs_turns.specs.Script.{said_in}
-use Rattle.pgs_turns.specs.Transcript.{transcript}
-use Rattle.pgs_turns.specs.Turns.{AllExit, Fits, TakesTurn}
-use Rattle.pgs_turns.specs.World.{IsOpening, Run, setting_of}
+use Rattle.pgs_turns.proofs.Base.{◌≡◌, ℕ, zero, suc, ◌+◌, ◌^◌, ◌<◌, ◌≤◌, Bool, false, List, [], ◌∷◌, ◌++◌, length, take, Option, Some, sym, ◌∙◌, ap, subst, arith, slice_get}
+use Rattle.pgs_turns.proofs.Words.{read_line, errors_in, Counter, TakesEvents, TakesEvents-both, HasPerformed, IsOver, said_in, transcript, AllExit, TakesTurn, IsOpening, Run, setting_of}
+use Rattle.pgs_turns.specs.Turns.{Fits}
 use Rattle.pgs_turns.proofs.ErrorLemmas.{few_errors}
 use Rattle.pgs_turns.proofs.OverLemmas.{run_over}
 use Rattle.pgs_turns.proofs.PlayLemmas.{performed_line}

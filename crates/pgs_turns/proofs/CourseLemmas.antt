@@ -1,20 +1,7 @@
 -- The course of a script, one line more.
-use Rattle.std.proofs.Common.{◌≡◌, ℕ, ◌+◌, ◌<◌, ◌≤◌, Bool, true, false, List, [], ◌∷◌, ◌++◌, length, Option, Some, None, Result, Ok, Err, refl, sym, ◌∙◌, ap, subst, arith, length-append}
-use Rattle.pgs_command.specs.declared.lines.BadLine.{BadLine}
-use Rattle.pgs_command.specs.declared.lines.Line.{Line}
-use Rattle.pgs_step.specs.declared.events.Event.{Event}
+use Rattle.pgs_turns.proofs.Base.{◌≡◌, ℕ, ◌+◌, ◌<◌, ◌≤◌, Bool, true, false, List, [], ◌∷◌, ◌++◌, length, Option, Some, None, Result, Ok, Err, refl, sym, ◌∙◌, ap, subst, arith, length-append}
+use Rattle.pgs_turns.proofs.Words.{BadLine, Line, Event, SessionState, Course, after_line, after_read, course_by, goes_on, World, opened, Fits, read_line, said_in, Setting, course_of, HaveDescriptors, IsOpening, Run, options_in, setting_of, sessions_in, GoesOn, TakesTurn, behind, TellHooks, CourseAt, CoursesAre}
 use Rattle.session_rules.specs.Calls.{IsLater}
-use Rattle.session_rules.specs.State.{SessionState}
-use Rattle.session_rules.specs.Transcript.{Course, after_line, after_read, course_by, goes_on}
-use Rattle.session_rules.specs.World.{World, opened}
-use Rattle.session_commands.specs.Answers.{Fits}
-use Rattle.pgs_command.specs.Lines.{read_line}
-use Rattle.pgs_turns.specs.Script.{said_in}
-use Rattle.pgs_turns.specs.Transcript.{Setting, course_of}
-use Rattle.pgs_turns.specs.World.{HaveDescriptors, IsOpening, Run, options_in, setting_of, sessions_in}
-use Rattle.pgs_turns.specs.Turns.{GoesOn, TakesTurn, behind}
-use Rattle.pgs_turns.specs.Hooks.{TellHooks}
-use Rattle.pgs_turns.specs.Courses.{CourseAt, CoursesAre}
 use Rattle.pgs_turns.proofs.ToldHooks.{tells_both, tells_none}
 
 -- a later call stays one where fewer were made

@@ -1,18 +1,9 @@
 -- How many ERROR events a transcript has: at most one for each line.
-use Rattle.std.proofs.Common.{◌≡◌, ℕ, ◌+◌, ◌≤◌, Bool, true, false, List, [], ◌∷◌, length, Option, Some, None, Result, Ok, Err, refl, ◌∙◌, arith}
-use Rattle.pgs_command.specs.declared.commands.Command.{Command}
-use Rattle.pgs_command.specs.declared.lines.BadLine.{BadLine}
-use Rattle.pgs_command.specs.declared.lines.Line.{Line}
-use Rattle.session_rules.specs.Ends.{exited}
-use Rattle.session_rules.specs.State.{SessionState}
-use Rattle.session_rules.specs.Transcript.{Course, after_command, after_exit, after_line, after_read, at_start, course_by, errors_in, exits, goes_on, of_session, transcript_by, turn}
+use Rattle.pgs_turns.proofs.Base.{◌≡◌, ℕ, ◌+◌, ◌≤◌, Bool, true, false, List, [], ◌∷◌, length, Option, Some, None, Result, Ok, Err, refl, ◌∙◌, arith}
+use Rattle.pgs_turns.proofs.Words.{Command, BadLine, Line, exited, SessionState, Course, after_command, after_exit, after_line, after_read, at_start, course_by, errors_in, exits, goes_on, of_session, transcript_by, turn, Scene, around, moment, opened, session_at, errors_in-append, errors_of_one_session, read_line, Setting, transcript}
 use Rattle.pgs_step.specs.declared.errors.Error.TheVariants as error
 use Rattle.pgs_step.specs.declared.events.What.TheVariants as what
-use Rattle.session_rules.specs.World.{Scene, around, moment, opened, session_at}
 use Rattle.session_rules.proofs.Calm.{exited_errors, turn_errors}
-use Rattle.pgs_turns.specs.EventLaws.{errors_in-append, errors_of_one_session}
-use Rattle.pgs_command.specs.Lines.{read_line}
-use Rattle.pgs_turns.specs.Transcript.{Setting, transcript}
 
 command_errors : (w : Option ℕ) (course : Course) (n : ℕ) (line : Option Command) (session : Option SessionState)
     → errors_in (after_command w course n line session).events ≤ errors_in course.events + 1

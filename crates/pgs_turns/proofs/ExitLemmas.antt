@@ -1,40 +1,12 @@
 -- What the ends of all sessions make of a run, from what each makes of its session.
-use Rattle.std.proofs.Common.{◌≡◌, ℕ, zero, suc, ◌+◌, ◌-◌, ◌<◌, inl, inr, List, [], ◌∷◌, ◌++◌, length, drop, Some, refl, sym, ap, ◌∙◌, subst, arith, append_assoc, append-nil}
-use Rattle.std.specs.Prelude.{slice_get, slice_set, replicate}
-use Rattle.std.proofs.lemmas.Bool.{cases_eq}
-use Rattle.std.proofs.lemmas.List.{length-map}
-use Rattle.std.proofs.lemmas.Option.{slice_get_within}
-use Rattle.forest.specs.Forest.{Empty}
-use Rattle.pgs_step.specs.declared.events.Event.{Event}
-use Rattle.pgs_step.specs.declared.events.What.{What}
-use Rattle.addr_space.specs.Space.{Asks, held, taken}
-use Rattle.owner_kinds.specs.Kind.{Kind}
-use Rattle.reset_callbacks.specs.Hook.{Hook}
+use Rattle.pgs_turns.proofs.Base.{◌≡◌, ℕ, zero, suc, ◌+◌, ◌-◌, ◌<◌, inl, inr, List, [], ◌∷◌, ◌++◌, length, drop, Some, refl, sym, ap, ◌∙◌, subst, arith, append_assoc, append-nil, slice_get, slice_set, replicate, cases_eq, length-map, slice_get_within}
+use Rattle.pgs_turns.proofs.Words.{Empty, Event, What, Asks, taken, Kind, Hook, waiting, ShelfState, Holding, SessionState, opening, Around, Scene, World, around, with_scene, exited, Course, after_exit, at_start, ended, exits, of_session, CountsHooks, HooksCounted, exited_counts_hooks, HasExited, Stands, owners_of, StoreState, session_of, StaysBeside, Calls, IsBetweenLines, scene_in, empty_around, AreStanding, HaveDescriptors, IsOpening, Run, SameRun, one_of, sessions_in, world_in, TellHooks, AllExit}
+use Rattle.addr_space.specs.Space.{held}
 use Rattle.context_rules.specs.Contexts.{Contexts}
-use Rattle.context_rules.specs.Ends.{waiting}
-use Rattle.reset_callbacks.specs.ShelfState.{ShelfState}
-use Rattle.lock_shared.specs.declared.shared_locks.Holding.{Holding}
-use Rattle.session_rules.specs.State.{SessionState, opening}
-use Rattle.session_rules.specs.World.{Around, Scene, World, around, with_scene}
 use Rattle.session_rules.specs.Acts.{Ended}
-use Rattle.session_rules.specs.Ends.{exited}
-use Rattle.session_rules.specs.Transcript.{Course, after_exit, at_start, ended, exits, of_session}
-use Rattle.session_rules.specs.HookCounts.{CountsHooks, HooksCounted}
-use Rattle.session_rules.proofs.HookLaws.{exited_counts_hooks}
 use Rattle.session_rules.proofs.HookSteps.{IsNumbered}
-use Rattle.session_rules.specs.Standing.{HasExited, Stands}
 use Rattle.session_rules.proofs.EndsStand.{exited_stands}
-use Rattle.session_owners.specs.ResourceState.{owners_of}
-use Rattle.session_store.specs.State.{StoreState, session_of}
-use Rattle.session_store.specs.Calls.{StaysBeside}
-use Rattle.session_commands.specs.declared.calls.Calls.{Calls}
-use Rattle.session_core.specs.Lines.{IsBetweenLines}
 use Rattle.session_core.specs.Ended.{Ends}
-use Rattle.session_commands.specs.Performed.{scene_in}
-use Rattle.session_commands.proofs.Standing.{empty_around}
-use Rattle.pgs_turns.specs.World.{AreStanding, HaveDescriptors, IsOpening, Run, SameRun, one_of, sessions_in, world_in}
-use Rattle.pgs_turns.specs.Hooks.{TellHooks}
-use Rattle.pgs_turns.specs.Turns.{AllExit}
 use Rattle.pgs_turns.proofs.LockLemmas.{others_locked}
 use Rattle.pgs_turns.proofs.PinLemmas.{others_pinned}
 use Rattle.pgs_turns.proofs.SessionLemmas.{Changed, each_behind, fit_behind, have_behind, keys_fit_behind, few_behind, lines_stay, locks_fit_behind, pins_fit_behind, place_set, same_behind, same_on, same_run, session_there, sessions_behind, world_behind}

@@ -1,19 +1,8 @@
 -- The hooks of all sessions together, when those of one session change.
-use Rattle.std.proofs.Common.{◌≡◌, ℕ, ◌+◌, ◌≤◌, cond, List, [], ◌∷◌, ◌++◌, length, Some, refl, ap, ◌∙◌, arith}
-use Rattle.std.specs.Prelude.{◌==◌, slice_get, slice_set, slice_index_or}
-use Rattle.std.specs.List.{sum_by}
+use Rattle.pgs_turns.proofs.Base.{◌≡◌, ℕ, ◌+◌, ◌≤◌, cond, List, [], ◌∷◌, ◌++◌, length, Some, refl, ap, ◌∙◌, arith, ◌==◌, slice_get, slice_set, slice_index_or, sum_by, get_or-le-sum_by, sum_by-cons, sum_by-set, get_or_from_slice_get, slice_get_within}
+use Rattle.pgs_turns.proofs.Words.{What, Hook, ShelfState, held, waiting, SessionState, AreHooks, HooksCounted, hooks_of, HooksFit, all_waiting}
 use Rattle.std.proofs.lemmas.List.Concat.{flat_map-cons, length-flat_map}
-use Rattle.std.proofs.lemmas.List.Sums.{get_or-le-sum_by, sum_by-cons, sum_by-set}
-use Rattle.std.proofs.lemmas.Option.{get_or_from_slice_get, slice_get_within}
-use Rattle.pgs_step.specs.declared.events.What.{What}
-use Rattle.reset_callbacks.specs.Hook.{Hook}
-use Rattle.reset_callbacks.specs.ShelfState.{ShelfState, held}
-use Rattle.context_rules.specs.Ends.{waiting}
-use Rattle.session_rules.specs.State.{SessionState}
-use Rattle.session_rules.specs.Standing.{AreHooks}
-use Rattle.session_rules.specs.HookCounts.{HooksCounted, hooks_of}
 use Rattle.session_rules.proofs.HooksKept.{distinct_times, times_append, times_distinct, word_times}
-use Rattle.pgs_turns.specs.World.{HooksFit, all_waiting}
 
 -- how many of a session's hooks have a word, and how many wait
 abbrev words_in : ℕ → SessionState → ℕ

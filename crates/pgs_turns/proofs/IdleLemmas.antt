@@ -1,25 +1,10 @@
 -- A line that asks for nothing: how it is read, and that it leaves the run as it is.
-use Rattle.std.proofs.Common.{◌≡◌, ℕ, zero, suc, ◌+◌, ◌<◌, ◌≤◌, Bool, true, false, List, [], ◌∷◌, ◌++◌, length, Option, Some, None, Ok, refl, sym, ap, ◌∙◌, subst, arith}
-use Rattle.std.specs.Prelude.{◌==◌, if◌then◌else◌, nat_lt, slice_get, slice_set, unwrap_or}
-use Rattle.std.proofs.lemmas.Bool.Decides.{nat_tests}
-use Rattle.std.proofs.lemmas.List.{take_all}
-use Rattle.pgs_io.specs.Lines.{IsKept}
-use Rattle.pgs_step.specs.declared.events.Event.{Event}
+use Rattle.pgs_turns.proofs.Base.{◌≡◌, ℕ, zero, suc, ◌+◌, ◌<◌, ◌≤◌, Bool, true, false, List, [], ◌∷◌, ◌++◌, length, Option, Some, None, Ok, refl, sym, ap, ◌∙◌, subst, arith, ◌==◌, if◌then◌else◌, nat_lt, slice_get, slice_set, unwrap_or, nat_tests, take_all}
+use Rattle.pgs_turns.proofs.Words.{IsKept, Event, is_comment, prefix_of, read_line, said, risen, taken, SessionState, is_aborted, Moment, moment, session_at, Course, after_command, after_turn, turn, turn_of, asked_all, asked_by_command, asked_by_turn, StoreState, session_of, Said, said_in, Run, world_in, GoesOn, TakesTurn}
 use Rattle.pgs_command.specs.declared.commands.Command.TheVariants as command
-use Rattle.pgs_command.specs.Lines.{is_comment, prefix_of, read_line, said}
-use Rattle.addr_space.specs.Space.{risen, taken}
-use Rattle.session_rules.specs.State.{SessionState, is_aborted}
-use Rattle.session_rules.specs.World.{Moment, moment, session_at}
 use Rattle.session_rules.specs.Elements.{Element}
 use Rattle.session_rules.specs.Commands.{elements_of}
 use Rattle.session_rules.specs.Does.{does_all}
-use Rattle.session_rules.specs.Transcript.{Course, after_command, after_turn, turn, turn_of}
-use Rattle.session_rules.specs.Asked.{asked_all, asked_by_command, asked_by_turn}
-use Rattle.session_store.specs.State.{StoreState, session_of}
-use Rattle.pgs_turns.specs.declared.lines.Said.{Said}
-use Rattle.pgs_turns.specs.Script.{said_in}
-use Rattle.pgs_turns.specs.World.{Run, world_in}
-use Rattle.pgs_turns.specs.Turns.{GoesOn, TakesTurn}
 use Rattle.pgs_turns.proofs.SessionLemmas.{same_run, session_there}
 use Rattle.pgs_turns.proofs.ToldHooks.{tells_none}
 use Rattle.pgs_turns.proofs.TurnLemmas.{at_place}

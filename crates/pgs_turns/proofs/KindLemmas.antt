@@ -1,23 +1,7 @@
 -- The keys of extension kinds that all sessions hold together, when those of one session change.
-use Rattle.std.proofs.Common.{◌≡◌, ◌≢◌, ℕ, zero, suc, ◌+◌, ◌≤◌, Bool, true, false, List, [], ◌∷◌, Some, refl, sym, ap, subst, arith}
-use Rattle.std.specs.Prelude.{nat_lt, slice_get, slice_set, slice_index_or}
-use Rattle.std.proofs.lemmas.Bool.Decides.{nat_tests}
-use Rattle.std.proofs.lemmas.List.Sums.{get_or-le-sum_by, sum_by-cons, sum_by-set}
-use Rattle.std.proofs.lemmas.Option.{get_or_from_slice_get, slice_get_within}
-use Rattle.forest.specs.Forest.{Empty}
-use Rattle.pgs_step.specs.declared.ids.KindId.{KindId}
-use Rattle.owner_kinds.specs.Kind.{Kind}
-use Rattle.owner_kinds.specs.KindShelf.{table_of, times_held}
-use Rattle.owner_kinds.specs.KindTable.{IsSound}
+use Rattle.pgs_turns.proofs.Base.{◌≡◌, ◌≢◌, ℕ, zero, suc, ◌+◌, ◌≤◌, Bool, true, false, List, [], ◌∷◌, Some, refl, sym, ap, subst, arith, nat_lt, slice_get, slice_set, slice_index_or, nat_tests, get_or-le-sum_by, sum_by-cons, sum_by-set, get_or_from_slice_get, slice_get_within}
+use Rattle.pgs_turns.proofs.Words.{Empty, KindId, Kind, table_of, times_held, IsSound, OthersStay, Balances, CommonState, PinsServe, Serves, owners_of, serves_beside, StoreState, session_of, Space, SessionState, opening, AreKept, KindsFit, Run, SameRun, held_by_all}
 use Rattle.owner_core.specs.Owners.{held}
-use Rattle.lock_local.specs.Locks.{OthersStay}
-use Rattle.session_owners.specs.Commons.{Balances, CommonState, PinsServe, Serves}
-use Rattle.session_owners.specs.ResourceState.{owners_of}
-use Rattle.session_owners.proofs.Balances.{serves_beside}
-use Rattle.session_store.specs.State.{StoreState, session_of}
-use Rattle.addr_space.specs.Space.{Space}
-use Rattle.session_rules.specs.State.{SessionState, opening}
-use Rattle.pgs_turns.specs.World.{AreKept, KindsFit, Run, SameRun, held_by_all}
 
 -- how often the owners of one session hold an item
 abbrev pub held_by : KindId → ℕ → StoreState → ℕ

@@ -1,12 +1,6 @@
 -- What a run leaves of a script of which it performed the first lines.
-use Rattle.std.proofs.Common.{◌≡◌, ℕ, true, false, List, ◌++◌, length, take, drop, Some, None, refl, sym, ◌∙◌, ap, subst, arith}
-use Rattle.std.proofs.lemmas.List.{take-append-drop, take_all}
-use Rattle.session_rules.specs.Transcript.{Course, errors_in}
-use Rattle.pgs_turns.specs.Courses.{IsOver}
-use Rattle.pgs_turns.specs.Hooks.{HooksAreTold}
-use Rattle.pgs_turns.specs.Sweeping.{LeavesRun}
-use Rattle.pgs_turns.specs.Transcript.{course_of, kinds_after, shelf_after, transcript, EndsAt}
-use Rattle.pgs_turns.specs.World.{Run, setting_of}
+use Rattle.pgs_turns.proofs.Base.{◌≡◌, ℕ, true, false, List, ◌++◌, length, take, drop, Some, None, refl, sym, ◌∙◌, ap, subst, arith, take-append-drop, take_all}
+use Rattle.pgs_turns.proofs.Words.{Course, errors_in, IsOver, HooksAreTold, LeavesRun, course_of, kinds_after, shelf_after, transcript, EndsAt, Run, setting_of}
 use Rattle.pgs_turns.proofs.CourseLemmas.{course_of-stopped}
 use Rattle.pgs_turns.proofs.OverLemmas.{kinds-stopped, shelf-stopped, transcript-stopped}
 

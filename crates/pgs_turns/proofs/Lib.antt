@@ -22,3 +22,6 @@ pub mod ToldLemmas
 pub mod MadeTurns
 pub mod LeftLemmas
 pub mod SweepLemmas
+pub mod Base
+pub mod Words
+pub mod Lemmas

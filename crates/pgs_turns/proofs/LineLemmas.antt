@@ -1,24 +1,16 @@
 -- What lines of words and numbers ask for.
-use Rattle.std.proofs.Common.{◌≡◌, ℕ, ◌<◌, ◌≤◌, ◌^◌, true, false, List, ◌∷◌, ◌++◌, length, codes, Some, None, refl, arith, length-append}
-use Rattle.std.specs.Prelude.{nat_lt}
-use Rattle.std.specs.Fmt.{decimal, digits}
-use Rattle.std.proofs.lemmas.Bool.Decides.{nat_tests}
-use Rattle.pgs_step.specs.Name.{is_name_byte}
+use Rattle.pgs_turns.proofs.Base.{◌≡◌, ℕ, ◌<◌, ◌≤◌, ◌^◌, true, false, List, ◌∷◌, ◌++◌, length, codes, Some, None, refl, arith, length-append, nat_lt, decimal, digits, nat_tests}
+use Rattle.pgs_turns.proofs.Words.{is_name_byte, words_of, name_of, number_between, number_of, count_of, class_of, mode_of, kind_of, is_comment, prefix_of, read_line, Command, says}
 use Rattle.pgs_step.specs.declared.lock_modes.Mode.TheVariants.{AccessShareLock}
-use Rattle.pgs_command.specs.Words.{words_of}
-use Rattle.pgs_command.specs.Values.{name_of, number_between, number_of, count_of, class_of, mode_of, kind_of}
 use Rattle.pgs_command.specs.Table.{chunk_rows, command_of, context_rows, item_rows, lock_rows, on_chunks, on_contexts, on_items, on_locks, on_portals, on_transactions, plan_rows, portal_rows, snapshot_rows, transaction_rows}
-use Rattle.pgs_command.specs.Lines.{is_comment, prefix_of, read_line}
 use Rattle.pgs_command.specs.declared.kinds.ContextKind.TheVariants.{Default}
 use Rattle.pgs_command.specs.declared.kinds.ReferenceClass.TheVariants.{Relcache}
-use Rattle.pgs_command.specs.declared.commands.Command.{Command}
 use Rattle.pgs_command.specs.declared.commands.TransactionCommand.TheVariants as transaction
 use Rattle.pgs_command.specs.declared.commands.ContextCommand.TheVariants as context
 use Rattle.pgs_command.specs.declared.commands.ChunkCommand.TheVariants as chunk
 use Rattle.pgs_command.specs.declared.commands.ItemCommand.TheVariants as item
 use Rattle.pgs_command.specs.declared.commands.LockCommand.TheVariants as lock
 use Rattle.pgs_command.specs.declared.commands.PortalCommand.TheVariants as portal
-use Rattle.pgs_turns.specs.Made.{says}
 use Rattle.pgs_turns.proofs.WordLemmas.{is_numbered_name, name_of-name, number_first, number_last, number_of-number, short_number}
 
 -- a short line without a prefix is its words

@@ -1,16 +1,8 @@
 -- What a session of a run sees of the locks of the others.
-use Rattle.std.proofs.Common.{◌≡◌, ℕ, zero, suc, ◌+◌, inl, inr, List, [], ◌∷◌, map, Some, refl, sym, ap, ◌∙◌, subst, arith}
-use Rattle.std.specs.Prelude.{slice_get}
-use Rattle.std.specs.List.{flat_map}
-use Rattle.std.proofs.lemmas.List.{length-map}
-use Rattle.lock_shared.specs.Holdings.{holds}
+use Rattle.pgs_turns.proofs.Base.{◌≡◌, ℕ, zero, suc, ◌+◌, inl, inr, List, [], ◌∷◌, map, Some, refl, sym, ap, ◌∙◌, subst, arith, slice_get, flat_map, length-map}
+use Rattle.pgs_turns.proofs.Words.{holds, AreLocks, is_held, SessionState, holdings, others, StoreState, session_of, IsHeld, LocksFit, Run, sessions_in}
 use Rattle.lock_shared.specs.Ranked.{beside}
-use Rattle.lock_local.specs.Locks.{AreLocks, is_held}
-use Rattle.session_rules.specs.State.{SessionState}
-use Rattle.session_rules.specs.World.{holdings, others}
 use Rattle.session_rules.proofs.Locked.{AreLocked, locked_is}
-use Rattle.session_store.specs.State.{StoreState, session_of}
-use Rattle.pgs_turns.specs.World.{IsHeld, LocksFit, Run, sessions_in}
 
 -- what a place of a list made by a function was made of
 mapped_at : {A B : Type 0} (f : A → B) (xs : List A) (i : ℕ) (y : B) → slice_get (map f xs) i ≡ Some y → (x : A) × (slice_get xs i ≡ Some x) × (f x ≡ y)

@@ -1,20 +1,8 @@
 -- One made line more.
-use Rattle.std.proofs.Common.{◌≡◌, ℕ, ◌+◌, ◌*◌, ◌/◌, ◌%◌, ◌<◌, ◌≤◌, Bool, false, List, take, Option, Some, None, refl, ◌∙◌, ap, subst, arith}
-use Rattle.std.specs.Prelude.{slice_get}
-use Rattle.std.specs.Option.{option_map}
-use Rattle.pgs_step.specs.declared.events.Event.{Event}
-use Rattle.session_rules.specs.Modes.{made_lines, made_script}
-use Rattle.pgs_turns.specs.declared.lines.Said.{Said}
-use Rattle.pgs_command.specs.Lines.{read_line}
-use Rattle.pgs_turns.specs.Script.{said_in}
-use Rattle.pgs_turns.specs.Courses.{HasPerformed}
-use Rattle.pgs_turns.specs.Turns.{HaveRoom, TakesTurn}
-use Rattle.pgs_turns.specs.World.{Run}
+use Rattle.pgs_turns.proofs.Base.{◌≡◌, ℕ, ◌+◌, ◌*◌, ◌/◌, ◌%◌, ◌<◌, ◌≤◌, Bool, false, List, take, Option, Some, None, refl, ◌∙◌, ap, subst, arith, slice_get, option_map}
+use Rattle.pgs_turns.proofs.Words.{Event, made_lines, made_script, Said, read_line, said_in, HasPerformed, HaveRoom, TakesTurn, Run, Counter, TakesEvents, asked_at, read_at}
 use Rattle.pgs_turns.proofs.CountedLemmas.{line_turn}
 use Rattle.pgs_turns.proofs.PlayLemmas.{room_behind}
-use Rattle.pgs_turns.specs.declared.counter.Counter.{Counter}
-use Rattle.pgs_turns.specs.Counting.{TakesEvents}
-use Rattle.pgs_turns.specs.Made.{asked_at, read_at}
 use Rattle.pgs_turns.proofs.MadeLemmas.{made_at}
 use Rattle.pgs_turns.proofs.ToldLemmas.{few_lines}
 

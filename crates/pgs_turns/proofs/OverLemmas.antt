@@ -1,17 +1,6 @@
 -- What lines and the ends of all sessions behind them leave.
-use Rattle.std.proofs.Common.{◌≡◌, ℕ, ◌+◌, Bool, true, false, List, [], ◌∷◌, ◌++◌, length, Option, Some, None, refl, sym, ◌∙◌, ap, subst, arith}
-use Rattle.pgs_step.specs.declared.events.Event.{Event}
-use Rattle.session_rules.specs.Ends.{exited}
-use Rattle.session_rules.specs.State.{SessionState}
-use Rattle.session_rules.specs.Transcript.{Course, after_exit, ended, exits, transcript_by}
-use Rattle.session_rules.specs.World.{World, around, opened}
-use Rattle.session_commands.specs.Answers.{Fits}
-use Rattle.session_commands.specs.declared.calls.Calls.{Calls}
-use Rattle.pgs_turns.specs.Transcript.{Setting, course_of, kinds_after, shelf_after, transcript}
-use Rattle.pgs_turns.specs.World.{IsOpening, Run, setting_of, world_in}
-use Rattle.pgs_turns.specs.Hooks.{HooksAreTold, TellHooks}
-use Rattle.pgs_turns.specs.Turns.{AllExit}
-use Rattle.pgs_turns.specs.Courses.{CourseAt, HasPerformed, IsOver}
+use Rattle.pgs_turns.proofs.Base.{◌≡◌, ℕ, ◌+◌, Bool, true, false, List, [], ◌∷◌, ◌++◌, length, Option, Some, None, refl, sym, ◌∙◌, ap, subst, arith}
+use Rattle.pgs_turns.proofs.Words.{Event, exited, SessionState, Course, after_exit, ended, exits, transcript_by, World, around, opened, Fits, Calls, Setting, course_of, kinds_after, shelf_after, transcript, IsOpening, Run, setting_of, world_in, HooksAreTold, TellHooks, AllExit, CourseAt, HasPerformed, IsOver}
 use Rattle.pgs_turns.proofs.CourseLemmas.{course_of-stopped}
 use Rattle.pgs_turns.proofs.KindLemmas.{all_kept}
 use Rattle.pgs_turns.proofs.SessionLemmas.{opening_hold_none, same_on}

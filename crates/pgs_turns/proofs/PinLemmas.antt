@@ -1,19 +1,9 @@
 -- How many sessions pin each buffer, when what one of them pins changes, and what each sees of the others.
-use Rattle.std.proofs.Common.{◌≡◌, ℕ, zero, suc, ◌+◌, ◌-◌, ◌^◌, ◌≤◌, List, [], ◌∷◌, length, Some, refl, sym, ap, ◌∙◌, arith}
-use Rattle.std.specs.Prelude.{replicate, slice_get, slice_index, slice_index_or, slice_set}
-use Rattle.std.specs.List.{sum_by}
-use Rattle.std.proofs.lemmas.List.Sums.{get_or-le-sum_by, sum_by-cons, sum_by-set}
-use Rattle.std.proofs.lemmas.Option.{get_or_from_slice_get, slice_get_within}
-use Rattle.forest.specs.Forest.{Empty}
-use Rattle.addr_space.specs.Space.{Space}
-use Rattle.session_rules.specs.World.{for_buffers, others, pinning_among}
+use Rattle.pgs_turns.proofs.Base.{◌≡◌, ℕ, zero, suc, ◌+◌, ◌-◌, ◌^◌, ◌≤◌, List, [], ◌∷◌, length, Some, refl, sym, ap, ◌∙◌, arith, replicate, slice_get, slice_index, slice_index_or, slice_set, sum_by, get_or-le-sum_by, sum_by-cons, sum_by-set, get_or_from_slice_get, slice_get_within}
+use Rattle.pgs_turns.proofs.Words.{Empty, Space, for_buffers, others, pinning_among, Balances, CommonState, PinsServe, pinned_beside, pinned_once, owners_of, StoreState, session_of, PinsFit, sessions_in}
 use Rattle.session_rules.proofs.Pinned as rules
 use Rattle.session_rules.proofs.Pinned.{pinned_is}
-use Rattle.session_owners.specs.Commons.{Balances, CommonState, PinsServe, pinned_beside, pinned_once}
-use Rattle.session_owners.specs.ResourceState.{owners_of}
 use Rattle.session_owners.proofs.OwnPins.{at_most_once}
-use Rattle.session_store.specs.State.{StoreState, session_of}
-use Rattle.pgs_turns.specs.World.{PinsFit, sessions_in}
 
 -- 1 for a session that pins a buffer
 abbrev once_by : ℕ → StoreState → ℕ

@@ -1,15 +1,6 @@
 -- Lines that a run performs, one after the other.
-use Rattle.std.proofs.Common.{◌≡◌, ℕ, ◌+◌, ◌*◌, ◌^◌, ◌≤◌, Bool, false, List, [], ◌∷◌, ◌++◌, length, Some, refl, ap, subst, arith, length-append}
-use Rattle.std.specs.Prelude.{slice_get}
-use Rattle.pgs_step.specs.declared.events.Event.{Event}
-use Rattle.session_rules.specs.State.{SessionState, opening}
-use Rattle.session_store.specs.State.{StoreState, session_of}
-use Rattle.pgs_command.specs.Lines.{read_line}
-use Rattle.pgs_turns.specs.Script.{said_in}
-use Rattle.session_commands.specs.Performed.{most_steps}
-use Rattle.pgs_turns.specs.World.{HaveDescriptors, IsOpening, Run, setting_of}
-use Rattle.pgs_turns.specs.Turns.{HaveRoom, IsWithin, TakesTurn}
-use Rattle.pgs_turns.specs.Courses.{HasPerformed}
+use Rattle.pgs_turns.proofs.Base.{◌≡◌, ℕ, ◌+◌, ◌*◌, ◌^◌, ◌≤◌, Bool, false, List, [], ◌∷◌, ◌++◌, length, Some, refl, ap, subst, arith, length-append, slice_get}
+use Rattle.pgs_turns.proofs.Words.{Event, SessionState, opening, StoreState, session_of, read_line, said_in, most_steps, HaveDescriptors, IsOpening, Run, setting_of, HaveRoom, IsWithin, TakesTurn, HasPerformed}
 use Rattle.pgs_turns.proofs.CourseLemmas.{CoursesAre-start, CoursesAre-line, CoursesAre-weaker}
 use Rattle.pgs_turns.proofs.SessionLemmas.{opening_at, same_run, same_on}
 use Rattle.pgs_turns.proofs.TakenLemmas.{takes_line, takes_none}

@@ -1,40 +1,12 @@
 -- The sessions of a run, when one of them changes.
-use Rattle.std.proofs.Common.{◌≡◌, ◌≢◌, true, false, ℕ, zero, suc, ◌+◌, ◌-◌, ◌<◌, ◌≤◌, ◌⊎◌, inl, inr, List, [], ◌∷◌, length, map, Some, refl, sym, ap, ◌∙◌, subst, arith}
-use Rattle.std.specs.Prelude.{All, slice_get, slice_index, slice_set, replicate}
-use Rattle.std.proofs.lemmas.List.Elements.{All-nil}
-use Rattle.std.specs.Option.{option_map}
-use Rattle.std.proofs.lemmas.List.{length-set, map-set}
-use Rattle.std.proofs.lemmas.Option.{slice_get-map, slice_get_within}
-use Rattle.pgs_step.specs.declared.events.What.{What}
-use Rattle.pgs_step.specs.declared.ids.KindId.{KindId}
+use Rattle.pgs_turns.proofs.Base.{◌≡◌, ◌≢◌, true, false, ℕ, zero, suc, ◌+◌, ◌-◌, ◌<◌, ◌≤◌, ◌⊎◌, inl, inr, List, [], ◌∷◌, length, map, Some, refl, sym, ap, ◌∙◌, subst, arith, All, slice_get, slice_index, slice_set, replicate, All-nil, option_map, length-set, map-set, slice_get-map, slice_get_within}
+use Rattle.pgs_turns.proofs.Words.{What, KindId, Holding, holds, Lock, AreLocks, Agrees, has_owner, is_held, Space, taken, AreDistinct, Moves, table_of, times_held, IsSound, Balances, locks_of, serves_nothing, SessionState, opening, Around, Options, with_scene, StandsBetweenLines, HooksCounted, stands_between_elsewhere, StoreState, session_of, Keeps, StaysBeside, IsBetweenLines, scene_in, AreStanding, HaveDescriptors, HooksFit, IsHeld, IsOpening, KindsFit, LocksFit, PinsFit, Run, SameRun, held_by_all, one_of, options_in, sessions_in, world_in, AreOpened}
 use Rattle.pgs_step.specs.declared.lock_modes.Mode.{Mode}
-use Rattle.lock_shared.specs.declared.shared_locks.Holding.{Holding}
-use Rattle.lock_shared.specs.Holdings.{holds}
 use Rattle.lock_local.specs.declared.local_lock.OwnerCount.{OwnerCount}
-use Rattle.lock_local.specs.Locks.{Lock, AreLocks, Agrees, has_owner, is_held}
-use Rattle.addr_space.specs.Space.{Space, taken}
-use Rattle.reset_callbacks.specs.Hook.{AreDistinct}
 use Rattle.reset_callbacks.specs.ShelfState as shelf
-use Rattle.context_tree.specs.State.{Moves}
-use Rattle.owner_kinds.specs.KindShelf.{table_of, times_held}
-use Rattle.owner_kinds.specs.KindTable.{IsSound}
-use Rattle.session_owners.specs.Commons.{Balances}
-use Rattle.session_owners.specs.ResourceState.{locks_of}
-use Rattle.session_owners.proofs.Balances.{serves_nothing}
-use Rattle.session_rules.specs.State.{SessionState, opening}
-use Rattle.session_rules.specs.World.{Around, Options, with_scene}
-use Rattle.session_rules.specs.Standing.{StandsBetweenLines}
-use Rattle.session_rules.specs.HookCounts.{HooksCounted}
-use Rattle.session_rules.proofs.Standings.{stands_between_elsewhere}
 use Rattle.session_rules.proofs.OpeningStands.{opening_stands}
-use Rattle.session_store.specs.State.{StoreState, session_of}
-use Rattle.session_store.specs.Calls.{Keeps, StaysBeside}
-use Rattle.session_core.specs.Lines.{IsBetweenLines}
-use Rattle.session_commands.specs.Performed.{scene_in}
 use Rattle.session_core.proofs.Opened.{opened_lines}
 pub use Rattle.session_core.proofs.Opened.{none_held}
-use Rattle.pgs_turns.specs.World.{AreStanding, HaveDescriptors, HooksFit, IsHeld, IsOpening, KindsFit, LocksFit, PinsFit, Run, SameRun, held_by_all, one_of, options_in, sessions_in, world_in}
-use Rattle.pgs_turns.specs.Turns.{AreOpened}
 use Rattle.pgs_turns.proofs.HookLemmas.{hooks_behind, hooks_of_one}
 use Rattle.pgs_turns.proofs.ToldHooks.{none_wait}
 use Rattle.pgs_turns.proofs.PinLemmas.{no_pins, pins_behind, pins_opened, pins_serve}

@@ -1,19 +1,9 @@
 -- What a run starts with.
-use Rattle.std.proofs.Common.{◌≡◌, ◌≢◌, ◌⊎◌, ℕ, zero, suc, ◌+◌, ◌<◌, inl, inr, Bool, true, false, List, [], ◌∷◌, ◌++◌, length, Some, refl, sym, ◌∙◌, ap, subst, arith, length-append}
-use Rattle.std.specs.Prelude.{nat_lt, if◌then◌else◌, slice_get}
-use Rattle.std.proofs.lemmas.Bool.{cases_eq}
-use Rattle.std.proofs.lemmas.Bool.Decides.{nat_tests}
-use Rattle.std.proofs.lemmas.Option.{slice_get_within}
-use Rattle.addr_space.specs.Space.{Asks, Space, accounts, held, risen, share, taken}
+use Rattle.pgs_turns.proofs.Base.{◌≡◌, ◌≢◌, ◌⊎◌, ℕ, zero, suc, ◌+◌, ◌<◌, inl, inr, Bool, true, false, List, [], ◌∷◌, ◌++◌, length, Some, refl, sym, ◌∙◌, ap, subst, arith, length-append, nat_lt, if◌then◌else◌, slice_get, cases_eq, nat_tests, slice_get_within}
+use Rattle.pgs_turns.proofs.Words.{Asks, Space, accounts, risen, share, taken, Moves, SameRegions, TreeState, no_contexts, stands_for, total_of, StoreState, ShelfState, CommonState, Calls, Setting, setting_of, AreOpened, IsOpened}
+use Rattle.addr_space.specs.Space.{held}
 use Rattle.addr_space.proofs.Held.{held-changed}
-use Rattle.context_tree.specs.State.{Agrees, Moves, SameRegions, TreeState, no_contexts, stands_for, total_of}
-use Rattle.session_store.specs.State.{StoreState}
-use Rattle.reset_callbacks.specs.ShelfState.{ShelfState}
-use Rattle.session_owners.specs.Commons.{CommonState}
-use Rattle.session_commands.specs.declared.calls.Calls.{Calls}
-use Rattle.pgs_turns.specs.Transcript.{Setting}
-use Rattle.pgs_turns.specs.World.{setting_of}
-use Rattle.pgs_turns.specs.Turns.{AreOpened, IsOpened}
+use Rattle.context_tree.specs.State.{Agrees}
 use Rattle.pgs_turns.proofs.TurnLemmas.{took_other, took_own}
 
 -- what accounts hold is what the regions count

@@ -1,22 +1,8 @@
 -- The runs of a sweep, one behind the other.
-use Rattle.std.proofs.Common.{◌≡◌, ℕ, zero, suc, ◌+◌, ◌*◌, ◌≤◌, min, true, false, List, ◌++◌, length, Some, None, refl, sym, ◌∙◌, ap, subst, arith, append_assoc, append-nil}
-use Rattle.std.specs.Prelude.{◌==◌, nat_lt, if◌then◌else◌}
-use Rattle.std.proofs.lemmas.Bool.Decides.{nat_tests}
-use Rattle.std.proofs.lemmas.List.{map-append}
+use Rattle.pgs_turns.proofs.Base.{◌≡◌, ℕ, zero, suc, ◌+◌, ◌*◌, ◌≤◌, min, true, false, List, ◌++◌, length, Some, None, refl, sym, ◌∙◌, ap, subst, arith, append_assoc, append-nil, ◌==◌, nat_lt, if◌then◌else◌, nat_tests, map-append}
+use Rattle.pgs_turns.proofs.Words.{Event, Kind, Hook, ShelfState, held, renewed, callbacks_of, runs_of, failing_runs, most_failing, swept, whole_run, ended, errors_in, transcript_by, callbacks_both, errors_in-append, HooksAreTold, said_by_all, HooksRan, LeaveRuns, LeaveWanted, LeavesRun, course_in, events_of_runs, kinds_behind, run_numbers, runs_in, setting_for_run, setting_in, shelf_behind, shelf_for, told_in, told_of_runs, Setting, course_of, kinds_after, shelf_after, transcript}
 use Rattle.std.proofs.lemmas.List.Sorted.{sum_by-IsPermutation}
-use Rattle.pgs_step.specs.declared.events.Event.{Event}
-use Rattle.owner_kinds.specs.Kind.{Kind}
-use Rattle.reset_callbacks.specs.Hook.{Hook}
-use Rattle.reset_callbacks.specs.ShelfState.{ShelfState, held, renewed}
 use Rattle.reset_callbacks.proofs.ShelfSteps.{renewed-permutes}
-use Rattle.session_rules.specs.HookCounts.{callbacks_of, runs_of}
-use Rattle.session_rules.specs.Modes.{failing_runs, most_failing, swept, whole_run}
-use Rattle.session_rules.specs.Transcript.{ended, errors_in, transcript_by}
-use Rattle.session_rules.proofs.HookSums.{callbacks_both}
-use Rattle.pgs_turns.specs.EventLaws.{errors_in-append}
-use Rattle.pgs_turns.specs.Hooks.{HooksAreTold, said_by_all}
-use Rattle.pgs_turns.specs.Sweeping.{HooksRan, LeaveRuns, LeaveWanted, LeavesRun, course_in, events_of_runs, kinds_behind, run_numbers, runs_in, setting_for_run, setting_in, shelf_behind, shelf_for, told_in, told_of_runs}
-use Rattle.pgs_turns.specs.Transcript.{Setting, course_of, kinds_after, shelf_after, transcript}
 use Rattle.pgs_turns.proofs.ErrorLemmas.{few_errors}
 
 -- a run behind the first one is told from it

@@ -1,27 +1,6 @@
 -- What accounts take in a run.
-use Rattle.std.proofs.Common.{◌≡◌, ℕ, zero, suc, ◌+◌, ◌-◌, ◌^◌, ◌<◌, ◌≤◌, inl, inr, min, Bool, true, false, List, [], ◌∷◌, ◌++◌, length, Option, Some, None, Result, Ok, Err, refl, sym, ◌∙◌, ap, subst, arith}
-use Rattle.std.specs.Prelude.{◌==◌, if◌then◌else◌, nat_lt, replicate}
-use Rattle.std.proofs.lemmas.Bool.{cases_eq}
-use Rattle.std.proofs.lemmas.Bool.Decides.{nat_tests}
-use Rattle.std.proofs.lemmas.List.{length-set}
-use Rattle.std.proofs.lemmas.Option.{slice_get_past}
-use Rattle.pgs_command.specs.declared.commands.Command.{Command}
-use Rattle.pgs_command.specs.declared.lines.BadLine.{BadLine}
-use Rattle.pgs_command.specs.declared.lines.Line.{Line}
-use Rattle.pgs_step.specs.declared.events.Event.{Event}
-use Rattle.addr_space.specs.Space.{Space, risen, taken}
-use Rattle.session_rules.specs.Asked.{asked_by, asked_by_command, asked_by_line, asked_by_read, asked_on}
-use Rattle.session_rules.specs.State.{SessionState}
-use Rattle.session_rules.specs.Transcript.{Course, after_command, after_line, after_read, at_start}
-use Rattle.session_rules.specs.World.{opened, session_at}
-use Rattle.session_rules.proofs.Asking.{asked_by_more, other_line, read_line_asks}
-use Rattle.session_commands.specs.Answers.{Fits}
-use Rattle.pgs_command.specs.Lines.{read_line}
-use Rattle.pgs_turns.specs.Script.{said_in}
-use Rattle.pgs_turns.specs.Transcript.{Setting, course_of}
-use Rattle.pgs_turns.specs.World.{HaveDescriptors, Run}
-use Rattle.pgs_turns.specs.Turns.{TakesTurn}
-use Rattle.pgs_turns.specs.Courses.{CoursesAre, TakesBut, TakesInAll, TakesLines}
+use Rattle.pgs_turns.proofs.Base.{◌≡◌, ℕ, zero, suc, ◌+◌, ◌-◌, ◌^◌, ◌<◌, ◌≤◌, inl, inr, min, Bool, true, false, List, [], ◌∷◌, ◌++◌, length, Option, Some, None, Result, Ok, Err, refl, sym, ◌∙◌, ap, subst, arith, ◌==◌, if◌then◌else◌, nat_lt, replicate, cases_eq, nat_tests, length-set, slice_get_past}
+use Rattle.pgs_turns.proofs.Words.{Command, BadLine, Line, Event, Space, risen, taken, asked_by, asked_by_command, asked_by_line, asked_by_read, asked_on, SessionState, Course, after_command, after_line, after_read, at_start, opened, session_at, asked_by_more, other_line, read_line_asks, Fits, read_line, said_in, Setting, course_of, HaveDescriptors, Run, TakesTurn, CoursesAre, TakesBut, TakesInAll, TakesLines}
 use Rattle.pgs_turns.proofs.CourseLemmas.{fits_later}
 
 -- no line

@@ -1,22 +1,6 @@
 -- What events say of the hooks of a run: nothing, twice in a row, by what they say of one session, and in all.
-use Rattle.std.proofs.Common.{◌≡◌, ℕ, zero, suc, ◌+◌, ◌-◌, ◌^◌, ◌≤◌, cond, min, List, [], ◌∷◌, ◌++◌, length, Some, refl, sym, ap, ◌∙◌, subst, arith}
-use Rattle.std.specs.Prelude.{◌==◌, if◌then◌else◌, slice_get, slice_set, replicate}
-use Rattle.std.specs.List.{sum_by}
-use Rattle.std.proofs.lemmas.List.{map-append}
-use Rattle.std.proofs.lemmas.List.Sums.{sum_by-append, sum_by-cons}
-use Rattle.pgs_step.specs.declared.events.Event.{Event}
-use Rattle.pgs_step.specs.declared.events.What.{What}
-use Rattle.reset_callbacks.specs.Hook.{Hook}
-use Rattle.reset_callbacks.specs.ShelfState.{ShelfState, held}
-use Rattle.context_rules.specs.Ends.{waiting}
-use Rattle.session_rules.specs.State.{SessionState, opening}
-use Rattle.session_rules.specs.World.{Options, Scene, World, opened, with_scene}
-use Rattle.owner_kinds.specs.Kind.{Kind}
-use Rattle.session_rules.specs.HookCounts.{HookCount, HooksCounted, callbacks_of, hooks_of, registered_of, runs_of}
-use Rattle.session_rules.proofs.HookSums.{Runs, callbacks_both, registered_both}
-use Rattle.session_rules.specs.Transcript.{of_session}
-use Rattle.pgs_turns.specs.World.{all_waiting}
-use Rattle.pgs_turns.specs.Hooks.{HooksAreTold, TellHooks, hooks_in, said_by_all, used_in}
+use Rattle.pgs_turns.proofs.Base.{◌≡◌, ℕ, zero, suc, ◌+◌, ◌-◌, ◌^◌, ◌≤◌, cond, min, List, [], ◌∷◌, ◌++◌, length, Some, refl, sym, ap, ◌∙◌, subst, arith, ◌==◌, if◌then◌else◌, slice_get, slice_set, replicate, sum_by, map-append, sum_by-append, sum_by-cons}
+use Rattle.pgs_turns.proofs.Words.{Event, What, Hook, ShelfState, held, waiting, SessionState, opening, Options, Scene, World, opened, with_scene, Kind, HookCount, HooksCounted, callbacks_of, hooks_of, registered_of, runs_of, Runs, callbacks_both, registered_both, of_session, all_waiting, HooksAreTold, TellHooks, hooks_in, said_by_all, used_in}
 use Rattle.pgs_turns.proofs.HookLemmas.{changed, many_together, part_of}
 
 -- what is summed over hooks

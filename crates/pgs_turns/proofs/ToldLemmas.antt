@@ -1,17 +1,10 @@
 -- What is told of a run that is over.
-use Rattle.std.proofs.Common.{◌≡◌, ℕ, zero, suc, ◌∷◌, ◌*◌, ◌^◌, ◌<◌, ◌≤◌, min, Bool, true, false, not, List, [], length, take, Option, None, refl, sym, ◌∙◌, ap, subst, arith}
-use Rattle.std.proofs.lemmas.List.{take_all}
+use Rattle.pgs_turns.proofs.Base.{◌≡◌, ℕ, zero, suc, ◌∷◌, ◌*◌, ◌^◌, ◌<◌, ◌≤◌, min, Bool, true, false, not, List, [], length, take, Option, None, refl, sym, ◌∙◌, ap, subst, arith, take_all}
+use Rattle.pgs_turns.proofs.Words.{generated, made_script, most_counted, numbers, summary, whole_run, Course, ended, errors_in, transcript_by, IsOver, course_of, transcript, Run, setting_of, Counter, TakesEvents}
 use Rattle.std.specs.Io.KnownBytes.{append_known}
-use Rattle.session_rules.specs.Modes.{generated, made_script, most_counted, numbers, summary, whole_run}
-use Rattle.session_rules.specs.Transcript.{Course, ended, errors_in, transcript_by}
 use Rattle.pgs_turns.specs.Turns.{Fits}
-use Rattle.pgs_turns.specs.Courses.{IsOver}
-use Rattle.pgs_turns.specs.Transcript.{course_of, transcript}
-use Rattle.pgs_turns.specs.World.{Run, setting_of}
 use Rattle.pgs_turns.proofs.CountedLemmas.{counted_over}
 use Rattle.pgs_turns.proofs.OverLemmas.{fits_none}
-use Rattle.pgs_turns.specs.declared.counter.Counter.{Counter}
-use Rattle.pgs_turns.specs.Counting.{TakesEvents}
 use Rattle.pgs_turns.specs.Generating.{IsFront, Tells, text_for}
 use Rattle.pgs_turns.proofs.MadeLemmas.{made_length}
 

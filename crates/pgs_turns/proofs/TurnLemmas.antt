@@ -1,37 +1,9 @@
 -- What a line's turn makes of a run, from what it makes of its session.
-use Rattle.std.proofs.Common.{◌≡◌, ◌≢◌, ℕ, ◌+◌, ◌-◌, ◌<◌, ◌≤◌, inl, inr, Bool, true, false, List, [], ◌∷◌, length, get_or, Option, Some, None, refl, sym, ap, ◌∙◌, subst, arith}
-use Rattle.std.specs.Prelude.{◌==◌, slice_get, slice_set}
-use Rattle.std.proofs.lemmas.Bool.{cases_eq}
-use Rattle.std.proofs.lemmas.Bool.Decides.{nat_tests}
-use Rattle.std.proofs.lemmas.List.{get_or-set_same, get_or-set_other}
-use Rattle.std.proofs.lemmas.Option.{slice_get_past}
-use Rattle.pgs_step.specs.declared.events.Event.{Event}
-use Rattle.pgs_step.specs.declared.events.What.{What}
+use Rattle.pgs_turns.proofs.Base.{◌≡◌, ◌≢◌, ℕ, ◌+◌, ◌-◌, ◌<◌, ◌≤◌, inl, inr, Bool, true, false, List, [], ◌∷◌, length, get_or, Option, Some, None, refl, sym, ap, ◌∙◌, subst, arith, ◌==◌, slice_get, slice_set, cases_eq, nat_tests, get_or-set_same, get_or-set_other, slice_get_past}
+use Rattle.pgs_turns.proofs.Words.{Event, What, Asks, Space, risen, taken, Holding, SessionState, Around, Moment, World, around, moment, session_at, with_scene, Course, Turn, after_command, after_turn, missing, of_session, turn, asked_by_command, asked_by_turn, CountsHooks, HooksCounted, other_line, own_line, StandsBetweenLines, turn_counts_hooks, more_runs, none_run, stands_between_elsewhere, StoreState, session_of, StaysBeside, Fits, IsBetweenLines, Takes, most_steps, scene_in, empty_around, fitting, fitting_fits, Said, AreStanding, HaveDescriptors, Run, one_of, sessions_in, world_in, TellHooks, GoesOn, IsWithin, TakesTurn}
 use Rattle.pgs_step.specs.declared.events.What.TheVariants as what
-use Rattle.addr_space.specs.Space.{Asks, Space, risen, taken}
 use Rattle.addr_space.proofs.Asked.{raised-set}
-use Rattle.lock_shared.specs.declared.shared_locks.Holding.{Holding}
-use Rattle.session_rules.specs.State.{SessionState}
-use Rattle.session_rules.specs.World.{Around, Moment, World, around, moment, session_at, with_scene}
-use Rattle.session_rules.specs.Transcript.{Course, Turn, after_command, after_turn, missing, of_session, turn}
-use Rattle.session_rules.specs.Asked.{asked_by_command, asked_by_turn}
-use Rattle.session_rules.specs.HookCounts.{CountsHooks, HooksCounted}
-use Rattle.session_rules.proofs.Asking.{other_line, own_line}
-use Rattle.session_rules.specs.Standing.{StandsBetweenLines}
-use Rattle.session_rules.proofs.HookLaws.{turn_counts_hooks}
-use Rattle.session_rules.proofs.HookSums.{more_runs, none_run}
-use Rattle.session_rules.proofs.Standings.{stands_between_elsewhere}
-use Rattle.session_store.specs.State.{StoreState, session_of}
-use Rattle.session_store.specs.Calls.{StaysBeside}
-use Rattle.session_commands.specs.Answers.{Fits}
-use Rattle.session_core.specs.Lines.{IsBetweenLines}
-use Rattle.session_commands.specs.Performed.{Takes, most_steps, scene_in}
 use Rattle.session_core.specs.Turns.{Turned, moment_in}
-use Rattle.session_commands.proofs.Standing.{empty_around, fitting, fitting_fits}
-use Rattle.pgs_turns.specs.declared.lines.Said.{Said}
-use Rattle.pgs_turns.specs.World.{AreStanding, HaveDescriptors, Run, one_of, sessions_in, world_in}
-use Rattle.pgs_turns.specs.Hooks.{TellHooks}
-use Rattle.pgs_turns.specs.Turns.{GoesOn, IsWithin, TakesTurn}
 use Rattle.pgs_turns.proofs.LockLemmas.{others_locked}
 use Rattle.pgs_turns.proofs.PinLemmas.{others_pinned}
 use Rattle.pgs_turns.proofs.ToldHooks.{tells_nothing, tells_of_one}

@@ -1,17 +1,10 @@
 -- Numbers among the words of a line.
-use Rattle.std.proofs.Common.{◌≡◌, ℕ, ◌<◌, ◌≤◌, ◌^◌, true, false, List, [], ◌∷◌, ◌++◌, length, Some, refl, sym, arith}
-use Rattle.std.specs.Prelude.{All, ◌==◌}
+use Rattle.pgs_turns.proofs.Base.{◌≡◌, ℕ, ◌<◌, ◌≤◌, ◌^◌, true, false, List, [], ◌∷◌, ◌++◌, length, Some, refl, sym, arith, All, ◌==◌, decimal, list_all, nat_tests, All-nil, All-cons}
+use Rattle.pgs_turns.proofs.Words.{IsName, is_name_byte, words_of, name_of, number_between}
 use Rattle.std.specs.Char.{digit_value}
-use Rattle.std.specs.Fmt.{decimal}
-use Rattle.std.specs.List.{list_all}
 use Rattle.std.specs.Str.Parse.{AllDigits}
-use Rattle.std.proofs.lemmas.Bool.Decides.{nat_tests}
 use Rattle.std.proofs.lemmas.Fmt.{decimal_is_IsNumeral, length-decimal-le}
-use Rattle.std.proofs.lemmas.List.Elements.{All-nil, All-cons}
 use Rattle.std.proofs.lemmas.List.Splits.{slice_split_at, slice_split_none}
-use Rattle.pgs_step.specs.Name.{IsName, is_name_byte}
-use Rattle.pgs_command.specs.Words.{words_of}
-use Rattle.pgs_command.specs.Values.{name_of, number_between}
 use Rattle.pgs_command.proofs.ValueLemmas.{name_of-is, number_between-some}
 
 -- a digit is no space

@@ -1,14 +1,7 @@
 -- The errors of a whole run are those of the source's bytes.
-use Rattle.std.proofs.Common.{◌≡◌, ℕ, false, List, ◌++◌, length, Option, Some, None, refl, sym, ap, ◌∙◌, subst, append-nil}
-use Rattle.std.specs.Io.KnownBytes.{IsAtEnd, prepend_known}
-use Rattle.pgs_io.specs.Lines.{lines_of}
-use Rattle.pgs_turns.specs.Transcript.{Setting}
-use Rattle.addr_space.specs.Space.{Space}
-use Rattle.pgs_turns.specs.Courses.{TakesLines}
-use Rattle.pgs_world.specs.declared.performing.End.{End}
+use Rattle.pgs_world.proofs.Base.{◌≡◌, ℕ, false, List, ◌++◌, length, Option, Some, None, refl, sym, ap, ◌∙◌, subst, append-nil, IsAtEnd, prepend_known}
+use Rattle.pgs_world.proofs.Words.{lines_of, Setting, Space, TakesLines, End, TakesAsked, TakesGiven, EndIs, is_wanted}
 use Rattle.pgs_world.specs.declared.performing.End.TheVariants as end
-use Rattle.pgs_world.specs.Outcome.{TakesAsked, TakesGiven}
-use Rattle.pgs_world.specs.Loop.{EndIs, is_wanted}
 use Rattle.pgs_world.proofs.EndingLemmas.{first_lines, front_of}
 
 -- what a source had, where it has nothing left

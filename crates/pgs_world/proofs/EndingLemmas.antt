@@ -1,32 +1,11 @@
 -- The outcome of a script, from how its reading ended and what was printed.
-use Rattle.std.proofs.Common.{◌≡◌, ◌≢◌, ℕ, ◌+◌, ◌-◌, ◌^◌, ◌<◌, ◌≤◌, Bool, true, false, List, [], ◌∷◌, ◌++◌, length, take, Option, Some, None, ◌⊎◌, inl, inr, refl, sym, ◌∙◌, ap, subst, arith, append-nil, append_assoc, length-append}
-use Rattle.std.specs.Prelude.{nat_lt, ◌==◌, if◌then◌else◌, ◌↔◌}
-use Rattle.std.proofs.lemmas.Bool.Decides.{nat_tests}
+use Rattle.pgs_world.proofs.Base.{◌≡◌, ◌≢◌, ℕ, ◌+◌, ◌-◌, ◌^◌, ◌<◌, ◌≤◌, Bool, true, false, List, [], ◌∷◌, ◌++◌, length, take, Option, Some, None, ◌⊎◌, inl, inr, refl, sym, ◌∙◌, ap, subst, arith, append-nil, append_assoc, length-append, nat_lt, ◌==◌, if◌then◌else◌, ◌↔◌, nat_tests, take_all, append_known, IsAtEnd}
+use Rattle.pgs_world.proofs.Words.{HasRisen, lines_of, ended_lines, onto_first, onto_ended, newline, lines_of-long, Event, Kind, ShelfState, Course, ended, errors_in, text_of_transcript, transcript_by, Fits, Setting, course_of, kinds_after, names_of, shelf_after, text_in, transcript, EndsAt, HooksAreTold, LeavesRun, course_of-stopped, fit_of, kinds-stopped, shelf-stopped, transcript-stopped, End, GATHERED, most_bytes, HasGiven, AreWhole, IsLittleMore, refused_call, IsWhole, IsWanted, IsCutOff, IsTooLong, IsUnwritten, IsPlayed, outcome_of, status_of, EndIs, AreFront, is_wanted, OnSourceFault, OnNoSourceFault, OnUnwritten, Outside, Performed}
 use Rattle.std.proofs.Math.Seq.{take-append_seam}
-use Rattle.std.proofs.lemmas.List.{take_all}
-use Rattle.std.specs.Io.KnownBytes.{append_known, IsAtEnd}
-use Rattle.pgs_io.specs.Faults.{HasRisen}
-use Rattle.pgs_io.specs.Lines.{lines_of, ended_lines, onto_first, onto_ended, newline, text_of}
-use Rattle.pgs_io.specs.LineLaws.{lines_of-long}
-use Rattle.pgs_step.specs.declared.events.Event.{Event}
-use Rattle.owner_kinds.specs.Kind.{Kind}
-use Rattle.reset_callbacks.specs.ShelfState.{ShelfState}
-use Rattle.session_rules.specs.Transcript.{Course, ended, errors_in, text_of_transcript, transcript_by}
-use Rattle.pgs_turns.specs.Turns.{Fits}
-use Rattle.pgs_turns.specs.Transcript.{Setting, course_of, kinds_after, names_of, shelf_after, text_in, transcript, EndsAt}
-use Rattle.pgs_turns.specs.Hooks.{HooksAreTold}
-use Rattle.pgs_turns.specs.Sweeping.{LeavesRun}
-use Rattle.pgs_turns.proofs.CourseLemmas.{course_of-stopped}
-use Rattle.pgs_turns.proofs.OverLemmas.{fit_of, kinds-stopped, shelf-stopped, transcript-stopped}
-use Rattle.pgs_world.specs.declared.performing.End.{End}
+use Rattle.pgs_io.specs.Lines.{text_of}
 use Rattle.pgs_world.specs.declared.performing.End.TheVariants as end
-use Rattle.pgs_world.specs.declared.printer.TheConstants.{GATHERED}
 use Rattle.pgs_world.specs.Printing.{Gathering, Shows, Moves, GoesOn, FailsWithin}
 use Rattle.pgs_world.specs.PrintingLaws.{hands_more, text-append}
-use Rattle.pgs_world.specs.Outcome.{most_bytes, HasGiven, AreWhole, IsLittleMore, refused_call, IsWhole, IsWanted, IsCutOff, IsTooLong, IsUnwritten}
-use Rattle.pgs_world.specs.Ending.{IsPlayed, outcome_of, status_of}
-use Rattle.pgs_world.specs.Loop.{EndIs, AreFront, is_wanted, OnSourceFault, OnNoSourceFault, OnUnwritten}
-use Rattle.pgs_world.specs.Plays.{Outside, Performed}
 
 -- What a sink and the counts show once these events were printed with these names and handed on.
 pub record Printed (names : List (List ℕ)) (written written' : Option (List ℕ)) (faults faults' errors : ℕ) (failed : Bool) (events : List Event) : Type 0 where

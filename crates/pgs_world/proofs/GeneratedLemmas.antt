@@ -1,24 +1,8 @@
 -- The outcome of the script that is made, from what its run told.
-use Rattle.std.proofs.Common.{◌≡◌, ◌≢◌, ℕ, zero, suc, ◌*◌, ◌^◌, ◌<◌, ◌≤◌, Bool, true, false, List, [], ◌∷◌, ◌++◌, length, take, Option, Some, None, ◌⊎◌, inl, inr, refl, sym, ◌∙◌, ap, subst, arith}
-use Rattle.std.specs.Prelude.{nat_lt, if◌then◌else◌}
-use Rattle.pgs_io.specs.Faults.{HasRisen}
-use Rattle.pgs_step.specs.declared.events.Event.{Event}
-use Rattle.session_rules.specs.Modes.{made_script}
-use Rattle.session_rules.specs.Transcript.{Course, course_by, ended, errors_in, transcript_by}
-use Rattle.pgs_turns.specs.Turns.{Fits}
-use Rattle.pgs_turns.specs.Courses.{IsOver, TakesLines}
-use Rattle.pgs_turns.specs.Hooks.{HooksAreTold}
-use Rattle.pgs_turns.specs.Transcript.{Setting, course_of, kinds_after, shelf_after, transcript, EndsAt}
-use Rattle.pgs_turns.specs.World.{Run, setting_of}
-use Rattle.pgs_turns.proofs.CourseLemmas.{course_of-stopped}
-use Rattle.pgs_turns.proofs.OverLemmas.{kinds-stopped, shelf-stopped, transcript-stopped}
-use Rattle.pgs_turns.specs.Generating.{Tells, text_for}
+use Rattle.pgs_world.proofs.Base.{◌≡◌, ◌≢◌, ℕ, zero, suc, ◌*◌, ◌^◌, ◌<◌, ◌≤◌, Bool, true, false, List, [], ◌∷◌, ◌++◌, length, take, Option, Some, None, ◌⊎◌, inl, inr, refl, sym, ◌∙◌, ap, subst, arith, nat_lt, if◌then◌else◌}
+use Rattle.pgs_world.proofs.Words.{HasRisen, Event, made_script, Course, course_by, ended, errors_in, transcript_by, Fits, IsOver, TakesLines, HooksAreTold, Setting, course_of, kinds_after, shelf_after, transcript, EndsAt, Run, setting_of, course_of-stopped, kinds-stopped, shelf-stopped, transcript-stopped, Tells, text_for, Outcome, generated_outcome, generated_status, LeavesRun, EndsMade, Generates, Leaves, outside}
 use Rattle.pgs_turns.proofs.ToldLemmas.{all_lines, few_lines}
-use Rattle.pgs_world.specs.declared.program.Outcome.{Outcome}
-use Rattle.pgs_world.specs.Ending.{generated_outcome, generated_status}
-use Rattle.pgs_turns.specs.Sweeping.{LeavesRun}
 use Rattle.pgs_world.specs.Generated.{IsGenerated, IsMade, IsStopped, IsTranscript, IsUntold}
-use Rattle.pgs_world.specs.Plays.{EndsMade, Generates, Leaves, outside}
 use Rattle.pgs_world.proofs.EndingLemmas.{left_stopped, no_other, not_by_errors, status_one}
 
 -- all of a list, from its front on

@@ -1,18 +1,10 @@
 -- The transcripts of a run keep the laws of lifetimes.
-use Rattle.std.proofs.Common.{ℕ, List, Option, subst, sym, ◌∙◌, ap}
-use Rattle.std.specs.Prelude.{unwrap_or}
+use Rattle.pgs_world.proofs.Base.{ℕ, List, Option, subst, sym, ◌∙◌, ap, unwrap_or}
+use Rattle.pgs_world.proofs.Words.{read_line, AreDistinct, Setting, transcript, Kind, ShelfState, Asked, AskFor, setting_for, AreLawful, AreMadeOnce}
 use Rattle.owner_kinds.specs.KindTable.{IsSound}
 use Rattle.owner_kinds.specs.KindShelf.{table_of}
-use Rattle.pgs_command.specs.Lines.{read_line}
-use Rattle.reset_callbacks.specs.Hook.{AreDistinct}
 use Rattle.reset_callbacks.specs.ShelfState.{held}
-use Rattle.pgs_turns.specs.Transcript.{Setting, transcript}
 use Rattle.session_laws.proofs.Lawful.{transcript_is_lawful, transcript_makes_once}
-use Rattle.owner_kinds.specs.Kind.{Kind}
-use Rattle.reset_callbacks.specs.ShelfState.{ShelfState}
-use Rattle.pgs_world.specs.declared.options.Options.{Options as Asked}
-use Rattle.pgs_world.specs.Outcome.{AskFor, setting_for}
-use Rattle.pgs_world.specs.Lawful.{AreLawful, AreMadeOnce}
 
 pub run_is_lawful : (setting : Setting) → AreDistinct (held setting.shelf) → IsSound (table_of setting.kinds) → AreLawful setting
 unfolding transcript

@@ -12,3 +12,6 @@ pub mod Rows
 pub mod RunLemmas
 pub mod ScriptLemmas
 pub mod SweptLemmas
+pub mod Base
+pub mod Words
+pub mod Lemmas

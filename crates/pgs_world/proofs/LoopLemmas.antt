@@ -1,22 +1,11 @@
 -- The reading loop: where it stands, and how it ends.
-use Rattle.std.proofs.Common.{◌≡◌, ℕ, ◌+◌, ◌^◌, ◌≤◌, Bool, false, refl, List, [], ◌∷◌, ◌++◌, length, Option, sym, ◌∙◌, ap, subst, arith, append-nil, length-append}
+use Rattle.pgs_world.proofs.Base.{◌≡◌, ℕ, ◌+◌, ◌^◌, ◌≤◌, Bool, false, refl, List, [], ◌∷◌, ◌++◌, length, Option, sym, ◌∙◌, ap, subst, arith, append-nil, length-append}
+use Rattle.pgs_world.proofs.Words.{HasFed-ahead, HasFed-few, HasFed-first, Event, End, read_line, HasPerformed, said_in, Course, Setting, course_of, HaveDescriptors, IsOpening, Run, setting_of, Fits, HaveRoom, TakesTurn, course_of-snoc, fits_later, line_behind, most_bytes, Performs, Meets, EndIs, AreFront, EndsInTime, IsLineEnd, is_wanted}
 use Rattle.pgs_io.specs.Feeding.{Feeding, HasFed, GivesLine}
-use Rattle.pgs_io.specs.LineLaws.{HasFed-ahead, HasFed-few, HasFed-first}
 use Rattle.pgs_io.specs.declared.feeding.TheConstants.{MOST_READ}
-use Rattle.pgs_step.specs.declared.events.Event.{Event}
-use Rattle.pgs_world.specs.declared.performing.End.{End}
 use Rattle.pgs_world.specs.declared.performing.End.TheVariants as end
-use Rattle.pgs_command.specs.Lines.{read_line}
-use Rattle.pgs_turns.specs.Courses.{HasPerformed}
-use Rattle.pgs_turns.specs.Script.{said_in}
-use Rattle.session_rules.specs.Transcript.{Course}
-use Rattle.pgs_turns.specs.Transcript.{Setting, course_of}
-use Rattle.pgs_turns.specs.World.{HaveDescriptors, IsOpening, Run, setting_of}
-use Rattle.pgs_turns.specs.Turns.{Fits, HaveRoom, TakesTurn}
-use Rattle.pgs_turns.proofs.CourseLemmas.{course_of-snoc, fits_later, line_behind}
 use Rattle.pgs_turns.proofs.PlayLemmas.{performed_line, performed_none, performed_weaker, room_behind}
-use Rattle.pgs_world.specs.Outcome.{most_bytes}
-use Rattle.pgs_world.specs.Loop.{Stands, Performs, Meets, EndIs, AreFront, EndsInTime, IsLineEnd, is_wanted}
+use Rattle.pgs_world.specs.Loop.{Stands}
 
 pub Stands-start : (descriptors : ℕ) (first : Run) (start : Option (List ℕ)) (feed : Feeding) (emitted : List Event → Type 0) → HasFed most_bytes start start feed [] → length feed.pending ≤ MOST_READ → IsOpening first → HaveDescriptors descriptors first → emitted []
     → Stands descriptors first start start feed first emitted []

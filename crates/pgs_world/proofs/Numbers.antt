@@ -1,24 +1,11 @@
 -- What the options say in rows.
-use Rattle.std.proofs.Common.{zero, suc, ℕ, ◌≡◌, ◌⊎◌, ◌<◌, ◌≤◌, ◌^◌, ◌∙◌, inl, inr, ap, sym, refl, subst, arith, Bool, true, false, ◌||◌, List, [], ◌∷◌, length, codes, Option, Some, None, Result, Ok, Err, slice_index, slice_index_or}
-use Rattle.std.specs.Prelude.{option_map, unwrap_or, ◌==◌, if◌then◌else◌}
-use Rattle.std.specs.Str.{bytes_eq}
-use Rattle.std.specs.Str.Parse.{ParsesUnsigned, digits_value, without_leading_plus}
-use Rattle.std.proofs.lemmas.Slice.Eq.{bytes_eq-Decides}
+use Rattle.pgs_world.proofs.Base.{zero, suc, ℕ, ◌≡◌, ◌⊎◌, ◌<◌, ◌≤◌, ◌^◌, ◌∙◌, inl, inr, ap, sym, refl, subst, arith, Bool, true, false, ◌||◌, List, [], ◌∷◌, length, codes, Option, Some, None, Result, Ok, Err, slice_index, slice_index_or, option_map, unwrap_or, ◌==◌, if◌then◌else◌, bytes_eq, ParsesUnsigned, digits_value, without_leading_plus, bytes_eq-Decides}
+use Rattle.pgs_world.proofs.Words.{App, Kinds, Row, Text, IsAmong, fault_of, found_of, is_simple, is_simple_and_free, matches_of, HasMatchesOf, one_text, rows_of, ReadsOne, args_of, IsParsedFrom, Arg, Command, ValueParser, ArgMatches, clap_on_literals, flag_in, is_true, number_in, options_in, options_of, the_app, where_fitting, where_no_fault, HasOptions, IsOption}
 use Rattle.clap.specs.Values.{IsUnsignedIn}
-use Rattle.clap.specs.Words.{App, Kinds, Row, Text, IsAmong, fault_of, found_of, is_simple, is_simple_and_free, matches_of, HasMatchesOf, one_text, rows_of, ReadsOne}
-use Rattle.clap.specs.Facts.{args_of}
-use Rattle.clap.specs.Built.{IsParsedFrom}
 use Rattle.clap.proofs.WalkLemmas.{one_text-rows}
-use Rattle.clap.specs.declared.builder.arg.Arg.{Arg}
-use Rattle.clap.specs.declared.builder.command.Command.{Command}
 use Rattle.clap.specs.declared.error.kind.ErrorKind.{ErrorKind}
-use Rattle.clap.specs.declared.builder.value_parser.ValueParser.{ValueParser}
 use Rattle.clap.specs.declared.builder.value_parser.ValueParser.TheVariants as parser
-use Rattle.clap.specs.declared.parser.matches.ArgMatches.{ArgMatches}
 use Rattle.clap.specs.declared.parser.matches.Found.{Found}
-use Rattle.clap.proofs.OnLiterals.{clap_on_literals}
-use Rattle.pgs_world.specs.Options.{flag_in, is_true, number_in, options_in, options_of, the_app, where_fitting, where_no_fault}
-use Rattle.pgs_world.specs.Parts.{HasOptions, IsOption}
 use Rattle.pgs_world.proofs.Reading.{IsListed, WasRead, option_read}
 
 -- nothing is no number

@@ -1,22 +1,10 @@
 -- The command line in its parts.
-use Rattle.std.proofs.Common.{ℕ, ◌≡◌, ◌∙◌, ap, sym, false, [], ◌∷◌, ◌++◌, codes, List, Result, Ok, Err, IfOk}
-use Rattle.std.proofs.lemmas.List.Elements.{All-nil}
-use Rattle.std.specs.List.{All}
-use Rattle.std.proofs.Common.{subst}
-use Rattle.clap.specs.Words.{App, Rule, app_of, rule_of, with_rule}
-use Rattle.clap.specs.Matches.{found_of, has_subcommand}
-use Rattle.clap.specs.Facts.{args_of, groups_of, IsParsed}
-use Rattle.clap.specs.Built.{AddsArg, IsParsedFrom, IsPlainArg}
-use Rattle.clap.proofs.CallerLemmas.{added_plain}
-use Rattle.clap.specs.declared.builder.arg.Arg.{Arg}
-use Rattle.clap.specs.declared.builder.command.Command.{Command}
-use Rattle.clap.specs.declared.builder.value_parser.ValueParser.{ValueParser}
-use Rattle.clap.specs.declared.parser.matches.ArgMatches.{ArgMatches}
+use Rattle.pgs_world.proofs.Base.{ℕ, ◌≡◌, ◌∙◌, ap, sym, false, [], ◌∷◌, ◌++◌, codes, List, Result, Ok, Err, IfOk, All-nil, All, subst}
+use Rattle.pgs_world.proofs.Words.{App, Rule, app_of, rule_of, with_rule, has_subcommand, args_of, groups_of, IsParsed, AddsArg, IsParsedFrom, IsPlainArg, added_plain, Arg, Command, ValueParser, ArgMatches, bare_app, flag_rule, number_rule, with_descriptors, with_fail, with_generate, with_sessions, with_space, HasOptions, IsOption, Takes}
+use Rattle.clap.specs.Matches.{found_of}
 use Rattle.clap.specs.declared.builder.value_parser.ValueParser.TheVariants as parser
 use Rattle.clap.specs.declared.builder.action.ArgAction.{ArgAction}
 use Rattle.clap.specs.declared.builder.action.ArgAction.TheVariants.{Set, SetTrue}
-use Rattle.pgs_world.specs.Options.{bare_app, flag_rule, number_rule, with_descriptors, with_fail, with_generate, with_sessions, with_space}
-use Rattle.pgs_world.specs.Parts.{HasOptions, IsOption, Takes}
 
 -- where what was answered is so, it is so, too
 pub if_ok : {A E : Type 0} (P Q : A → Type 0) (r : Result A E) → ((a : A) → P a → Q a) → IfOk r P → IfOk r Q

@@ -1,21 +1,8 @@
 -- The number of an option, where it has one, is in its range.
-use Rattle.std.proofs.Common.{ℕ, ◌≡◌, ◌<◌, ◌∙◌, ◌⊎◌, inl, inr, ap, sym, refl, subst, arith, Bool, true, List, [], ◌∷◌, length, Option, Some, None, slice_index_or}
-use Rattle.std.specs.List.{All}
-use Rattle.std.specs.Str.{bytes_eq}
+use Rattle.pgs_world.proofs.Base.{ℕ, ◌≡◌, ◌<◌, ◌∙◌, ◌⊎◌, inl, inr, ap, sym, refl, subst, arith, Bool, true, List, [], ◌∷◌, length, Option, Some, None, slice_index_or, All, bytes_eq, option_map, slice_get, All-get_or, bytes_eq-Decides}
+use Rattle.pgs_world.proofs.Words.{Accepts, Text, found_of, one_text, read_as, reading_of, matched_of, has_subcommand, args_of, groups_of, Entry, EntryPasses, HasReading, IsParsed, PassesArg, parser_of, parser_of_value, IsAuto, IsParsedFrom, IsPlain, entry_by_id, same_rules_by_id, Arg, Command, ValueParser, ArgMatches}
 use Rattle.std.specs.Borrow.{Bor}
-use Rattle.std.specs.Prelude.{option_map, slice_get}
-use Rattle.std.proofs.lemmas.List.Elements.{All-get_or}
-use Rattle.std.proofs.lemmas.Slice.Eq.{bytes_eq-Decides}
-use Rattle.clap.specs.Words.{Accepts, Text, found_of, one_text, read_as, reading_of}
-use Rattle.clap.specs.Matches.{matched_of, has_subcommand}
-use Rattle.clap.specs.Facts.{args_of, groups_of, Entry, EntryPasses, HasReading, IsParsed, PassesArg, parser_of, parser_of_value}
-use Rattle.clap.specs.Built.{IsAuto, IsParsedFrom, IsPlain}
-use Rattle.clap.proofs.CallerLemmas.{entry_by_id, same_rules_by_id}
-use Rattle.clap.specs.declared.builder.arg.Arg.{Arg}
-use Rattle.clap.specs.declared.builder.command.Command.{Command}
 use Rattle.clap.specs.declared.builder.value_parser.Reading.{Reading}
-use Rattle.clap.specs.declared.builder.value_parser.ValueParser.{ValueParser}
-use Rattle.clap.specs.declared.parser.matches.ArgMatches.{ArgMatches}
 use Rattle.clap.specs.declared.parser.matches.MatchedArg.{MatchedArg}
 
 -- a text was read by the parser of the option

@@ -1,7 +1,6 @@
 -- What words ask for, worked out from the definitions.
-use Rattle.std.proofs.Common.{◌≡◌, refl, [], ◌∷◌, codes, true, false, Some, None}
-use Rattle.clap.proofs.OnLiterals.{clap_on_literals}
-use Rattle.pgs_world.specs.Options.{options_of}
+use Rattle.pgs_world.proofs.Base.{◌≡◌, refl, [], ◌∷◌, codes, true, false, Some, None}
+use Rattle.pgs_world.proofs.Words.{clap_on_literals, options_of}
 
 nothing_given : options_of [] ≡ Some (record { space = 16777216; sessions = 1; descriptors = 16; fail = 0; generate = 0; sweep = false })
 unfolding clap_on_literals

@@ -1,18 +1,7 @@
 -- One run of a sweep, from its start to its end.
-use Rattle.std.proofs.Common.{◌≡◌, ℕ, ◌<◌, ◌≤◌, Bool, true, false, List, length, take, Option, Some, None, refl, sym, ◌∙◌, ap, arith}
-use Rattle.std.specs.Prelude.{IfSome, nat_lt, if◌then◌else◌}
-use Rattle.std.proofs.lemmas.List.{take_all}
-use Rattle.addr_space.specs.Space.{Space, accounts, held, risen, taken}
-use Rattle.owner_kinds.specs.Kind.{Kind}
-use Rattle.reset_callbacks.specs.ShelfState.{ShelfState}
-use Rattle.session_rules.specs.Transcript.{ended, errors_in}
-use Rattle.pgs_turns.specs.Courses.{IsOver}
-use Rattle.pgs_turns.specs.Transcript.{Setting, course_of}
-use Rattle.pgs_turns.specs.World.{Run, setting_of}
+use Rattle.pgs_world.proofs.Base.{◌≡◌, ℕ, ◌<◌, ◌≤◌, Bool, true, false, List, length, take, Option, Some, None, refl, sym, ◌∙◌, ap, arith, IfSome, nat_lt, if◌then◌else◌, take_all}
+use Rattle.pgs_world.proofs.Words.{Space, accounts, held, risen, taken, Kind, ShelfState, ended, errors_in, IsOver, Setting, course_of, Run, setting_of, Ran, KeepLaws, EndsRun, HasRun, IsUnplayed, RunsOnce}
 use Rattle.pgs_turns.proofs.LeftLemmas.{wanted_at, wanted_left, whole_left}
-use Rattle.pgs_world.specs.declared.sweeping.Ran.{Ran}
-use Rattle.pgs_world.specs.Lawful.{KeepLaws}
-use Rattle.pgs_world.specs.SweepSteps.{EndsRun, HasRun, IsUnplayed, RunsOnce}
 use Rattle.pgs_world.proofs.StartedLemmas.{none_held, shared_out}
 
 pub in_some : {A : Type 0} (P Q : A → Type 0) (o : Option A) → ((a : A) → P a → Q a) → IfSome o P → IfSome o Q

@@ -1,9 +1,6 @@
 -- A script that has a byte too many.
-use Rattle.std.proofs.Common.{◌≡◌, ℕ, zero, suc, ◌+◌, List, [], ◌∷◌, ◌++◌, length, Option, refl, sym, ap, ◌∙◌, arith}
-use Rattle.std.specs.Io.KnownBytes.{prepend_known}
-use Rattle.pgs_world.specs.Outcome.{HasGiven}
-use Rattle.pgs_world.specs.Sweep.{most_swept}
-use Rattle.pgs_world.specs.SweepSteps.{GivesMore}
+use Rattle.pgs_world.proofs.Base.{◌≡◌, ℕ, zero, suc, ◌+◌, List, [], ◌∷◌, ◌++◌, length, Option, refl, sym, ap, ◌∙◌, arith, prepend_known}
+use Rattle.pgs_world.proofs.Words.{HasGiven, most_swept, GivesMore}
 
 pub overlong : (bytes : List ℕ) (left left' : Option (List ℕ)) → HasGiven bytes left left' → length bytes ≡ most_swept + 1 → GivesMore left left'
 overlong bytes left left' given long =

@@ -1,15 +1,7 @@
 -- A script that was played, from what its sessions did; and a run in which not all of them could be started.
-use Rattle.std.proofs.Common.{◌≡◌, ◌⊎◌, ℕ, zero, suc, ◌+◌, ◌<◌, ◌≤◌, inl, inr, Bool, true, false, List, take, Option, Some, refl, sym, ◌∙◌, ap, subst, arith}
-use Rattle.std.specs.Prelude.{nat_lt, if◌then◌else◌}
-use Rattle.std.proofs.lemmas.Bool.Decides.{nat_tests}
-use Rattle.pgs_io.specs.Lines.{lines_of}
-use Rattle.addr_space.specs.Space.{Space, accounts, held, risen, taken}
-use Rattle.pgs_turns.specs.Transcript.{Setting}
+use Rattle.pgs_world.proofs.Base.{◌≡◌, ◌⊎◌, ℕ, zero, suc, ◌+◌, ◌<◌, ◌≤◌, inl, inr, Bool, true, false, List, take, Option, Some, refl, sym, ◌∙◌, ap, subst, arith, nat_lt, if◌then◌else◌, nat_tests}
+use Rattle.pgs_world.proofs.Words.{lines_of, Space, accounts, held, risen, taken, Setting, Outcome, made_script, IsSharedOut, Ends, EndsMade, Generates, Leaves, Outside, Performed, Plays}
 use Rattle.pgs_turns.proofs.TakenLemmas.{opened_taken}
-use Rattle.pgs_world.specs.declared.program.Outcome.{Outcome}
-use Rattle.session_rules.specs.Modes.{made_script}
-use Rattle.pgs_world.specs.Outcome.{IsSharedOut}
-use Rattle.pgs_world.specs.Plays.{Ends, EndsMade, Generates, Leaves, Outside, Performed, Plays}
 use Rattle.pgs_world.proofs.EndingLemmas.{no_other}
 
 -- the outcome of a run that has not started

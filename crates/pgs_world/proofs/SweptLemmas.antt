@@ -1,29 +1,8 @@
 -- The runs of a sweep, and its outcome.
-use Rattle.std.proofs.Common.{◌≡◌, ◌≢◌, ◌⊎◌, inl, inr, ℕ, zero, suc, ◌+◌, ◌-◌, ◌^◌, ◌<◌, ◌≤◌, min, Bool, true, false, List, [], ◌∷◌, ◌++◌, length, Option, Some, None, refl, sym, ◌∙◌, ap, subst, arith}
-use Rattle.std.specs.Prelude.{◌==◌, nat_lt, if◌then◌else◌}
-use Rattle.std.proofs.lemmas.Bool.Decides.{nat_tests}
-use Rattle.std.specs.Io.KnownBytes.{append_known}
-use Rattle.addr_space.specs.Space.{Space, accounts, held, taken}
-use Rattle.owner_kinds.specs.Kind.{Kind}
+use Rattle.pgs_world.proofs.Base.{◌≡◌, ◌≢◌, ◌⊎◌, inl, inr, ℕ, zero, suc, ◌+◌, ◌-◌, ◌^◌, ◌<◌, ◌≤◌, min, Bool, true, false, List, [], ◌∷◌, ◌++◌, length, Option, Some, None, refl, sym, ◌∙◌, ap, subst, arith, ◌==◌, nat_lt, if◌then◌else◌, nat_tests, append_known}
+use Rattle.pgs_world.proofs.Words.{Space, accounts, held, taken, Kind, HasRisen, lines_of, ShelfState, most_failing, ended, errors_in, IsFront, LeaveRuns, LeavesRun, course_in, events_of_runs, run_numbers, runs_in, setting_for_run, setting_in, told_in, told_of_runs, Setting, course_of, AreKept, few_errors, Outcome, Ran, KeepLaws, RunsKeepLaws, IsSharedOut, Outside, outside, IsRead, IsSweepStatus, Sweeps, GivesMore, IsUnplayed, RunsOnce, Stands, last_known, refused_in}
 use Rattle.pgs_io.proofs.KnownLemmas.{append_known-append, append_known-nil}
-use Rattle.pgs_io.specs.Faults.{HasRisen}
-use Rattle.pgs_io.specs.Lines.{lines_of}
-use Rattle.reset_callbacks.specs.ShelfState.{ShelfState}
-use Rattle.session_rules.specs.Modes.{most_failing}
-use Rattle.session_rules.specs.Transcript.{ended, errors_in}
-use Rattle.pgs_turns.specs.Generating.{IsFront}
-use Rattle.pgs_turns.specs.Sweeping.{LeaveRuns, LeavesRun, course_in, events_of_runs, run_numbers, runs_in, setting_for_run, setting_in, told_in, told_of_runs}
-use Rattle.pgs_turns.specs.Transcript.{Setting, course_of}
-use Rattle.pgs_turns.specs.World.{AreKept}
-use Rattle.pgs_turns.proofs.ErrorLemmas.{few_errors}
 use Rattle.pgs_turns.proofs.SweepLemmas.{all_told, few_in_runs, first_calls, leave_more, leave_none, leave_wanted, numbers_in, setting_found}
-use Rattle.pgs_world.specs.declared.program.Outcome.{Outcome}
-use Rattle.pgs_world.specs.declared.sweeping.Ran.{Ran}
-use Rattle.pgs_world.specs.Lawful.{KeepLaws, RunsKeepLaws}
-use Rattle.pgs_world.specs.Outcome.{IsSharedOut}
-use Rattle.pgs_world.specs.Plays.{Outside, outside}
-use Rattle.pgs_world.specs.Sweep.{IsRead, IsSweepStatus, Sweeps}
-use Rattle.pgs_world.specs.SweepSteps.{GivesMore, IsUnplayed, RunsOnce, Stands, last_known, refused_in}
 use Rattle.pgs_world.proofs.EndingLemmas.{no_other, not_by_errors, status_one}
 
 -- the calls that fail: which is the last, and how many runs there are

@@ -1,9 +1,6 @@
-use Rattle.std.proofs.Common.{◌≤◌, ◌^◌, length, take, ap, arith, length-take}
-use Rattle.pgs_io.specs.Lines.{lines_of}
-use Rattle.pgs_turns.specs.World.{run_of}
-use Rattle.pgs_turns.specs.declared.counter.Counter.{Counter}
-use Rattle.pgs_turns.proofs.CountedLemmas.{counted_over, lines_over}
-use Rattle.pgs_turns.proofs.KeptLemmas.{few_lines_of}
+use Rattle.pgs_turns.proofs.Base.{◌≤◌, ◌^◌, length, take, ap, arith, length-take}
+use Rattle.pgs_turns.proofs.Words.{lines_of, run_of, Counter}
+use Rattle.pgs_turns.proofs.Lemmas.{counted_over, lines_over, few_lines_of}
 use Rattle.pgs_turns.proofs.counting.count_script.Goals as goal
 
 pub returns-clause-over : goal.returns-clause-over

@@ -1,5 +1,5 @@
-use Rattle.std.proofs.Common.{arith}
-use Rattle.pgs_turns.proofs.KeptLemmas.{kept_front}
+use Rattle.pgs_turns.proofs.Base.{arith}
+use Rattle.pgs_turns.proofs.Lemmas.{kept_front}
 use Rattle.pgs_turns.proofs.counting.front_of.Goals as goal
 
 pub returns : goal.returns

@@ -1,9 +1,6 @@
-use Rattle.std.proofs.Common.{refl, subst}
-use Rattle.pgs_turns.specs.Counting.{TakesEvents}
-use Rattle.pgs_turns.specs.declared.lines.Said.{Said}
-use Rattle.pgs_turns.specs.Turns.{TakesTurn}
-use Rattle.pgs_turns.specs.World.{run_of}
-use Rattle.pgs_turns.proofs.KeptLemmas.{kept_line}
+use Rattle.pgs_turns.proofs.Base.{refl, subst}
+use Rattle.pgs_turns.proofs.Words.{TakesEvents, Said, TakesTurn, run_of}
+use Rattle.pgs_turns.proofs.Lemmas.{kept_line}
 use Rattle.pgs_turns.proofs.counting.perform_kept.Goals as goal
 
 pub returns-clause-turn : goal.returns-clause-turn

@@ -1,11 +1,6 @@
-use Rattle.std.proofs.Common.{◌≤◌, ◌^◌, false, length, take, refl, ◌∙◌, arith, length-take}
-use Rattle.std.proofs.lemmas.Bool.Decides.{nat_tests}
-use Rattle.pgs_io.specs.Lines.{lines_of}
-use Rattle.pgs_turns.specs.World.{run_of}
-use Rattle.pgs_turns.specs.Counting.{TakesEvents, TakesEvents-none}
-use Rattle.pgs_turns.proofs.CountedLemmas.{line_turn}
-use Rattle.pgs_turns.proofs.KeptLemmas.{all_before, few_lines_of, next_dropped, next_there, one_before}
-use Rattle.pgs_turns.proofs.PlayLemmas.{performed_none, room_behind}
+use Rattle.pgs_turns.proofs.Base.{◌≤◌, ◌^◌, false, length, take, refl, ◌∙◌, arith, length-take, nat_tests}
+use Rattle.pgs_turns.proofs.Words.{lines_of, run_of, TakesEvents, TakesEvents-none}
+use Rattle.pgs_turns.proofs.Lemmas.{line_turn, all_before, few_lines_of, next_dropped, next_there, one_before, performed_none, room_behind}
 use Rattle.pgs_turns.proofs.counting.perform_script.Goals as goal
 
 pub loop-rest-init : goal.loop-rest-init

@@ -1,8 +1,5 @@
-use Rattle.std.proofs.Common.{◌≡◌, ◌≤◌, ℕ, false, length, take, drop}
-use Rattle.pgs_io.specs.Lines.{lines_of}
-use Rattle.pgs_turns.specs.World.{run_of, AreStanding, HaveDescriptors}
-use Rattle.pgs_turns.specs.Courses.{HasPerformed}
-use Rattle.pgs_turns.specs.Counting.{TakesEvents}
+use Rattle.pgs_turns.proofs.Base.{◌≡◌, ◌≤◌, ℕ, false, length, take, drop}
+use Rattle.pgs_turns.proofs.Words.{lines_of, run_of, AreStanding, HaveDescriptors, HasPerformed, TakesEvents}
 use Rattle.pgs_turns.proofs.counting.perform_script.Given as goal
 
 -- so many lines were performed, and the others are those of the rest

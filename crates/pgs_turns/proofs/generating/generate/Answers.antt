@@ -1,9 +1,7 @@
-use Rattle.std.proofs.Common.{take, ap, arith}
-use Rattle.session_rules.specs.Modes.{made_script}
-use Rattle.pgs_turns.specs.World.{run_of}
-use Rattle.pgs_turns.specs.declared.counter.Counter.{Counter}
+use Rattle.pgs_turns.proofs.Base.{take, ap, arith}
+use Rattle.pgs_turns.proofs.Words.{made_script, run_of, Counter}
+use Rattle.pgs_turns.proofs.Lemmas.{lines_over}
 use Rattle.pgs_turns.proofs.ToldLemmas.{silent_tells, written_tells}
-use Rattle.pgs_turns.proofs.CountedLemmas.{lines_over}
 use Rattle.pgs_turns.proofs.generating.generate.Goals as goal
 
 pub returns-then-not-wanted-clause-tells : goal.returns-then-not-wanted-clause-tells

@@ -1,9 +1,6 @@
-use Rattle.std.proofs.Common.{◌≡◌, ℕ, ◌*◌, false, take, subst, arith}
-use Rattle.session_rules.specs.Modes.{made_script}
-use Rattle.pgs_turns.specs.World.{run_of}
-use Rattle.pgs_turns.specs.Courses.{HasPerformed}
-use Rattle.pgs_turns.proofs.PlayLemmas.{performed_none}
-use Rattle.pgs_turns.specs.Counting.{TakesEvents, TakesEvents-none}
+use Rattle.pgs_turns.proofs.Base.{◌≡◌, ℕ, ◌*◌, false, take, subst, arith}
+use Rattle.pgs_turns.proofs.Words.{made_script, run_of, HasPerformed, TakesEvents, TakesEvents-none}
+use Rattle.pgs_turns.proofs.Lemmas.{performed_none}
 use Rattle.pgs_turns.proofs.MadeTurns.{made_room, made_turn}
 use Rattle.pgs_turns.proofs.generating.perform_made.Goals as goal
 

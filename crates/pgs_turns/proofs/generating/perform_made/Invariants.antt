@@ -1,8 +1,5 @@
-use Rattle.std.proofs.Common.{ℕ, false, take}
-use Rattle.session_rules.specs.Modes.{made_script}
-use Rattle.pgs_turns.specs.World.{run_of, AreStanding, HaveDescriptors}
-use Rattle.pgs_turns.specs.Courses.{HasPerformed}
-use Rattle.pgs_turns.specs.Counting.{TakesEvents}
+use Rattle.pgs_turns.proofs.Base.{ℕ, false, take}
+use Rattle.pgs_turns.proofs.Words.{made_script, run_of, AreStanding, HaveDescriptors, HasPerformed, TakesEvents}
 use Rattle.pgs_turns.proofs.generating.perform_made.Given as goal
 
 -- the lines before this place were performed

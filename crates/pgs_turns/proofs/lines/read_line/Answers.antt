@@ -1,7 +1,5 @@
-use Rattle.std.proofs.Common.{◌≡◌, ℕ, Option, Some, None, refl, ap, ◌∙◌}
-use Rattle.pgs_command.specs.declared.commands.Command.{Command}
-use Rattle.pgs_command.specs.Lines.{said}
-use Rattle.pgs_turns.specs.Script.{said_in}
+use Rattle.pgs_turns.proofs.Base.{◌≡◌, ℕ, Option, Some, None, refl, ap, ◌∙◌}
+use Rattle.pgs_turns.proofs.Words.{Command, said, said_in}
 use Rattle.pgs_turns.proofs.lines.read_line.Goals as goal
 
 -- what was said is what is said of it

@@ -1,4 +1,4 @@
-use Rattle.std.proofs.Common.{◌%◌, Some, ap, arith}
+use Rattle.pgs_turns.proofs.Base.{◌%◌, Some, ap, arith}
 use Rattle.pgs_turns.proofs.LineLemmas.{ref_read}
 use Rattle.pgs_turns.proofs.made_lines.command_at.Goals as goal
 

@@ -1,4 +1,4 @@
-use Rattle.pgs_turns.proofs.ExitLemmas.{opened_leave, opened_leave_kinds}
+use Rattle.pgs_turns.proofs.Lemmas.{opened_leave, opened_leave_kinds}
 use Rattle.pgs_turns.proofs.sessions.end_unheard.Goals as goal
 
 pub returns-clause-shelf : goal.returns-clause-shelf

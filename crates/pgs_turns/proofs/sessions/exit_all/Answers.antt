@@ -1,12 +1,7 @@
-use Rattle.std.proofs.Common.{◌+◌, List, refl, arith}
-use Rattle.std.specs.Prelude.{slice_index_or, slice_set}
-use Rattle.std.proofs.lemmas.Option.{slice_get-get_or}
-use Rattle.pgs_step.specs.declared.events.Event.{Event}
-use Rattle.pgs_step.specs.declared.events.What.{What}
-use Rattle.session_rules.specs.Transcript.{of_session}
+use Rattle.pgs_turns.proofs.Base.{◌+◌, List, refl, arith, slice_index_or, slice_set, slice_get-get_or}
+use Rattle.pgs_turns.proofs.Words.{Event, What, of_session, run_of}
+use Rattle.pgs_turns.proofs.Lemmas.{all_exited, exit_standing, none_exited, one_more_exited}
 use Rattle.session_core.proofs.BetweenLines.{steps_of_lines}
-use Rattle.pgs_turns.specs.World.{run_of}
-use Rattle.pgs_turns.proofs.ExitLemmas.{all_exited, exit_standing, none_exited, one_more_exited}
 use Rattle.pgs_turns.proofs.sessions.exit_all.Goals as goal
 
 pub loop-place-init : goal.loop-place-init

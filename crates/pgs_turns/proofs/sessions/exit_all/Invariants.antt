@@ -1,5 +1,5 @@
-use Rattle.pgs_turns.specs.World.{run_of, AreStanding}
-use Rattle.pgs_turns.proofs.ExitLemmas.{HaveExited}
+use Rattle.pgs_turns.proofs.Words.{run_of, AreStanding}
+use Rattle.pgs_turns.proofs.Lemmas.{HaveExited}
 use Rattle.pgs_turns.proofs.sessions.exit_all.Given as goal
 
 -- the sessions before this place have ended, and the others stand

@@ -1,6 +1,5 @@
-use Rattle.std.proofs.Common.{◌∙◌, ◌<◌, List, [], ◌∷◌, length, length-append, sym, ap, subst, arith}
-use Rattle.session_store.specs.State.{StoreState}
-use Rattle.pgs_turns.specs.Turns.{AreOpened}
+use Rattle.pgs_turns.proofs.Base.{◌∙◌, ◌<◌, List, [], ◌∷◌, length, length-append, sym, ap, subst, arith}
+use Rattle.pgs_turns.proofs.Words.{StoreState, AreOpened}
 use Rattle.pgs_turns.proofs.StartLemmas.{one_more_asked, one_more_opened, still_opened}
 use Rattle.pgs_turns.proofs.sessions.start_sessions.Goals as goal
 

@@ -1,7 +1,5 @@
-use Rattle.std.proofs.Common.{◌≡◌, ℕ, length}
-use Rattle.std.specs.Prelude.{nat_lt, if◌then◌else◌, vec_capacity}
-use Rattle.addr_space.specs.Space.{risen, taken}
-use Rattle.pgs_turns.specs.Turns.{AreOpened}
+use Rattle.pgs_turns.proofs.Base.{◌≡◌, ℕ, length, nat_lt, if◌then◌else◌, vec_capacity}
+use Rattle.pgs_turns.proofs.Words.{risen, taken, AreOpened}
 use Rattle.pgs_turns.proofs.sessions.start_sessions.Given as goal
 
 -- the sessions before this account were started

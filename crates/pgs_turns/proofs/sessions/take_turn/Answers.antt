@@ -1,12 +1,7 @@
-use Rattle.std.proofs.Common.{◌-◌, List, [], ◌∷◌, refl, subst, arith}
-use Rattle.std.specs.Prelude.{slice_index_or, slice_set}
-use Rattle.std.proofs.lemmas.List.{length-map}
-use Rattle.std.proofs.lemmas.Option.{slice_get-get_or}
-use Rattle.pgs_step.specs.declared.events.Event.{Event}
-use Rattle.pgs_step.specs.declared.events.What.{What}
+use Rattle.pgs_turns.proofs.Base.{◌-◌, List, [], ◌∷◌, refl, subst, arith, slice_index_or, slice_set, length-map, slice_get-get_or}
+use Rattle.pgs_turns.proofs.Words.{Event, What, run_of}
 use Rattle.pgs_step.specs.declared.errors.Error.{Error}
 use Rattle.pgs_step.specs.declared.events.What.TheVariants as what
-use Rattle.pgs_turns.specs.World.{run_of}
 use Rattle.pgs_turns.proofs.TurnLemmas.{missing_turn, turn_standing, turn_taken}
 use Rattle.pgs_turns.proofs.sessions.take_turn.Goals as goal
 

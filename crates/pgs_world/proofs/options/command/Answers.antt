@@ -1,6 +1,6 @@
-use Rattle.std.proofs.Common.{◌≡◌, ◌∙◌, ap, subst, true, ◌||◌, pos, codes}
+use Rattle.pgs_world.proofs.Base.{◌≡◌, ◌∙◌, ap, subst, true, ◌||◌, pos, codes}
+use Rattle.pgs_world.proofs.Words.{Command}
 use Rattle.clap.specs.Simple.{app_of_fields, on_top}
-use Rattle.clap.specs.declared.builder.command.Command.{Command}
 use Rattle.clap.specs.declared.builder.command.Command.TheOpen.{Command-F}
 use Rattle.pgs_world.proofs.Parts.{has_options, if_ok}
 use Rattle.pgs_world.proofs.options.command.Goals as goal

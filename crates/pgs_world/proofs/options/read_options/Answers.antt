@@ -1,10 +1,7 @@
-use Rattle.std.proofs.Common.{◌≡◌, ◌≤◌, ◌∙◌, ℕ, refl, sym, subst, inl, inr, arith, map, string_bytes as string_text, codes, true, false, List, Some, None, IfOk, Result, Ok, Err}
-use Rattle.std.specs.Prelude.{IfErr, ◌⊎◌}
+use Rattle.pgs_world.proofs.Base.{◌≡◌, ◌≤◌, ◌∙◌, ℕ, refl, sym, subst, inl, inr, arith, map, string_text, codes, true, false, List, Some, None, IfOk, Result, Ok, Err, IfErr, ParsesUnsigned, ExplainsUnsignedError, HasUnsignedDigitsIfOk}
+use Rattle.pgs_world.proofs.Words.{Text, found_of, kind_of, rows_of, flag_in, options_of, where_fitting, Options}
+use Rattle.std.specs.Prelude.{◌⊎◌}
 use Rattle.std.specs.declared.num.ParseIntError.{ParseIntError}
-use Rattle.std.specs.Str.Parse.{ParsesUnsigned, ExplainsUnsignedError, HasUnsignedDigitsIfOk}
-use Rattle.clap.specs.Words.{Text, found_of, kind_of, rows_of}
-use Rattle.pgs_world.specs.Options.{flag_in, options_of, where_fitting}
-use Rattle.pgs_world.specs.declared.options.Options.{Options}
 use Rattle.pgs_world.specs.declared.options.OptionsError.{OptionsError}
 use Rattle.pgs_world.specs.declared.options.OptionsError.TheVariants as error
 use Rattle.pgs_world.proofs.Numbers.{Told, descriptors_told, fail_told, free, generate_told, no_faults, nothing_asked, options_told, rows_told, sessions_told, space_told, sweep_told, within}

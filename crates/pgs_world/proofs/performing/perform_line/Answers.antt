@@ -1,9 +1,5 @@
-use Rattle.std.proofs.Common.{◌≡◌, ◌<◌, true, false, length, sym, ◌∙◌, arith}
-use Rattle.std.proofs.lemmas.Bool.Decides.{nat_tests}
-use Rattle.pgs_world.specs.PrinterLaws.{ShowsEvents-none}
-use Rattle.pgs_command.specs.Lines.{read_line}
-use Rattle.pgs_turns.specs.Script.{said_in}
-use Rattle.pgs_turns.specs.World.{run_of}
+use Rattle.pgs_world.proofs.Base.{◌≡◌, ◌<◌, true, false, length, sym, ◌∙◌, arith, nat_tests}
+use Rattle.pgs_world.proofs.Words.{ShowsEvents-none, read_line, said_in, run_of}
 use Rattle.pgs_turns.proofs.IdleLemmas.{comment_is_idle, first_there, idle_turned}
 use Rattle.pgs_world.proofs.performing.perform_line.Goals as goal
 

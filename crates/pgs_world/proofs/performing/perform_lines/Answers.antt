@@ -1,9 +1,5 @@
-use Rattle.std.proofs.Common.{ℕ, List, [], ◌∷◌, ◌++◌, false, refl, sym, ◌∙◌, subst, arith, length-append}
-use Rattle.pgs_io.specs.Lines.{IsKept}
-use Rattle.pgs_step.specs.declared.events.Event.{Event}
-use Rattle.pgs_world.specs.PrinterView.{ShowsEvents}
-use Rattle.pgs_world.specs.PrinterLaws.{ShowsEvents-none, ShowsEvents-both, ShowsEvents-joined, ShowsEvents-still}
-use Rattle.pgs_turns.specs.World.{run_of}
+use Rattle.pgs_world.proofs.Base.{ℕ, List, [], ◌∷◌, ◌++◌, false, refl, sym, ◌∙◌, subst, arith, length-append}
+use Rattle.pgs_world.proofs.Words.{IsKept, Event, ShowsEvents, ShowsEvents-none, ShowsEvents-both, ShowsEvents-joined, ShowsEvents-still, run_of}
 use Rattle.pgs_world.proofs.LoopLemmas.{Stands-start, Stands-line, few_lines, has_room, ends-without, ends-line}
 use Rattle.pgs_world.proofs.performing.perform_lines.Goals as goal
 

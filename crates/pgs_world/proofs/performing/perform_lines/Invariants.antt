@@ -1,6 +1,5 @@
-use Rattle.std.proofs.Common.{◌≡◌, ◌+◌, ℕ, List, length, false}
-use Rattle.pgs_world.specs.PrinterView.{IsGoing, ShowsEvents}
-use Rattle.pgs_turns.specs.World.{run_of, AreStanding, HaveDescriptors}
+use Rattle.pgs_world.proofs.Base.{◌≡◌, ◌+◌, ℕ, List, length, false}
+use Rattle.pgs_world.proofs.Words.{IsGoing, ShowsEvents, run_of, AreStanding, HaveDescriptors}
 use Rattle.pgs_world.specs.Loop.{Stands}
 use Rattle.pgs_world.proofs.performing.perform_lines.Given as goal
 

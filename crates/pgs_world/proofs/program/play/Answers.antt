@@ -1,12 +1,6 @@
-use Rattle.std.proofs.Common.{◌≡◌, ◌∙◌, Some, ap, refl, sym, subst, List, length, arith}
-use Rattle.std.specs.Prelude.{slice_get}
-use Rattle.session_store.specs.State.{StoreState}
-use Rattle.pgs_turns.specs.Transcript.{Setting}
-use Rattle.pgs_turns.specs.World.{setting_at}
-use Rattle.pgs_turns.proofs.SessionLemmas.{opened_run, opened_standing}
-use Rattle.pgs_turns.proofs.StartLemmas.{started_setting}
-use Rattle.pgs_world.specs.Plays.{outside, Ends, EndsMade}
-use Rattle.pgs_world.proofs.StartedLemmas.{made_plays, started_plays}
+use Rattle.pgs_world.proofs.Base.{◌≡◌, ◌∙◌, Some, ap, refl, sym, subst, List, length, arith, slice_get}
+use Rattle.pgs_world.proofs.Words.{StoreState, Setting, setting_at, opened_run, opened_standing, started_setting, outside, Ends, EndsMade}
+use Rattle.pgs_world.proofs.Lemmas.{made_plays, started_plays}
 use Rattle.pgs_world.proofs.program.play.Goals as goal
 
 pub end_unheard-requires-clause-opening : goal.end_unheard-requires-clause-opening

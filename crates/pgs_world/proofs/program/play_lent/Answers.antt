@@ -1,7 +1,6 @@
-use Rattle.std.proofs.Common.{◌∙◌, ap}
-use Rattle.addr_space.specs.Space.{Space, held}
-use Rattle.pgs_turns.proofs.StartLemmas.{limited_held}
-use Rattle.pgs_world.proofs.StartedLemmas.{limited_plays}
+use Rattle.pgs_world.proofs.Base.{◌∙◌, ap}
+use Rattle.pgs_world.proofs.Words.{Space, held, limited_held}
+use Rattle.pgs_world.proofs.Lemmas.{limited_plays}
 use Rattle.pgs_world.proofs.program.play_lent.Goals as goal
 
 pub play-outcome-requires-clause-empty : goal.play-outcome-requires-clause-empty

@@ -1,7 +1,5 @@
-use Rattle.std.proofs.Common.{sym, subst, length}
-use Rattle.pgs_turns.specs.World.{run_of, setting_of}
-use Rattle.pgs_world.specs.Plays.{EndsMade, outside}
-use Rattle.pgs_world.specs.declared.program.Outcome.{Outcome}
+use Rattle.pgs_world.proofs.Base.{sym, subst, length}
+use Rattle.pgs_world.proofs.Words.{run_of, setting_of, EndsMade, outside, Outcome}
 use Rattle.pgs_world.proofs.GeneratedLemmas.{ends_made}
 use Rattle.pgs_world.proofs.program.play_made.Goals as goal
 

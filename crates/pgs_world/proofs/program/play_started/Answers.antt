@@ -1,20 +1,5 @@
-use Rattle.std.proofs.Common.{◌≡◌, ℕ, ◌+◌, ◌^◌, ◌<◌, ◌≤◌, true, List, ◌++◌, length, Option, Some, sym, ◌∙◌, ap, subst, arith, ◌⊎◌}
-use Rattle.std.specs.Io.KnownBytes.{append_known}
-use Rattle.pgs_step.specs.declared.events.Event.{Event}
-use Rattle.session_rules.specs.Transcript.{errors_in, text_of_transcript}
-use Rattle.pgs_turns.specs.Turns.{Fits}
-use Rattle.pgs_turns.specs.Transcript.{Setting, course_of, EndsAt, names_of, text_in, transcript}
-use Rattle.pgs_turns.specs.Courses.{IsOver}
-use Rattle.pgs_turns.specs.World.{HaveDescriptors, Run, run_of, setting_of}
-use Rattle.pgs_turns.proofs.ErrorLemmas.{few_errors}
-use Rattle.pgs_turns.proofs.OverLemmas.{fit_of, run_over}
-use Rattle.pgs_world.specs.Loop.{Performs, is_wanted}
-use Rattle.pgs_world.specs.Plays.{Ends, outside}
-use Rattle.pgs_world.specs.PrinterView.{ShowsEvents, ShowsInTime, seen}
-use Rattle.pgs_world.specs.PrinterLaws.{ShowsEvents-both, ShowsEvents-flush}
-use Rattle.pgs_world.specs.Ending.{outcome_of}
-use Rattle.pgs_world.specs.declared.printer.TheConstants.{GATHERED}
-use Rattle.pgs_world.specs.declared.program.Outcome.{Outcome}
+use Rattle.pgs_world.proofs.Base.{◌≡◌, ℕ, ◌+◌, ◌^◌, ◌<◌, ◌≤◌, true, List, ◌++◌, length, Option, Some, sym, ◌∙◌, ap, subst, arith, ◌⊎◌, append_known}
+use Rattle.pgs_world.proofs.Words.{Event, errors_in, text_of_transcript, Fits, Setting, course_of, EndsAt, names_of, text_in, transcript, IsOver, HaveDescriptors, Run, run_of, setting_of, few_errors, fit_of, run_over, Performs, is_wanted, Ends, outside, ShowsEvents, ShowsInTime, seen, ShowsEvents-both, ShowsEvents-flush, outcome_of, GATHERED, Outcome}
 use Rattle.pgs_world.proofs.CountLemmas.{taken_all, taken_given}
 use Rattle.pgs_world.proofs.EndingLemmas.{Facts, Late, Printed, called_of, ended_whole, late_front, met_none, performed_by, printed_all, printed_told, stays_failed, transcript_is, unwritten_leads}
 use Rattle.pgs_world.proofs.program.play_started.Goals as goal

@@ -1,6 +1,5 @@
-use Rattle.pgs_world.proofs.LawfulLemmas.{asked_is_lawful, asked_makes_once}
-use Rattle.pgs_world.proofs.SweptLemmas.{not_read}
-use Rattle.pgs_world.specs.Outcome.{setting_for}
+use Rattle.pgs_world.proofs.Words.{setting_for}
+use Rattle.pgs_world.proofs.Lemmas.{asked_is_lawful, asked_makes_once, not_read}
 use Rattle.pgs_world.proofs.program.run.Goals as goal
 
 -- without memory for the words no run of a sweep was played

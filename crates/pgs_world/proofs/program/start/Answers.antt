@@ -1,5 +1,5 @@
-use Rattle.pgs_world.specs.Outcome.{setting_for}
-use Rattle.pgs_world.proofs.LawfulLemmas.{run_is_lawful, run_makes_once}
+use Rattle.pgs_world.proofs.Words.{setting_for}
+use Rattle.pgs_world.proofs.Lemmas.{run_is_lawful, run_makes_once}
 use Rattle.pgs_world.proofs.program.start.Goals as goal
 
 pub returns-clause-lawful : goal.returns-clause-lawful

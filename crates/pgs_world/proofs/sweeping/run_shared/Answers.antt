@@ -1,18 +1,7 @@
-use Rattle.std.proofs.Common.{◌≡◌, ◌∙◌, ap, refl, sym, subst, List, length, arith}
-use Rattle.std.specs.Prelude.{slice_get}
-use Rattle.pgs_io.specs.Lines.{lines_of}
-use Rattle.reset_callbacks.specs.Hook.{AreDistinct}
-use Rattle.reset_callbacks.specs.ShelfState.{ShelfState, held}
-use Rattle.session_store.specs.State.{StoreState}
-use Rattle.pgs_turns.specs.Sweeping.{setting_for_run}
-use Rattle.pgs_turns.specs.Transcript.{Setting}
-use Rattle.pgs_turns.specs.World.{setting_at}
-use Rattle.pgs_turns.proofs.SessionLemmas.{opened_run, opened_standing}
-use Rattle.pgs_turns.proofs.StartLemmas.{started_setting}
-use Rattle.pgs_world.specs.Lawful.{KeepLaws}
-use Rattle.pgs_world.specs.SweepSteps.{EndsRun}
-use Rattle.pgs_world.proofs.LawfulLemmas.{run_is_lawful, run_makes_once}
-use Rattle.pgs_world.proofs.RunLemmas.{started_run}
+use Rattle.pgs_world.proofs.Base.{◌≡◌, ◌∙◌, ap, refl, sym, subst, List, length, arith, slice_get}
+use Rattle.pgs_world.proofs.Words.{lines_of, AreDistinct, ShelfState, StoreState, setting_for_run, Setting, setting_at, opened_run, opened_standing, started_setting, KeepLaws, EndsRun}
+use Rattle.pgs_world.proofs.Lemmas.{run_is_lawful, run_makes_once, started_run}
+use Rattle.reset_callbacks.specs.ShelfState.{held}
 use Rattle.pgs_world.proofs.sweeping.run_shared.Goals as goal
 
 pub end_unheard-requires-clause-opening : goal.end_unheard-requires-clause-opening

@@ -1,7 +1,6 @@
-use Rattle.std.proofs.Common.{length}
-use Rattle.pgs_io.specs.Lines.{lines_of}
-use Rattle.pgs_turns.specs.World.{run_of}
-use Rattle.pgs_world.proofs.RunLemmas.{ended_run}
+use Rattle.pgs_world.proofs.Base.{length}
+use Rattle.pgs_world.proofs.Words.{lines_of, run_of}
+use Rattle.pgs_world.proofs.Lemmas.{ended_run}
 use Rattle.pgs_world.proofs.sweeping.run_started.Goals as goal
 
 pub returns : goal.returns

@@ -1,8 +1,6 @@
-use Rattle.std.proofs.Common.{ℕ, List, sym, subst}
-use Rattle.pgs_world.specs.Outcome.{setting_for}
-use Rattle.pgs_world.specs.Plays.{outside}
-use Rattle.pgs_world.specs.Sweep.{IsRead, Sweeps}
-use Rattle.pgs_world.proofs.SweptLemmas.{not_read}
+use Rattle.pgs_world.proofs.Base.{ℕ, List, sym, subst}
+use Rattle.pgs_world.proofs.Words.{setting_for, outside, IsRead, Sweeps}
+use Rattle.pgs_world.proofs.Lemmas.{not_read}
 use Rattle.pgs_world.proofs.sweeping.sweep.Goals as goal
 
 -- there was no memory for the script

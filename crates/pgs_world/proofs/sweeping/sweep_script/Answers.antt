@@ -1,12 +1,7 @@
-use Rattle.std.proofs.Common.{◌≡◌, ◌+◌, ◌≤◌, ◌<◌, ℕ, length, refl, ◌∙◌, sym, subst, arith}
-use Rattle.pgs_io.specs.Faults.{HasRisen}
-use Rattle.pgs_io.specs.Lines.{lines_of}
+use Rattle.pgs_world.proofs.Base.{◌≡◌, ◌+◌, ◌≤◌, ◌<◌, ℕ, length, refl, ◌∙◌, sym, subst, arith}
+use Rattle.pgs_world.proofs.Words.{HasRisen, lines_of, Outcome, setting_for, outside, Sweeps}
+use Rattle.pgs_world.proofs.Lemmas.{all_run, calls_told, few_more, is_run, last_few, last_next, stands_more, stands_none, swept_unwritten, swept_wanted, swept_whole}
 use Rattle.pgs_turns.proofs.KeptLemmas.{few_lines_of}
-use Rattle.pgs_world.specs.declared.program.Outcome.{Outcome}
-use Rattle.pgs_world.specs.Outcome.{setting_for}
-use Rattle.pgs_world.specs.Plays.{outside}
-use Rattle.pgs_world.specs.Sweep.{Sweeps}
-use Rattle.pgs_world.proofs.SweptLemmas.{all_run, calls_told, few_more, is_run, last_few, last_next, stands_more, stands_none, swept_unwritten, swept_wanted, swept_whole}
 use Rattle.pgs_world.proofs.sweeping.sweep_script.Goals as goal
 
 pub loop-fail-init : goal.loop-fail-init

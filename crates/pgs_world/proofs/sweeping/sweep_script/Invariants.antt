@@ -1,8 +1,5 @@
-use Rattle.std.proofs.Common.{◌≡◌, ◌-◌, ◌≤◌}
-use Rattle.pgs_io.specs.Lines.{lines_of}
-use Rattle.pgs_turns.specs.Sweeping.{runs_in}
-use Rattle.pgs_world.specs.Outcome.{setting_for}
-use Rattle.pgs_world.specs.SweepSteps.{Stands, last_known}
+use Rattle.pgs_world.proofs.Base.{◌≡◌, ◌-◌, ◌≤◌}
+use Rattle.pgs_world.proofs.Words.{lines_of, runs_in, setting_for, Stands, last_known}
 use Rattle.pgs_world.proofs.sweeping.sweep_script.Given as goal
 
 -- the runs before this one were played and told

@@ -1,6 +1,6 @@
-use Rattle.std.proofs.Common.{◌≡◌, ◌+◌, ◌∙◌, length, arith}
+use Rattle.pgs_world.proofs.Base.{◌≡◌, ◌+◌, ◌∙◌, length, arith}
+use Rattle.pgs_world.proofs.Words.{HasGiven}
 use Rattle.std.proofs.lemmas.Grind.{common_steps}
-use Rattle.pgs_world.specs.Outcome.{HasGiven}
 use Rattle.pgs_world.proofs.ScriptLemmas.{overlong}
 use Rattle.pgs_world.proofs.whole_script.read_script.Goals as goal
 

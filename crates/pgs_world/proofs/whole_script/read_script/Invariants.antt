@@ -1,6 +1,5 @@
-use Rattle.std.proofs.Common.{◌≡◌, ◌-◌, ◌≤◌, length}
-use Rattle.std.specs.Prelude.{vec_capacity}
-use Rattle.pgs_world.specs.Outcome.{HasGiven}
+use Rattle.pgs_world.proofs.Base.{◌≡◌, ◌-◌, ◌≤◌, length, vec_capacity}
+use Rattle.pgs_world.proofs.Words.{HasGiven}
 use Rattle.pgs_world.proofs.whole_script.read_script.Given as goal
 
 -- what was read was given

@@ -1,4 +1,4 @@
-use Rattle.pgs_turns.specs.Counting.{of_session_taken}
+use Rattle.pgs_turns.proofs.Words.{of_session_taken}
 use Rattle.pgs_turns.proofs.counter.CounterTranscript.turn_to.Goals as goal
 
 pub returns : goal.returns

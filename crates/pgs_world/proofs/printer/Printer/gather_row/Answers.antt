@@ -1,8 +1,6 @@
-use Rattle.std.proofs.Common.{ℕ, List, refl, subst}
+use Rattle.pgs_world.proofs.Base.{ℕ, List, refl, subst}
+use Rattle.pgs_world.proofs.Words.{text_of, TakesBytes-more, TakesBytes}
 use Rattle.pgs_step.specs.declared.events.What.TheVariants as a_what
-use Rattle.pgs_step.specs.Text.{text_of}
-use Rattle.pgs_world.specs.PrinterLaws.{TakesBytes-more}
-use Rattle.pgs_world.specs.PrinterView.{TakesBytes}
 use Rattle.pgs_world.proofs.printer.Printer.gather_row.Goals as goal
 
 pub returns : goal.returns

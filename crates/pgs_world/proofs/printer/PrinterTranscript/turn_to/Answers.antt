@@ -1,5 +1,5 @@
-use Rattle.std.proofs.Common.{refl}
-use Rattle.pgs_world.specs.PrinterLaws.{ShowsEvents-turn}
+use Rattle.pgs_world.proofs.Base.{refl}
+use Rattle.pgs_world.proofs.Words.{ShowsEvents-turn}
 use Rattle.pgs_world.proofs.printer.PrinterTranscript.turn_to.Goals as goal
 
 pub returns : goal.returns
