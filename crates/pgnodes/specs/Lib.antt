@@ -1,0 +1,3 @@
+-- What contracts cite of a script of aggregates.
+pub mod Lines
+pub mod Rows

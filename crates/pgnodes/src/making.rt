@@ -1,0 +1,48 @@
+//! The rows that an aggregate is made over.
+ghost use Rattle.std.specs.Prelude.{◌≡◌, ◌<◌, ◌≤◌, codes};
+ghost use Rattle.agg_rules.specs.Rows.{four_rows};
+ghost use Rattle.pgnodes.specs.Lines.{written};
+ghost use Rattle.pgnodes.specs.Rows.{row_made, rows_made, four_rows_asked};
+ghost use Rattle.pgnodes.specs.declared.lines.TheConstants.{MOST_OBJECT, MOST_ROWS};
+
+use crate::lines::Aggregate;
+use agg_rules::Row;
+
+/// The row of a place, counted from 0.
+pub fn row_at(aggregate: &Aggregate, place: u32) -> Row
+    requires object { aggregate.now.object ≤ MOST_OBJECT }
+    requires groups { 0 < aggregate.now.groups }
+    requires place { place ≤ MOST_ROWS }
+    ensures { result ≡ row_made aggregate.now place }
+{
+    let value = (31 * aggregate.object + 7 * place) % 1_000;
+    Row {
+        group: value % aggregate.groups,
+        value: place,
+    }
+}
+
+/// The definitions on a line of four rows. A caller cites a clause.
+pub fn worked()
+    ensures line { written four_rows_asked ≡ codes "agg 3 4 2 64" }
+    ensures rows { rows_made four_rows_asked ≡ four_rows }
+{}
+
+#[test]
+fn four_rows_fall_into_two_groups(rt: HostRuntime) {
+    let aggregate = Aggregate {
+        object: 3,
+        rows: 4,
+        groups: 2,
+        budget: 64,
+    };
+    for (place, group) in [(0, 1), (1, 0), (2, 1), (3, 0)] {
+        assert_eq!(rt;
+            row_at(&aggregate, place),
+            Row {
+                group,
+                value: place
+            }
+        );
+    }
+}
