@@ -10,3 +10,4 @@ pub mod Apart
 pub mod Steps
 pub mod Carried
 pub mod Contexts
+pub mod Echo

@@ -1,7 +1,7 @@
 //! What holds of many contexts over one space.
 ghost use Rattle.std.specs.Prelude.{◌≡◌, ◌≢◌, ℕ, ◌+◌, ◌^◌, ◌<◌, ◌≤◌, ◌++◌, List, [], ◌∷◌, length, map, Some, slice_set};
 ghost use Rattle.addr_space.specs.declared.Addr.{Addr};
-ghost use Rattle.addr_space.specs.Space.{Space, Changes, Asks, IsInside, region_at, byte_at, overwritten, accounts, taken, risen};
+ghost use Rattle.addr_space.specs.Space.{Space, Changes, Asks, IsInside, region_at, IsKnown, byte_at, bytes_of, overwritten, part, accounts, taken, risen};
 ghost use Rattle.addr_space.specs.Footprint.{Footprint, Agrees, Moves, Keeps, KeepsBut, AreDisjoint, AllAgree, context_at, nothing, WritesInside};
 ghost use Rattle.addr_space.specs.Live.{StaysLive};
 ghost use Rattle.addr_space.specs.Contexts.{AreAmong, IsHeldBy, without};
@@ -67,4 +67,14 @@ pub fn listing()
 
     // Some of the contexts, in any order.
     ensures among { (hs fs : List Footprint) (s : Space) → AreAmong hs fs → AllAgree fs s → AllAgree hs s }
+{}
+
+/// The laws by which a caller reads what it wrote at a place. A caller names it and cites a clause.
+pub fn echoing()
+    // The place is inside its region still, and its bytes are known.
+    ensures inside { (s t : Space) (at : Addr) (bytes : List ℕ) → IsInside s at (length bytes) → Changes s t at.region (overwritten (region_at s at.region) at.offset (map Some bytes)) → IsInside t at (length bytes) }
+    ensures known { (s t : Space) (at : Addr) (bytes : List ℕ) → IsInside s at (length bytes) → Changes s t at.region (overwritten (region_at s at.region) at.offset (map Some bytes)) → IsKnown t at (length bytes) }
+
+    // What `read` gives are the bytes that `write` was given.
+    ensures same { (s t : Space) (at : Addr) (bytes out : List ℕ) → IsInside s at (length bytes) → Changes s t at.region (overwritten (region_at s at.region) at.offset (map Some bytes)) → map Some out ≡ part (bytes_of (region_at t at.region)) at.offset (length bytes) → out ≡ bytes }
 {}

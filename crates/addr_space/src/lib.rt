@@ -16,7 +16,7 @@ mod laws;
 mod region;
 mod spare;
 
-pub use laws::{framing, listing};
+pub use laws::{echoing, framing, listing};
 use region::Region;
 use slab::Slab;
 use spare::Spare;

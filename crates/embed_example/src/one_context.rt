@@ -4,7 +4,7 @@ ghost use Rattle.addr_space.specs.Space.{accounts, held, region_at, overwritten,
 ghost use Rattle.addr_space.specs.Footprint.{Agrees, Moves};
 ghost use Rattle.any_ctx.specs.Contexts.{footprint};
 
-use addr_space::{Addr, Space, framing};
+use addr_space::{Addr, Space, echoing, framing};
 use any_ctx::{AnyCtx, CtxKind, SetBoxes};
 use chunk_header::CtxError;
 use std::alloc::Global;
@@ -18,6 +18,7 @@ fn echo(space: &mut Space, at: Addr, bytes: &[u8], out: &mut [u8])
     ensures bytes { out.new ≡ bytes.now }
     ensures changes { Changes space.old space.new at.region (overwritten (region_at space.old at.region) at.offset (map Some bytes.now)) }
 {
+    echoing();
     space.write(at, bytes);
     space.read(at, out);
 }
