@@ -53,32 +53,3 @@ fn the_last_line_sums(rt: HostRuntime) {
     });
     assert_eq!(rt; total.last(), want);
 }
-
-#[test]
-fn the_last_line_stands_still_at_its_end(rt: HostRuntime) {
-    let most = u64::MAX;
-    let great = Stats {
-        total: most,
-        blocks: most - 2,
-        free: 1,
-        chunks: most - 8,
-    };
-    let mut total = Total::new();
-    total.add(&great);
-    total.add(&USED);
-    let want = What::GrandTotal(MemoryCounters {
-        total: most,
-        blocks: most,
-        free: 16_097,
-        chunks: most - 1,
-    });
-    assert_eq!(rt; total.last(), want);
-    total.add(&USED);
-    let want = What::GrandTotal(MemoryCounters {
-        total: most,
-        blocks: most,
-        free: 32_193,
-        chunks: most,
-    });
-    assert_eq!(rt; total.last(), want);
-}

@@ -159,78 +159,12 @@ fn lines_in_one_read_are_buffered(rt: HostRuntime) -> Result<(), Fail> {
 }
 
 #[test]
-fn each_failing_call_ends_a_script(rt: HostRuntime) -> Result<(), Fail> {
-    let table = [
-        (1, 0, Fed::Fault),
-        (2, 1, Fed::Fault),
-        (3, 2, Fed::Fault),
-        (4, 3, Fed::Fault),
-        (5, 4, Fed::Fault),
-        (6, 5, Fed::End),
-    ];
-    for (call, lines, end) in table {
-        let bytes = b"begin\npin 1 2\n\ncommit\nhalf".to_vec(rt.alloc())?;
-        let fail_at = [call].to_vec(rt.alloc())?;
-        let mut source = MemSource::new(bytes, 7, fail_at);
-        assert_eq!(rt; count_lines(&mut source, 100), (lines, end));
-    }
-    Ok(())
-}
-
-#[test]
-fn a_line_over_512_bytes_is_long(rt: HostRuntime) -> Result<(), Fail> {
-    let mut bytes = [b'x'; 512].to_vec(rt.alloc())?;
-    bytes.extend_from_slice(b"\n")?;
-    bytes.extend_from_slice(&[b'y'; 513])?;
-    bytes.extend_from_slice(b"\n")?;
-    let mut source = MemSource::new(bytes, 600, Vec::new(rt.alloc()));
-    let mut feed = Feed::new(10_000);
-    let mut buf = LineBuf::new();
-    let Fed::Line { long: false } = feed.line(&mut source, &mut buf) else {
-        panic!(rt; "no line of 512 bytes");
-    };
-    assert_eq!(rt; buf.as_slice(), [b'x'; 512].as_slice());
-    assert_eq!(rt; feed.line(&mut source, &mut buf), Fed::Line { long: true });
-    assert_eq!(rt; buf.as_slice(), [b'y'; 512].as_slice());
-    Ok(())
-}
-
-#[test]
 fn a_read_asks_for_what_may_be_taken(rt: HostRuntime) -> Result<(), Fail> {
     let bytes = vec![in rt.alloc(); b'x'; 700]?;
     let mut source = MemSource::new(bytes, 700, Vec::new(rt.alloc()));
     assert_eq!(rt; count_lines(&mut source, 600), (0, Fed::TooLong));
     assert_eq!(rt; source.calls(), 2);
     assert_eq!(rt; source.unread().len(), 99);
-    Ok(())
-}
-
-#[test]
-fn a_byte_past_the_limit_ends_a_script(rt: HostRuntime) -> Result<(), Fail> {
-    let table: [(&[u8], u32, Fed); 4] = [
-        (b"a\nbcd", 1, Fed::TooLong),
-        (b"a\nb\n", 2, Fed::End),
-        (b"a\nb\n\n", 2, Fed::TooLong),
-        (b"a\nbc", 2, Fed::End),
-    ];
-    for (text, lines, end) in table {
-        let bytes = text.to_vec(rt.alloc())?;
-        let mut source = MemSource::new(bytes, 9, Vec::new(rt.alloc()));
-        assert_eq!(rt; count_lines(&mut source, 4), (lines, end));
-        assert_eq!(rt; source.unread(), b"".as_slice());
-    }
-    Ok(())
-}
-
-#[test]
-fn a_script_is_as_long_as_its_limit(rt: HostRuntime) -> Result<(), Fail> {
-    let mut bytes = vec![in rt.alloc(); b'\n'; 65_536]?;
-    let mut source = MemSource::new(bytes.clone()?, 4096, Vec::new(rt.alloc()));
-    assert_eq!(rt; count_lines(&mut source, 65_536), (65_536, Fed::End));
-    bytes.push(b'\n')?;
-    let mut source = MemSource::new(bytes, 4096, Vec::new(rt.alloc()));
-    assert_eq!(rt; count_lines(&mut source, 65_536), (65_536, Fed::TooLong));
-    assert_eq!(rt; source.unread(), b"".as_slice());
     Ok(())
 }
 

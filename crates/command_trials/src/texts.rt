@@ -345,39 +345,6 @@ fn is_told(error: Error, words: &[u8]) -> bool {
         == Some(words)
 }
 
-// The first of these kinds, the 16th of which has this name, whose item is not told of in the words beside it.
-fn kind_mistold(name: Name, rows: &[(u8, &[u8])]) -> Option<u8> {
-    let mut out = ArrayVec::new();
-    for (kind, want) in rows {
-        let event = Event {
-            session: 2,
-            what: What::Acquire {
-                item: item(*kind, 7, 1),
-                owner: 1,
-            },
-        };
-        text_with(&event, &[name], &mut out);
-        if out.as_slice() != *want {
-            return Some(*kind);
-        }
-    }
-    None
-}
-
-#[test]
-fn extension_kinds_have_the_names_they_are_given(rt: HostRuntime) {
-    let Some(name) = Name::new(b"jit_context") else {
-        return;
-    };
-    let rows: [(u8, &[u8]); 4] = [
-        (16, b"2 acquire jit_context 7 #1 o1\n"),
-        (17, b""),
-        (9, b""),
-        (0, b""),
-    ];
-    assert_eq!(rt; kind_mistold(name, &rows), None);
-}
-
 #[test]
 fn names_are_short_words_of_letters(rt: HostRuntime) {
     let are_names = [
@@ -388,39 +355,6 @@ fn names_are_short_words_of_letters(rt: HostRuntime) {
         Name::new(b"a_B9").is_some(),
     ];
     assert_eq!(rt; are_names, [false, true, false, false, true]);
-}
-
-#[test]
-fn names_are_equal_where_their_bytes_are(rt: HostRuntime) {
-    if let (Some(one), Some(same), Some(other)) = (
-        Name::new(b"a_B9"),
-        Name::new(b"a_B9"),
-        Name::new(b"a_B"),
-    ) {
-        assert!(rt; one == same);
-        assert!(rt; one != other);
-        assert_eq!(rt; other.as_slice(), b"a_B".as_slice());
-    }
-}
-
-#[test]
-fn bytes_of_a_chunk_are_at_most_128(rt: HostRuntime) {
-    assert!(rt; ChunkBytes::new(&[7; 129]).is_none());
-    if let (Some(all), Some(one), Some(none)) = (
-        ChunkBytes::new(&[7; 128]),
-        ChunkBytes::new(&[0]),
-        ChunkBytes::new(&[]),
-    ) {
-        assert_eq!(rt; all.as_slice(), [7; 128].as_slice());
-        assert!(rt; one != none);
-    }
-}
-
-#[test]
-fn depths_are_at_most_100(rt: HostRuntime) {
-    for (levels, depth) in [(0, 0), (99, 99), (100, 100), (101, 100), (4294967295, 100)] {
-        assert_eq!(rt; Depth::new(levels).levels(), depth);
-    }
 }
 
 #[test]

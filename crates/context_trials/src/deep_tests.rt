@@ -53,15 +53,3 @@ fn a_chain_of_fifty_thousand_is_reported_and_goes_from_below(rt: HostRuntime) ->
     assert_eq!(rt; (gone.len(), falling(gone, 50_006)), (50_000, 50_000));
     Ok(())
 }
-
-#[test]
-fn one_more_than_65536_contexts_is_too_many(rt: HostRuntime) -> Result<(), Fail> {
-    let mut trial = transaction(rt.alloc(), 20)?;
-    trial.widen(own_name(b"x"), 65_530)?;
-    assert_eq!(rt; (trial.count(), trial.held()), (65_536, 67_176_448));
-    let w = own_name(b"w");
-    let more = trial.create(At::Top, w, CtxKind::Small);
-    assert_eq!(rt; more, Err(TreeError::TooMany));
-    assert_eq!(rt; (trial.count(), trial.held()), (65_536, 67_176_448));
-    Ok(())
-}

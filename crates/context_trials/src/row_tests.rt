@@ -428,26 +428,6 @@ fn a_reset_of_an_unused_context_says_its_children_alone(rt: HostRuntime) -> Resu
     Ok(())
 }
 
-/// What a move of a context below its own child answers.
-fn moved_below_itself(trial: &mut Trial) -> Result<Result<(), TreeError>, TreeError>
-    requires { Stands trial.old }
-{
-    let p = own_name(b"p");
-    let x = own_name(b"x");
-    trial.create(At::Level, p, CtxKind::Default)?;
-    trial.create(At::Named(p), x, CtxKind::Default)?;
-    Ok(trial.reparent(At::Named(p), At::Named(x)))
-}
-
-#[test]
-fn a_context_does_not_move_below_itself(rt: HostRuntime) -> Result<(), Fail> {
-    let mut trial = transaction(rt.alloc(), 40)?;
-    let cycle = moved_below_itself(&mut trial)?;
-    assert_eq!(rt; cycle, Err(TreeError::Cycle));
-    assert_eq!(rt; trial.events().len(), 3);
-    Ok(())
-}
-
 /// A context moves from the topmost one below that of the transaction, which is rolled back.
 fn roll_back_moved(trial: &mut Trial) -> Result<(), TreeError>
     requires stands { Stands trial.old }

@@ -78,60 +78,6 @@ fn blocks_go(rt: HostRuntime) -> Result<(), Fail> {
     Ok(())
 }
 
-// Gives a block back that is not the keeper and has no live chunk, and answers what it was.
-fn give_unused(space: &mut Space, blocks: &mut Blocks, number: u32) -> Option<Block>
-    requires { Agrees (footprint blocks.old) space.old }
-{
-    let block = blocks.block(number)?;
-    if block.live != 0 || number == blocks.keeper() {
-        return None;
-    }
-    blocks.give(space, number);
-    Some(block)
-}
-
-// Three blocks come, and the second of them goes. Answers what it was, and what the three are then.
-fn go_between(space: &mut Space, blocks: &mut Blocks) -> Result<[Option<Block>; 4], CtxError>
-    requires { Agrees (footprint blocks.old) space.old }
-{
-    let first = blocks.add(space, 1024)?;
-    let second = blocks.add(space, 2048)?;
-    let third = blocks.add(space, 4096)?;
-    let was = give_unused(space, blocks, second);
-    Ok([
-        was,
-        blocks.block(first),
-        blocks.block(second),
-        blocks.block(third),
-    ])
-}
-
-// A block without chunks.
-fn unused(number: u64, size: u32, room: u32) -> Option<Block> {
-    Some(Block {
-        number,
-        size,
-        room,
-        live: 0,
-        freed: 0,
-    })
-}
-
-#[test]
-fn a_block_between_others_goes(rt: HostRuntime) -> Result<(), Fail> {
-    let mut space = Space::new(rt.alloc(), 1, 100_000)?;
-    let mut blocks = Blocks::create(rt.alloc(), &mut space, Kind::Slab, 0, 7, 0, 200)?;
-    let said = go_between(&mut space, &mut blocks)?;
-    let want = [
-        unused(2, 2048, 2008),
-        unused(1, 1024, 984),
-        None,
-        unused(3, 4096, 4056),
-    ];
-    assert_eq!(rt; (said, blocks.len(), blocks.total()), (want, 3, 5320));
-    Ok(())
-}
-
 #[test]
 fn a_chunk_is_placed(rt: HostRuntime) -> Result<(), Fail> {
     let mut space = Space::new(rt.alloc(), 1, 100_000)?;

@@ -147,17 +147,3 @@ fn what_a_context_holds(rt: HostRuntime) -> Result<(), Fail> {
     assert_eq!(rt; other_row(&rt, &rows)?, None);
     Ok(())
 }
-
-#[test]
-fn what_a_context_refuses(rt: HostRuntime) -> Result<(), Fail> {
-    let refused = [
-        refusal(&rt, Keep(1_073_741_824))?,
-        refusal(&rt, Keep(9000))?,
-        refusal(&rt, Resize(7000, 1_073_741_824))?,
-        refusal(&rt, Resize(7000, 8000))?,
-    ];
-    let too_big = Some(CtxError::TooBig);
-    let no_space = Some(CtxError::NoSpace);
-    assert_eq!(rt; refused, [too_big, no_space, too_big, no_space]);
-    Ok(())
-}

@@ -67,23 +67,6 @@ fn chunks_of_a_context(rt: HostRuntime) -> Result<(), Fail> {
     Ok(())
 }
 
-#[test]
-fn small_sizes(rt: HostRuntime) -> Result<(), Fail> {
-    let mut space = Space::new(rt.alloc(), 1, 3100)?;
-    let mut boxes = SetBoxes::new(rt.alloc());
-    let mut set = AllocSet::create(rt.alloc(), &mut boxes, &mut space, 0, 7, SMALL)?;
-    let said = said_of_two(&mut space, &mut set, [1024, 256])?;
-    let refused = set.alloc(&mut space, 1025).err();
-    let want = [
-        stats([1024, 1, 784, 0]),
-        stats([3072, 2, 1760, 2]),
-        stats([3072, 2, 1496, 1]),
-    ];
-    assert_eq!(rt; (said, refused), (want, Some(CtxError::NoSpace)));
-    assert_eq!(rt; space.held(0), 3072);
-    Ok(())
-}
-
 // What a context says after a request, after its chunk was freed, and after a second request and a reset; and
 // what its account holds once it is discarded.
 fn course(alloc: Global, sizes: Sizes, size: u64) -> Result<([Stats; 3], u64), Fail>
@@ -148,56 +131,6 @@ fn freed_reset_and_discarded(rt: HostRuntime) -> Result<(), Fail> {
     Ok(())
 }
 
-// Five calls beside the chunk at an address: on its context, and on another one.
-fn stir(
-    space: &mut Space,
-    set: &mut AllocSet,
-    other: &mut AllocSet,
-    at: Addr,
-    size: u64,
-) -> Result<(), CtxError>
-    requires agrees { Agrees (footprint set.old) space.old }
-    requires others { Agrees (footprint other.old) space.old }
-    requires disjoint { AreDisjoint (footprint set.old) (footprint other.old) }
-    requires live { (footprint set.old).live at ≡ Some 8 }
-    requires known { IsKnown space.old at 8 }
-    requires small { size ≤ 10000 }
-    ensures agrees { OnOk result (Agrees (footprint set.new) space.new) }
-    ensures others { OnOk result (Agrees (footprint other.new) space.new) }
-    ensures disjoint { OnOk result (AreDisjoint (footprint set.new) (footprint other.new)) }
-    ensures live { OnOk result ((footprint set.new).live at ≡ Some 8) }
-    ensures known { OnOk result (IsKnown space.new at 8) }
-{
-    let first = set.alloc(space, size)?;
-    set.alloc(space, size + 1)?;
-    set.free(space, first)?;
-    other.alloc(space, size)?;
-    other.reset(space);
-    Ok(())
-}
-
-// A hundred calls beside the chunk.
-fn stir_often(
-    space: &mut Space,
-    set: &mut AllocSet,
-    other: &mut AllocSet,
-    at: Addr,
-) -> Result<(), CtxError>
-    requires agrees { Agrees (footprint set.old) space.old }
-    requires others { Agrees (footprint other.old) space.old }
-    requires disjoint { AreDisjoint (footprint set.old) (footprint other.old) }
-    requires live { (footprint set.old).live at ≡ Some 8 }
-    requires known { IsKnown space.old at 8 }
-    ensures agrees { OnOk result (Agrees (footprint set.new) space.new) }
-    ensures live { OnOk result ((footprint set.new).live at ≡ Some 8) }
-    ensures known { OnOk result (IsKnown space.new at 8) }
-{
-    for turn in 0..20 {
-        stir(space, set, other, at, turn * 60)?;
-    }
-    Ok(())
-}
-
 // Two contexts, and a chunk of the first one with these bytes.
 fn written(
     alloc: Global,
@@ -216,67 +149,6 @@ fn written(
     let at = set.alloc(space, 8)?;
     space.write(at, bytes);
     Ok((set, other, at))
-}
-
-#[test]
-fn bytes_stay_through_other_calls(rt: HostRuntime) -> Result<(), Fail> {
-    let bytes = [3, 1, 4, 1, 5, 9, 2, 6];
-    let mut space = Space::new(rt.alloc(), 1, 100_000)?;
-    let (mut set, mut other, at) = written(rt.alloc(), &mut space, &bytes)?;
-    stir_often(&mut space, &mut set, &mut other, at)?;
-    let mut read = [0; 8];
-    space.read(at, &mut read);
-    assert_eq!(rt; read, bytes);
-    Ok(())
-}
-
-// What a small context says of a chunk of 2,048 bytes, and once it is freed: the chunk has a block for itself.
-fn own_block(space: &mut Space, set: &mut AllocSet) -> Result<(Stats, Stats), CtxError>
-    requires agrees { Agrees (footprint set.old) space.old }
-    requires new { set.old.ledger ≡ created 1024 8192 }
-    ensures taken { IfOk result (λ said. said.0 ≡ record { total = 3120; blocks = 2; free = 784; chunks = 0 }) }
-    ensures freed { IfOk result (λ said. said.1 ≡ record { total = 1024; blocks = 1; free = 784; chunks = 0 }) }
-    ensures asked { OnOk result (Asks set.old.account 2096 space.old space.new) }
-{
-    let at = set.alloc(space, 2048)?;
-    let taken = set.stats();
-    set.free(space, at)?;
-    Ok((taken, set.stats()))
-}
-
-#[test]
-fn an_own_block_goes_back(rt: HostRuntime) -> Result<(), Fail> {
-    let mut space = Space::new(rt.alloc(), 1, 100_000)?;
-    let mut set = AllocSet::create(
-        rt.alloc(),
-        &mut SetBoxes::new(rt.alloc()),
-        &mut space,
-        0,
-        7,
-        SMALL,
-    )?;
-    let said = own_block(&mut space, &mut set)?;
-    assert_eq!(rt; said, (stats([3120, 2, 784, 0]), stats([1024, 1, 784, 0])));
-    assert_eq!(rt; space.taken(0), 3120);
-    Ok(())
-}
-
-#[test]
-fn an_own_block_is_resized(rt: HostRuntime) -> Result<(), Fail> {
-    let mut space = Space::new(rt.alloc(), 1, 100_000)?;
-    let mut set = AllocSet::create(
-        rt.alloc(),
-        &mut SetBoxes::new(rt.alloc()),
-        &mut space,
-        0,
-        7,
-        GREAT,
-    )?;
-    let at = set.alloc(&mut space, 9000)?;
-    set.realloc(&mut space, at, 0, 20_000)?;
-    assert_eq!(rt; set.stats(), stats([28240, 2, 7952, 0]));
-    assert_eq!(rt; space.taken(0), 28240);
-    Ok(())
 }
 
 #[test]

@@ -44,51 +44,6 @@ fn one_chunk(rt: HostRuntime) -> Result<(), Fail> {
     Ok(())
 }
 
-// Takes one chunk more.
-fn take_one(slab: &mut SlabCtx, space: &mut Space, chunks: &mut Vec<Addr>) -> Result<(), Fail>
-    requires agrees { Agrees (footprint slab.old) space.old }
-    requires held { AreLive (footprint slab.old) 64 0 chunks.old.items }
-    ensures agrees { OnOk result (Agrees (footprint slab.new) space.new) }
-    ensures held { OnOk result (AreLive (footprint slab.new) 64 0 chunks.new.items) }
-{
-    let at = slab.alloc(space, 64)?;
-    chunks.push(at)?;
-    Ok(())
-}
-
-// Frees one of the chunks.
-fn free_one(slab: &mut SlabCtx, space: &mut Space, chunks: &Vec<Addr>, index: usize)
-    requires agrees { Agrees (footprint slab.old) space.old }
-    requires held { AreLive (footprint slab.old) 64 index chunks.now.items }
-    requires within { index < chunks.now.len }
-    ensures agrees { Agrees (footprint slab.new) space.new }
-    ensures held { AreLive (footprint slab.new) 64 (index + 1) chunks.now.items }
-{
-    let at = chunks[index];
-    let _ = slab.free(space, at);
-}
-
-#[test]
-fn twelve_blocks(rt: HostRuntime) -> Result<(), Fail> {
-    let mut space = Space::new(rt.alloc(), 1, 1_000_000)?;
-    let mut slab = SlabCtx::create(rt.alloc(), &mut space, 0, 7, 64)?;
-    let mut chunks = Vec::new(rt.alloc());
-    for _ in 0..12 * 113 {
-        take_one(&mut slab, &mut space, &mut chunks)?;
-    }
-    for index in 0..chunks.len() {
-        free_one(&mut slab, &mut space, &chunks, index);
-    }
-    let stats = Stats {
-        total: 82120,
-        blocks: 10,
-        free: 81360,
-        chunks: 1130,
-    };
-    assert_eq!(rt; slab.stats(), stats);
-    Ok(())
-}
-
 #[test]
 fn a_freed_chunk_is_taken_again(rt: HostRuntime) -> Result<(), Fail> {
     let mut space = Space::new(rt.alloc(), 1, 9000)?;
@@ -133,12 +88,4 @@ fn refusal(rt: &HostRuntime, limit: u64, size: u64) -> Result<Option<CtxError>, 
     let mut space = Space::new(rt.alloc(), 1, limit)?;
     let mut slab = SlabCtx::create(rt.alloc(), &mut space, 0, 7, 64)?;
     Ok(slab.alloc(&mut space, size).err())
-}
-
-#[test]
-fn what_a_context_refuses(rt: HostRuntime) -> Result<(), Fail> {
-    assert_eq!(rt; refusal(&rt, 9000, 1_073_741_824)?, Some(CtxError::TooBig));
-    assert_eq!(rt; refusal(&rt, 9000, 65)?, Some(CtxError::WrongSize));
-    assert_eq!(rt; refusal(&rt, 8391, 64)?, Some(CtxError::NoSpace));
-    Ok(())
 }

@@ -70,34 +70,6 @@ fn next_has_the_lowest_priority(rt: HostRuntime) -> Result<(), Fail> {
     Ok(())
 }
 
-#[test]
-fn lower_priority_goes_before_newer(rt: HostRuntime) -> Result<(), Fail> {
-    let none: Vec<CountedKind> = Vec::new(rt.alloc());
-    let kinds = KindShelf::new(rt.alloc(), none)?;
-    let mut items = Items::new(rt.alloc());
-    items.enlarge()?;
-    items.remember(Item {
-        kind: KindId(1),
-        key: 7,
-        serial: 1,
-    });
-    items.enlarge()?;
-    items.remember(Item {
-        kind: KindId(2),
-        key: 8,
-        serial: 2,
-    });
-    assert_eq!(rt; items.take_next(&kinds, Phase::AfterLocks), None);
-    assert_eq!(rt;
-        items
-            .take_next(&kinds, Phase::BeforeLocks)
-            .ok_or("none")?
-            .serial,
-        1
-    );
-    Ok(())
-}
-
 // Pins of the buffers 0 to 32, each with the next serial.
 fn pins(alloc: Global) -> Result<Items, AllocError>
     ensures kinds { IfOk result (λ items. All (λ item. IsBuiltIn item.kind) items.items) }
@@ -131,85 +103,6 @@ fn more_than_thirty_two(rt: HostRuntime) -> Result<(), Fail> {
         let item = items.take_next(&kinds, Phase::BeforeLocks).ok_or("none")?;
         assert_eq!(rt; (item.key, item.serial), (key, key as u64 + 1));
     }
-    assert_eq!(rt; items.take_next(&kinds, Phase::BeforeLocks), None);
-    Ok(())
-}
-
-fn pin(key: u32, serial: u64) -> Item
-    ensures kind { IsBuiltIn result.kind }
-    ensures serial { result.serial ≡ serial }
-{
-    Item {
-        kind: KindId::BUFFER_PIN,
-        key,
-        serial,
-    }
-}
-
-#[test]
-fn one_pair_a_hundred_times(rt: HostRuntime) -> Result<(), Fail> {
-    let mut items = Items::new(rt.alloc());
-    for serial in 1..101 {
-        items.enlarge()?;
-        items.remember(pin(7, serial));
-    }
-    assert_eq!(rt; items.len(), 100);
-    for serial in (1..101).rev() {
-        let item = items.forget(KindId::BUFFER_PIN, 7).ok_or("none")?;
-        assert_eq!(rt; item.serial, serial);
-    }
-    assert_eq!(rt; items.forget(KindId::BUFFER_PIN, 7), None);
-    Ok(())
-}
-
-#[test]
-fn gathered_items_are_parted_again(rt: HostRuntime) -> Result<(), Fail> {
-    let none: Vec<CountedKind> = Vec::new(rt.alloc());
-    let kinds = KindShelf::new(rt.alloc(), none)?;
-    let mut items = pins(rt.alloc())?;
-    let first = items.take_next(&kinds, Phase::BeforeLocks).ok_or("none")?;
-    assert_eq!(rt; (first.serial, items.spare()), (33, 0));
-    assert_eq!(rt;
-        items.forget(KindId::BUFFER_PIN, 3).ok_or("none")?.serial,
-        4
-    );
-    items.enlarge()?;
-    items.remember(pin(5, 34));
-    assert_eq!(rt;
-        items.forget(KindId::BUFFER_PIN, 5).ok_or("none")?.serial,
-        34
-    );
-    assert_eq!(rt;
-        items.forget(KindId::BUFFER_PIN, 5).ok_or("none")?.serial,
-        6
-    );
-    let second = items.take_next(&kinds, Phase::BeforeLocks).ok_or("none")?;
-    assert_eq!(rt; (second.serial, items.len()), (32, 29));
-    Ok(())
-}
-
-#[test]
-fn a_phase_without_items_changes_nothing(rt: HostRuntime) -> Result<(), Fail> {
-    let none: Vec<CountedKind> = Vec::new(rt.alloc());
-    let kinds = KindShelf::new(rt.alloc(), none)?;
-    let mut items = pins(rt.alloc())?;
-    items.enlarge()?;
-    let spare = items.spare();
-    assert_eq!(rt; items.take_next(&kinds, Phase::AfterLocks), None);
-    assert_eq!(rt; (items.spare(), items.len()), (spare, 33));
-    Ok(())
-}
-
-#[test]
-fn an_only_item_is_taken_from_the_array(rt: HostRuntime) -> Result<(), Fail> {
-    let none: Vec<CountedKind> = Vec::new(rt.alloc());
-    let kinds = KindShelf::new(rt.alloc(), none)?;
-    let mut items = Items::new(rt.alloc());
-    items.enlarge()?;
-    items.remember(pin(7, 1));
-    assert_eq!(rt; items.take_next(&kinds, Phase::AfterLocks), None);
-    let only = items.take_next(&kinds, Phase::BeforeLocks).ok_or("none")?;
-    assert_eq!(rt; (only.serial, items.len(), items.spare()), (1, 0, 32));
     assert_eq!(rt; items.take_next(&kinds, Phase::BeforeLocks), None);
     Ok(())
 }

@@ -110,42 +110,6 @@ fn an_owner_releases_in_order(rt: HostRuntime) -> Result<(), Fail> {
 }
 
 #[test]
-fn another_session_conflicts(rt: HostRuntime) -> Result<(), Fail> {
-    let mut shared = SharedLocks::new(rt.alloc());
-    let mut first = LockTable::new(rt.alloc(), 1);
-    let mut second = LockTable::new(rt.alloc(), 2);
-    let mut out = EventList::new(rt.alloc(), 10)?;
-    first.acquire(&mut shared, ONE, 5, SHARE, &mut out)?;
-    first.acquire(&mut shared, ONE, 5, Mode::ShareLock, &mut out)?;
-    let refused = LockError::Conflict {
-        session: 1,
-        mode: SHARE,
-    };
-    assert_eq!(rt;
-        second.acquire(&mut shared, ONE, 5, EXCLUSIVE, &mut out),
-        Err(refused)
-    );
-    assert_eq!(rt; out.events().len(), 2);
-    Ok(())
-}
-
-#[test]
-fn a_released_lock_is_free_for_another_session(rt: HostRuntime) -> Result<(), Fail> {
-    let mut shared = SharedLocks::new(rt.alloc());
-    let mut first = LockTable::new(rt.alloc(), 1);
-    let mut second = LockTable::new(rt.alloc(), 2);
-    let mut out = EventList::new(rt.alloc(), 10)?;
-    first.acquire(&mut shared, ONE, 5, EXCLUSIVE, &mut out)?;
-    first.release_all(&mut shared, ONE, &mut out);
-    second.acquire(&mut shared, ONE, 5, EXCLUSIVE, &mut out)?;
-    assert_eq!(rt;
-        second.release(&mut shared, ONE, 6, EXCLUSIVE, &mut out),
-        Err(LockError::NotHeld)
-    );
-    Ok(())
-}
-
-#[test]
 fn refusals_are_told(rt: HostRuntime) -> Result<(), Fail> {
     let refused = LockError::Conflict {
         session: 1,
@@ -157,37 +121,4 @@ fn refusals_are_told(rt: HostRuntime) -> Result<(), Fail> {
         "lock is held by session 1 as AccessShareLock"
     );
     Ok(())
-}
-
-/// Releases all of an owner that holds the objects 1 to n, the last one taken first.
-fn released_in_order(rt: &impl Abort, alloc: Global, n: u32) -> Result<(), Fail> {
-    let mut shared = SharedLocks::new(alloc);
-    let mut table = LockTable::new(alloc, 1);
-    let mut out = EventList::new(alloc, 100)?;
-    for taken in 0..n {
-        table.acquire(&mut shared, TWO, n - taken, SHARE, &mut out)?;
-    }
-    table.release_owner(&mut shared, TWO, &mut out);
-    assert_eq!(rt; table.distinct(), 0);
-    let released: &[What] = out.events().get(n as usize..).ok_or("no release")?;
-    assert_eq!(rt; released.len(), n as usize);
-    for (place, event) in released.iter().enumerate() {
-        assert_eq!(rt; *event, release(place as u32 + 1, SHARE, 1, 2));
-    }
-    Ok(())
-}
-
-#[test]
-fn fifteen_locks(rt: HostRuntime) -> Result<(), Fail> {
-    released_in_order(&rt, rt.alloc(), 15)
-}
-
-#[test]
-fn sixteen_locks(rt: HostRuntime) -> Result<(), Fail> {
-    released_in_order(&rt, rt.alloc(), 16)
-}
-
-#[test]
-fn forty_locks(rt: HostRuntime) -> Result<(), Fail> {
-    released_in_order(&rt, rt.alloc(), 40)
 }

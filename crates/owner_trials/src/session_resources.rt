@@ -75,27 +75,6 @@ impl Session {
         })
     }
 
-    fn make_owner(
-        &mut self,
-        parent: Option<OwnerId>,
-        out: &mut EventList,
-    ) -> Result<OwnerId, OwnerError>
-        requires room { self.old.resources.next_owner < 2 ^ 62 }
-        requires parent { IfSome parent (IsLive self.old.resources) }
-        requires serves { Serves self.old.resources self.old.commons }
-        ensures number { IfOk result (λ owner. owner.number ≡ self.old.resources.next_owner) }
-        ensures live { IfOk result (IsLive self.new.resources) }
-        ensures stays { OnOk result ((other : OwnerId) → IsLive self.old.resources other → IsLive self.new.resources other) }
-        ensures owners { OnOk result (owners_of self.new.resources ≡ created (option_map (λ p. p.number) parent) self.old.resources.next_owner (owners_of self.old.resources)) }
-        ensures next_owner { OnOk result (self.new.resources.next_owner ≡ self.old.resources.next_owner + 1) }
-        ensures next_serial { self.new.resources.next_serial ≡ self.old.resources.next_serial }
-        ensures plans { self.new.resources.plans ≡ self.old.resources.plans }
-        ensures commons { self.new.commons ≡ self.old.commons }
-        ensures serves { Serves self.new.resources self.new.commons }
-    {
-        self.resources.make_owner(parent, out)
-    }
-
     fn push(&mut self, snapshot: u32, level: u32, out: &mut EventList) -> Result<(), AllocError> {
         self.resources.push(snapshot, level, out)
     }
@@ -108,18 +87,6 @@ impl Session {
         requires { 1 ≤ level }
     {
         self.resources.lower_stack(level);
-    }
-
-    fn release(&mut self, owner: OwnerId, commit: bool, top: bool, out: &mut EventList)
-        requires live { IsLive self.old.resources owner }
-        requires top { (top ≡ true) ↔ (parent_of owner.number (owners_of self.old.resources) ≡ None) }
-        requires serves { Serves self.old.resources self.old.commons }
-        requires fit { PlansFit (λ _. Unit {0}) self.old.resources.plans.standing }
-        ensures nothing_left { AllAt HoldsNothing owner.number (owners_of self.new.resources) }
-        ensures places { self.new.resources.places ≡ self.old.resources.places }
-        ensures serves { Serves self.new.resources self.new.commons }
-    {
-        self.resources.release(owner, commit, top, &mut self.place, &mut self.commons, out);
     }
 
     /// Makes a plan, the only one.
@@ -141,12 +108,11 @@ impl Session {
 }
 
 #[test]
-fn an_owner_that_is_released_gets_no_room(rt: HostRuntime) -> Result<(), Fail> {
+fn the_first_owner_has_number_1(rt: HostRuntime) -> Result<(), Fail> {
     let mut out = EventList::new(rt.alloc(), 20)?;
     let mut session = Session::new(rt.alloc(), no_kinds(rt.alloc())?)?;
-    let top = session.make_owner(None, &mut out)?;
-    session.release(top, false, true, &mut out);
-    assert_eq!(rt; session.resources.enlarge(top), Err(OwnerError::Releasing));
+    let top = session.resources.make_owner(None, &mut out)?;
+    assert_eq!(rt; top.number, 1);
     Ok(())
 }
 

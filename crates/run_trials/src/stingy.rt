@@ -116,29 +116,3 @@ fn a_kind_without_memory_ends_the_run(rt: HostRuntime) -> Result<(), Fail> {
     )?;
     Ok(())
 }
-
-/// The other session ends, too, behind the first.
-#[test]
-fn all_sessions_end_where_a_kind_has_no_memory(rt: HostRuntime) -> Result<(), Fail> {
-    let alloc = rt.alloc();
-    let words = vec![in alloc;
-        String::from_str(alloc, "--sessions")?,
-        String::from_str(alloc, "2")?,
-    ]?;
-    let transcript =
-        b"2 begin level 1\n2 create c6 TopTransactionContext in c1\n2 owner o1\n2 ok\n1 begin level 1\n1 create c6 TopTransactionContext in c1\n1 owner o1\n1 ok\n1 ERROR 53200 no memory at call 8\n1 abort level 1\n1 cleanup level 1\n1 owner o1 gone\n1 delete c6\n1 delete c5\n1 delete c4\n1 delete c3\n1 delete c2\n1 delete c1\n1 exit\n2 abort level 1\n2 cleanup level 1\n2 owner o1 gone\n2 delete c6\n2 delete c5\n2 delete c4\n2 delete c3\n2 delete c2\n2 delete c1\n2 exit\n";
-    compare(
-        &rt,
-        alloc,
-        &words,
-        b"@2 begin\nbegin\nacquire stingy 1\npin 3\n",
-        transcript,
-        Outcome {
-            status: 5,
-            call: 8,
-            errors: 1,
-            lines: 3,
-        },
-    )?;
-    Ok(())
-}

@@ -285,84 +285,6 @@ fn fourteen_scripts(rt: HostRuntime) -> Result<(), Fail> {
     Ok(())
 }
 
-/// A ninth file where eight descriptors are there, and a fifth key of a kind that holds at most four.
-#[test]
-fn files_and_kinds_at_their_limits(rt: HostRuntime) -> Result<(), Fail> {
-    for row in [
-        Row {
-            words: &["--descriptors", "8"],
-            script: b"begin\nopen 1\nopen 2\nopen 3\nopen 4\nopen 5\nopen 6\nopen 7\nopen 8\nopen 9\ntouch 1\n",
-            transcript: b"1 begin level 1\n1 create c6 TopTransactionContext in c1\n1 owner o1\n1 ok\n1 descriptor opened 1\n1 acquire file 1 #1 o1\n1 ok\n1 descriptor opened 2\n1 acquire file 2 #2 o1\n1 ok\n1 descriptor opened 3\n1 acquire file 3 #3 o1\n1 ok\n1 descriptor opened 4\n1 acquire file 4 #4 o1\n1 ok\n1 descriptor opened 5\n1 acquire file 5 #5 o1\n1 ok\n1 descriptor opened 6\n1 acquire file 6 #6 o1\n1 ok\n1 descriptor opened 7\n1 acquire file 7 #7 o1\n1 ok\n1 descriptor opened 8\n1 acquire file 8 #8 o1\n1 ok\n1 descriptor closed 1\n1 descriptor opened 9\n1 acquire file 9 #9 o1\n1 ok\n1 descriptor closed 2\n1 descriptor opened 1\n1 ok\n1 abort level 1\n1 release file 9 #9 o1\n1 descriptor closed 9\n1 release file 8 #8 o1\n1 descriptor closed 8\n1 release file 7 #7 o1\n1 descriptor closed 7\n1 release file 6 #6 o1\n1 descriptor closed 6\n1 release file 5 #5 o1\n1 descriptor closed 5\n1 release file 4 #4 o1\n1 descriptor closed 4\n1 release file 3 #3 o1\n1 descriptor closed 3\n1 release file 2 #2 o1\n1 release file 1 #1 o1\n1 descriptor closed 1\n1 cleanup level 1\n1 owner o1 gone\n1 delete c6\n1 delete c5\n1 delete c4\n1 delete c3\n1 delete c2\n1 delete c1\n1 exit\n",
-            status: 0,
-            errors: 0,
-            lines: 11,
-        },
-        Row {
-            words: &[],
-            script: b"begin\nacquire conn 1\nacquire conn 1\nacquire conn 1\nacquire conn 1\nacquire conn 1\n",
-            transcript: b"1 begin level 1\n1 create c6 TopTransactionContext in c1\n1 owner o1\n1 ok\n1 acquire conn 1 #1 o1\n1 ok\n1 acquire conn 1 #2 o1\n1 ok\n1 acquire conn 1 #3 o1\n1 ok\n1 acquire conn 1 #4 o1\n1 ok\n1 ERROR 53400 limit of the kind is reached\n1 abort level 1\n1 release conn 1 #4 o1\n1 release conn 1 #3 o1\n1 release conn 1 #2 o1\n1 release conn 1 #1 o1\n1 cleanup level 1\n1 owner o1 gone\n1 delete c6\n1 delete c5\n1 delete c4\n1 delete c3\n1 delete c2\n1 delete c1\n1 exit\n",
-            status: 1,
-            errors: 1,
-            lines: 6,
-        },
-    ] {
-        compare(&rt, rt.alloc(), row)?;
-    }
-    Ok(())
-}
-
-/// A portal that fails in a savepoint at the row that can't be read, and one that is fetched from to its end and closed.
-#[test]
-fn portals_fail_and_end(rt: HostRuntime) -> Result<(), Fail> {
-    for row in [
-        Row {
-            words: &[],
-            script: b"begin\nlock 9 AccessShareLock\nportal p 40 30 3\nsavepoint s\nfetch p 5\nrollback to s\nrollback\n",
-            transcript: b"1 begin level 1\n1 create c6 TopTransactionContext in c1\n1 owner o1\n1 ok\n1 acquire lock 9 AccessShareLock o1\n1 ok\n1 create c7 PortalContext in c4\n1 owner o2 in o1\n1 acquire lock 40 AccessShareLock o2\n1 acquire relcache reference 40 #1 o2\n1 acquire snapshot reference 40 #2 o2\n1 create c8 ExprContext in c7\n1 ok\n1 begin level 2\n1 create c9 CurTransactionContext in c6\n1 owner o3 in o1\n1 ok\n1 acquire buffer pin 40 #3 o2\n1 row p 0 240\n1 reset c8\n1 row p 1 247\n1 reset c8\n1 row p 2 254\n1 reset c8\n1 ERROR 22012 bad row 3\n1 abort level 2\n1 owner o2 to o3\n1 release buffer pin 40 #3 o2\n1 release relcache reference 40 #1 o2\n1 release lock 40 AccessShareLock x1 o2\n1 release snapshot reference 40 #2 o2\n1 cleanup level 2\n1 owner o2 gone\n1 owner o3 gone\n1 delete c9\n1 begin level 2\n1 create c10 CurTransactionContext in c6\n1 owner o4 in o1\n1 ok\n1 abort level 2\n1 cleanup level 2\n1 owner o4 gone\n1 delete c10\n1 abort level 1\n1 delete c8\n1 release lock 9 AccessShareLock x1 o1\n1 cleanup level 1\n1 delete c7\n1 owner o1 gone\n1 delete c6\n1 ok\n1 delete c5\n1 delete c4\n1 delete c3\n1 delete c2\n1 delete c1\n1 exit\n",
-            status: 1,
-            errors: 1,
-            lines: 7,
-        },
-        Row {
-            words: &[],
-            script: b"begin\nportal q 3 12\nfetch q 20\nendportal q\ncommit\n",
-            transcript: b"1 begin level 1\n1 create c6 TopTransactionContext in c1\n1 owner o1\n1 ok\n1 create c7 PortalContext in c4\n1 owner o2 in o1\n1 acquire lock 3 AccessShareLock o2\n1 acquire relcache reference 3 #1 o2\n1 acquire snapshot reference 3 #2 o2\n1 create c8 ExprContext in c7\n1 ok\n1 acquire buffer pin 3 #3 o2\n1 row q 0 93\n1 reset c8\n1 row q 1 100\n1 reset c8\n1 row q 2 107\n1 reset c8\n1 row q 3 114\n1 reset c8\n1 row q 4 121\n1 reset c8\n1 row q 5 128\n1 reset c8\n1 row q 6 135\n1 reset c8\n1 row q 7 142\n1 reset c8\n1 row q 8 149\n1 reset c8\n1 row q 9 156\n1 reset c8\n1 release buffer pin 3 #3 o2\n1 acquire buffer pin 4 #4 o2\n1 row q 10 163\n1 reset c8\n1 row q 11 170\n1 release buffer pin 4 #4 o2\n1 fetched q 12\n1 ok\n1 release relcache reference 3 #1 o2\n1 release snapshot reference 3 #2 o2\n1 pass lock 3 AccessShareLock x1 o2 to o1\n1 owner o2 gone\n1 delete c8\n1 delete c7\n1 ok\n1 commit level 1\n1 release lock 3 AccessShareLock x1 o1\n1 owner o1 gone\n1 delete c6\n1 ok\n1 delete c5\n1 delete c4\n1 delete c3\n1 delete c2\n1 delete c1\n1 exit\n",
-            status: 0,
-            errors: 0,
-            lines: 5,
-        },
-    ] {
-        compare(&rt, rt.alloc(), row)?;
-    }
-    Ok(())
-}
-
-/// A lock that another session's keeps away until it ends, and locks that are taken twice, given back and passed on.
-#[test]
-fn locks_of_one_session_and_of_two(rt: HostRuntime) -> Result<(), Fail> {
-    for row in [
-        Row {
-            words: &["--sessions", "2"],
-            script: b"begin\nlock 5 AccessShareLock\n@2 lock 5 AccessExclusiveLock\ncommit\n@2 lock 5 AccessExclusiveLock\n",
-            transcript: b"1 begin level 1\n1 create c6 TopTransactionContext in c1\n1 owner o1\n1 ok\n1 acquire lock 5 AccessShareLock o1\n1 ok\n2 begin level 1\n2 create c6 TopTransactionContext in c1\n2 owner o1\n2 ERROR 55P03 lock is held by session 1 as AccessShareLock\n2 abort level 1\n2 cleanup level 1\n2 owner o1 gone\n2 delete c6\n1 commit level 1\n1 release lock 5 AccessShareLock x1 o1\n1 owner o1 gone\n1 delete c6\n1 ok\n2 begin level 1\n2 create c7 TopTransactionContext in c1\n2 owner o2\n2 acquire lock 5 AccessExclusiveLock o2\n2 commit level 1\n2 release lock 5 AccessExclusiveLock x1 o2\n2 owner o2 gone\n2 delete c7\n2 ok\n1 delete c5\n1 delete c4\n1 delete c3\n1 delete c2\n1 delete c1\n1 exit\n2 delete c5\n2 delete c4\n2 delete c3\n2 delete c2\n2 delete c1\n2 exit\n",
-            status: 1,
-            errors: 1,
-            lines: 5,
-        },
-        Row {
-            words: &[],
-            script: b"begin\nlock 5 AccessExclusiveLock\nlock 5 AccessExclusiveLock\nsavepoint s\nlock 5 AccessExclusiveLock\nlock 4 ShareLock\nunlock 4 ShareLock\nrelease s\nunlock 4 ShareLock\nrollback\n",
-            transcript: b"1 begin level 1\n1 create c6 TopTransactionContext in c1\n1 owner o1\n1 ok\n1 acquire lock 5 AccessExclusiveLock o1\n1 ok\n1 acquire lock 5 AccessExclusiveLock o1\n1 ok\n1 begin level 2\n1 create c7 CurTransactionContext in c6\n1 owner o2 in o1\n1 ok\n1 acquire lock 5 AccessExclusiveLock o2\n1 ok\n1 acquire lock 4 ShareLock o2\n1 ok\n1 release lock 4 ShareLock x1 o2\n1 ok\n1 commit level 2\n1 pass lock 5 AccessExclusiveLock x1 o2 to o1\n1 owner o2 gone\n1 delete c7\n1 ok\n1 ERROR 55000 not held by this owner\n1 abort level 1\n1 release lock 5 AccessExclusiveLock x3 o1\n1 cleanup level 1\n1 owner o1 gone\n1 delete c6\n1 ok\n1 delete c5\n1 delete c4\n1 delete c3\n1 delete c2\n1 delete c1\n1 exit\n",
-            status: 1,
-            errors: 1,
-            lines: 10,
-        },
-    ] {
-        compare(&rt, rt.alloc(), row)?;
-    }
-    Ok(())
-}
-
 #[test]
 fn a_read_that_fails(rt: HostRuntime) -> Result<(), Fail> {
     let played = play(rt.alloc(), &[], b"begin\npin 7\nro", 1, 15, 0)?;
@@ -378,20 +300,6 @@ fn a_read_that_fails(rt: HostRuntime) -> Result<(), Fail> {
         }
     );
     assert_eq!(rt; played.written.as_slice(), wanted.as_slice());
-    Ok(())
-}
-
-/// How many lines a script of `begin`, `pin 7` and `commit` has given before its n-th byte is read.
-#[test]
-fn each_read_fails_in_turn(rt: HostRuntime) -> Result<(), Fail> {
-    for (call, lines) in [(1, 0), (6, 0), (7, 1), (12, 1), (13, 2), (19, 2), (20, 3)] {
-        let played = play(rt.alloc(), &[], b"begin\npin 7\ncommit\n", 1, call, 0)?;
-        assert_eq!(rt;
-            (played.outcome.status, played.outcome.lines),
-            (3, lines),
-            "read {call}"
-        );
-    }
     Ok(())
 }
 
@@ -411,24 +319,6 @@ fn each_write_fails_in_turn(rt: HostRuntime) -> Result<(), Fail> {
             "write {call}"
         );
     }
-    Ok(())
-}
-
-/// A read gives 512 bytes, which have 85 whole lines. All that they say is handed on before the next read.
-#[test]
-fn a_first_write_that_fails_behind_many_lines(rt: HostRuntime) -> Result<(), Fail> {
-    let script = script_of(rt.alloc(), b"begin\n", b"pin 7\n", 400)?;
-    let played = play(rt.alloc(), &[], &script, 4096, 0, 1)?;
-    assert_eq!(rt;
-        played.outcome,
-        Outcome {
-            status: 4,
-            call: 0,
-            errors: 0,
-            lines: 85
-        }
-    );
-    assert!(rt; played.written.is_empty());
     Ok(())
 }
 
@@ -461,44 +351,6 @@ fn two_of_six_hooks_run(rt: HostRuntime) -> Result<(), Fail> {
     Ok(())
 }
 
-/// Adds what a session says as it ends. Session 8 is in a transaction.
-fn add_exit(alloc: Global, session: u8, wanted: &mut Vec<u8>) -> Result<(), Fail> {
-    if session == 8 {
-        wanted.extend_from_slice(
-            b"8 abort level 1\n8 cleanup level 1\n8 owner o1 gone\n8 delete c6\n",
-        )?;
-    }
-    for context in ["c5", "c4", "c3", "c2", "c1"] {
-        let line = format!(in alloc; "{session} delete {context}\n")?;
-        wanted.extend_from_slice(line.as_bytes())?;
-    }
-    let line = format!(in alloc; "{session} exit\n")?;
-    wanted.extend_from_slice(line.as_bytes())?;
-    Ok(())
-}
-
-/// What 64 sessions say, of which the eighth begins a transaction.
-fn all_exits(alloc: Global) -> Result<Vec<u8>, Fail> {
-    let mut wanted = Vec::from_slice(
-        alloc,
-        b"8 begin level 1\n8 create c6 TopTransactionContext in c1\n8 owner o1\n8 ok\n",
-    )?;
-    for session in 1..65_u8 {
-        add_exit(alloc, session, &mut wanted)?;
-    }
-    Ok(wanted)
-}
-
-/// All 64 sessions end, those without a line too, in the order of their numbers.
-#[test]
-fn the_most_sessions(rt: HostRuntime) -> Result<(), Fail> {
-    let wanted = all_exits(rt.alloc())?;
-    let played = play(rt.alloc(), &["--sessions", "64"], b"@8 begin\n", 5, 0, 0)?;
-    assert_eq!(rt; played.outcome.status, 0);
-    assert_eq!(rt; played.written.as_slice(), wanted.as_slice());
-    Ok(())
-}
-
 /// With ample memory no call is refused: 200 transactions of three pins and a chunk give no status 5.
 #[test]
 fn plenty_of_memory(rt: HostRuntime) -> Result<(), Fail> {
@@ -514,20 +366,6 @@ fn plenty_of_memory(rt: HostRuntime) -> Result<(), Fail> {
             lines: 1000
         }
     );
-    Ok(())
-}
-
-#[test]
-fn lines_of_512_and_513_bytes(rt: HostRuntime) -> Result<(), Fail> {
-    for (bytes, status) in [(511, 0), (512, 1)] {
-        let script = script_of(rt.alloc(), b"#", b"x", bytes)?;
-        let played = play(rt.alloc(), &[], &script, 100, 0, 0)?;
-        assert_eq!(rt;
-            played.outcome.status,
-            status,
-            "{bytes} bytes behind the sign"
-        );
-    }
     Ok(())
 }
 
@@ -585,61 +423,29 @@ fn each_call_of_a_script_fails_in_turn(rt: HostRuntime) -> Result<(), Fail> {
     Ok(())
 }
 
-/// A hook that runs in each run is fresh again before the next, and spent behind the last.
+/// A read gives 512 bytes, which have 85 whole lines. All that they say is handed on before the next read.
 #[test]
-fn a_hook_is_made_fresh_between_runs(rt: HostRuntime) -> Result<(), Fail> {
-    let script = b"begin\nonreset CurTransactionContext\nrollback\n";
-    let played = play(rt.alloc(), &["--sweep"], script, 64, 0, 0)?;
-    assert_eq!(rt; played.outcome.status, 1);
-    assert_eq!(rt; played.fresh, 6);
-    Ok(())
-}
-
-#[test]
-fn a_script_that_is_too_long_for_a_sweep(rt: HostRuntime) -> Result<(), Fail> {
-    let script = script_of(rt.alloc(), b"", b"\n", 65_537)?;
-    let played = play(rt.alloc(), &["--sweep"], &script, 4096, 0, 0)?;
-    assert_eq!(rt; (played.outcome.status, played.outcome.lines), (6, 0));
-    assert!(rt; played.written.is_empty());
-    Ok(())
-}
-
-/// The second line can't be written: the first one stands, and the errors of both runs count.
-#[test]
-fn a_second_line_of_a_sweep_that_is_not_written(rt: HostRuntime) -> Result<(), Fail> {
-    let script = b"begin\npin 7\nsavepoint s\nlock 5 ShareLock\nalloc a 100\nrelease s\ncommit\n";
-    let played = play(rt.alloc(), &["--sweep"], script, 5, 0, 2)?;
+fn a_first_write_that_fails_behind_many_lines(rt: HostRuntime) -> Result<(), Fail> {
+    let script = script_of(rt.alloc(), b"begin\n", b"pin 7\n", 400)?;
+    let played = play(rt.alloc(), &[], &script, 4096, 0, 1)?;
     assert_eq!(rt;
         played.outcome,
         Outcome {
             status: 4,
             call: 0,
-            errors: 3,
-            lines: 0
+            errors: 0,
+            lines: 85
         }
     );
-    assert_eq!(rt;
-        played.written.as_slice(),
-        b"calls 10 errors 0\n".as_slice()
-    );
-    Ok(())
-}
-
-#[test]
-fn a_second_read_of_a_sweep_that_fails(rt: HostRuntime) -> Result<(), Fail> {
-    let played = play(rt.alloc(), &["--sweep"], b"begin\ncommit\n", 5, 2, 0)?;
-    assert_eq!(rt; (played.outcome.status, played.outcome.errors), (3, 0));
     assert!(rt; played.written.is_empty());
     Ok(())
 }
 
-/// The newline of `begin` comes with the first piece of seven bytes, and that of the second line, byte 29, with the fifth.
+/// How many lines a script of `begin`, `pin 7` and `commit` has given before its n-th byte is read.
 #[test]
-fn a_read_that_fails_behind_some_pieces(rt: HostRuntime) -> Result<(), Fail> {
-    let script =
-        b"begin\nlock 9 AccessShareLock\nportal p 40 30 3\nsavepoint s\nfetch p 5\nrollback to s\nrollback\n";
-    for (call, lines) in [(1, 0), (2, 1), (3, 1), (4, 1), (5, 1), (6, 2)] {
-        let played = play(rt.alloc(), &[], script, 7, call, 0)?;
+fn each_read_fails_in_turn(rt: HostRuntime) -> Result<(), Fail> {
+    for (call, lines) in [(1, 0), (6, 0), (7, 1), (12, 1), (13, 2), (19, 2), (20, 3)] {
+        let played = play(rt.alloc(), &[], b"begin\npin 7\ncommit\n", 1, call, 0)?;
         assert_eq!(rt;
             (played.outcome.status, played.outcome.lines),
             (3, lines),

@@ -167,16 +167,6 @@ fn aborts_of_subtransactions(rt: HostRuntime) -> Result<(), Fail> {
     Ok(())
 }
 
-/// The portal name of a number below 2,600.
-fn numbered(i: usize) -> Option<Name> {
-    let digits = [
-        b'a' + (i / 100 % 26) as u8,
-        b'0' + (i / 10 % 10) as u8,
-        b'0' + (i % 10) as u8,
-    ];
-    Name::new(&digits)
-}
-
 #[test]
 fn as_many_portals_as_there_may_be(rt: HostRuntime) -> Result<(), Fail> {
     let mut portals = Portals::new(rt.alloc());
@@ -198,4 +188,14 @@ fn as_many_portals_as_there_may_be(rt: HostRuntime) -> Result<(), Fail> {
     assert_eq!(rt; portals.create(next, Scan::new(1, 1, None), 1), Ok(()));
     assert_eq!(rt; portals.len(), 1024);
     Ok(())
+}
+
+/// The portal name of a number below 2,600.
+fn numbered(i: usize) -> Option<Name> {
+    let digits = [
+        b'a' + (i / 100 % 26) as u8,
+        b'0' + (i / 10 % 10) as u8,
+        b'0' + (i % 10) as u8,
+    ];
+    Name::new(&digits)
 }

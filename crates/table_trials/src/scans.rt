@@ -58,34 +58,10 @@ fn changes_its_page_at_the_tenth_row(rt: HostRuntime) {
 }
 
 #[test]
-fn stops_at_its_bad_row(rt: HostRuntime) {
-    let mut scan = Scan::new(40, 30, Some(3));
-    for row in 0..3 {
-        gives(&rt, &mut scan, &[ScanStep::Reset]);
-        if row == 0 {
-            gives(&rt, &mut scan, &[ScanStep::Pin(40)]);
-        }
-        gives(
-            &rt,
-            &mut scan,
-            &[ScanStep::Alloc, ScanStep::Row(row, 240 + 7 * row)],
-        );
-    }
-    gives(&rt, &mut scan, &[ScanStep::Reset, ScanStep::Bad(3)]);
-}
-
-#[test]
 fn sets_its_page_behind_the_pin(rt: HostRuntime) {
     let mut scan = Scan::new(1_000_000, 1_000_000, Some(0));
     gives(&rt, &mut scan, &[ScanStep::Reset, ScanStep::Pin(576)]);
     assert_eq!(rt; scan.page, None);
     gives(&rt, &mut scan, &[ScanStep::Bad(0)]);
     assert_eq!(rt; scan.page, Some(576));
-}
-
-#[test]
-fn an_empty_scan_ends(rt: HostRuntime) {
-    let mut scan = Scan::new(7, 0, None);
-    gives(&rt, &mut scan, &[ScanStep::End]);
-    assert_eq!(rt; scan, Scan::new(7, 0, None));
 }
