@@ -7,6 +7,7 @@ use Rattle.addr_space.specs.Footprint.{Footprint, IsWithin, HasRegion, Agrees, M
 use Rattle.addr_space.proofs.Steps.{Moves-changed}
 use Rattle.addr_space.proofs.Options.{option_cases}
 use Rattle.addr_space.proofs.Written.{HasRegion-written, byte_at-apart, held-written}
+use Rattle.std.proofs.lemmas.Bool.Decides.{nat_tests}
 
 -- disjoint either way round
 pub AreDisjoint-sym : (f g : Footprint) → AreDisjoint f g → AreDisjoint g f
@@ -23,13 +24,7 @@ module _ (f g other : Footprint) (s t : Space) (moves : Moves f g s t) (disjoint
   byte_kept at n k within = ap (λ r. get_or (bytes_of r) k None) (kept at.region within.0 within.1).0
 
   pub Agrees-other : Agrees other t
-  Agrees-other = record {
-    sound = agrees.sound;
-    account = omega (arith, agrees.account, moves.accounts);
-    regions = λ number len owns. rw (kept number len owns).0 (agrees.regions number len owns);
-    marks = λ at bytes marked k below.
-        byte_kept at (length bytes) (at.offset + k) (agrees.sound.mark_inside at bytes marked) ∙ agrees.marks at bytes marked k below;
-  }
+  Agrees-other = grind (arith, nat_tests, kept, byte_kept)
 
   pub Keeps-other : Keeps other other s t
   Keeps-other at m n k live again below short = byte_kept at m (at.offset + k) (agrees.sound.live_inside at m live)
@@ -46,11 +41,7 @@ AllAgree-put fs hs f g n s t moves all apart places =
         | inl new ↦ rw new.1 moves.agrees
         | inr old ↦ rw old.2 (Agrees-other f g (context_at fs k) s t moves (apart k old.0 old.1) (all.agree k old.0))
       ];
-      disjoint = λ i j first second differ number len owns.
-          let one = places i first in
-          let two = places j second in
-          let back = AreDisjoint-sym g (context_at fs i) in
-          grind (arith, fresh, all.disjoint i j);
+      disjoint = grind (arith, nat_tests, AreDisjoint-sym, all.disjoint);
     }
 
 pub AllAgree-set : (fs : List Footprint) (k : ℕ) (g : Footprint) (s t : Space) → k < length fs → Moves (context_at fs k) g s t → AllAgree fs s → AllAgree (set fs k g) t
@@ -60,10 +51,7 @@ AllAgree-set fs k g s t below moves all =
 module _ (f : Footprint) (s t : Space) (chunk at : Addr) (size : ℕ) (bytes : List ℕ) (agrees : Agrees f s) (inside : WritesInside f s t chunk at size bytes) where
   -- the region that is written in
   target : (len : ℕ) × (f.region at.region ≡ Some len) × (at.offset + length bytes ≤ len) × HasRegion s at.region f.account len
-  target =
-      let within = agrees.sound.live_inside chunk size inside.live in
-      let owns : f.region at.region ≡ Some within.0 = ap f.region inside.region ∙ within.1 in
-      (within.0, owns, omega (arith, within.2, inside.last), agrees.regions at.region within.0 owns)
+  target = grind (arith, nat_tests)
 
   fits : at.offset + length bytes ≤ length target.3.0.bytes
   fits = omega (arith, target.2, target.3.3)
@@ -82,5 +70,4 @@ module _ (f : Footprint) (s t : Space) (chunk at : Addr) (size : ℕ) (bytes : L
       (λ b marks marked differs. marked) (λ account. omega (arith, held-written s t at bytes target.3.0 target.3.1 fits inside.writes account))
 
   pub KeepsBut-inside : KeepsBut chunk f f s t
-  KeepsBut-inside b m n k differs live again below short =
-      range_kept b m k (agrees.sound.live_apart chunk b size m inside.live live (λ e. differs (sym e))) below
+  KeepsBut-inside b m n k differs live again below short = grind (arith, nat_tests, range_kept)

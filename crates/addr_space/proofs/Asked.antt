@@ -1,5 +1,5 @@
 -- Lemmas on the counts of what was taken.
-use Rattle.std.proofs.Common.{◌≡◌, ℕ, ◌+◌, List, get_or, set, ap, ◌∙◌, arith}
+use Rattle.std.proofs.Common.{◌≡◌, ℕ, ◌+◌, List, get_or, set, arith}
 use Rattle.std.proofs.lemmas.Bool.Decides.{nat_tests}
 use Rattle.std.proofs.lemmas.List.{get_or-set_same, set-get_or, set-set, set_past, length-set}
 use Rattle.addr_space.specs.Space.{Space, Asks, raised, risen}
@@ -14,5 +14,4 @@ raised-more counts account m n = grind (arith, nat_tests, set-set, set_past, len
 
 -- what two calls asked together
 pub Asks-more : (account m n : ℕ) (s t u : Space) → Asks account m s t → Asks account n t u → Asks account (m + n) s u
-Asks-more account m n s t u first second =
-    second ∙ ap (λ c. raised c account n) first ∙ raised-more s.taken account m n
+Asks-more account m n s t u first second = grind (arith, nat_tests, raised, raised-more s.taken account m n, s.taken)

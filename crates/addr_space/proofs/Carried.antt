@@ -1,15 +1,16 @@
 -- Lemmas on known bytes that are copied into a live chunk.
-use Rattle.std.proofs.Common.{◌≡◌, ℕ, ◌+◌, ◌<◌, ◌≤◌, List, length, map, get_or, Option, Some, unwrap_or, refl, sym, ap, ◌∙◌, arith, rules}
+use Rattle.std.proofs.Common.{◌≡◌, ℕ, ◌+◌, ◌<◌, ◌≤◌, List, length, map, get_or, Option, Some, unwrap_or, refl, ap, ◌∙◌, arith, rules}
 use Rattle.std.proofs.lemmas.List.{places, length-map, get_or-map}
 use Rattle.addr_space.specs.declared.Addr.{Addr}
 use Rattle.addr_space.specs.Space.{Space, region_at, bytes_of, byte_at, part, overwritten, Changes, IsInside, IsKnown}
-use Rattle.addr_space.specs.Footprint.{Footprint, Agrees, Moves, KeepsBut, WritesInside, HasRegion}
+use Rattle.addr_space.specs.Footprint.{Footprint, Agrees, Moves, KeepsBut, WritesInside}
 use Rattle.addr_space.specs.Live.{HasBytesOf}
 use Rattle.addr_space.proofs.Bytes.{known-part}
 use Rattle.addr_space.proofs.Options.{option_cases}
 use Rattle.addr_space.proofs.Written.{HasBytes-written}
 use Rattle.addr_space.proofs.Apart.{Moves-inside, KeepsBut-inside}
 use Rattle.addr_space.proofs.Contexts.{IsInside-live_part}
+use Rattle.std.proofs.lemmas.Bool.Decides.{nat_tests}
 
 module _ (f : Footprint) (s t : Space) (from to : Addr) (n size : ℕ) (agrees : Agrees f s) (live : f.live to ≡ Some size) (fits : n ≤ size)
     (known : IsKnown s from n) (inside : from.offset + n ≤ length (bytes_of (region_at s from.region)))
@@ -45,10 +46,7 @@ module _ (f : Footprint) (s t : Space) (from to : Addr) (n size : ℕ) (agrees :
   KeepsBut-carried = KeepsBut-inside f s t to to size bytes agrees within
 
   pub HasBytesOf-carried : HasBytesOf s t from to n
-  HasBytesOf-carried k below =
-      let it = agrees.sound.live_inside to size live in
-      let target : HasRegion s to.region f.account it.0 = agrees.regions to.region it.0 it.1 in
-      HasBytes-written s t to bytes target.0 target.1 (omega (arith, len, fits, it.2, target.3)) writes k (omega (arith, len, below)) ∙ sym (byte_is k below)
+  HasBytesOf-carried k below = grind (arith, nat_tests, HasBytes-written, bytes, len, writes, byte_is k below)
 
 -- so many bytes from a live chunk on are inside a region
 pub IsInside-live : (f : Footprint) (s : Space) (at : Addr) (size n : ℕ) → Agrees f s → f.live at ≡ Some size → n ≤ size → IsInside s at n

@@ -1,9 +1,9 @@
 -- The laws of a list of contexts that share a space.
-use Rattle.std.proofs.Common.{◌≡◌, ◌≢◌, ℕ, ◌+◌, ◌^◌, ◌<◌, ◌≤◌, ◌==◌, ◌++◌, nat_lt, if◌then◌else◌, List, [], ◌∷◌, length, set, Some, refl, ap, ◌∙◌, arith}
+use Rattle.std.proofs.Common.{◌≡◌, ◌≢◌, ℕ, ◌+◌, ◌^◌, ◌<◌, ◌≤◌, ◌==◌, ◌++◌, nat_lt, if◌then◌else◌, List, [], ◌∷◌, length, set, Some, refl, arith}
 use Rattle.std.proofs.lemmas.Bool.Decides.{nat_tests}
 use Rattle.std.proofs.lemmas.List.{places, length-append, length-take, length-drop, get_or-set_same, get_or-set_other, length-set, take-set, drop-set-lt}
 use Rattle.addr_space.specs.declared.Addr.{Addr}
-use Rattle.addr_space.specs.Space.{Space, region_at, bytes_of, taken, risen, accounts, Asks, IsInside}
+use Rattle.addr_space.specs.Space.{Space, bytes_of, taken, risen, accounts, Asks, IsInside}
 use Rattle.addr_space.specs.Footprint.{Footprint, Agrees, Moves, AreDisjoint, AllAgree, context_at, nothing, counted}
 use Rattle.addr_space.specs.Contexts.{AreAmong, without}
 use Rattle.addr_space.proofs.Options.{option_cases}
@@ -17,32 +17,19 @@ AreDisjoint-nothing account context f number len owns = absurd (cc)
 
 -- a context that is made is apart from each one that stands
 pub AreDisjoint-fresh : (account context : ℕ) (g other : Footprint) (s t : Space) → Moves (nothing account context) g s t → Agrees other s → AreDisjoint g other
-AreDisjoint-fresh account context g other s t moves agrees =
-    AreDisjoint-other (nothing account context) g other s t moves (AreDisjoint-nothing account context other) agrees
+AreDisjoint-fresh account context g other s t moves agrees = grind (arith, nat_tests, AreDisjoint-other (nothing account context) g other s t moves (AreDisjoint-nothing account context other) agrees, nothing account context, AreDisjoint-nothing account context other)
 
 -- contexts of different accounts are apart
 pub AreDisjoint-foreign : (f g : Footprint) (s : Space) → Agrees f s → Agrees g s → f.account ≢ g.account → AreDisjoint f g
-AreDisjoint-foreign f g s first second differ number len owns =
-    let mine = first.regions number len owns in
-    let owner = option_cases (g.region number) in
-    grind (arith, second.regions number)
+AreDisjoint-foreign f g s first second differ number len owns = grind (arith, nat_tests, first.regions number len owns, option_cases (g.region number), g.region number, second.regions number)
 
 -- a live chunk ends within 2 ^ 31 bytes
 pub ends_small : (f : Footprint) (s : Space) (chunk : Addr) (size : ℕ) → Agrees f s → f.live chunk ≡ Some size → chunk.offset + size ≤ 2 ^ 31
-ends_small f s chunk size agrees live =
-    let within = agrees.sound.live_inside chunk size live in
-    omega (arith, within.2, agrees.sound.small chunk.region within.0 within.1)
+ends_small f s chunk size agrees live = grind (arith, nat_tests, agrees.sound.live_inside chunk size live, agrees.sound.small, chunk.region)
 
 -- a part of a live chunk is inside its region
 pub IsInside-live_part : (f : Footprint) (s : Space) (chunk at : Addr) (size n : ℕ) → Agrees f s → f.live chunk ≡ Some size → at.region ≡ chunk.region → at.offset + n ≤ chunk.offset + size → IsInside s at n
-IsInside-live_part f s chunk at size n agrees live same ends =
-    let within = agrees.sound.live_inside chunk size live in
-    let has = agrees.regions chunk.region within.0 within.1 in
-    let here : region_at s at.region ≡ Some has.0 = ap (region_at s) same ∙ has.1 in
-    record {
-      live = rw here refl;
-      end_in_region = omega (arith, within.2, has.3, ap (λ r. length (bytes_of r)) here);
-    }
+IsInside-live_part f s chunk at size n agrees live same ends = grind (arith, nat_tests, agrees.sound.live_inside, agrees.regions, chunk.region, at.region, bytes_of)
 
 -- what is counted after a call
 pub taken-own : (account n : ℕ) (s t : Space) → account < accounts s → Asks account n s t → taken t account ≡ risen (taken s account) n
@@ -53,11 +40,7 @@ taken-other account n other s t asks differs = rw (asks, ← raised-set s.taken 
 
 -- some of the contexts
 pub AllAgree-among : (hs fs : List Footprint) (s : Space) → AreAmong hs fs → AllAgree fs s → AllAgree hs s
-AllAgree-among hs fs s among all = record {
-  agree = λ k below. rw (among.same k below) (all.agree (among.place k) (among.within k below));
-  disjoint = λ j k first second differ.
-      rw (among.same j first, among.same k second) (all.disjoint (among.place j) (among.place k) (among.within j first) (among.within k second) (among.differ j k first second differ));
-}
+AllAgree-among hs fs s among all = grind (arith, nat_tests, among.same, all.agree, among.place, among.within, all.disjoint, among.differ)
 
 -- a context joins when it is made
 pub AllAgree-joins : (fs : List Footprint) (account context : ℕ) (g : Footprint) (s t : Space) → Moves (nothing account context) g s t → AllAgree fs s → AllAgree (fs ++ g ∷ []) t

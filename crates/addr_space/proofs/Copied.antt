@@ -5,11 +5,11 @@ use Rattle.addr_space.specs.declared.Addr.{Addr}
 use Rattle.addr_space.specs.Space.{Region, Space, region_at, bytes_of, byte_at, part, overwritten, Changes, IsApart, IsInside}
 use Rattle.addr_space.proofs.Steps.{Changes-more}
 use Rattle.block_mem.proofs.Bytes.{overwritten-more, part-append, part-same, length-part, length-overwritten}
+use Rattle.std.proofs.lemmas.Bool.Decides.{nat_tests}
 
 -- a place that has a region
 pub some_region : (slot : Option Region) → IsSome slot → (region : Region) × (slot ≡ Some region)
-some_region None there = absurd (cc)
-some_region (Some region) there = (region, refl)
+some_region x0 there = grind (arith, nat_tests)
 
 module _ (init now : Space) (from to : Addr) (n done : ℕ) (inside_from : IsInside init from n) (inside_to : IsInside init to n) (apart : IsApart from n to n) (within : done ≤ n) (changes : Changes init now to.region (overwritten (region_at init to.region) to.offset (part (bytes_of (region_at init from.region)) from.offset done))) where
   abbrev source : List (Option ℕ)

@@ -32,8 +32,7 @@ held-changed old new n account others = sum_by-changed (share account) refl old.
 
 -- the same, by what a contract says
 pub held-Changes : (old new : Space) (number : ℕ) (region : Option Region) (account : ℕ) → Changes old new number region → held new account + share account (region_at old number) ≡ held old account + share account region
-held-Changes old new number region account change =
-    omega (arith, held-changed old new number account change.others, ap (share account) change.changed)
+held-Changes old new number region account change = grind (arith, nat_tests, held-changed old new number account change.others, change.others, change.changed)
 
 -- nothing counts nothing
 pub share-none : (account : ℕ) → share account None ≡ 0
@@ -61,8 +60,7 @@ counts-for slot region account is same r found = cc
 -- what counts for one account counts nothing for another
 share-other : (slot : Option Region) (account other : ℕ) → CountsFor account slot → other ≢ account → share other slot ≡ 0
 unfolding share
-share-other None account other counts differs = refl
-share-other (Some region) account other counts differs = let same = counts region refl in grind (arith, nat_tests)
+share-other x0 account other counts differs = grind (arith, nat_tests)
 
 -- a region counts its length for its account
 pub share-own : (region : Region) (account : ℕ) → region.account ≡ account → share account (Some region) ≡ length region.bytes
@@ -93,8 +91,7 @@ place-within xs n region found = grind (arith, get_or_past)
 
 -- a region is not larger than what its account holds
 pub length-le-held : (xs : List (Option Region)) (n : ℕ) (region : Region) → get_or xs n None ≡ Some region → length region.bytes ≤ sum_by (share region.account) xs
-length-le-held xs n region found =
-    omega (arith, get_or-le-sum_by (share region.account) xs n None (place-within xs n region found), ap (share region.account) found, share-own region region.account refl)
+length-le-held xs n region found = grind (arith, nat_tests, get_or-le-sum_by (share region.account) xs n None (place-within xs n region found), region.account, place-within xs n region found, share-own region region.account refl)
 
 -- the insides stay sound where the region at a number, and what its account holds, change together
 pub IsSound-set : (xs : List (Option Region)) (n : ℕ) (region : Region) → get_or xs n None ≡ Some region → (slot : Option Region) (accounts : List Account) → IsSound xs accounts

@@ -1,10 +1,10 @@
 -- Steps of a context over a space, for the allocators.
-use Rattle.std.proofs.Common.{◌≡◌, ◌≢◌, ℕ, ◌+◌, ◌==◌, if◌then◌else◌, List, length, Option, Some, None, refl, sym, ap, ◌∙◌, inl, inr, arith, ◌<◌, Bool, true, false, rules}
-use Rattle.std.proofs.lemmas.Bool.{cases_eq}
+use Rattle.std.proofs.Common.{◌≡◌, ◌≢◌, ℕ, ◌+◌, if◌then◌else◌, List, length, Option, Some, None, refl, sym, ap, ◌∙◌, arith, ◌<◌, Bool, true, false, rules}
 use Rattle.addr_space.specs.declared.Addr.{Addr}
 use Rattle.addr_space.specs.Space.{Region, Space, region_at, byte_at, Changes, HasBytes, held, accounts}
 use Rattle.addr_space.specs.Footprint.{Footprint, IsSound, Agrees, Moves, Keeps, KeepsBut, counted, nothing}
 use Rattle.addr_space.specs.Live.{SameLive, StaysLive}
+use Rattle.std.proofs.lemmas.Bool.Decides.{nat_tests}
 
 -- a context that has nothing agrees with each space that has its account, and counts nothing
 pub Agrees-nothing : (account context : ℕ) (s : Space) → account < accounts s → Agrees (nothing account context) s
@@ -59,20 +59,7 @@ Changes-more s t u number a b first second = search (rules, first.others, second
 -- the context's own books change, and the space stays
 pub Moves-still : (f g : Footprint) (s : Space) → Agrees f s → IsSound g → g.account ≡ f.account → g.context ≡ f.context → g.total ≡ f.total → ((number : ℕ) → g.region number ≡ f.region number) → ((at : Addr) (bytes : List ℕ) → g.mark at ≡ Some bytes → HasBytes s at bytes) → Moves f g s s
 unfolding counted
-Moves-still f g s agrees sound account context total regions marks = record {
-  agrees = record {
-    sound = sound;
-    account = omega (arith, agrees.account);
-    regions = λ number len owns. rw account (agrees.regions number len (sym (regions number) ∙ owns));
-    marks = marks;
-  };
-  account = account;
-  context = context;
-  outside = λ number region. rw (regions number) ((λ out. out), (λ out. out));
-  accounts = refl;
-  limit = refl;
-  held = λ a. ap (λ n. held s a + n) (sym (ap (λ x. if x == a then g.total else 0) account ∙ ap (λ n. if f.account == a then n else 0) total));
-}
+Moves-still f g s agrees sound account context total regions marks = grind (arith, nat_tests, g.total, f.account)
 
 -- nothing happens
 pub Moves-none : (f : Footprint) (s : Space) → Agrees f s → Moves f f s s
@@ -92,23 +79,7 @@ pub Moves-changed : (f g : Footprint) (s t : Space) (number : ℕ) (slot : Optio
     → ((at : Addr) (bytes : List ℕ) → g.mark at ≡ Some bytes → at.region ≢ number → f.mark at ≡ Some bytes)
     → ((account : ℕ) → held t account + counted f account ≡ held s account + counted g account)
     → Moves f g s t
-Moves-changed f g s t number slot agrees sound account context changes others owned was now here elsewhere holds = record {
-  agrees = record {
-    sound = sound;
-    account = omega (arith, agrees.account, changes.accounts);
-    regions = λ n m owns. elim (cases_eq n number) [
-      | inl same ↦ let it = owned m (rw same at owns) in rw (same, changes.changed) it
-      | inr differs ↦ rw (account, changes.others n differs) (agrees.regions n m (sym (others n differs) ∙ owns))
-    ];
-    marks = λ at bytes marked k below. grind (arith, here at bytes marked, elsewhere at bytes marked, changes.others at.region, agrees.marks at bytes);
-  };
-  account = account;
-  context = context;
-  outside = λ n r. grind (arith, was r, now r, changes.changed, changes.others n, others n);
-  accounts = changes.accounts;
-  limit = changes.limit;
-  held = holds;
-}
+Moves-changed f g s t number slot agrees sound account context changes others owned was now here elsewhere holds = grind (arith, nat_tests, changes.accounts, changes.changed, changes.others, changes.limit)
 
 -- one region that the context owns now changes: it is new, or it is written in or resized
 pub Moves-one : (f g : Footprint) (s t : Space) (number len : ℕ) (region : Region) → Agrees f s → IsSound g → g.account ≡ f.account → g.context ≡ f.context
@@ -119,9 +90,7 @@ pub Moves-one : (f g : Footprint) (s t : Space) (number len : ℕ) (region : Reg
     → ((at : Addr) (bytes : List ℕ) → g.mark at ≡ Some bytes → at.region ≢ number → f.mark at ≡ Some bytes)
     → ((account : ℕ) → held t account + counted f account ≡ held s account + counted g account)
     → Moves f g s t
-Moves-one f g s t number len region agrees sound account context changes owner length_is fresh owned others here elsewhere holds =
-    Moves-changed f g s t number (Some region) agrees sound account context changes others (λ m owns. (region, refl, cc, cc))
-    (λ r out. let none = fresh out.1 in cc) (λ r out. cc) here elsewhere holds
+Moves-one f g s t number len region agrees sound account context changes owner length_is fresh owned others here elsewhere holds = grind (arith, nat_tests, Moves-changed)
 
 -- a region of the context is given back
 pub Moves-give : (f g : Footprint) (s t : Space) (number len : ℕ) → Agrees f s → IsSound g → g.account ≡ f.account → g.context ≡ f.context
@@ -129,7 +98,4 @@ pub Moves-give : (f g : Footprint) (s t : Space) (number len : ℕ) → Agrees f
     → ((at : Addr) (bytes : List ℕ) → g.mark at ≡ Some bytes → f.mark at ≡ Some bytes)
     → ((account : ℕ) → held t account + counted f account ≡ held s account + counted g account)
     → Moves f g s t
-Moves-give f g s t number len agrees sound account context changes owned gone others marks holds =
-    Moves-changed f g s t number None agrees sound account context changes others (λ m owns. absurd (cc)) (λ r out. cc) (λ r out. cc)
-    (λ at bytes marked same. let within = sound.mark_inside at bytes marked in let clash = ap g.region same in absurd (cc))
-    (λ at bytes marked differs. marks at bytes marked) holds
+Moves-give f g s t number len agrees sound account context changes owned gone others marks holds = grind (arith, nat_tests, Moves-changed, sound.mark_inside, g.region)

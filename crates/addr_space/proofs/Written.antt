@@ -1,11 +1,11 @@
 -- Lemmas on a space after bytes were written in a region.
-use Rattle.std.proofs.Common.{◌≡◌, ℕ, ◌+◌, ◌<◌, ◌≤◌, ◌⊎◌, ◌++◌, List, length, map, take, drop, Option, Some, None, sym, ap, ◌∙◌, inl, inr, arith, rules, ◌==◌, if◌then◌else◌}
-use Rattle.std.proofs.lemmas.Bool.{cases_eq}
+use Rattle.std.proofs.Common.{◌≡◌, ℕ, ◌+◌, ◌<◌, ◌≤◌, ◌⊎◌, ◌++◌, List, length, map, take, drop, Option, Some, None, sym, ap, ◌∙◌, arith, rules, ◌==◌, if◌then◌else◌}
 use Rattle.std.proofs.lemmas.List.{places, length-map, get_or-map}
 use Rattle.addr_space.specs.declared.Addr.{Addr}
 use Rattle.addr_space.specs.Space.{Region, Space, region_at, byte_at, overwritten, Changes, HasBytes, held, share}
 use Rattle.addr_space.specs.Footprint.{HasRegion}
 use Rattle.addr_space.proofs.Held.{held-Changes}
+use Rattle.std.proofs.lemmas.Bool.Decides.{nat_tests}
 
 module _ (s t : Space) (at : Addr) (bytes : List ℕ) (region : Region) (found : region_at s at.region ≡ Some region) (inside : at.offset + length bytes ≤ length region.bytes) (writes : Changes s t at.region (overwritten (region_at s at.region) at.offset (map Some bytes))) where
   abbrev new_bytes : List (Option ℕ)
@@ -19,11 +19,7 @@ module _ (s t : Space) (at : Addr) (bytes : List ℕ) (region : Region) (found :
 
   -- each region keeps its account and its length
   pub HasRegion-written : (number account len : ℕ) → HasRegion s number account len → HasRegion t number account len
-  HasRegion-written number account len has =
-      elim (cases_eq number at.region) [
-        | inl same ↦ (record { account = region.account; bytes = new_bytes }, rw same now_is, cc, cc len_same)
-        | inr differs ↦ (has.0, writes.others number differs ∙ has.1, has.2, has.3)
-      ]
+  HasRegion-written number account len has = grind (arith, nat_tests, len_same, has.0, has.1, has.2, has.3)
 
   -- every byte elsewhere is as it was
   pub byte_at-apart : (number k : ℕ) → (number ≡ at.region → (k < at.offset) ⊎ (at.offset + length bytes ≤ k)) → byte_at t number k ≡ byte_at s number k

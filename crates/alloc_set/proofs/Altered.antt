@@ -45,10 +45,7 @@ pub data NewMark (s t : SetState) (Fresh : ℕ → Type 0) (at : Addr) (slot : O
 
 -- where nothing is put, it is an old one or that of a fresh block
 pub old_or_fresh : (s t : SetState) (Fresh : ℕ → Type 0) (at b : Addr) (bytes : List ℕ) → NewMark s t Fresh at None b bytes → ((len : ℕ) → Fresh b.region → region_of t b.region ≡ Some len → ⊥) → mark_of s b ≡ Some bytes
-old_or_fresh s t Fresh at b bytes (old stays before) none = before
-old_or_fresh s t Fresh at b bytes (new_block len new first owned is) none = absurd (none len new owned)
-old_or_fresh s t Fresh at b bytes (new_header chunk differs here is bytes_are) none = absurd (cc)
-old_or_fresh s t Fresh at b bytes (new_link chunk here is has) none = absurd (cc)
+old_or_fresh s t Fresh at b bytes x6 none = grind (arith, nat_tests)
 
 module _ (s t : SetState) (Fresh : ℕ → Type 0) (at : Addr) (slot : Option Chunk) (active size : ℕ) (settled : IsSettled s active size) (alters : Alters s t Fresh at slot) where
   pub start_same : (number : ℕ) → start_of t number ≡ start_of s number

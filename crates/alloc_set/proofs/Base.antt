@@ -1,6 +1,6 @@
 -- The words and lemmas of the crates below, and the definitions of specs/, that these proofs take.
 pub use Rattle.std.proofs.Common.{[], ap, arith, Bool, drop, Err, false, get_or, IfSome, if◌then◌else◌, inl, inr, is_some, length, List, map, min, None, Ok, Option, option_and_then, option_map, position, refl, replicate, Result, rules, set, slice_index, slice_index_or, Some, subst, suc, sum, sum_by, sym, true, unwrap_or, zero, ℕ, ◌%◌, ◌*◌, ◌++◌, ◌+◌, ◌-◌, ◌/◌, ◌<◌, ◌==◌, ◌^◌, ◌↔◌, ◌∙◌, ◌∷◌, ◌≡◌, ◌≢◌, ◌≤◌, ◌⊎◌}
-pub use Rattle.std.proofs.Math.Nat.{add-zero, div-eq_of_lt, div-eq_of_lt-le, mod-eq-sub-mod, mod-eq_of_lt, mul-le-mul_left, pow-succ'}
+pub use Rattle.std.proofs.Math.Nat.{add-zero, div-eq_of_lt, div-eq_of_lt-le, mod-eq-sub-mod, mod-eq_of_lt, pow-succ'}
 pub use Rattle.std.proofs.Math.Pow.{pow_mono}
 pub use Rattle.std.proofs.lemmas.Bool.{cases_eq, cases_lt}
 pub use Rattle.std.proofs.lemmas.Bool.Decides.{nat_tests}
@@ -58,7 +58,7 @@ pub use Rattle.chunk_header.specs.Shelves.{no_shelf}
 pub use Rattle.chunk_header.specs.declared.CtxError.{CtxError}
 pub use Rattle.chunk_header.specs.declared.CtxError.TheVariants.{NoSpace, TooBig}
 pub use Rattle.chunk_header.specs.declared.Header.{Header}
-pub use Rattle.chunk_header.specs.declared.Kind.TheVariants.{AllocSet, AllocSet as SetKind}
+pub use Rattle.chunk_header.specs.declared.Kind.TheVariants.{AllocSet}
 pub use Rattle.chunk_header.specs.declared.Stats.{Stats}
 pub use Rattle.chunk_header.specs.declared.shelves.Shelf.{Shelf}
 pub use Rattle.indexmap.proofs.MapLemmas.{Found-position, Missing-position, swap_remove_entry-found, swap_remove_entry-missing}

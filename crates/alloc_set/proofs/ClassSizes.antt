@@ -1,5 +1,5 @@
 -- Lemmas on the classes of chunks.
-use Rattle.alloc_set.proofs.Base.{ap, arith, cases_lt, chunk_limit, class_bytes, class_size, class_up_to, count_leading_zeros, inl, inr, leading_top, limit_class, nat_tests, pow-succ', pow_mono, refl, suc, sym, zero, ℕ, ◌-◌, ◌/◌, ◌<◌, ◌^◌, ◌∙◌, ◌≡◌, ◌≤◌}
+use Rattle.alloc_set.proofs.Base.{ap, arith, cases_lt, chunk_limit, class_bytes, class_size, class_up_to, count_leading_zeros, inl, inr, leading_top, limit_class, nat_tests, pow-succ', pow_mono, suc, sym, zero, ℕ, ◌-◌, ◌/◌, ◌<◌, ◌^◌, ◌∙◌, ◌≡◌, ◌≤◌}
 
 -- a greater class has greater chunks
 pub class_size-mono : (a b : ℕ) → a ≤ b → class_size a ≤ class_size b
@@ -20,14 +20,12 @@ class_up_to-is (suc last) size class le holds lower = grind (arith, nat_tests, c
 -- a class whose chunks are too large for the greatest block is passed
 pub limit_class-pass : (class max : ℕ) → 0 < class → (max - 40) / 4 < class_bytes class → limit_class (class - 1) max ≡ limit_class class max
 unfolding limit_class
-limit_class-pass zero max some over = absurd (omega arith)
-limit_class-pass (suc class) max some over = grind (arith, nat_tests)
+limit_class-pass x0 max some over = grind (arith, nat_tests)
 
 -- a class that isn't is the limit
 pub limit_class-stop : (class max : ℕ) → (0 < class → class_bytes class ≤ (max - 40) / 4) → limit_class class max ≡ class
 unfolding limit_class
-limit_class-stop zero max fits = refl
-limit_class-stop (suc class) max fits = let h = fits (omega arith) in grind (arith, nat_tests)
+limit_class-stop x0 max fits = grind (arith, nat_tests)
 
 -- the limit is one of the classes from which it is sought
 pub limit_class-most : (class max : ℕ) → limit_class class max ≤ class

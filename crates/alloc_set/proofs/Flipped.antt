@@ -1,7 +1,7 @@
 -- Lemmas on a chunk that becomes free or live where it is, or gets another size in the room that it has.
 use Rattle.alloc_set.proofs.Base.{Addr, Agrees, ap, arith, capacity_of, Changes, Chunk, chunk_at, footprint, header_of, inl, inr, IsAlone, IsPlaced, IsSettled, IsSized, Keeps, Keeps-written, length, link_of, List, live_size, map, mark_of, Moves, Moves-written, nat_tests, None, option_and_then, overwritten, PutsChunk, refl, region_at, SameBlocks, SetState, Some, Space, start_of, sym, ℕ, ◌+◌, ◌-◌, ◌∙◌, ◌≡◌, ◌≢◌, ◌≤◌, ◌⊎◌}
 use Rattle.alloc_set.proofs.Settled.{chunks_apart, linked, live_is, live_there, mark_apart, mark_from_chunk, IsSound-settled}
-use Rattle.alloc_set.proofs.Altered.{Puts-chunk, NewMark, old, new_block, new_header, new_link, put_cases, region_same, IsSettled-altered, Moves-altered, new_marks}
+use Rattle.alloc_set.proofs.Altered.{Puts-chunk, NewMark, put_cases, region_same, IsSettled-altered, Moves-altered, new_marks}
 
 module _ (s t : SetState) (active size : ℕ) (at : Addr) (before now : Chunk) (settled : IsSettled s active size) (same : SameBlocks s t) (room : t.ledger.room ≡ s.ledger.room) (was : chunk_at s at ≡ Some before) (puts : PutsChunk s t at (Some now))
     (capacity_same : capacity_of now ≡ capacity_of before) (sized : IsSized now) (alone : IsAlone t active at now) (heads : (dist : ℕ) → header_of now dist ≡ header_of before dist) where
@@ -31,10 +31,7 @@ module _ (s t : SetState) (active size : ℕ) (at : Addr) (before now : Chunk) (
 
   -- the header stays, and a new mark is the chunk's link
   pub marks_now : (b : Addr) (bytes : List ℕ) → NewMark s t (λ _. ⊥) at (Some now) b bytes → (mark_of s b ≡ Some bytes) ⊎ ((at ≡ b) × (link_of now ≡ Some bytes))
-  marks_now b bytes (old stays mark) = inl mark
-  marks_now b bytes (new_block len new first owned is) = absurd new
-  marks_now b bytes (new_header it differs here is bytes_are) = grind (arith, nat_tests, mark_from_chunk)
-  marks_now b bytes (new_link it here is has) = let one : now ≡ it = cc in inr (sym here, ap link_of one ∙ has)
+  marks_now b bytes x2 = grind (arith, nat_tests, mark_from_chunk)
 
   -- a chunk that is live now has no link, and the space stays
   pub Moves-flipped : link_of now ≡ None → (sp : Space) → Agrees (footprint s) sp → Moves (footprint s) (footprint t) sp sp

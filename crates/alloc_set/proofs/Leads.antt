@@ -1,5 +1,5 @@
 -- Lemmas on the headers by which live chunks lead to their context.
-use Rattle.alloc_set.proofs.Base.{Addr, AllocSet, ap, arith, Chunk, chunk_at, chunk_bytes, Class, footprint, Free, header_of, IsAlone, IsHeaded, IsLeading, IsPackable, IsSettled, IsSized, Live, live_place, lookup, nat_tests, one_value, Own, refl, region_of, same_addr, SetPlace, SetState, Some, space_of, start_of, TakesSpace, ℕ, ◌%◌, ◌+◌, ◌-◌, ◌<◌, ◌^◌, ◌∙◌, ◌≡◌}
+use Rattle.alloc_set.proofs.Base.{Addr, AllocSet, ap, arith, Chunk, chunk_at, chunk_bytes, footprint, Free, header_of, IsAlone, IsHeaded, IsLeading, IsPackable, IsSettled, IsSized, Live, live_place, lookup, nat_tests, one_value, Own, region_of, same_addr, SetPlace, SetState, Some, space_of, start_of, TakesSpace, ℕ, ◌%◌, ◌+◌, ◌-◌, ◌<◌, ◌^◌, ◌∙◌, ◌≡◌}
 use Rattle.alloc_set.proofs.Settled.{mark_from_block, mark_from_chunk}
 
 -- a chunk's header can be packed, and leads to a context
@@ -9,9 +9,7 @@ leads (Free class next) dist sized below whole = (record { value = omega (arith,
 leads (Own size room) dist sized below whole = (record { value = omega arith; dist = below; whole = whole }, omega arith)
 
 pub header_is : (chunk : Chunk) (dist : ℕ) → ((header_of chunk dist).dist ≡ dist) × ((header_of chunk dist).kind ≡ AllocSet)
-header_is (Live class size) dist = (refl, refl)
-header_is (Free class next) dist = (refl, refl)
-header_is (Own size room) dist = (refl, refl)
+header_is x0 dist = grind (arith, nat_tests)
 
 pub start_whole : (s : SetState) (number : ℕ) → start_of s number % 8 ≡ 0
 start_whole s number = grind (arith, nat_tests)
@@ -19,9 +17,7 @@ start_whole s number = grind (arith, nat_tests)
 -- what a header says that its chunk takes, where an own block has the room that its chunk may have
 takes : (s : SetState) (active dist len : ℕ) (at : Addr) (chunk : Chunk) (place : SetPlace) → IsAlone s active at chunk → region_of s at.region ≡ Some len → live_place chunk ≡ Some place → space_of (header_of chunk dist) len ≡ chunk_bytes s.ledger place
 unfolding space_of
-takes s active dist len at (Live class size) place alone owned is = let it : Class class ≡ place = cc in ap (chunk_bytes s.ledger) it
-takes s active dist len at (Free class next) place alone owned is = absurd (cc)
-takes s active dist len at (Own size room) place alone owned is = grind (arith, nat_tests, one_value)
+takes s active dist len at x5 place alone owned is = grind (arith, nat_tests, s.ledger, one_value)
 
 module _ (s : SetState) (active size : ℕ) (settled : IsSettled s active size) (at : Addr) (chunk : Chunk) (there : chunk_at s at ≡ Some chunk) where
   -- a chunk's header leads to its block

@@ -1,11 +1,10 @@
 -- Lemmas on live chunks and their places: which a step puts, and which stay.
-use Rattle.alloc_set.proofs.Base.{Addr, ap, arith, Books, Bool, Chunk, chunk_at, CtxError, false, footprint, Free, if◌then◌else◌, IsKept, Keeps, LeavesLive, Live, live_place, live_size, lookup, Moves, MovesAt-same, nat_tests, None, Option, option_and_then, option_cases, Own, place_at, put-here, PutsAt, PutsChunk, PutsLive, Reallocates, Refits, refl, Resized, Result, same_addr, same_addr-cases, SetLedger, SetPlace, SetState, Some, Space, state_of, true, ℕ, ◌∙◌, ◌≡◌, ◌≤◌}
+use Rattle.alloc_set.proofs.Base.{Addr, ap, arith, Books, Bool, Chunk, chunk_at, CtxError, footprint, if◌then◌else◌, IsKept, Keeps, LeavesLive, live_place, live_size, lookup, Moves, MovesAt-same, nat_tests, None, Option, option_and_then, option_cases, place_at, put-here, PutsAt, PutsChunk, PutsLive, Reallocates, Refits, refl, Resized, Result, same_addr, same_addr-cases, SetLedger, SetPlace, SetState, Some, Space, state_of, ℕ, ◌∙◌, ◌≡◌, ◌≤◌}
 use Rattle.alloc_set.proofs.Altered.{put_cases}
 
 -- what is said of one of two options
 either : {X Y : Type 0} (f : X → Option Y) (b : Bool) (x y : Option X) → option_and_then f (if b then x else y) ≡ (if b then option_and_then f x else option_and_then f y)
-either f true x y = refl
-either f false x y = refl
+either f x1 x y = grind (arith, nat_tests)
 
 -- a chunk is put, and so its place
 pub PutsPlace-chunk : (s t : SetState) (at : Addr) (slot : Option Chunk) → PutsChunk s t at slot → PutsAt (place_at s) (place_at t) at (option_and_then live_place slot)
@@ -21,10 +20,7 @@ place-put s t at slot puts = put-here (place_at s) (place_at t) at (option_and_t
 
 -- what is not live has no place, and what is has one
 no_place : (o : Option Chunk) → option_and_then live_size o ≡ None → option_and_then live_place o ≡ None
-no_place None none = refl
-no_place (Some (Live class size)) none = absurd (cc)
-no_place (Some (Free class next)) none = refl
-no_place (Some (Own size room)) none = absurd (cc)
+no_place x0 none = grind (arith, nat_tests)
 
 -- a live chunk is put, and whatever was live stands where it stood
 pub PutsPlace-live : (s t : SetState) (at : Addr) (size : ℕ) (place : SetPlace) → PutsLive (footprint s) (footprint t) at (Some size) → LeavesLive s t → place_at t at ≡ Some place → PutsAt (place_at s) (place_at t) at (Some place)

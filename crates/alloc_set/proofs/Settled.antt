@@ -1,34 +1,26 @@
 -- Lemmas on where the blocks and chunks of an AllocSet are.
-use Rattle.alloc_set.proofs.Base.{Addr, ap, arith, block_bytes, capacity_of, cases_eq, cases_lt, Chunk, chunk_at, footprint, Free, free_size, from_map, from_then, front_of, header_bytes, header_of, if◌then◌else◌, inl, inr, is_some, IsApart, IsSettled, IsSized, IsSound, IsWithin, length, length-block_bytes, length-header_bytes, link_bytes, link_of, List, Live, live_size, lookup, mark_of, nat_tests, None, one_value, Option, option_and_then, option_cases, option_map, option_or, Own, refl, region_of, same_addr_from, SetState, Some, start_of, sym, ℕ, ◌+◌, ◌-◌, ◌==◌, ◌∙◌, ◌≡◌, ◌≢◌, ◌≤◌, ◌⊎◌}
+use Rattle.alloc_set.proofs.Base.{Addr, ap, arith, block_bytes, capacity_of, cases_eq, cases_lt, Chunk, chunk_at, footprint, free_size, from_map, from_then, front_of, header_bytes, header_of, if◌then◌else◌, inl, inr, is_some, IsApart, IsSettled, IsSized, IsSound, IsWithin, length, length-block_bytes, length-header_bytes, link_bytes, link_of, List, live_size, lookup, mark_of, nat_tests, None, one_value, Option, option_and_then, option_cases, option_map, option_or, Own, refl, region_of, same_addr_from, SetState, Some, start_of, sym, ℕ, ◌+◌, ◌-◌, ◌==◌, ◌∙◌, ◌≡◌, ◌≢◌, ◌≤◌, ◌⊎◌}
 use Rattle.alloc_set.proofs.ClassSizes.{class_size-least}
 use Rattle.alloc_set.proofs.Regions.{noted}
 
 -- a live chunk has no link, isn't free, and is within what it may have
 pub live_is : (chunk : Chunk) (n : ℕ) → live_size chunk ≡ Some n → (link_of chunk ≡ None) × (free_size chunk ≡ None) × (IsSized chunk → n ≤ capacity_of chunk)
-live_is (Live class size) n live = let same : size ≡ n = cc in (refl, refl, λ sized. omega (arith, sized.1, same))
-live_is (Free class next) n live = absurd (cc)
-live_is (Own size room) n live = let same : size ≡ n = cc in (refl, refl, λ sized. omega (arith, sized, same))
+live_is x0 n live = grind (arith, nat_tests)
 
 pub free_size-is : (chunk : Chunk) (size : ℕ) → free_size chunk ≡ Some size → size ≡ capacity_of chunk
-free_size-is (Live class n) size e = absurd (cc)
-free_size-is (Free class next) size e = sym (cc)
-free_size-is (Own n room) size e = absurd (cc)
+free_size-is x0 size e = grind (arith, nat_tests)
 
 -- a link has 8 bytes
 pub length-link_bytes : (next : Option Addr) → length (link_bytes next) ≡ 8
-length-link_bytes None = length-block_bytes 0 0
-length-link_bytes (Some next) = length-block_bytes next.region next.offset
+length-link_bytes x0 = grind (arith, nat_tests, length-block_bytes)
 
 -- a chunk with a link is free, and has room for it
 pub linked : (chunk : Chunk) (bytes : List ℕ) → link_of chunk ≡ Some bytes → (length bytes ≡ 8) × (8 ≤ capacity_of chunk) × (live_size chunk ≡ None)
-linked (Live class size) bytes link = absurd (cc)
-linked (Free class next) bytes link = (let is : bytes ≡ _ = sym (cc) in ap length is ∙ length-link_bytes next, class_size-least class, refl)
-linked (Own size room) bytes link = absurd (cc)
+linked x0 bytes link = grind (arith, nat_tests, length-link_bytes, class_size-least)
 
 -- the first of two options that has a value
 from_or : {X : Type 0} (a b : Option X) (x : X) → option_or a b ≡ Some x → (a ≡ Some x) ⊎ ((a ≡ None) × (b ≡ Some x))
-from_or None b x is = inr (refl, is)
-from_or (Some y) b x is = inl is
+from_or x0 b x is = grind (arith, nat_tests)
 
 -- where a chunk is whose header stands at an address
 abbrev pub behind : Addr → Addr
@@ -57,9 +49,7 @@ mark_cases s at bytes marked =
 
 -- each has 8 bytes
 pub mark_len : (s : SetState) (at : Addr) (bytes : List ℕ) → Mark s at bytes → length bytes ≡ 8
-mark_len s at bytes (block len first owned is) = ap length (sym is) ∙ length-block_bytes s.context len
-mark_len s at bytes (header chunk differs found is) = ap length (sym is) ∙ length-header_bytes (header_of chunk (at.offset - start_of s at.region))
-mark_len s at bytes (link chunk found is) = (linked chunk bytes is).0
+mark_len s at bytes x3 = grind (arith, nat_tests, length-block_bytes, s.context, length-header_bytes, at.offset, at.region, linked)
 
 -- a mark, from what stands at its place
 pub mark_from_block : (s : SetState) (at : Addr) (len : ℕ) → at.offset ≡ start_of s at.region → region_of s at.region ≡ Some len → mark_of s at ≡ Some (block_bytes s.context len)
@@ -174,10 +164,7 @@ module _ (s : SetState) (active size : ℕ) (settled : IsSettled s active size) 
     live_inside = λ at n live. let it = live_there at n live in within at it.0 n it.1 it.3;
     free_inside = λ at n free. let it = free_there at n free in within at it.0 n it.1 it.3;
     mark_inside = mark_within;
-    live_apart = λ a b m n live_a live_b differ.
-        let first = live_there a m live_a in
-        let second = live_there b n live_b in
-        sizes_apart a b first.0 second.0 m n first.1 second.1 first.3 second.3 differ;
+    live_apart = grind (arith, nat_tests, live_there, sizes_apart);
     free_apart = λ a b m n live free.
         let first = live_there a m live in
         let second = free_there b n free in

@@ -1,12 +1,11 @@
 -- Lemmas on the free chunks of each class.
-use Rattle.alloc_set.proofs.Base.{[], Addr, ap, arith, Books, cases_eq, Chunk, chunk_at, class_bytes, class_size, Free, get_or, get_or-map, get_or-set_other, get_or-set_same, inl, inr, is_free, IsChain, IsCounted, IsKept, IsLinkable, IsSettled, IsShelved, IsUnique, length-set, List, Live, min, mul-le-mul_left, nat_tests, no_shelf, None, Option, Own, PutsChunk, refl, set, SetState, Shelf, shelf_at, Some, state_of, subst, suc, sum, sum_by, sum_by-cons, sum_by-le-sum_by, sym, taken_bytes, values_of, zero, ℕ, ◌*◌, ◌+◌, ◌<◌, ◌^◌, ◌∙◌, ◌∷◌, ◌≡◌, ◌≢◌, ◌≤◌}
+use Rattle.alloc_set.proofs.Base.{[], Addr, ap, arith, Books, cases_eq, Chunk, chunk_at, class_bytes, class_size, Free, get_or, get_or-map, get_or-set_other, get_or-set_same, inl, inr, is_free, IsChain, IsCounted, IsKept, IsLinkable, IsSettled, IsShelved, IsUnique, length-set, List, min, nat_tests, no_shelf, None, Option, PutsChunk, refl, set, SetState, Shelf, shelf_at, Some, state_of, subst, suc, sum, sum_by, sum_by-cons, sum_by-le-sum_by, sym, taken_bytes, values_of, zero, ℕ, ◌*◌, ◌+◌, ◌<◌, ◌^◌, ◌∙◌, ◌∷◌, ◌≡◌, ◌≢◌, ◌≤◌}
 use Rattle.alloc_set.proofs.Altered.{put_cases}
 
 -- a chain stays while its chunks do
 pub IsChain-kept : (c d : Addr → Option Chunk) (class : ℕ) → ((at : Addr) (next : Option Addr) → c at ≡ Some (Free class next) → d at ≡ Some (Free class next)) → (count : ℕ) (first : Option Addr) → IsChain c class count first → IsChain d class count first
 IsChain-kept c d class kept zero first chain = chain
-IsChain-kept c d class kept (suc count) first chain =
-    (chain.0, chain.1, chain.2, kept chain.0 chain.1 chain.3, IsChain-kept c d class kept count chain.1 chain.4)
+IsChain-kept c d class kept (suc count) first chain = grind (arith, nat_tests, chain.0, chain.1, chain.2, chain.3, IsChain-kept c d class kept count chain.1 chain.4, chain.4)
 
 -- from one chunk on there is one number of chunks
 pub IsChain-unique : (c : Addr → Option Chunk) (class : ℕ) (m n : ℕ) (first : Option Addr) → IsChain c class m first → IsChain c class n first → m ≡ n
@@ -37,9 +36,7 @@ is_free-other class other next differs = grind (arith, nat_tests)
 
 -- the free chunks of a class take no more than all
 is_free-bytes : (class : ℕ) (chunk : Chunk) → is_free class chunk * class_bytes class ≤ taken_bytes chunk
-is_free-bytes class (Live other size) = omega arith
-is_free-bytes class (Free other next) = grind (arith, nat_tests, cases_eq, is_free-same, is_free-other)
-is_free-bytes class (Own size room) = omega arith
+is_free-bytes class x1 = grind (arith, nat_tests, is_free-same, is_free-other)
 
 free-bytes : (class : ℕ) (chunks : List Chunk) → sum_by (is_free class) chunks * class_bytes class ≤ sum_by taken_bytes chunks
 free-bytes class [] = omega arith
@@ -52,13 +49,10 @@ count_is b class kept below = get_or-map (λ (s : Shelf). s.count) b.shelves cla
 
 -- a count of free chunks, and their bytes
 pub count-bytes : (b : Books) (class : ℕ) → IsKept b → class < 11 → (shelf_at b.shelves class).count * class_bytes class ≤ b.total
-count-bytes b class kept below =
-    omega (arith, ap (λ n. n * class_bytes class) (kept.shelved.counted class below), free-bytes class (values_of b.chunks.entries), kept.counted.rooms)
+count-bytes b class kept below = grind (arith, nat_tests, kept.shelved.counted class below, free-bytes class (values_of b.chunks.entries), b.chunks.entries, kept.counted.rooms)
 
 pub count-few : (b : Books) (class : ℕ) → IsKept b → class < 11 → (shelf_at b.shelves class).count ≤ 2 ^ 57
-count-few b class kept below =
-    let least : (shelf_at b.shelves class).count * 1 ≤ (shelf_at b.shelves class).count * class_bytes class = mul-le-mul_left (shelf_at b.shelves class).count (omega arith) in
-    omega (arith, least, count-bytes b class kept below, kept.counted.most)
+count-few b class kept below = grind (arith, nat_tests, b.shelves, count-bytes b class kept below, kept.counted.most)
 
 -- the bytes of the free chunks of a class are within the total
 pub bytes_of : (b : Books) (class size : ℕ) → IsKept b → class < 11 → size ≡ class_size class → (shelf_at b.shelves class).count * (size + 8) ≤ b.total
@@ -136,8 +130,7 @@ module _ (s t : SetState) (shelves : List Shelf) (at : Addr) (slot : Option Chun
 -- a shelf with a first chunk has a free one there, and one without has none
 pub chain_head : (c : Addr → Option Chunk) (class count : ℕ) (first : Option Addr) (at : Addr) → IsChain c class count first → first ≡ Some at
     → (next : Option Addr) × (rest : ℕ) × (c at ≡ Some (Free class next)) × (count ≡ suc rest) × IsChain c class rest next
-chain_head c class zero first at chain is = let clash = sym chain ∙ is in absurd (cc)
-chain_head c class (suc count) first at chain is = grind (arith, nat_tests)
+chain_head c class x2 first at chain is = grind (arith, nat_tests)
 
 -- the next one, if there is one, is where a link can lead
 pub IsLinkable-chain : (s : SetState) (active size class count : ℕ) (first : Option Addr) → IsSettled s active size → IsChain (chunk_at s) class count first → IsLinkable first

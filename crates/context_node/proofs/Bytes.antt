@@ -1,16 +1,14 @@
 -- Bytes that are known at an address.
 use Rattle.context_node.proofs.Words.{◌≡◌, ℕ, ◌+◌, ◌<◌, ◌≤◌, List, length, map, get_or, take, drop, Option, Some, None, IsSome, unwrap_or, refl, sym, ap, ◌∙◌, subst, arith, same_number_lists, length-map, length-take, length-drop, get_or-map, get_or-take, get_or-drop, Addr, Space, region_at, bytes_of, byte_at, part, HasBytes, IsKnown, Footprint, length-part, bytes_at}
 use Rattle.addr_space.specs.Footprint as foot
+use Rattle.std.proofs.lemmas.Bool.Decides.{nat_tests}
 
 -- so many bytes from an address on are in its region
 abbrev pub IsIn : Space → Addr → ℕ → Type 0
 IsIn s at n = at.offset + n ≤ length (bytes_of (region_at s at.region))
 
 pub in_live : (f : Footprint) (s : Space) (at : Addr) (size n : ℕ) → foot.Agrees f s → f.live at ≡ Some size → n ≤ size → IsIn s at n
-in_live f s at size n agrees live fits =
-    let within = agrees.sound.live_inside at size live in
-    let has = agrees.regions at.region within.0 within.1 in
-    omega (arith, ap (λ r. length (bytes_of r)) has.1, has.3, within.2, fits)
+in_live f s at size n agrees live fits = grind (arith, nat_tests, agrees.sound.live_inside, agrees.regions, at.region, bytes_of)
 
 pub length-bytes_at : (s : Space) (at : Addr) (n : ℕ) → IsIn s at n → length (bytes_at s at n) ≡ n
 length-bytes_at s at n inside =
@@ -24,33 +22,22 @@ get-bytes_at s at n k inside below =
     get_or-map (λ (o : Option ℕ). unwrap_or o 0) (part xs at.offset n) k None 0 short ∙ ap (λ (o : Option ℕ). unwrap_or o 0) there
 
 known_byte : (o : Option ℕ) → IsSome o → o ≡ Some (unwrap_or o 0)
-known_byte None is = absurd (cc)
-known_byte (Some x) is = refl
+known_byte x0 is = grind (arith, nat_tests)
 
 -- what is known stands there
 pub has_known : (s : Space) (at : Addr) (n : ℕ) → IsIn s at n → IsKnown s at n → HasBytes s at (bytes_at s at n)
-has_known s at n inside known k below =
-    let short : k < n = omega (arith, length-bytes_at s at n inside, below) in
-    known_byte (byte_at s at.region (at.offset + k)) (known k short) ∙ ap Some (sym (get-bytes_at s at n k inside short))
+has_known s at n inside known k below = grind (arith, nat_tests, length-bytes_at s, known_byte, byte_at s at.region (at.offset + k), at.region, at.offset, get-bytes_at s)
 
 -- what stands there is known
 pub known_has : (s : Space) (at : Addr) (w : List ℕ) → HasBytes s at w → IsKnown s at (length w)
 known_has s at w has k below = subst IsSome (sym (has k below)) refl
 
 pub bytes_are : (s : Space) (at : Addr) (w : List ℕ) → IsIn s at (length w) → HasBytes s at w → bytes_at s at (length w) ≡ w
-bytes_are s at w inside has =
-    same_number_lists (bytes_at s at (length w)) w (length-bytes_at s at (length w) inside)
-    (λ k below.
-    let short : k < length w = omega (arith, length-bytes_at s at (length w) inside, below) in
-    get-bytes_at s at (length w) k inside short ∙ ap (λ (o : Option ℕ). unwrap_or o 0) (has k short))
+bytes_are s at w inside has = grind (arith, nat_tests, same_number_lists, bytes_at s, length-bytes_at s, get-bytes_at s)
 
 -- bytes that are the same, place by place
 pub bytes_same : (s t : Space) (a b : Addr) (n : ℕ) → IsIn s a n → IsIn t b n → ((k : ℕ) → k < n → byte_at t b.region (b.offset + k) ≡ byte_at s a.region (a.offset + k)) → bytes_at t b n ≡ bytes_at s a n
-bytes_same s t a b n was now same =
-    same_number_lists (bytes_at t b n) (bytes_at s a n) (length-bytes_at t b n now ∙ sym (length-bytes_at s a n was))
-    (λ k below.
-    let short : k < n = omega (arith, length-bytes_at t b n now, below) in
-    get-bytes_at t b n k now short ∙ ap (λ (o : Option ℕ). unwrap_or o 0) (same k short) ∙ sym (get-bytes_at s a n k was short))
+bytes_same s t a b n was now same = grind (arith, nat_tests, same_number_lists, bytes_at t b n, bytes_at s a n, length-bytes_at t b n now, length-bytes_at s a n was, get-bytes_at)
 
 -- a part that is read
 pub part_read : (s : Space) (at : Addr) (known place n : ℕ) (out : List ℕ) → map Some out ≡ part (bytes_of (region_at s at.region)) (at.offset + place) n → place + n ≤ known → IsIn s at known

@@ -2,6 +2,8 @@
 use Rattle.context_node.proofs.Words.{◌≡◌, ◌≢◌, ℕ, true, false, List, map, Some, refl, sym, ap, ◌∙◌, inl, inr, option_map, cases_eq, eq-eqb, ne_eqb, both_ways, Forest, Empty, Node, at, has, Once, changed, Apart, apart_of, has_at, changed_absent, at_changed, at_changed_other, Chunk, has_name, with_changed, Entry, AreFlat, entries}
 use Rattle.context_node.proofs.Names.{at_here, at_beside, one_at, below_or_beside}
 use Rattle.context_node.proofs.Steps.{entries_same}
+use Rattle.std.proofs.lemmas.Bool.Decides.{nat_tests}
+use Rattle.std.proofs.Common.{arith}
 
 pub flat_changed : (n : ℕ) (f : Entry → Entry) (t : Forest Entry) → AreFlat t → AreFlat (changed n f t)
 flat_changed n f Empty flat = flat
@@ -10,16 +12,7 @@ flat_changed n f (Node k e below beside) flat = (ap (changed n f) flat.0, flat_c
 -- the names of the entries stay where the one that changes keeps its own
 pub names_changed : (n : ℕ) (e y : Entry) (t : Forest Entry) → at n t ≡ Some e → y.name ≡ e.name → (c : ℕ)
     → option_map (λ (x : Entry). x.name) (at c (changed n (λ _. y) t)) ≡ option_map (λ (x : Entry). x.name) (at c t)
-names_changed n e y t h same c =
-    elim (cases_eq c n) [
-      | inl alike ↦
-          ap (λ (i : ℕ). option_map (λ (x : Entry). x.name) (at i (changed n (λ _. y) t))) alike
-          ∙ ap (option_map (λ (x : Entry). x.name)) (at_changed n (λ _. y) t e h)
-          ∙ ap Some same
-          ∙ ap (option_map (λ (x : Entry). x.name)) (sym h)
-          ∙ ap (λ (i : ℕ). option_map (λ (x : Entry). x.name) (at i t)) (sym alike)
-      | inr ne ↦ ap (option_map (λ (x : Entry). x.name)) (at_changed_other c n (λ _. y) t ne)
-    ]
+names_changed n e y t h same c = grind (arith, nat_tests, changed, at_changed, at_changed_other)
 
 -- the chunks of the entries then
 pub changed_entries : (w : List ℕ) (change : Chunk → Chunk) (f g : Entry → Chunk) (u : Forest Entry) (c : ℕ) (e y : Entry) → Once u → AreFlat u → at c u ≡ Some e → has_name w (f e) ≡ true

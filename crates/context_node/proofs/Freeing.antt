@@ -1,10 +1,11 @@
 -- A context in which a chunk was freed.
-use Rattle.context_node.proofs.Words.{◌≡◌, ◌≢◌, ℕ, ◌+◌, ◌<◌, true, List, map, Some, None, IsSome, sym, ap, ◌∙◌, subst, inl, inr, arith, Space, byte_at, IsKnown, put_at-cases, at, has, Once, removed, has_at, at_some, has_of_removed, once_removed, footprint, ledger, place_at, Chunk, Context, without, Entry, Kept, AreFlat, IsSoundContext, chunk_of, entries, context_of, Freed}
+use Rattle.context_node.proofs.Words.{◌≡◌, ◌≢◌, ℕ, ◌+◌, ◌<◌, true, List, map, Some, None, IsSome, sym, ap, ◌∙◌, subst, arith, Space, byte_at, IsKnown, put_at-cases, at, has, Once, removed, has_at, at_some, has_of_removed, once_removed, footprint, ledger, place_at, Chunk, Context, without, Entry, Kept, AreFlat, IsSoundContext, chunk_of, entries, context_of, Freed}
 use Rattle.addr_space.specs.Footprint as foot
 use Rattle.context_node.proofs.Names.{named_not, named_so}
 use Rattle.context_node.proofs.Steps.{chunk_same}
 use Rattle.context_node.proofs.Bytes.{in_live, bytes_same}
 use Rattle.context_node.proofs.Removals.{flat_removed, other_than_removed, left_at, still_at, without_entries}
+use Rattle.std.proofs.lemmas.Bool.Decides.{nat_tests}
 
 module _ (k l : Kept) (n : ℕ) (s t : Space) (gone : Freed k l n s t) (sound : IsSoundContext k) (agrees : foot.Agrees (footprint k.memory) s) where
   pub chunks_now : l.chunks ≡ removed n k.chunks
@@ -18,18 +19,10 @@ module _ (k l : Kept) (n : ℕ) (s t : Space) (gone : Freed k l n s t) (sound : 
   elsewhere c e ne h = sound.differ c n e gone.entry ne h gone.listed
 
   live_left : (c : ℕ) (e : Entry) → c ≢ n → at c k.chunks ≡ Some e → (footprint l.memory).live e.at ≡ Some e.size
-  live_left c e ne h =
-      elim (put_at-cases (footprint k.memory).live (footprint l.memory).live gone.entry.at None gone.live e.at) [
-        | inl it ↦ absurd (elsewhere c e ne h it.0)
-        | inr it ↦ it.1 ∙ sound.live c e h
-      ]
+  live_left c e ne h = grind (arith, nat_tests, put_at-cases (footprint k.memory).live (footprint l.memory).live gone.entry.at None gone.live e.at, e.at, elsewhere)
 
   place_left : (c : ℕ) (e : Entry) → c ≢ n → at c k.chunks ≡ Some e → place_at l.memory e.at ≡ place_at k.memory e.at
-  place_left c e ne h =
-      elim (put_at-cases (place_at k.memory) (place_at l.memory) gone.entry.at None gone.places e.at) [
-        | inl it ↦ absurd (elsewhere c e ne h it.0)
-        | inr it ↦ it.1
-      ]
+  place_left c e ne h = grind (arith, nat_tests, put_at-cases (place_at k.memory) (place_at l.memory) gone.entry.at None gone.places e.at, e.at, elsewhere)
 
   pub sound_freed : IsSoundContext l
   sound_freed = record {
@@ -53,15 +46,10 @@ module _ (k l : Kept) (n : ℕ) (s t : Space) (gone : Freed k l n s t) (sound : 
       gone.keeps e.at e.size e.size i (sound.live c e h) (live_left c e ne h) fit fit
 
   pub known_freed : ((c : ℕ) (e : Entry) → at c k.chunks ≡ Some e → IsKnown s e.at e.known) → (c : ℕ) (e : Entry) → at c l.chunks ≡ Some e → IsKnown t e.at e.known
-  known_freed known c e h i below =
-      let was = left c e h in
-      subst IsSome (sym (byte_left c e i was.0 was.1 below)) (known c e was.1 i below)
+  known_freed known c e h i below = grind (arith, nat_tests, left c e h, byte_left)
 
   chunk_left : (c : ℕ) (e : Entry) → c ≢ n → at c k.chunks ≡ Some e → chunk_of t l.memory e ≡ chunk_of s k.memory e
-  chunk_left c e ne h =
-      chunk_same s t k.memory l.memory e (place_left c e ne h)
-      (bytes_same s t e.at e.at e.known (in_live (footprint k.memory) s e.at e.size e.known agrees (sound.live c e h) (sound.known c e h))
-      (in_live (footprint l.memory) t e.at e.size e.known gone.moves.agrees (live_left c e ne h) (sound.known c e h)) (λ i below. byte_left c e i ne h below))
+  chunk_left c e ne h = grind (arith, nat_tests, chunk_same, place_left c e ne h, bytes_same, e.at, e.known, in_live (footprint k.memory) s e.at e.size e.known agrees (sound.live c e h) (sound.known c e h), e.size, in_live (footprint l.memory) t e.at e.size e.known gone.moves.agrees (live_left c e ne h) (sound.known c e h), live_left c e ne h, byte_left)
 
   abbrev built : List Chunk → Context
   built chunks = record {

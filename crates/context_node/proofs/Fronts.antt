@@ -1,6 +1,8 @@
 -- An entry in front of the others.
-use Rattle.context_node.proofs.Words.{◌≡◌, ℕ, true, false, Some, refl, sym, ap, ◌∙◌, subst, eq-eqb, Forest, Empty, Node, at, has, changed, removed, changed_absent, removed_absent, AnyCtx, Entry, Kept}
+use Rattle.context_node.proofs.Words.{◌≡◌, ℕ, true, false, Some, refl, ap, ◌∙◌, Forest, Empty, Node, at, has, changed, removed, changed_absent, removed_absent, AnyCtx, Entry, Kept}
 use Rattle.context_node.proofs.Names.{at_here}
+use Rattle.std.proofs.lemmas.Bool.Decides.{nat_tests}
+use Rattle.std.proofs.Common.{arith}
 
 -- it lies there
 pub front_at : (n m : ℕ) (e : Entry) (all old : Forest Entry) → m ≡ n → all ≡ Node n e Empty old → at m all ≡ Some e
@@ -8,15 +10,11 @@ front_at n m e all old same is = ap (at m) is ∙ ap (λ (i : ℕ). at i (Node n
 
 -- it changes
 pub front_changed : (n m : ℕ) (e y : Entry) (all old : Forest Entry) → m ≡ n → has n old ≡ false → all ≡ Node n e Empty old → changed m (λ _. y) all ≡ Node n y Empty old
-front_changed n m e y all old same fresh is =
-    let go : changed n (λ _. y) (Node n e Empty old) ≡ Node n y Empty old = rw (eq-eqb n n refl, changed_absent n (λ _. y) old fresh) refl in
-    subst (λ (i : ℕ). changed i (λ _. y) all ≡ Node n y Empty old) (sym same) (subst (λ (f : Forest Entry). changed n (λ _. y) f ≡ Node n y Empty old) (sym is) go)
+front_changed n m e y all old same fresh is = grind (arith, nat_tests, changed, changed_absent)
 
 -- it is taken out
 pub front_removed : {A : Type 0} (n m : ℕ) (a : A) (all old : Forest A) → m ≡ n → has n old ≡ false → all ≡ Node n a Empty old → removed m all ≡ old
-front_removed {A} n m a all old same fresh is =
-    let go : removed n (Node n a Empty old) ≡ old = rw (eq-eqb n n refl) (removed_absent n old fresh) in
-    subst (λ (i : ℕ). removed i all ≡ old) (sym same) (subst (λ (f : Forest A). removed n f ≡ old) (sym is) go)
+front_removed {A} n m a all old same fresh is = grind (arith, nat_tests, removed, removed_absent n old fresh)
 
 -- a context with other entries, and another allocator
 pub kept_now : (k : Kept) (memory : AnyCtx) (a b : Forest Entry) (p q : Forest ℕ) → a ≡ b → p ≡ q

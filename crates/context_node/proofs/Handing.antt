@@ -2,6 +2,7 @@
 use Rattle.context_node.proofs.Words.{◌≡◌, ◌-◌, ◌<◌, ◌≤◌, ◌≢◌, List, [], ◌∷◌, ◌++◌, length, map, All, refl, sym, ap, ◌∙◌, subst, append_assoc, arith, append-nil, map-append, length-append, Hook, ran, Lacks, AreDistinct, ShelfState, held, finished, handed_in}
 use Rattle.std.proofs.lemmas.List.Elements.{All-nil, All-cons, All-head, All-tail, All-append}
 use Rattle.reset_callbacks.proofs.InOrder.{AreDistinct-push}
+use Rattle.std.proofs.lemmas.Bool.Decides.{nat_tests}
 
 module _ (P : Hook → Type 0) where
   -- what holds of each hook of two lists
@@ -15,8 +16,7 @@ module _ (P : Hook → Type 0) where
 
   -- and of a list without one of its hooks
   all_without : (xs ys : List Hook) (h : Hook) → All P (xs ++ h ∷ ys) → All P (xs ++ ys)
-  all_without xs ys h all =
-      All-append P xs ys (all_left xs (h ∷ ys) all) (All-tail P h ys (all_right xs (h ∷ ys) all))
+  all_without xs ys h all = grind (arith, nat_tests, All-append P xs ys (all_left xs (h ∷ ys) all) (All-tail P h ys (all_right xs (h ∷ ys) all)), all_left xs (h ∷ ys) all, All-tail P h ys (all_right xs (h ∷ ys) all), all_right xs (h ∷ ys) all)
 
 pub distinct_right : (xs ys : List Hook) → AreDistinct (xs ++ ys) → AreDistinct ys
 distinct_right [] ys distinct = distinct

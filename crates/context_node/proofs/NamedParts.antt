@@ -1,25 +1,18 @@
 -- The chunks that have a name, among all chunks of a context.
-use Rattle.context_node.proofs.Words.{◌≡◌, ◌≢◌, ℕ, ◌≤◌, Bool, true, false, List, Option, Some, None, refl, sym, ap, ◌∙◌, subst, inl, inr, arith, is_some, ◌==◌, ◌||◌, if◌then◌else◌, option_map_or, cases_Bool, cases_eq, eq-eqb, ne_eqb, both_ways, Forest, Empty, Node, Once, at, has, times, changed, removed, Apart, apart_of, has_at, at_some, changed_absent, has_changed, once_changed, once_front, once_removed, has_of_removed, ChunkId, Entry, AreFlat, same, named_part, IsKept, is_named, left_names}
+use Rattle.context_node.proofs.Words.{◌≡◌, ◌≢◌, ℕ, ◌≤◌, Bool, true, false, List, Option, Some, None, refl, sym, ap, ◌∙◌, subst, inl, inr, arith, is_some, ◌==◌, if◌then◌else◌, option_map_or, cases_Bool, cases_eq, eq-eqb, ne_eqb, both_ways, Forest, Empty, Node, Once, at, has, times, changed, removed, Apart, apart_of, has_at, at_some, changed_absent, has_changed, once_changed, once_front, once_removed, has_of_removed, ChunkId, Entry, AreFlat, same, named_part, IsKept, is_named, left_names}
 use Rattle.context_node.proofs.Names.{at_here, at_beside, one_at}
 use Rattle.context_node.proofs.Taking.{front_has}
 use Rattle.context_node.proofs.Removals.{flat_removed, other_than_removed, still_at}
 use Rattle.context_node.proofs.Changes.{flat_changed}
+use Rattle.std.proofs.lemmas.Bool.Decides.{nat_tests}
 
 pub flat_part : (t : Forest Entry) → AreFlat (named_part t)
 flat_part Empty = tt
-flat_part (Node n e below beside) =
-    elim (cases_Bool (is_some e.name)) [
-      | inl y ↦ rw y (refl, flat_part beside)
-      | inr out ↦ rw out (flat_part beside)
-    ]
+flat_part (Node n e below beside) = grind (arith, nat_tests, e.name, flat_part beside)
 
 pub times_part : (c : ℕ) (t : Forest Entry) → times c (named_part t) ≤ times c t
 times_part c Empty = omega arith
-times_part c (Node n e below beside) =
-    elim (cases_Bool (is_some e.name)) [
-      | inl y ↦ rw y (omega (arith, times_part c beside))
-      | inr out ↦ rw out (omega (arith, times_part c beside))
-    ]
+times_part c (Node n e below beside) = grind (arith, nat_tests, e.name, times_part c beside)
 
 pub once_part : (t : Forest Entry) → Once t → Once (named_part t)
 once_part t o = record { once = λ n. omega (arith, times_part n t, o.once n) }
@@ -65,17 +58,7 @@ at_part c e (Node n x below beside) o h =
 
 pub removed_part : (n : ℕ) (t : Forest Entry) → named_part (removed n t) ≡ removed n (named_part t)
 removed_part n Empty = refl
-removed_part n (Node k e below beside) =
-    elim (cases_Bool (k == n)) [
-      | inl y ↦ elim (cases_Bool (is_some e.name)) [
-        | inl named ↦ rw (y, named, y) (removed_part n beside)
-        | inr out ↦ rw (y, out) (removed_part n beside)
-      ]
-      | inr ne ↦ elim (cases_Bool (is_some e.name)) [
-        | inl named ↦ rw (ne, named, ne) (ap (λ (f : Forest Entry). Node k e Empty f) (removed_part n beside))
-        | inr out ↦ rw (ne, out) (removed_part n beside)
-      ]
-    ]
+removed_part n (Node k e below beside) = grind (arith, nat_tests, e.name, removed_part n beside)
 
 -- a chunk that changes has a name as before
 pub changed_part : (n : ℕ) (y : Entry) (t : Forest Entry) → Once t → ((e : Entry) → at n t ≡ Some e → is_some y.name ≡ is_some e.name) → named_part (changed n (λ _. y) t) ≡ changed n (λ _. y) (named_part t)
@@ -111,17 +94,12 @@ nameless_part n y t o without none =
     changed_part n y t o (λ e h. ap is_some (without ∙ sym (none e h))) ∙ changed_absent n (λ _. y) (named_part t) gone
 
 unnamed : (w : List ℕ) (o : Option (List ℕ)) → is_some o ≡ false → option_map_or (λ name. same name w) o false ≡ false
-unnamed w None h = refl
-unnamed w (Some x) h = absurd (cc)
+unnamed w x1 h = grind (arith, nat_tests)
 
 -- the names of all are those of the ones that have a name
 pub named_same : (w : List ℕ) (t : Forest Entry) → AreFlat t → is_named w (named_part t) ≡ is_named w t
 named_same w Empty flat = refl
-named_same w (Node n e below beside) flat =
-    elim (cases_Bool (is_some e.name)) [
-      | inl y ↦ rw (y, flat.0) (ap (λ (b : Bool). option_map_or (λ name. same name w) e.name false || b) (named_same w beside flat.1))
-      | inr out ↦ rw (out, flat.0, unnamed w e.name out) (named_same w beside flat.1)
-    ]
+named_same w (Node n e below beside) flat = grind (arith, nat_tests, e.name, flat.0, same, named_same w beside flat.1, flat.1, unnamed)
 
 pub left_same : (t : Forest Entry) (find : List ℕ → Option ChunkId) (w : List ℕ) → AreFlat t → left_names (named_part t) find w ≡ left_names t find w
 left_same t find w flat = ap (λ (b : Bool). if b then None else find w) (named_same w t flat)
@@ -149,25 +127,10 @@ module _ (named : Forest Entry) (places : Forest ℕ) (all : Forest Entry) (kept
     flat_more = subst AreFlat (sym now) (refl, kept.flat)
 
     pub kept_put : (slot : ℕ) (named2 : Forest Entry) (places2 : Forest ℕ) → is_some e.name ≡ true → named2 ≡ Node n e Empty named → places2 ≡ Node n slot Empty places → IsKept named2 places2 all2
-    kept_put slot named2 places2 is one two =
-        let part : named_part (Node n e Empty all) ≡ Node n e Empty (named_part all) = rw is refl in
-        record {
-          part = one ∙ ap (λ (f : Forest Entry). Node n e Empty f) kept.part ∙ sym part ∙ ap named_part (sym now);
-          flat = flat_more;
-          once = once_more;
-          numbers = λ c h. ap (has c) one ∙ front_has n c e slot named places (kept.numbers c) (ap (has c) (sym two) ∙ h);
-        }
+    kept_put slot named2 places2 is one two = grind (arith, nat_tests, named_part, named_part all, flat_more, once_more, front_has)
 
     pub kept_nameless : e.name ≡ None → IsKept named places all2
-    kept_nameless without =
-        let out : is_some e.name ≡ false = ap is_some without in
-        let part : named_part (Node n e Empty all) ≡ named_part all = rw out refl in
-        record {
-          part = kept.part ∙ sym part ∙ ap named_part (sym now);
-          flat = flat_more;
-          once = once_more;
-          numbers = kept.numbers;
-        }
+    kept_nameless without = grind (arith, nat_tests, named_part, flat_more, once_more)
 
   -- another chunk of a number
   module _ (n : ℕ) (y : Entry) (all2 : Forest Entry) (now : all2 ≡ changed n (λ _. y) all) where
@@ -178,26 +141,10 @@ module _ (named : Forest Entry) (places : Forest ℕ) (all : Forest Entry) (kept
     flat_now = subst AreFlat (sym now) (flat_changed n (λ _. y) all kept.flat)
 
     pub kept_changed : (x : Entry) (named2 : Forest Entry) → at n named ≡ Some x → y.name ≡ x.name → named2 ≡ changed n (λ _. y) named → IsKept named2 places all2
-    kept_changed x named2 h alike one =
-        let was = kept_at n x h in
-        let names : (e : Entry) → at n all ≡ Some e → is_some y.name ≡ is_some e.name = λ e q.
-        let same : Some x ≡ Some e = sym was.0 ∙ q in
-        let it : x ≡ e = cc in
-        ap is_some alike ∙ ap (λ (i : Entry). is_some i.name) it in
-        record {
-          part = one ∙ ap (changed n (λ _. y)) kept.part ∙ sym (changed_part n y all kept.once names) ∙ ap named_part (sym now);
-          flat = flat_now;
-          once = once_now;
-          numbers = λ c q. ap (has c) one ∙ has_changed c n (λ _. y) named ∙ kept.numbers c q;
-        }
+    kept_changed x named2 h alike one = grind (arith, nat_tests, kept_at n x h, changed, changed_part, named_part, flat_now, once_now, has_changed)
 
     pub kept_same : y.name ≡ None → ((e : Entry) → at n all ≡ Some e → e.name ≡ None) → IsKept named places all2
-    kept_same without none = record {
-      part = kept.part ∙ sym (nameless_part n y all kept.once without none) ∙ ap named_part (sym now);
-      flat = flat_now;
-      once = once_now;
-      numbers = kept.numbers;
-    }
+    kept_same without none = grind (arith, nat_tests, nameless_part, named_part, flat_now, once_now)
 
   -- a chunk less
   pub kept_removed : (n slot : ℕ) (named2 : Forest Entry) (places2 : Forest ℕ) (all2 : Forest Entry) → at n places ≡ Some slot → named2 ≡ removed n named → places2 ≡ removed n places → all2 ≡ removed n all
@@ -218,9 +165,4 @@ module _ (named : Forest Entry) (places : Forest ℕ) (all : Forest Entry) (kept
 
 -- no chunk
 pub kept_none : (named : Forest Entry) (places : Forest ℕ) (all : Forest Entry) → named ≡ Empty → places ≡ Empty → all ≡ Empty → IsKept named places all
-kept_none named places all one two three = record {
-  part = one ∙ ap named_part (sym three);
-  flat = subst AreFlat (sym three) tt;
-  once = subst Once (sym three) (record { once = λ n. omega arith });
-  numbers = λ c h. let none : has {A = ℕ} c Empty ≡ true = ap (has c) (sym two) ∙ h in absurd (cc);
-}
+kept_none named places all one two three = grind (arith, nat_tests, named_part)

@@ -1,7 +1,9 @@
 -- Names, and the chunks of a context that have them.
-use Rattle.context_node.proofs.Words.{◌≡◌, ◌≢◌, ℕ, true, false, List, map, Option, Some, None, refl, sym, ap, ◌∙◌, inl, inr, find, option_map_or, IfSome, cases_Bool, eq-eqb, ne_eqb, both_ways, Space, Forest, Empty, Node, either, at, has, Once, Apart, apart_of, has_at, at_absent, at_some, AnyCtx, Chunk, has_name, Entry, AreFlat, chunk_of, entries}
+use Rattle.context_node.proofs.Words.{◌≡◌, ◌≢◌, ℕ, true, false, List, map, Option, Some, None, refl, sym, ap, ◌∙◌, inl, inr, find, option_map_or, IfSome, cases_Bool, eq-eqb, ne_eqb, both_ways, Space, Forest, Empty, Node, either, at, has, Once, Apart, apart_of, has_at, at_absent, at_some, AnyCtx, has_name, Entry, AreFlat, chunk_of, entries}
 use lib.Pointwise.{bytes_decides}
 use Rattle.context_rules.specs.Names.{same_name}
+use Rattle.std.proofs.lemmas.Bool.Decides.{nat_tests}
+use Rattle.std.proofs.Common.{arith}
 
 -- names are one where maps say so
 pub same_is : (a b : List ℕ) → same_name a b ≡ true → a ≡ b
@@ -12,8 +14,7 @@ is_same a b h = (bytes_decides a b).1 h
 
 -- what holds of an option's value
 pub if_some : {A : Type 0} {P : A → Type 0} (o : Option A) → ((a : A) → o ≡ Some a → P a) → IfSome o P
-if_some None all = tt
-if_some (Some a) all = all a refl
+if_some x0 all = grind (arith, nat_tests)
 
 -- an option that isn't None
 pub some_or_none : {A : Type 0} (o : Option A) → (P : Type 0) → (o ≡ None → P) → ((a : A) → o ≡ Some a → P) → P
@@ -26,16 +27,10 @@ module _ {A : Type 0} where
   at_here n a below beside = rw (eq-eqb n n refl) refl
 
   pub at_below : (m n : ℕ) (a b : A) (below beside : Forest A) → Once (Node m a below beside) → at n below ≡ Some b → at n (Node m a below beside) ≡ Some b
-  at_below m n a b below beside o h =
-      let apart : Apart m below beside = apart_of m a below beside o in
-      let ne : m ≢ n = λ e. both_ways (has m below) apart.not_below (rw e (has_at n below b h)) in
-      rw (ne_eqb m n ne, h) refl
+  at_below m n a b below beside o h = grind (arith, nat_tests, apart_of m a below beside o, has_at n below b h)
 
   pub at_beside : (m n : ℕ) (a b : A) (below beside : Forest A) → Once (Node m a below beside) → at n beside ≡ Some b → at n (Node m a below beside) ≡ Some b
-  at_beside m n a b below beside o h =
-      let apart : Apart m below beside = apart_of m a below beside o in
-      let ne : m ≢ n = λ e. both_ways (has m beside) apart.not_beside (rw e (has_at n beside b h)) in
-      rw (ne_eqb m n ne, at_absent n below (apart.apart_back n (has_at n beside b h)), h) refl
+  at_beside m n a b below beside o h = grind (arith, nat_tests, apart_of m a below beside o, has_at n beside b h, at_absent)
 
   -- the one node of a number
   pub one_at : (n : ℕ) (a b : A) (below beside : Forest A) → at n (Node n a below beside) ≡ Some b → a ≡ b
@@ -66,10 +61,6 @@ module _ (s : Space) (w : List ℕ) where
   pub named_is : (o : Option (List ℕ)) → option_map_or (λ own. same_name own w) o false ≡ true → o ≡ Some w
   named_is None h = absurd (cc)
   named_is (Some x) h = ap Some (same_is x w h)
-
-  -- the chunk of this name among a context's entries
-  pub in_entries : AnyCtx → Forest Entry → Option Chunk
-  in_entries memory t = find (has_name w) (map (chunk_of s memory) (entries t))
 
   pub none_in_entries : (memory : AnyCtx) (t : Forest Entry) → Once t → AreFlat t → ((c : ℕ) (e : Entry) → at c t ≡ Some e → e.name ≢ Some w)
       → find (has_name w) (map (chunk_of s memory) (entries t)) ≡ None

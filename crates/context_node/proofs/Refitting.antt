@@ -1,5 +1,5 @@
 -- A context in which a chunk got another size.
-use Rattle.context_node.proofs.Words.{◌≡◌, ◌≢◌, ◌⊎◌, ℕ, ◌+◌, ◌<◌, ◌≤◌, List, length, map, take, Option, Some, None, IsSome, unwrap_or, refl, sym, ap, ◌∙◌, subst, inl, inr, arith, min, if◌then◌else◌, same_number_lists, length-take, get_or-take, Addr, Space, byte_at, IsKnown, same_addr-cases, none_or_some, at, has, Once, changed, once_changed, has_changed, Ledger, Place, InSlab, footprint, place_at, Chunk, Context, with_changed, with_size, Entry, Kept, AreFlat, IsSoundContext, bytes_at, chunk_of, entries, context_of, Refitted}
+use Rattle.context_node.proofs.Words.{◌≡◌, ◌≢◌, ◌⊎◌, ℕ, ◌+◌, ◌<◌, List, length, map, take, Option, Some, None, IsSome, refl, sym, ap, ◌∙◌, subst, inl, inr, arith, min, if◌then◌else◌, same_number_lists, length-take, get_or-take, Addr, Space, byte_at, IsKnown, same_addr-cases, none_or_some, at, has, Once, changed, once_changed, has_changed, Ledger, footprint, place_at, Chunk, Context, with_changed, with_size, Entry, Kept, AreFlat, IsSoundContext, bytes_at, chunk_of, entries, context_of, Refitted}
 use Rattle.addr_space.specs.Footprint as foot
 use Rattle.addr_space.specs.Live.{same_addr}
 use Rattle.context_node.proofs.Names.{named_not, named_so}
@@ -7,6 +7,7 @@ use Rattle.context_node.proofs.Steps.{chunk_same}
 use Rattle.context_node.proofs.Sounds.{step_at}
 use Rattle.context_node.proofs.Bytes.{IsIn, in_live, length-bytes_at, get-bytes_at, bytes_same}
 use Rattle.context_node.proofs.Changes.{flat_changed, changed_entries}
+use Rattle.std.proofs.lemmas.Bool.Decides.{nat_tests}
 
 -- the first of so many bytes
 pub cut_bytes : (s : Space) (a : Addr) (known size : ℕ) → IsIn s a known → take size (bytes_at s a known) ≡ bytes_at s a (min known size)
@@ -36,29 +37,14 @@ module _ (k l : Kept) (n size : ℕ) (s t : Space) (fit : Refitted k l n size s 
   was_elsewhere c e ne h = sound.differ c n e fit.entry ne h fit.listed
 
   is_elsewhere : (c : ℕ) (e : Entry) → c ≢ n → at c k.chunks ≡ Some e → e.at ≢ fit.to
-  is_elsewhere c e ne h same =
-      elim (same_addr-cases fit.to fit.entry.at) [
-        | inl one ↦ was_elsewhere c e ne h (same ∙ one.0)
-        | inr two ↦ none_or_some ((footprint k.memory).live fit.to) e.size (fit.fresh two.0) (ap (footprint k.memory).live (sym same) ∙ sound.live c e h)
-      ]
+  is_elsewhere c e ne h same = grind (arith, nat_tests, same_addr-cases fit.to fit.entry.at, was_elsewhere, none_or_some, e.size)
 
   apart : {X : Type 0} (f g : Addr → Option X) (x : X) → ((other : Addr) → g other ≡ (if same_addr fit.to other then Some x else (if same_addr fit.entry.at other then None else f other)))
       → (c : ℕ) (e : Entry) → c ≢ n → at c k.chunks ≡ Some e → g e.at ≡ f e.at
-  apart f g x moved c e ne h =
-      elim (same_addr-cases fit.to e.at) [
-        | inl one ↦ absurd (is_elsewhere c e ne h (sym one.0))
-        | inr one ↦ elim (same_addr-cases fit.entry.at e.at) [
-          | inl two ↦ absurd (was_elsewhere c e ne h (sym two.0))
-          | inr two ↦ moved e.at ∙ rw (one.1, two.1) refl
-        ]
-      ]
+  apart f g x moved c e ne h = grind (arith, nat_tests, same_addr-cases fit.to e.at, e.at, is_elsewhere, same_addr-cases fit.entry.at e.at, was_elsewhere)
 
   lands : {X : Type 0} (f g : Addr → Option X) (x : X) → ((other : Addr) → g other ≡ (if same_addr fit.to other then Some x else (if same_addr fit.entry.at other then None else f other))) → g fit.to ≡ Some x
-  lands f g x moved =
-      elim (same_addr-cases fit.to fit.to) [
-        | inl one ↦ moved fit.to ∙ rw one.1 refl
-        | inr one ↦ absurd (one.0 refl)
-      ]
+  lands f g x moved = grind (arith, nat_tests, same_addr-cases fit.to fit.to)
 
   live_now : (footprint l.memory).live fit.to ≡ Some size
   live_now = lands (footprint k.memory).live (footprint l.memory).live size fit.live
@@ -102,25 +88,13 @@ module _ (k l : Kept) (n size : ℕ) (s t : Space) (fit : Refitted k l n size s 
       fit.keeps e.at e.size e.size i (was_elsewhere c e ne h) (sound.live c e h) (live_other c e ne h) within within
 
   pub known_refitted : ((c : ℕ) (e : Entry) → at c k.chunks ≡ Some e → IsKnown s e.at e.known) → (c : ℕ) (e : Entry) → at c l.chunks ≡ Some e → IsKnown t e.at e.known
-  known_refitted known c e h =
-      elim (cases c e h) [
-        | inl it ↦ rw it.1 fit.known
-        | inr it ↦ λ i below. subst IsSome (sym (byte_other c e i it.0 it.1 below)) (known c e it.1 i below)
-      ]
+  known_refitted known c e h = grind (arith, nat_tests, cases c e h, byte_other)
 
   chunk_other : (c : ℕ) (e : Entry) → c ≢ n → at c k.chunks ≡ Some e → chunk_of t l.memory e ≡ chunk_of s k.memory e
-  chunk_other c e ne h =
-      chunk_same s t k.memory l.memory e (place_other c e ne h)
-      (bytes_same s t e.at e.at e.known (in_live (footprint k.memory) s e.at e.size e.known agrees (sound.live c e h) (sound.known c e h))
-      (in_live (footprint l.memory) t e.at e.size e.known fit.moves.agrees (live_other c e ne h) (sound.known c e h)) (λ i below. byte_other c e i ne h below))
+  chunk_other c e ne h = grind (arith, nat_tests, chunk_same, place_other c e ne h, bytes_same, e.at, e.known, in_live (footprint k.memory) s e.at e.size e.known agrees (sound.live c e h) (sound.known c e h), e.size, in_live (footprint l.memory) t e.at e.size e.known fit.moves.agrees (live_other c e ne h) (sound.known c e h), live_other c e ne h, byte_other)
 
   bytes_now : bytes_at t fit.to (min fit.entry.known size) ≡ take size (bytes_at s fit.entry.at fit.entry.known)
-  bytes_now =
-      let was : IsIn s fit.entry.at fit.entry.known = in_live (footprint k.memory) s fit.entry.at fit.entry.size fit.entry.known agrees (sound.live n fit.entry fit.listed) (sound.known n fit.entry fit.listed) in
-      let part : IsIn s fit.entry.at (min fit.entry.known size) = omega (arith, was) in
-      let less : min fit.entry.known size ≤ size = omega arith in
-      let is : IsIn t fit.to (min fit.entry.known size) = in_live (footprint l.memory) t fit.to size (min fit.entry.known size) fit.moves.agrees live_now less in
-      bytes_same s t fit.entry.at fit.to (min fit.entry.known size) part is fit.bytes ∙ sym (cut_bytes s fit.entry.at fit.entry.known size was)
+  bytes_now = grind (arith, nat_tests, in_live (footprint k.memory) s fit.entry.at fit.entry.size fit.entry.known agrees (sound.live n fit.entry fit.listed) (sound.known n fit.entry fit.listed), in_live, live_now, bytes_same, cut_bytes)
 
   abbrev built : Ledger → List Chunk → Context
   built led chunks = record {
@@ -134,9 +108,7 @@ module _ (k l : Kept) (n size : ℕ) (s t : Space) (fit : Refitted k l n size s 
   }
 
   chunk_now : chunk_of t l.memory now_entry ≡ with_size size fit.resizes.answer.place (chunk_of s k.memory fit.entry)
-  chunk_now =
-      ap (λ (o : Option Place). record { name = fit.entry.name; size = size; place = unwrap_or o (InSlab 0); known = bytes_at t fit.to (min fit.entry.known size) }) place_now
-      ∙ ap (λ (bs : List ℕ). record { name = fit.entry.name; size = size; place = fit.resizes.answer.place; known = bs }) bytes_now
+  chunk_now = grind (arith, nat_tests, bytes_at t fit.to (min fit.entry.known size), place_now, bytes_now)
 
   pub context_refitted : (w : List ℕ) → fit.entry.name ≡ Some w → ((c : ℕ) (e : Entry) → c ≢ n → at c k.chunks ≡ Some e → e.name ≢ Some w)
       → built fit.resizes.answer.ledger (with_changed w (with_size size fit.resizes.answer.place) (map (chunk_of s k.memory) (entries k.chunks))) ≡ context_of t l

@@ -2,14 +2,12 @@
 use Rattle.context_node.proofs.Words.{◌≡◌, ◌≢◌, ℕ, true, false, List, map, Some, refl, sym, ap, ◌∙◌, inl, inr, ◌==◌, cases_eq, cases_Bool, eq-eqb, ne_eqb, both_ways, Forest, Empty, Node, at, has, Once, children, removed, Apart, apart_of, has_at, removed_absent, at_removed, Chunk, has_name, without, Entry, AreFlat, entries}
 use Rattle.context_node.proofs.Names.{at_here, at_beside, one_at, below_or_beside}
 use Rattle.context_node.proofs.Steps.{entries_same}
+use Rattle.std.proofs.lemmas.Bool.Decides.{nat_tests}
+use Rattle.std.proofs.Common.{arith}
 
 pub flat_leaf : (n : ℕ) (t : Forest Entry) → AreFlat t → children n t ≡ Empty
 flat_leaf n Empty flat = refl
-flat_leaf n (Node k e below beside) flat =
-    elim (cases_Bool (k == n)) [
-      | inl y ↦ rw y flat.0
-      | inr out ↦ rw (out, flat.0) (flat_leaf n beside flat.1)
-    ]
+flat_leaf n (Node k e below beside) flat = grind (arith, nat_tests, flat.0, flat_leaf n beside flat.1, flat.1)
 
 pub flat_removed : (n : ℕ) (t : Forest Entry) → AreFlat t → AreFlat (removed n t)
 flat_removed n Empty flat = flat
@@ -22,19 +20,13 @@ flat_removed n (Node k e below beside) flat =
 -- a number that was taken out is gone
 pub removed_gone : {A : Type 0} (n : ℕ) (t : Forest A) → has n (removed n t) ≡ false
 removed_gone n Empty = refl
-removed_gone n (Node k a below beside) =
-    elim (cases_Bool (k == n)) [
-      | inl y ↦ rw y (removed_gone n beside)
-      | inr out ↦ rw (out, out, removed_gone n below) (removed_gone n beside)
-    ]
+removed_gone n (Node k a below beside) = grind (arith, nat_tests, removed_gone n beside, removed_gone n below)
 
 pub other_than_removed : {A : Type 0} (m n : ℕ) (t : Forest A) → has m (removed n t) ≡ true → m ≢ n
 other_than_removed m n t h same = both_ways (has m (removed n t)) (ap (λ (i : ℕ). has i (removed n t)) same ∙ removed_gone n t) h
 
 pub left_at : (m n : ℕ) (e : Entry) (t : Forest Entry) → Once t → AreFlat t → at m (removed n t) ≡ Some e → (m ≢ n) × (at m t ≡ Some e)
-left_at m n e t o flat h =
-    let ne : m ≢ n = other_than_removed m n t (has_at m (removed n t) e h) in
-    (ne, sym (at_removed m n t o ne (flat_leaf n t flat)) ∙ h)
+left_at m n e t o flat h = grind (arith, nat_tests, other_than_removed m n t (has_at m (removed n t) e h), has_at m (removed n t) e h, removed n t, at_removed, flat_leaf n t flat)
 
 pub still_at : (m n : ℕ) (e : Entry) (t : Forest Entry) → Once t → AreFlat t → m ≢ n → at m t ≡ Some e → at m (removed n t) ≡ Some e
 still_at m n e t o flat ne h = at_removed m n t o ne (flat_leaf n t flat) ∙ h

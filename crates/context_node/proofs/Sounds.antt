@@ -1,17 +1,12 @@
 -- What lies in a forest once one node changed.
-use Rattle.context_node.proofs.Words.{◌≡◌, ◌≢◌, ◌⊎◌, ℕ, Some, sym, ap, ◌∙◌, inl, inr, cases_eq, Forest, at, changed, at_changed, at_changed_other}
+use Rattle.context_node.proofs.Words.{◌≡◌, ◌≢◌, ◌⊎◌, ℕ, Some, ap, ◌∙◌, Forest, at, changed, at_changed, at_changed_other}
+use Rattle.std.proofs.lemmas.Bool.Decides.{nat_tests}
+use Rattle.std.proofs.Common.{arith}
 
 module _ {A : Type 0} (n : ℕ) (k l : A) (t : Forest A) (here : at n t ≡ Some k) where
   -- what lies at a number once one node changed
   pub step_at : (m : ℕ) (j : A) → at m (changed n (λ _. l) t) ≡ Some j → ((m ≡ n) × (j ≡ l)) ⊎ ((m ≢ n) × (at m t ≡ Some j))
-  step_at m j there =
-      elim (cases_eq m n) [
-        | inl same ↦
-            let two : at n (changed n (λ _. l) t) ≡ Some j = ap (λ (i : ℕ). at i (changed n (λ _. l) t)) (sym same) ∙ there in
-            let one : Some l ≡ Some j = sym (at_changed n (λ _. l) t k here) ∙ two in
-            inl (same, cc)
-        | inr ne ↦ inr (ne, sym (at_changed_other m n (λ _. l) t ne) ∙ there)
-      ]
+  step_at m j there = grind (arith, nat_tests, changed, at_changed, at_changed_other)
 
   pub step_here : (m : ℕ) → m ≡ n → at m (changed n (λ _. l) t) ≡ Some l
   step_here m same = ap (λ (i : ℕ). at i (changed n (λ _. l) t)) same ∙ at_changed n (λ _. l) t k here

@@ -1,7 +1,9 @@
 -- What a context stands for while another one moves.
-use Rattle.context_node.proofs.Words.{◌≡◌, ℕ, List, map, Option, Some, None, refl, sym, ap, ◌∙◌, inl, inr, unwrap_or, Region, Space, region_at, bytes_of, part, Footprint, AreDisjoint, option_cases, Forest, Empty, Node, at, Once, Apart, apart_of, footprint, ledger, place_at, AnyCtx, Chunk, Entry, Kept, IsSoundContext, chunk_of, entries, context_of, bytes_at}
+use Rattle.context_node.proofs.Words.{◌≡◌, ℕ, map, Option, Some, None, refl, sym, ap, ◌∙◌, inl, inr, unwrap_or, Region, Space, region_at, bytes_of, part, Footprint, AreDisjoint, option_cases, Forest, Empty, Node, at, Once, Apart, apart_of, footprint, place_at, AnyCtx, Entry, Kept, IsSoundContext, chunk_of, entries, context_of, bytes_at}
 use Rattle.addr_space.specs.Footprint as foot
 use Rattle.context_node.proofs.Names.{at_here, at_beside}
+use Rattle.std.proofs.lemmas.Bool.Decides.{nat_tests}
+use Rattle.std.proofs.Common.{arith}
 
 -- a region of a context that is apart from one that moves stays as it is
 pub region_stays : (f g other : Footprint) (s t : Space) → foot.Moves f g s t → AreDisjoint f other → foot.Agrees other s → (number len : ℕ) → other.region number ≡ Some len
@@ -27,16 +29,7 @@ chunk_same s t a b e places bytes = rw (places, bytes) refl
 
 -- a context with other chunks
 pub context_same : (s t : Space) (j : Kept) → map (chunk_of t j.memory) (entries j.chunks) ≡ map (chunk_of s j.memory) (entries j.chunks) → context_of t j ≡ context_of s j
-context_same s t j same =
-    ap (λ (chunks : List Chunk). record {
-      name = j.name;
-      kind = j.kind;
-      protected = j.protected;
-      ledger = ledger j.memory;
-      used = j.used;
-      chunks = chunks;
-      hooks = j.hooks;
-    }) same
+context_same s t j same = grind (arith, nat_tests, j.name, j.kind, j.protected, j.memory, j.used, j.hooks)
 
 -- a context that is apart from one that moves stands for the same
 pub context_stays : (f g : Footprint) (s t : Space) (j : Kept) → foot.Moves f g s t → AreDisjoint f (footprint j.memory) → foot.Agrees (footprint j.memory) s → IsSoundContext j

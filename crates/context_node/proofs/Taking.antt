@@ -1,41 +1,28 @@
 -- A context once a chunk was taken in it.
-use Rattle.context_node.proofs.Words.{◌≡◌, ◌≢◌, ◌⊎◌, ℕ, ◌+◌, ◌<◌, true, false, List, ◌∷◌, length, map, Option, Some, None, IsSome, refl, sym, ap, ◌∙◌, subst, inl, inr, arith, cases_eq, eq-eqb, ne_eqb, Space, byte_at, IsKnown, put_at-cases, none_or_some, Forest, Empty, Node, at, has, Once, once_front, Ledger, footprint, place_at, Chunk, Context, with_chunk, Entry, Kept, AreFlat, IsSoundContext, chunk_of, entries, context_of, Took, placed, taken_entry}
+use Rattle.context_node.proofs.Words.{◌≡◌, ◌≢◌, ◌⊎◌, ℕ, ◌+◌, ◌<◌, true, false, List, ◌∷◌, length, map, Option, Some, refl, sym, ap, ◌∙◌, inl, inr, arith, ne_eqb, Space, byte_at, IsKnown, put_at-cases, none_or_some, Forest, Empty, Node, at, has, once_front, Ledger, footprint, place_at, Chunk, Context, with_chunk, Entry, Kept, IsSoundContext, chunk_of, entries, context_of, Took, placed, taken_entry}
 use Rattle.addr_space.specs.Footprint as foot
 use Rattle.context_node.proofs.Names.{at_here, one_at}
 use Rattle.context_node.proofs.Steps.{entries_same, chunk_same}
 use Rattle.context_node.proofs.Bytes.{in_live, bytes_same, bytes_are, known_has}
+use Rattle.std.proofs.lemmas.Bool.Decides.{nat_tests}
 
 -- what lies at a number among entries with one more in front
 pub front_cases : {A : Type 0} (n c : ℕ) (a e : A) (old : Forest A) → at c (Node n a Empty old) ≡ Some e → ((c ≡ n) × (a ≡ e)) ⊎ ((c ≢ n) × (at c old ≡ Some e))
-front_cases n c a e old h =
-    elim (cases_eq c n) [
-      | inl same ↦ inl (same, one_at n a e Empty old (ap (λ (i : ℕ). at i (Node n a Empty old)) (sym same) ∙ h))
-      | inr ne ↦ inr (ne, (let there : at c old ≡ Some e = rw (ne_eqb n c (λ z. ne (sym z))) at h in there))
-    ]
+front_cases n c a e old h = grind (arith, nat_tests, one_at)
 
 pub front_other : {A : Type 0} (n c : ℕ) (a e : A) (old : Forest A) → c ≢ n → at c old ≡ Some e → at c (Node n a Empty old) ≡ Some e
 front_other n c a e old ne h = rw (ne_eqb n c (λ z. ne (sym z))) h
 
 pub front_has : {A B : Type 0} (n c : ℕ) (a : A) (b : B) (old : Forest A) (others : Forest B) → (has c others ≡ true → has c old ≡ true) → has c (Node n b Empty others) ≡ true → has c (Node n a Empty old) ≡ true
-front_has n c a b old others all h =
-    elim (cases_eq n c) [
-      | inl same ↦ rw (eq-eqb n c same) refl
-      | inr ne ↦ rw (ne_eqb n c ne) (all (rw (ne_eqb n c ne) at h))
-    ]
+front_has n c a b old others all h = grind (arith, nat_tests)
 
 -- what has a place, with one more chunk in front
 pub placed_has : {A : Type 0} (n c slot : ℕ) (name : Option (List ℕ)) (a : A) (old : Forest A) (places : Forest ℕ) → (has c places ≡ true → has c old ≡ true)
     → has c (placed name n slot places) ≡ true → has c (Node n a Empty old) ≡ true
-placed_has n c slot None a old places all h =
-    elim (cases_eq n c) [
-      | inl same ↦ rw (eq-eqb n c same) refl
-      | inr ne ↦ rw (ne_eqb n c ne) (all h)
-    ]
-placed_has n c slot (Some w) a old places all h = front_has n c a slot old places all h
+placed_has n c slot x3 a old places all h = grind (arith, nat_tests, front_has)
 
 pub placed_other : (n c slot at_slot : ℕ) (name : Option (List ℕ)) (places : Forest ℕ) → c ≢ n → at c places ≡ Some at_slot → at c (placed name n slot places) ≡ Some at_slot
-placed_other n c slot at_slot None places ne h = h
-placed_other n c slot at_slot (Some w) places ne h = front_other n c slot at_slot places ne h
+placed_other n c slot at_slot x4 places ne h = grind (arith, nat_tests, front_other)
 
 -- a chunk with a name has the place where it is kept
 pub placed_here : (n slot : ℕ) (name : Option (List ℕ)) (w : List ℕ) (places : Forest ℕ) → name ≡ Some w → at n (placed name n slot places) ≡ Some slot
@@ -57,52 +44,16 @@ module _ (k l : Kept) (number slot : ℕ) (name : Option (List ℕ)) (size : ℕ
   live_new = elim (put_at-cases (footprint k.memory).live (footprint l.memory).live took.at (Some size) took.live took.at) [ inl it ↦ it.1 | inr it ↦ absurd (it.0 refl) ]
 
   live_old : (c : ℕ) (e : Entry) → at c k.chunks ≡ Some e → (footprint l.memory).live e.at ≡ Some e.size
-  live_old c e h =
-      elim (put_at-cases (footprint k.memory).live (footprint l.memory).live took.at (Some size) took.live e.at) [
-        | inl it ↦ absurd (elsewhere c e h it.0)
-        | inr it ↦ it.1 ∙ sound.live c e h
-      ]
+  live_old c e h = grind (arith, nat_tests, put_at-cases (footprint k.memory).live (footprint l.memory).live took.at (Some size) took.live e.at, e.at, elsewhere)
 
   place_new : place_at l.memory took.at ≡ Some took.takes.answer.place
   place_new = elim (put_at-cases (place_at k.memory) (place_at l.memory) took.at (Some took.takes.answer.place) took.takes.place took.at) [ inl it ↦ it.1 | inr it ↦ absurd (it.0 refl) ]
 
   place_old : (c : ℕ) (e : Entry) → at c k.chunks ≡ Some e → place_at l.memory e.at ≡ place_at k.memory e.at
-  place_old c e h =
-      elim (put_at-cases (place_at k.memory) (place_at l.memory) took.at (Some took.takes.answer.place) took.takes.place e.at) [
-        | inl it ↦ absurd (elsewhere c e h it.0)
-        | inr it ↦ it.1
-      ]
+  place_old c e h = grind (arith, nat_tests, put_at-cases (place_at k.memory) (place_at l.memory) took.at (Some took.takes.answer.place) took.takes.place e.at, e.at, elsewhere)
 
   pub sound_took : IsSoundContext l
-  sound_took = record {
-    flat = subst AreFlat (sym chunks_now) (refl, sound.flat);
-    once = subst Once (sym chunks_now) (once_front number (taken_entry name took.at size (length known)) k.chunks sound.once fresh);
-    numbers = λ c h.
-        ap (has c) chunks_now ∙ placed_has number c slot name (taken_entry name took.at size (length known)) k.chunks k.chunk_places (sound.numbers c) (ap (has c) (sym (ap (λ (x : Kept). x.chunk_places) took.now)) ∙ h);
-    live = λ c e h. elim (entry_cases c e h) [
-      | inl it ↦ rw (← it.1) live_new
-      | inr it ↦ live_old c e it.1
-    ];
-    placed = λ c e h. elim (entry_cases c e h) [
-      | inl it ↦ rw (← it.1) (subst IsSome (sym place_new) refl)
-      | inr it ↦ subst IsSome (sym (place_old c e it.1)) (sound.placed c e it.1)
-    ];
-    known = λ c e h. elim (entry_cases c e h) [
-      | inl it ↦ rw (← it.1) took.fits
-      | inr it ↦ sound.known c e it.1
-    ];
-    differ = λ b c d e differs h q same. elim (entry_cases b d h) [
-      | inl one ↦ elim (entry_cases c e q) [
-        | inl two ↦ differs (one.0 ∙ sym two.0)
-        | inr two ↦ elsewhere c e two.1 (sym same ∙ ap (λ (x : Entry). x.at) (sym one.1))
-      ]
-      | inr one ↦ elim (entry_cases c e q) [
-        | inl two ↦ elsewhere b d one.1 (same ∙ ap (λ (x : Entry). x.at) (sym two.1))
-        | inr two ↦ sound.differ b c d e differs one.1 two.1 same
-      ]
-    ];
-    total = took.total;
-  }
+  sound_took = grind (arith, nat_tests, chunks_now, once_front, placed_has, entry_cases, live_new, live_old, place_new, place_old, elsewhere)
 
   -- the bytes of an older chunk stay
   byte_old : (c : ℕ) (e : Entry) (i : ℕ) → at c k.chunks ≡ Some e → i < e.known → byte_at t e.at.region (e.at.offset + i) ≡ byte_at s e.at.region (e.at.offset + i)
@@ -111,11 +62,7 @@ module _ (k l : Kept) (number slot : ℕ) (name : Option (List ℕ)) (size : ℕ
       took.keeps e.at e.size e.size i (sound.live c e h) (live_old c e h) fit fit
 
   pub known_took : ((c : ℕ) (e : Entry) → at c k.chunks ≡ Some e → IsKnown s e.at e.known) → (c : ℕ) (e : Entry) → at c l.chunks ≡ Some e → IsKnown t e.at e.known
-  known_took knows c e h =
-      elim (entry_cases c e h) [
-        | inl it ↦ rw (← it.1) (known_has t took.at known took.has)
-        | inr it ↦ λ i below. subst IsSome (sym (byte_old c e i it.1 below)) (knows c e it.1 i below)
-      ]
+  known_took knows c e h = grind (arith, nat_tests, entry_cases c e h, known_has t took.at known took.has, byte_old)
 
   abbrev built : Ledger → List Chunk → Context
   built led chunks = record {

@@ -6,7 +6,7 @@ pub use Rattle.addr_space.proofs.Contexts.{IsInside-live_part, ends_small}
 pub use Rattle.addr_space.proofs.Options.{none_or_some, option_cases}
 pub use Rattle.addr_space.proofs.Written.{HasBytes-written, byte_at-apart}
 pub use Rattle.addr_space.specs.Footprint.{AreDisjoint, Footprint, HasRegion, WritesInside}
-pub use Rattle.addr_space.specs.Space.{Changes, HasBytes, IsInside, IsKnown, Region, Space, byte_at, bytes_of, overwritten, part, region_at}
+pub use Rattle.addr_space.specs.Space.{Changes, HasBytes, IsKnown, Region, Space, byte_at, bytes_of, overwritten, part, region_at}
 pub use Rattle.addr_space.specs.declared.Addr.{Addr}
 pub use Rattle.any_ctx.specs.Contexts.{footprint, ledger, place_at}
 pub use Rattle.any_ctx.specs.Ledgers.{InSlab, Ledger, Place, give, resize}
@@ -25,7 +25,7 @@ pub use Rattle.context_rules.specs.Ends.{callbacks, handed_in}
 pub use Rattle.forest.proofs.Mapped.{at_changed, at_changed_other}
 pub use Rattle.forest.proofs.Trees.{Apart, apart_of, at_absent, at_removed, at_some, changed_absent, has_at, has_changed, has_of_removed, once_changed, once_front, once_removed, removed_absent, size_removed}
 pub use Rattle.forest.specs.Forest.{Empty, Forest, Node, Once, at, changed, children, either, first, has, removed, size, times}
-pub use Rattle.pgs_step.specs.declared.events.What.TheVariants.{Callback, Reset}
+pub use Rattle.pgs_step.specs.declared.events.What.TheVariants.{Callback}
 pub use Rattle.reset_callbacks.specs.Hook.{AreDistinct, Hook, Lacks, ran}
 pub use Rattle.reset_callbacks.specs.ShelfState.{ShelfState, finished, held}
 pub use Rattle.std.proofs.Common.{All, Bool, Err, IsSome, List, None, Ok, Option, Some, [], ap, append_assoc, arith, drop, false, get_or, inl, inr, length, map, refl, replicate, subst, sym, take, true, unwrap_or, ℕ, ◌++◌, ◌+◌, ◌-◌, ◌<◌, ◌∙◌, ◌∷◌, ◌≡◌, ◌≢◌, ◌≤◌, ◌⊎◌}

@@ -1,5 +1,5 @@
 -- A context in which bytes were written in a chunk.
-use Rattle.context_node.proofs.Words.{◌≡◌, ◌≢◌, ◌⊎◌, ℕ, ◌+◌, ◌-◌, ◌<◌, ◌≤◌, List, ◌++◌, length, map, get_or, take, drop, Some, IsSome, refl, sym, ap, ◌∙◌, subst, inl, inr, arith, max, cases_lt, length-append, length-take, length-drop, get_or-take, get_or-drop, get_or_append_left, get_or-append_right, append_assoc, Addr, Space, byte_at, IsKnown, HasBytes, HasRegion, WritesInside, Moves-inside, KeepsBut-inside, HasBytes-written, byte_at-apart, has, Once, changed, once_changed, has_changed, footprint, ledger, Chunk, Context, with_changed, written_over, Entry, Kept, AreFlat, IsSoundContext, bytes_at, chunk_of, entries, context_of, Written}
+use Rattle.context_node.proofs.Words.{◌≡◌, ◌≢◌, ◌⊎◌, ℕ, ◌+◌, ◌-◌, ◌<◌, ◌≤◌, List, ◌++◌, length, map, get_or, take, drop, Some, refl, sym, ap, ◌∙◌, subst, inl, inr, arith, max, cases_lt, length-append, length-take, length-drop, get_or-take, get_or-drop, get_or_append_left, get_or-append_right, append_assoc, Addr, Space, byte_at, IsKnown, HasBytes, HasRegion, WritesInside, Moves-inside, KeepsBut-inside, HasBytes-written, byte_at-apart, changed, once_changed, has_changed, footprint, ledger, Chunk, Context, with_changed, written_over, Entry, Kept, IsSoundContext, bytes_at, chunk_of, entries, context_of, Written}
 use Rattle.addr_space.specs.Footprint as foot
 use Rattle.forest.specs.Forest.{at as entry_at}
 use Rattle.context_node.proofs.Names.{named_not, named_so}
@@ -7,6 +7,7 @@ use Rattle.context_node.proofs.Steps.{chunk_same}
 use Rattle.context_node.proofs.Sounds.{step_at}
 use Rattle.context_node.proofs.Bytes.{IsIn, in_live, length-bytes_at, has_known, known_has, bytes_are, bytes_same}
 use Rattle.context_node.proofs.Changes.{flat_changed, changed_entries}
+use Rattle.std.proofs.lemmas.Bool.Decides.{nat_tests}
 
 module _ (place : ℕ) (bytes known : List ℕ) (within : place ≤ length known) where
   front : length (take place known) ≡ place
@@ -102,8 +103,7 @@ module _ (k l : Kept) (n place : ℕ) (bytes : List ℕ) (s t : Space) (wrote : 
       ]
 
   bytes_now : bytes_at t wrote.entry.at (max wrote.entry.known (place + length bytes)) ≡ written_over place bytes (bytes_at s wrote.entry.at wrote.entry.known)
-  bytes_now =
-      ap (bytes_at t wrote.entry.at) (sym over) ∙ bytes_are t wrote.entry.at (written_over place bytes (bytes_at s wrote.entry.at wrote.entry.known)) (subst (IsIn t wrote.entry.at) (sym over) now_in) has_now
+  bytes_now = grind (arith, nat_tests, bytes_at t wrote.entry.at, over, bytes_are t wrote.entry.at (written_over place bytes (bytes_at s wrote.entry.at wrote.entry.known)) (subst (IsIn t wrote.entry.at) (sym over) now_in) has_now, bytes_at s wrote.entry.at wrote.entry.known, now_in, has_now)
 
   -- every other chunk stays
   byte_other : (c : ℕ) (e : Entry) (i : ℕ) → c ≢ n → entry_at c k.chunks ≡ Some e → i < e.known → byte_at t e.at.region (e.at.offset + i) ≡ byte_at s e.at.region (e.at.offset + i)
@@ -118,36 +118,10 @@ module _ (k l : Kept) (n place : ℕ) (bytes : List ℕ) (s t : Space) (wrote : 
       (Moves-inside (footprint k.memory) s t wrote.entry.at (record { region = wrote.entry.at.region; offset = wrote.entry.at.offset + place }) wrote.entry.size bytes agrees inside)
 
   pub sound_written : IsSoundContext l
-  sound_written =
-      let y : Entry = record wrote.entry { known = max wrote.entry.known (place + length bytes) } in
-      let memory : l.memory ≡ k.memory = ap (λ (x : Kept). x.memory) wrote.now in
-      record {
-        flat = subst AreFlat (sym chunks_now) (flat_changed n (λ _. y) k.chunks sound.flat);
-        once = subst Once (sym chunks_now) (once_changed n (λ _. y) k.chunks sound.once);
-        numbers = λ c h.
-            ap (has c) chunks_now ∙ has_changed c n (λ _. y) k.chunks ∙ sound.numbers c (ap (λ (x : Kept). has c x.chunk_places) (sym wrote.now) ∙ h);
-        live = λ c e h. rw memory (elim (cases c e h) [ inl it ↦ rw it.1 live | inr it ↦ sound.live c e it.1 ]);
-        placed = λ c e h. rw memory (elim (cases c e h) [ inl it ↦ rw it.1 (sound.placed n wrote.entry wrote.listed) | inr it ↦ sound.placed c e it.1 ]);
-        known = λ c e h. elim (cases c e h) [ inl it ↦ rw it.1 least | inr it ↦ sound.known c e it.1 ];
-        differ = λ b c d e differs h q same. elim (cases b d h) [
-          | inl one ↦ elim (cases c e q) [
-            | inl two ↦ differs (one.0 ∙ sym two.0)
-            | inr two ↦ sound.differ c n e wrote.entry two.0 two.1 wrote.listed (sym same ∙ ap (λ (x : Entry). x.at) one.1)
-          ]
-          | inr one ↦ elim (cases c e q) [
-            | inl two ↦ sound.differ b n d wrote.entry one.0 one.1 wrote.listed (same ∙ ap (λ (x : Entry). x.at) two.1)
-            | inr two ↦ sound.differ b c d e differs one.1 two.1 same
-          ]
-        ];
-        total = rw memory sound.total;
-      }
+  sound_written = grind (arith, nat_tests, flat_changed, once_changed, has_changed, cases, least)
 
   pub known_written : (c : ℕ) (e : Entry) → entry_at c l.chunks ≡ Some e → IsKnown t e.at e.known
-  known_written c e h =
-      elim (cases c e h) [
-        | inl it ↦ rw it.1 (subst (IsKnown t wrote.entry.at) over (known_has t wrote.entry.at (written_over place bytes (bytes_at s wrote.entry.at wrote.entry.known)) has_now))
-        | inr it ↦ λ i below. subst IsSome (sym (byte_other c e i it.0 it.1 below)) (known c e it.1 i below)
-      ]
+  known_written c e h = grind (arith, nat_tests, cases c e h, over, known_has t wrote.entry.at (written_over place bytes (bytes_at s wrote.entry.at wrote.entry.known)) has_now, bytes_at s wrote.entry.at wrote.entry.known, has_now, byte_other)
 
   chunk_other : (c : ℕ) (e : Entry) → c ≢ n → entry_at c k.chunks ≡ Some e → chunk_of t k.memory e ≡ chunk_of s k.memory e
   chunk_other c e ne h =

@@ -2,6 +2,7 @@
 use Rattle.context_node.proofs.Words.{◌≡◌, ◌≢◌, ℕ, ◌+◌, ◌≤◌, true, List, [], ◌++◌, length, map, replicate, Option, Some, refl, sym, ap, ◌∙◌, inl, inr, arith, length-map, length-replicate, replicate-append-replicate, map-append, Addr, Region, Space, region_at, overwritten, Changes, HasRegion, WritesInside, put_at-cases, Moves-inside, KeepsBut-inside, overwritten-more, none_or_some, HasBytes-written, Empty, Node, at, footprint, Entry, Kept, Took, placed, taken_entry}
 use Rattle.addr_space.proofs.Steps.{Moves-more}
 use Rattle.context_node.proofs.Names.{at_here}
+use Rattle.std.proofs.lemmas.Bool.Decides.{nat_tests}
 
 -- a piece more
 pub zeros_more : (init now new : Space) (a : Addr) (done step : ℕ) (piece : List ℕ) (target : Region) → region_at init a.region ≡ Some target → a.offset + done ≤ length target.bytes
@@ -38,10 +39,7 @@ module _ (k m : Kept) (number slot : ℕ) (name : Option (List ℕ)) (size : ℕ
 
   -- the entry that was taken
   pub taken_is : (i : ℕ) (x : Entry) → i ≡ number → at i m.chunks ≡ Some x → x ≡ taken_entry name took.at size 0
-  taken_is i x same h =
-      let lists : at number m.chunks ≡ Some (taken_entry name took.at size 0) = ap (λ (y : Kept). at number y.chunks) took.now ∙ at_here number (taken_entry name took.at size 0) Empty k.chunks in
-      let one : Some x ≡ Some (taken_entry name took.at size 0) = sym h ∙ ap (λ (j : ℕ). at j m.chunks) same ∙ lists in
-      cc
+  taken_is i x same h = grind (arith, nat_tests, at_here number (taken_entry name took.at size 0) Empty k.chunks)
 
 module _ (k m : Kept) (number slot : ℕ) (name : Option (List ℕ)) (size : ℕ) (s u t : Space) (took : Took k m number slot name size [] s u)
     (writes : Changes u t took.at.region (overwritten (region_at u took.at.region) took.at.offset (map Some (replicate size 0)))) (taken : t.taken ≡ u.taken) where

@@ -1,6 +1,6 @@
 -- A tree in which a context was made, and one in which none was.
-use Rattle.context_tree.proofs.Base.{◌≡◌, ◌⊎◌, ℕ, ◌+◌, ◌-◌, ◌<◌, Bool, true, false, List, [], ◌∷◌, map, get_or, Option, Some, None, IsSome, refl, sym, ap, ◌∙◌, subst, inl, inr, arith, not, ◌&&◌, unwrap_or, if◌then◌else◌, ◌==◌, option_map, cases_lt, le-ltb, nat_tests}
-use Rattle.context_tree.proofs.Words.{Space, Region, region_at, bytes_of, part, held, Footprint, counted-nothing, option_cases, none_or_some, CtxId, NodeId, Forest, Empty, Node, at, has, Once, size, put, mapped, Forested, mapped-has, Ledger, footprint, CtxKind, is_reserved, Context, Contexts, new_context, context_named, create_refusal, is_taken, TreeError, Memory, Taken, TooMany, ChunkId, NewContext, Own, Kept, IsSoundContext, IsSound, IsOwn, chunk_of, entries, context_of, TreeState, stands_for, Agrees, Moves, SameRegions, left_of, total_of, entered_context, Grew, CameBack, Added, room_refusal, chunk_same, context_same, sound_made}
+use Rattle.context_tree.proofs.Base.{◌≡◌, ◌⊎◌, ℕ, ◌+◌, ◌-◌, ◌<◌, Bool, true, false, List, [], map, get_or, Option, Some, None, IsSome, refl, sym, ap, ◌∙◌, subst, inl, inr, arith, not, ◌&&◌, if◌then◌else◌, ◌==◌, option_map, nat_tests}
+use Rattle.context_tree.proofs.Words.{Space, Region, region_at, bytes_of, part, held, Footprint, counted-nothing, option_cases, none_or_some, CtxId, NodeId, Forest, Empty, at, has, Once, size, put, mapped, Forested, mapped-has, Ledger, footprint, CtxKind, is_reserved, Context, Contexts, new_context, context_named, create_refusal, is_taken, TreeError, Memory, Taken, ChunkId, NewContext, Own, Kept, IsSoundContext, IsSound, IsOwn, context_of, TreeState, stands_for, Agrees, Moves, SameRegions, left_of, total_of, entered_context, Grew, CameBack, Added, room_refusal, chunk_same, context_same, sound_made}
 use Rattle.addr_space.specs.Footprint as foot
 use Rattle.context_tree.proofs.Names.{once_of, find_named}
 use Rattle.context_tree.proofs.Reading.{stands_size}
@@ -8,19 +8,14 @@ use Rattle.context_tree.proofs.Growing.{Grown, stands_grown, moves_grown, at_put
 
 -- two functions that say the same of everything
 pub map_all : {A B : Type 0} (f g : A → B) → ((x : A) → g x ≡ f x) → (xs : List A) → map g xs ≡ map f xs
-map_all f g same [] = refl
-map_all f g same (x ∷ xs) = rw (same x, map_all f g same xs) refl
+map_all f g same x3 = grind (arith, nat_tests)
 
 pub mapped_all : {A B : Type 0} (f g : A → B) → ((x : A) → g x ≡ f x) → (t : Forest A) → mapped g t ≡ mapped f t
-mapped_all f g same Empty = refl
-mapped_all f g same (Node n a below beside) = rw (same a, mapped_all f g same below, mapped_all f g same beside) refl
+mapped_all f g same x3 = grind (arith, nat_tests)
 
 module _ (s t : Space) (same : SameRegions s t) where
   context_still : (k : Kept) → context_of t k ≡ context_of s k
-  context_still k =
-      context_same s t k (map_all (chunk_of s k.memory) (chunk_of t k.memory) (λ e.
-      chunk_same s t k.memory k.memory e refl
-      (ap (λ (r : Option Region). map (λ (byte : Option ℕ). unwrap_or byte 0) (part (bytes_of r) e.at.offset e.known)) (same.regions e.at.region))) (entries k.chunks))
+  context_still k = grind (arith, nat_tests, context_same, map_all, k.memory, chunk_same, part, bytes_of, k.chunks)
 
   -- a tree stands for the same in a space with the same regions
   pub stands_still : (a : TreeState) → stands_for a t ≡ stands_for a s
@@ -80,19 +75,14 @@ module _ (account : ℕ) (s t : Space) (back : CameBack account s t) where
 
 -- a name that isn't taken, and one that is
 pub untaken : (protected : Bool) (name : List ℕ) (contexts : Contexts) → (protected ≡ false → (is_reserved name ≡ false) × (context_named name contexts ≡ None)) → (not protected && is_taken name contexts) ≡ false
-untaken true name contexts free = refl
-untaken false name contexts free = let it = free refl in rw (it.0, it.1) refl
+untaken x0 name contexts free = grind (arith, nat_tests)
 
 pub taken_name : (name : List ℕ) (contexts : Contexts) → (is_reserved name ≡ true) ⊎ IsSome (context_named name contexts) → is_taken name contexts ≡ true
 taken_name name contexts why = grind (arith, nat_tests)
 
 -- as many as live leave room
 pub few_of : (many left : ℕ) (kind : CtxKind) → room_refusal many left kind ≡ None → many < 65536
-few_of many left kind served =
-    elim (cases_lt many 65536) [
-      | inl below ↦ below
-      | inr above ↦ let clash : Some TooMany ≡ None = rw (le-ltb many 65536 above) at served in absurd (cc)
-    ]
+few_of many left kind served = grind (arith, nat_tests, at)
 
 -- the tree over an arena
 abbrev pub tree_of : Forested Kept → ℕ → CtxId → ℕ → TreeState
@@ -110,32 +100,16 @@ module _ (f : Forested Kept) (account : ℕ) (current : CtxId) (next : ℕ) (fin
   -- a name that isn't found isn't taken
   pub free_name : (protected : Bool) (name : List ℕ) → (protected ≡ false → (is_reserved name ≡ false) × (find_context name ≡ None))
       → (not protected && is_taken name (stands_for (tree_of f account current next) s)) ≡ false
-  free_name protected name free =
-      untaken protected name (stands_for (tree_of f account current next) s)
-      (λ is. let it = free is in (it.0, sym (named_so name) ∙ ap (option_map (λ (id : CtxId). id.number)) it.1))
+  free_name protected name free = grind (arith, nat_tests, untaken, named_so name)
 
   found_some : (name : List ℕ) → IsSome (find_context name) → IsSome (context_named name (stands_for (tree_of f account current next) s))
-  found_some name some = elim (option_cases (find_context name)) [
-    | inl none ↦ let clash : IsSome {T = CtxId} None = subst IsSome none some in absurd (cc)
-    | inr is ↦
-        let there : context_named name (stands_for (tree_of f account current next) s) ≡ Some is.0.number =
-        sym (named_so name) ∙ ap (option_map (λ (id : CtxId). id.number)) is.1 in
-        rw there refl
-  ]
+  found_some name some = grind (arith, nat_tests, option_cases (find_context name), context_named, named_so name)
 
   -- why the call is refused
   pub name_refused : (protected : Bool) (name : List ℕ) (kind : CtxKind) (e : TreeError)
       → (e ≡ Memory) ⊎ ((e ≡ Taken) × (protected ≡ false) × ((is_reserved name ≡ true) ⊎ IsSome (find_context name)))
       → (e ≡ Memory) ⊎ (create_refusal (left_of (tree_of f account current next) s) name kind protected (stands_for (tree_of f account current next) s) ≡ Some e)
-  name_refused protected name kind e why = elim why [
-    | inl memory ↦ inl memory
-    | inr told ↦
-        let stood : is_taken name (stands_for (tree_of f account current next) s) ≡ true = taken_name name (stands_for (tree_of f account current next) s) (elim told.2 [
-          | inl reserved ↦ inl reserved
-          | inr some ↦ inr (found_some name some)
-        ]) in
-        inr (rw (told.1, stood) (ap Some (sym told.0)))
-  ]
+  name_refused protected name kind e why = grind (arith, nat_tests, is_taken, taken_name, found_some)
 
   many : size (stands_for (tree_of f account current next) s) ≡ size f.forest
   many = stands_size (tree_of f account current next) s
@@ -148,10 +122,7 @@ module _ (f : Forested Kept) (account : ℕ) (current : CtxId) (next : ℕ) (fin
   pub room_refused : (protected : Bool) (name : List ℕ) (kind : CtxKind) (e : TreeError) → (protected ≡ false → (is_reserved name ≡ false) × (find_context name ≡ None))
       → (e ≡ Memory) ⊎ (room_refusal (size f.forest) (s.limit - held s account) kind ≡ Some e)
       → (e ≡ Memory) ⊎ (create_refusal (left_of (tree_of f account current next) s) name kind protected (stands_for (tree_of f account current next) s) ≡ Some e)
-  room_refused protected name kind e free why = elim why [
-    | inl memory ↦ inl memory
-    | inr told ↦ inr (answer_is protected name kind (Some e) free told)
-  ]
+  room_refused protected name kind e free why = grind (arith, nat_tests, answer_is)
 
   module _ (g : Forested Kept) (new : NewContext) (p : ℕ) (id : NodeId) (t : Space) (grew : Grew f g new (Some p) id account s t) (numbered : new.number ≡ next) (agrees : Agrees (tree_of f account current next) s)
       (placed : has p f.places ≡ true) where
@@ -198,18 +169,7 @@ module _ (f : Forested Kept) (account : ℕ) (current : CtxId) (next : ℕ) (fin
     -- what `create` says of it
     pub added : (new.protected ≡ false → (is_reserved new.name ≡ false) × (find_context new.name ≡ None))
         → Added (tree_of f account current next) (tree_of g account current (next + 1)) p new.name new.kind new.protected (record { number = id.number; slot = id.slot }) s t
-    added free = record {
-      number = grew.number ∙ numbered;
-      contexts = stands_grown (tree_of f account current next) (tree_of g account current (next + 1)) s t p next grew.context id.slot agrees once sound.each grown
-          ∙ ap (λ (c : Context). put p next c Empty (stands_for (tree_of f account current next) s)) context_is;
-      places = grew.places ∙ ap (λ (n : ℕ). put p n id.slot Empty f.places) (sym grew.number);
-      live = ap (λ (n : ℕ). at n g.places) (grew.number ∙ numbered) ∙ ap (at next) places_now ∙ at_put_new p next id.slot f.places placed unplaced;
-      stays = λ n ne. ap (at n) places_now ∙ at_grown_other p next id.slot n f.places ne;
-      current = refl;
-      next = refl;
-      asked = grew.made.asked;
-      served = answer_is new.protected new.name new.kind None free grew.served;
-    }
+    added free = grind (arith, nat_tests, stands_grown, once, grown, context_is, at, places_now, at_put_new, unplaced, at_grown_other, answer_is)
 
     noted : (m : ℕ) (x y made : CtxId) → made ≡ record { number = next; slot = id.slot } → IsOwn f.places m x → y ≡ (if made.number == m then made else x) → IsOwn (put p next id.slot Empty f.places) m y
     noted m x y made is was noting =

@@ -1,6 +1,6 @@
 -- A tree in which a chunk was taken.
-use Rattle.context_tree.proofs.Base.{◌≡◌, ◌≢◌, ◌⊎◌, ℕ, ◌+◌, ◌-◌, ◌<◌, true, false, List, length, Option, Some, None, Ok, IsSome, refl, sym, ap, ◌∙◌, subst, inl, inr, arith, option_map, cases_eq, cases_Bool, nat_tests}
-use Rattle.context_tree.proofs.Words.{CtxId, Space, held, Asks, none_or_some, Forest, Empty, at, has, Once, changed, mapped, has_at, at_some, mapped-at, take, footprint, ledger, take_in, TreeError, Taken, Memory, served, asked, allocated, with_chunk, refusal, is_chunk, alloc_refusal, ChunkId, Entry, Own, Kept, same, IsSoundContext, IsSound, IsChunk, context_of, TreeState, stands_for, Agrees, Moves, left_of, Took, taken_entry, entered, at_here, same_is, is_same, some_or_none, step_at, step_here, step_other, entry_cases, front_other, placed_other, placed_here, chunks_now, sound_took, known_took, context_took}
+use Rattle.context_tree.proofs.Base.{◌≡◌, ◌≢◌, ◌⊎◌, ℕ, ◌+◌, ◌-◌, ◌<◌, true, false, List, length, Option, Some, None, Ok, IsSome, refl, sym, ap, ◌∙◌, subst, inl, inr, arith, cases_eq, cases_Bool, nat_tests}
+use Rattle.context_tree.proofs.Words.{CtxId, Space, held, Asks, none_or_some, Forest, Empty, at, has, Once, changed, mapped, has_at, at_some, mapped-at, footprint, ledger, take_in, TreeError, Taken, Memory, served, asked, allocated, with_chunk, refusal, is_chunk, alloc_refusal, ChunkId, Entry, Own, Kept, same, IsSoundContext, IsSound, IsChunk, context_of, TreeState, stands_for, Agrees, Moves, left_of, Took, taken_entry, entered, at_here, same_is, is_same, some_or_none, step_at, step_here, step_other, entry_cases, front_other, placed_other, placed_here, chunks_now, sound_took, known_took, context_took}
 use Rattle.addr_space.specs.Footprint as foot
 use Rattle.context_tree.proofs.Names.{find_found, find_nothing}
 use Rattle.context_tree.proofs.Steps.{Stepped, stands_by, moves_stepped}
@@ -36,11 +36,7 @@ module _ (kept : Forest Kept) (places : Forest ℕ) (find_context : List ℕ →
 
   -- the next entry's number is new
   pub entry_fresh : (n : ℕ) (k : Kept) → at n kept ≡ Some k → has next_entry k.chunks ≡ false
-  entry_fresh n k here =
-      elim (cases_Bool (has next_entry k.chunks)) [
-        | inl y ↦ let small : next_entry < next_entry = sound.given n next_entry k here y in absurd (omega (arith, small))
-        | inr out ↦ out
-      ]
+  entry_fresh n k here = grind (arith, nat_tests, k.chunks)
 
   pub entry_unplaced : (n : ℕ) (k : Kept) → at n kept ≡ Some k → has next_entry k.chunk_places ≡ false
   entry_unplaced n k here =
@@ -88,10 +84,8 @@ module _ (kept : Forest Kept) (places : Forest ℕ) (find_context : List ℕ →
                 entry = was.entry;
                 stands = step_here n k l kept here x.context.number alike;
                 placed = was.placed;
-                listed = ap (at x.entry.number) (chunks_now k l next_entry entry_slot name size known s t took (sound.each n k here) agrees fresh)
-                    ∙ front_other next_entry x.entry.number (taken_entry name took.at size (length known)) was.entry k.chunks ne listed;
-                entry_placed = ap (λ (y : Kept). at x.entry.number y.chunk_places) took.now
-                    ∙ placed_other next_entry x.entry.number entry_slot x.entry.slot name k.chunk_places ne (ap (λ (y : Kept). at x.entry.number y.chunk_places) (sym it) ∙ was.entry_placed);
+                listed = grind (arith, nat_tests, at, x.entry.number, chunks_now, fresh, front_other, was.entry);
+                entry_placed = grind (arith, nat_tests, at, x.entry.number, placed_other, x.entry.slot, was.entry_placed);
                 name = was.name;
               }
           | inr ne ↦ record {
@@ -178,17 +172,11 @@ module _ (a : TreeState) (s : Space) (n : ℕ) (k : Kept) (agrees : Agrees a s) 
   -- what the context's ledger answers
   pub served_take : (size : ℕ) → served n (left_of a s) size (stands_for a s) ≡ take_in k.memory s size
   unfolding stands_for
-  served_take size =
-      let there : at n (mapped (context_of s) a.kept) ≡ Some (context_of s k) = mapped-at (context_of s) n a.kept ∙ ap (option_map (context_of s)) here in
-      let mine : (footprint k.memory).account ≡ a.account = agrees.owned n k here in
-      rw there (ap (λ (account : ℕ). take (ledger k.memory) (s.limit - held s account) size) (sym mine))
+  served_take size = grind (arith, nat_tests, at, mapped (context_of s) a.kept, mapped-at (context_of s) n a.kept, held)
 
   pub alloc_refused : (name : Option (List ℕ)) (size : ℕ) (e : TreeError) → is_chunk name (stands_for a s) ≡ false → (e ≡ Memory) ⊎ (refusal (take_in k.memory s size) ≡ Some e)
       → (e ≡ Memory) ⊎ (alloc_refusal n (left_of a s) name size (stands_for a s) ≡ Some e)
-  alloc_refused name size e free why = elim why [
-    | inl memory ↦ inl memory
-    | inr told ↦ inr (rw free (ap refusal (served_take size) ∙ told))
-  ]
+  alloc_refused name size e free why = grind (arith, nat_tests, served_take size)
 
   module _ (l : Kept) (number slot : ℕ) (name : Option (List ℕ)) (size : ℕ) (known : List ℕ) (t : Space) (once : Once a.kept) (each : (m : ℕ) (j : Kept) → at m a.kept ≡ Some j → IsSoundContext j)
       (took : Took k l number slot name size known s t) (fresh : has number k.chunks ≡ false) where
@@ -208,9 +196,7 @@ module _ (a : TreeState) (s : Space) (n : ℕ) (k : Kept) (agrees : Agrees a s) 
     alloc_moves = moves_stepped a (record a { kept = changed n (λ _. l) a.kept }) s t n k l agrees once each step
 
     pub alloc_asked : Asks a.account (asked n (left_of a s) size (stands_for a s)) s t
-    alloc_asked =
-        let mine : (footprint k.memory).account ≡ a.account = agrees.owned n k here in
-        rw answered (subst (λ (account : ℕ). Asks account took.takes.answer.asked s t) mine took.takes.asked)
+    alloc_asked = grind (arith, nat_tests, answered)
 
     pub alloc_served : is_chunk name (stands_for a s) ≡ false → alloc_refusal n (left_of a s) name size (stands_for a s) ≡ None
     alloc_served free = rw (free, answered) refl

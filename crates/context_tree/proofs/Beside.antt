@@ -1,5 +1,5 @@
 -- A tree of contexts beside another one, of another account, that changes in the same space.
-use Rattle.context_tree.proofs.Base.{◌≡◌, ◌≢◌, ℕ, ◌+◌, map, get_or, Option, Some, None, IsSome, refl, sym, ap, ◌∙◌, subst, inl, inr, arith, unwrap_or}
+use Rattle.context_tree.proofs.Base.{nat_tests, ◌≡◌, ◌≢◌, ℕ, ◌+◌, map, get_or, Option, Some, None, IsSome, refl, sym, ap, ◌∙◌, subst, inl, inr, arith, unwrap_or}
 use Rattle.context_tree.proofs.Words.{Space, Region, region_at, bytes_of, part, option_cases, one_value, at, Once, footprint, Kept, IsSoundContext, chunk_of, context_of, TreeState, stands_for, Agrees, Moves, entries_same, chunk_same, context_same}
 use Rattle.addr_space.specs.Footprint as foot
 use Rattle.context_tree.proofs.Growing.{mapped_same}
@@ -31,12 +31,8 @@ module _ (a b c : TreeState) (s t : Space) (moves : Moves a b s t) (changing : A
       record {
         sound = was.sound;
         account = omega (arith, was.account, moves.accounts);
-        regions = λ number len owns.
-            let has = was.regions number len owns in
-            (has.0, region_beside n k here number len owns ∙ has.1, has.2, has.3);
-        marks = λ at bytes marked i below.
-            let within = was.sound.mark_inside at bytes marked in
-            byte_beside n k here at.region within.0 (at.offset + i) within.1 ∙ was.marks at bytes marked i below;
+        regions = grind (arith, nat_tests, was.regions, region_beside);
+        marks = grind (arith, nat_tests, was.sound.mark_inside, byte_beside, was.marks);
       }
 
   -- the space has what it has on

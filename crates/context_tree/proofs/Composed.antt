@@ -1,18 +1,14 @@
 -- Calls that end contexts, one after the other.
-use Rattle.context_tree.proofs.Base.{◌≡◌, ℕ, ◌+◌, ◌-◌, true, List, ◌++◌, map, refl, ap, ◌∙◌, subst, arith, append_assoc, append-nil, map-append, length-append, nat_tests}
-use Rattle.context_tree.proofs.Words.{What, Space, held, has, Hook, ran, ShelfState, Contexts, Ended, and_then, unchanged, handed_in, TreeState, stands_for, total_of, Agrees, Moves, HooksFit, Did}
+use Rattle.context_tree.proofs.Base.{◌≡◌, ℕ, ◌+◌, ◌-◌, true, List, ◌++◌, map, refl, ◌∙◌, subst, arith, append_assoc, append-nil, map-append, length-append, nat_tests}
+use Rattle.context_tree.proofs.Words.{Space, held, has, Hook, ran, ShelfState, Ended, and_then, unchanged, handed_in, TreeState, stands_for, total_of, Agrees, Moves, HooksFit, Did}
 use Rattle.context_tree.proofs.Allocs.{tree_none}
 
 -- the same contexts, events and hooks
 pub ended_same : (e f : Ended) → e.contexts ≡ f.contexts → e.events ≡ f.events → e.hooks ≡ f.hooks → e ≡ f
-ended_same e f contexts events hooks =
-    ap (λ (x : Contexts). record e { contexts = x }) contexts
-    ∙ ap (λ (x : List What). record e { contexts = f.contexts; events = x }) events
-    ∙ ap (λ (x : List Hook). record e { contexts = f.contexts; events = f.events; hooks = x }) hooks
+ended_same e f contexts events hooks = grind (arith, nat_tests, f.contexts, f.events)
 
 pub then_assoc : (d e f : Ended) → and_then (and_then d e) f ≡ and_then d (and_then e f)
-then_assoc d e f =
-    ended_same (and_then (and_then d e) f) (and_then d (and_then e f)) refl (append_assoc d.events e.events f.events) (append_assoc d.hooks e.hooks f.hooks)
+then_assoc d e f = grind (arith, nat_tests, ended_same (and_then (and_then d e) f) (and_then d (and_then e f)) refl (append_assoc d.events e.events f.events) (append_assoc d.hooks e.hooks f.hooks), d.events, e.events, f.events, d.hooks, e.hooks, f.hooks)
 
 -- hooks that are handed in after others
 handed_more : (xs ys : List Hook) (x : ShelfState) → handed_in ys (handed_in xs x) ≡ handed_in (xs ++ ys) x
@@ -39,16 +35,7 @@ tree_more a b c s t u first second =
 -- two calls, where the second one makes no context
 pub did_more : (e f : Ended) (a b c : TreeState) (s t u : Space) (x y z : ShelfState) → ((n : ℕ) → has n f.contexts ≡ true → has n e.contexts ≡ true)
     → Did e a b s t x y → Did f b c t u y z → Did (and_then e f) a c s u x z
-did_more e f a b c s t u x y z fewer first second = record {
-  contexts = second.contexts;
-  shelf = second.shelf ∙ ap (handed_in f.hooks) first.shelf ∙ handed_more e.hooks f.hooks x;
-  hooks = second.hooks;
-  moves = tree_more a b c s t u first.moves second.moves;
-  asked = second.asked ∙ first.asked;
-  stays = λ n h. second.stays n h ∙ first.stays n (fewer n h);
-  current = second.current ∙ first.current;
-  next = second.next ∙ first.next;
-}
+did_more e f a b c s t u x y z fewer first second = grind (arith, nat_tests, second.contexts, second.shelf, f.hooks, first.shelf, handed_more, e.hooks, second.hooks, tree_more, first.moves, second.moves, second.asked, first.asked, second.stays, first.stays, second.current, first.current, second.next, first.next)
 
 -- no call
 pub did_none : (a : TreeState) (s : Space) (x : ShelfState) → Agrees a s → HooksFit (stands_for a s) x → Did (unchanged (stands_for a s)) a a s s x x

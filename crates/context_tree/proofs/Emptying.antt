@@ -15,14 +15,7 @@ tree_more a b c s t u first second = record {
   );
   accounts = second.accounts ∙ first.accounts;
   limit = second.limit ∙ first.limit;
-  own =
-      omega (
-        arith,
-        first.own,
-        second.own,
-        ap (λ (account : ℕ). held u account) first.account,
-        ap (λ (account : ℕ). held t account) first.account,
-      );
+  own = grind (arith, nat_tests, first.own, second.own, held, first.account);
   others = λ account differ. second.others account (λ e. differ (e ∙ first.account)) ∙ first.others account differ;
 }
 
@@ -100,10 +93,7 @@ module _ (a b : TreeState) (s t : Space) (n : ℕ) (k : Kept) (context : ℕ) (a
 
   total_gone : total_of (stands_for b t) + (stats (ledger k.memory)).total ≡ total_of (stands_for a s)
   unfolding stands_for
-  total_gone =
-      ap (λ (x : Contexts). total_of x + (stats (ledger k.memory)).total) stands_gone
-      ∙ total_without n (context_of s k) (mapped (context_of s) a.kept) (mapped-once (context_of s) a.kept once) (mapped-at (context_of s) n a.kept ∙ ap (option_map (context_of s)) gone.here)
-      (sym (mapped-children (context_of s) n a.kept) ∙ ap (mapped (context_of s)) gone.leaf)
+  total_gone = grind (arith, nat_tests, total_of, stands_gone, total_without n (context_of s k) (mapped (context_of s) a.kept) (mapped-once (context_of s) a.kept once) (mapped-at (context_of s) n a.kept ∙ ap (option_map (context_of s)) gone.here) (sym (mapped-children (context_of s) n a.kept) ∙ ap (mapped (context_of s)) gone.leaf), mapped (context_of s) a.kept, mapped-once (context_of s) a.kept once, mapped-at (context_of s) n a.kept, mapped-children (context_of s) n a.kept, mapped (context_of s))
 
   pub moves_gone : Moves a b s t
   moves_gone = record {
@@ -137,30 +127,15 @@ module _ (a b : TreeState) (s t : Space) (n : ℕ) (k : Kept) (context : ℕ) (a
           counted-nothing a.account context a.account,
           (each n k gone.here).total,
         );
-    others = λ account differ.
-        let mine : (footprint k.memory).account ≡ a.account = agrees.owned n k gone.here in
-        omega (
-          arith,
-          gone.moves.held account,
-          counted-other (footprint k.memory) account (λ e. differ (sym e ∙ mine)),
-          counted-nothing a.account context account,
-        );
+    others = grind (arith, nat_tests, counted-other, counted-nothing);
   }
 
 -- a walk's first leaf has no child
 pub leaf_bare : {A : Type 0} (root : ℕ) (t : Forest A) → Once t → has root t ≡ true → children (lead root (children root t)) t ≡ Empty
-leaf_bare root t once stands =
-    elim (lead_in root (children root t)) [
-      | inl same ↦
-          let none : children root t ≡ Empty = lead_end root (children root t) (first_child_other root t once stands) same in
-          ap (λ (n : ℕ). children n t) same ∙ none
-      | inr inside ↦
-          sym (children_in (lead root (children root t)) root t once inside) ∙ lead_leaf root (children root t) (once_children root t once) inside
-    ]
+leaf_bare root t once stands = grind (arith, nat_tests, lead_in root (children root t), lead_end, first_child_other root t once stands, children_in, lead_leaf, once_children root t once)
 
 pub none_first : {A : Type 0} (t : Forest A) → first t ≡ None → t ≡ Empty
-none_first Empty none = refl
-none_first (Node n a below beside) none = absurd (cc)
+none_first x0 none = grind (arith, nat_tests)
 
 -- a context less, of a tree of which only its contexts are known
 module _ (account n : ℕ) (k : Kept) (f g : Forest Kept) (s t : Space) (agrees : Agrees (bare account f) s) (once : Once f) (each : (m : ℕ) (j : Kept) → at m f ≡ Some j → IsSoundContext j) (here : at n f ≡ Some k)

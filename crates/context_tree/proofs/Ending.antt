@@ -1,6 +1,6 @@
 -- A tree whose contexts all go one after the other, each without children.
-use Rattle.context_tree.proofs.Base.{◌≡◌, ℕ, ◌+◌, true, List, Option, Some, refl, sym, ap, ◌∙◌, subst, arith, eq-eqb, append-nil}
-use Rattle.context_tree.proofs.Words.{Space, held, share, held-changed, Forest, Empty, Node, Once, at, first, has, children, removed, mapped, lead, has_at, has_of_removed, mapped-children, ShelfState, Contexts, Ended, and_then, unchanged, gone, gone_events, waiting, Kept, IsSoundContext, context_of, ChunkId, Gone, TreeState, stands_for, no_contexts, total_of, Agrees, Moves, SameRegions, HooksFit, Did, bare}
+use Rattle.context_tree.proofs.Base.{nat_tests, ◌≡◌, ℕ, ◌+◌, true, List, Option, Some, refl, sym, ap, ◌∙◌, subst, arith, append-nil}
+use Rattle.context_tree.proofs.Words.{Space, held, share, held-changed, Forest, Empty, Once, at, first, has, children, removed, mapped, lead, has_at, has_of_removed, mapped-children, ShelfState, Contexts, Ended, and_then, unchanged, gone, gone_events, waiting, Kept, IsSoundContext, context_of, ChunkId, Gone, TreeState, stands_for, no_contexts, total_of, Agrees, Moves, SameRegions, HooksFit, Did, bare}
 use Rattle.context_tree.proofs.Composed.{then_assoc, did_more, did_none}
 use Rattle.context_tree.proofs.Going.{none_left, first_gone, once_stands, has_stands, lead_all}
 use Rattle.context_tree.proofs.Emptying.{each_left}
@@ -8,10 +8,7 @@ use Rattle.context_tree.proofs.Leaving.{did_go}
 
 -- the walk of a forest begins where that of its first root's children does
 first_lead : {A : Type 0} (root : ℕ) (t : Forest A) → first t ≡ Some root → lead root (children root t) ≡ lead root t
-first_lead root Empty is = absurd (cc)
-first_lead root (Node k a below beside) is =
-    let same : k ≡ root = cc in
-    rw (eq-eqb k root same) (ap (λ (n : ℕ). lead n below) (sym same))
+first_lead root x1 is = grind (arith, nat_tests)
 
 -- a tree stands for its contexts, whatever else it has
 pub stands_bare : (a : TreeState) (s : Space) → stands_for (bare a.account a.kept) s ≡ stands_for a s
@@ -54,11 +51,7 @@ module _ (e : Ended) (account : ℕ) (all f : Forest Kept) (s t : Space) (x y : 
         did =
             did_more e (gone n now) (bare account all) b c s t u x y z
             (λ m h. ap (λ (q : Contexts). has m q) (sym ending.did.contexts) ∙ has_of_removed m n now h) ending.did did;
-        rest =
-            ap (λ (q : Contexts). and_then (and_then e (gone n now)) (none_left q)) did.contexts
-            ∙ then_assoc e (gone n now) (none_left (removed n now))
-            ∙ ap (λ (q : Ended). and_then e q) (first_gone root n now (once_stands b t once) stands led)
-            ∙ ending.rest;
+        rest = grind (arith, nat_tests, gone n now, now, none_left, did.contexts, then_assoc e (gone n now) (none_left (removed n now)), none_left (removed n now), removed n now, first_gone root n now (once_stands b t once) stands led, once_stands b t once);
         each = each_left account n k f g t u ending.did.moves.agrees once ending.each here leaf less went.moves;
       }
 

@@ -1,5 +1,5 @@
 -- Forests of which nodes go, and what is said of each.
-use Rattle.context_tree.proofs.Base.{◌≡◌, ◌≢◌, ℕ, true, false, Option, Some, List, [], ◌++◌, refl, sym, ap, ◌∙◌, inl, inr, append_assoc, ◌==◌, ◌||◌, option_map_or, cases_Bool, eq-eqb, ne_eqb, eqb-true, or_parts, both_ways, nat_tests, arith}
+use Rattle.context_tree.proofs.Base.{◌≡◌, ◌≢◌, ℕ, true, false, List, [], ◌++◌, refl, sym, ap, ◌∙◌, inl, inr, append_assoc, ◌==◌, ◌||◌, cases_Bool, eq-eqb, ne_eqb, eqb-true, or_parts, both_ways, nat_tests, arith}
 use Rattle.context_tree.proofs.Words.{Forest, Empty, Node, has, Once, at, children, removed, with_children, subtree, lead, Apart, apart_of, at_some, removed_absent, has_children, lead_of_node, once_children, children_in, children_removed, at_children}
 
 module _ {A : Type 0} where
@@ -10,30 +10,15 @@ module _ {A : Type 0} where
   -- what stands of a node whose children go
   pub at_with : (n : ℕ) (new t : Forest A) → at n (with_children n new t) ≡ at n t
   at_with n new Empty = refl
-  at_with n new (Node k a below beside) =
-      elim (cases_Bool (k == n)) [
-        | inl y ↦ rw y refl
-        | inr y ↦ rw (y, at_with n new below, at_with n new beside) refl
-      ]
+  at_with n new (Node k a below beside) = grind (arith, nat_tests, at_with n new below, at_with n new beside)
 
   pub bare_with : (n : ℕ) (t : Forest A) → children n (with_children n Empty t) ≡ Empty
   bare_with n Empty = refl
-  bare_with n (Node k a below beside) =
-      elim (cases_Bool (k == n)) [
-        | inl y ↦ rw y refl
-        | inr y ↦ elim (cases_Bool (has n (with_children n Empty below))) [
-          | inl u ↦ rw (y, u) (bare_with n below)
-          | inr u ↦ rw (y, u) (bare_with n beside)
-        ]
-      ]
+  bare_with n (Node k a below beside) = grind (arith, nat_tests, bare_with n below, bare_with n beside)
 
   pub removed_with : (n : ℕ) (new t : Forest A) → removed n (with_children n new t) ≡ removed n t
   removed_with n new Empty = refl
-  removed_with n new (Node k a below beside) =
-      elim (cases_Bool (k == n)) [
-        | inl y ↦ rw (y, removed_with n new beside) refl
-        | inr y ↦ rw (y, removed_with n new below, removed_with n new beside) refl
-      ]
+  removed_with n new (Node k a below beside) = grind (arith, nat_tests, removed_with n new beside, removed_with n new below)
 
   with_absent : (n : ℕ) (new t : Forest A) → has n t ≡ false → with_children n new t ≡ t
   with_absent n new Empty h = refl
@@ -88,24 +73,13 @@ module _ {A : Type 0} where
 
   -- what is below a node, as a part of what is below another one
   pub subtree_in : (m n : ℕ) (t : Forest A) → Once t → has m (children n t) ≡ true → subtree m (children n t) ≡ subtree m t
-  subtree_in m n t o h =
-      ap (λ (o : Option A). option_map_or (λ x. Node m x (children m (children n t)) Empty) o Empty) (at_children m n t o h)
-      ∙ ap (λ (c : Forest A). option_map_or (λ x. Node m x c Empty) (at m t) Empty) (children_in m n t o h)
+  subtree_in m n t o h = grind (arith, nat_tests, at_children, at m t, children_in)
 
   subtree_lower : (n k : ℕ) (a : A) (below beside : Forest A) → k ≢ n → has n below ≡ true → subtree n (Node k a below beside) ≡ subtree n below
-  subtree_lower n k a below beside ne h =
-      let v = at_some n below h in
-      let there : at n (Node k a below beside) ≡ at n below = rw (ne_eqb k n ne, v.1) refl in
-      let under : children n (Node k a below beside) ≡ children n below = rw (ne_eqb k n ne, h) refl in
-      ap (λ (o : Option A). option_map_or (λ x. Node n x (children n (Node k a below beside)) Empty) o Empty) there
-      ∙ ap (λ (c : Forest A). option_map_or (λ x. Node n x c Empty) (at n below) Empty) under
+  subtree_lower n k a below beside ne h = grind (arith, nat_tests, at_some n below h, at, at n below)
 
   subtree_here : (k : ℕ) (a : A) (beside : Forest A) → subtree k (Node k a Empty beside) ≡ Node k a Empty Empty
-  subtree_here k a beside =
-      let there : at k (Node k a Empty beside) ≡ Some a = rw (eq-eqb k k refl) refl in
-      let under : children k (Node k a Empty beside) ≡ Empty = rw (eq-eqb k k refl) refl in
-      ap (λ (o : Option A). option_map_or (λ x. Node k x (children k (Node k a Empty beside)) Empty) o Empty) there
-      ∙ ap (λ (c : Forest A). Node k a c Empty) under
+  subtree_here k a beside = grind (arith, nat_tests, at)
 
 module _ {A B : Type 0} (said : ℕ → A → List B) where
   -- what is said of the nodes of a forest, of each behind all that is below it

@@ -1,5 +1,5 @@
 -- Names that lead nowhere once a context is reset or gone.
-use Rattle.context_tree.proofs.Base.{◌≡◌, ◌≢◌, ◌⊎◌, ℕ, Bool, true, false, List, Option, Some, None, [], refl, sym, ap, ◌∙◌, subst, inl, inr, arith, ◌||◌, option_map_or, cases_eq, cases_Bool, both_ways, or_cases, or_left, or_right}
+use Rattle.context_tree.proofs.Base.{nat_tests, ◌≡◌, ◌≢◌, ◌⊎◌, ℕ, Bool, true, false, List, Option, Some, None, [], refl, sym, ap, ◌∙◌, inl, inr, arith, ◌||◌, option_map_or, cases_eq, cases_Bool, both_ways, or_cases, or_left, or_right}
 use Rattle.context_tree.proofs.Words.{CtxId, none_or_some, Forest, Empty, Node, at, has, children, changed, removed, Once, Apart, apart_of, has_at, at_some, has_of_removed, times_removed, size_removed, ChunkId, Entry, Own, Kept, same, IsSoundContext, IsSound, IsNamed, IsChunk, IsOwn, is_named, left_names, without_context, at_here, at_below, at_beside, one_at, below_or_beside, same_is, is_same, step_at, step_other, other_than_removed}
 use Rattle.context_tree.proofs.Names.{once_of}
 use Rattle.context_tree.proofs.Sounds.{sound_step}
@@ -152,22 +152,15 @@ module _ (kept : Forest Kept) (places : Forest ℕ) (find_context : List ℕ →
         ]
 
     owned : (i : ℕ) (id : CtxId) → IsOwn places i id → IsOwn (removed n places) i id
-    owned i id is = record {
-      number = is.number;
-      placed = λ h. stays i (other_than_removed i n places h) ∙ is.placed (has_of_removed i n places h);
-    }
+    owned i id is = grind (arith, nat_tests, is.number, other_than_removed, is.placed, has_of_removed)
 
     -- where it goes
     pub sound_gone : (now.number ≢ n) ⊎ (removed n kept ≡ Empty) → IsSound (removed n kept) (removed n places) find2 left own now next next_entry
     sound_gone apart = record {
       numbers = λ m. omega (arith, sound.numbers m, times_removed m n kept once (has_at n kept k here));
       few = omega (arith, sound.few, size_removed n kept once (has_at n kept k here));
-      lies = λ m h.
-          let there = at_some m kept (sound.lies m (has_of_removed m n places h)) in
-          has_at m (removed n kept) there.0 (still m there.0 (other_than_removed m n places h) there.1);
-      there = λ m h.
-          let place = at_some m places (sound.there m (has_of_removed m n kept h)) in
-          has_at m (removed n places) place.0 (stays m (other_than_removed m n kept h) ∙ place.1);
+      lies = grind (arith, nat_tests, at_some, has_of_removed, has_at, removed n kept, still, other_than_removed);
+      there = grind (arith, nat_tests, at_some, has_of_removed, has_at, removed n places, other_than_removed);
       each = λ m j h. sound.each m j (was m j h).1;
       given = λ m c j h q. sound.given m c j (was m j h).1 q;
       named = λ word id h.
@@ -212,6 +205,4 @@ module _ (kept : Forest Kept) (places : Forest ℕ) (find_context : List ℕ →
 
     pub sound_went : (kept2 : Forest Kept) (places2 : Forest ℕ) → kept2 ≡ removed n kept → places2 ≡ removed n places → (now.number ≢ n) ⊎ (removed n kept ≡ Empty)
         → IsSound kept2 places2 find2 left own now next next_entry
-    sound_went kept2 places2 same placed apart =
-        subst (λ (z : Forest Kept). IsSound z places2 find2 left own now next next_entry) (sym same)
-        (subst (λ (z : Forest ℕ). IsSound (removed n kept) z find2 left own now next next_entry) (sym placed) (sound_gone apart))
+    sound_went kept2 places2 same placed apart = grind (arith, nat_tests, removed n kept, sound_gone apart)

@@ -22,9 +22,6 @@ module _ (kept : Forest Kept) (places : Forest ℕ) (find_context : List ℕ →
       let it : one.0 ≡ two.0 = cc in
       (sym one.2 ∙ ap (λ (x : ChunkId). x.context.number) it ∙ two.2, sym one.3 ∙ ap (λ (x : ChunkId). x.entry.number) it ∙ two.3)
 
-  pub others_unnamed : (d : ℕ) (e : Entry) → d ≢ c → at d k.chunks ≡ Some e → e.name ≢ Some w
-  others_unnamed d e ne h is = ne (only n d k e here h is).1
-
   stays : (word : List ℕ) (x : ChunkId) → (word ≡ w → ⊥) → find_chunk word ≡ Some x → IsChunk (changed n (λ _. l) kept) places word x
   stays word x differs h =
       let was : IsChunk kept places word x = sound.chunk_named word x h in
@@ -101,9 +98,7 @@ module _ (a : TreeState) (s t : Space) (w : List ℕ) (id : ChunkId) (k l : Kept
   same_context = let one : Some leads.chunk.context ≡ Some k = sym leads.chunk.stands ∙ here in cc
 
   same_entry : leads.chunk.entry ≡ gone.entry
-  same_entry =
-      let one : Some leads.chunk.entry ≡ Some gone.entry = sym leads.chunk.listed ∙ ap (λ (x : Kept). at id.entry.number x.chunks) same_context ∙ gone.listed in
-      cc
+  same_entry = grind (arith, nat_tests, at, same_context)
 
   pub entry_named : gone.entry.name ≡ Some w
   entry_named = ap (λ (x : Entry). x.name) (sym same_entry) ∙ leads.chunk.name

@@ -1,5 +1,5 @@
 -- Contexts that go one by one, each behind all that is below it.
-use Rattle.context_tree.proofs.Base.{◌≡◌, ◌≢◌, ℕ, ◌<◌, true, false, Option, Some, None, List, [], ◌∷◌, ◌++◌, refl, sym, ap, ◌∙◌, inl, inr, arith, append_assoc, option_map_or, both_ways, false_from_ne_true, append-nil}
+use Rattle.context_tree.proofs.Base.{nat_tests, ◌≡◌, ◌≢◌, ℕ, ◌<◌, true, false, List, [], ◌∷◌, ◌++◌, refl, sym, ap, ◌∙◌, arith, append_assoc, both_ways, false_from_ne_true, append-nil}
 use Rattle.context_tree.proofs.Words.{What, Delete, Space, Empty, Node, has, Once, size, at, children, is_above, removed, with_children, subtree, lead, follows, first_child_other, once_removed, size_removed, has_children, children_absent, has_of_removed, at_some, once_children, lead_in, lead_removed, lead_leaf, lead_end, children_removed, above_stays, children_in, mapped-has, mapped-children, mapped-lead, mapped-follows, mapped-once, Hook, Context, Contexts, Ended, and_then, gone, children_gone, gone_events, callbacks, waiting, context_of, TreeState, stands_for}
 use Rattle.context_tree.proofs.Composed.{ended_same}
 use Rattle.context_tree.proofs.Fewer.{told, told_lead, told_first, at_with, bare_with, removed_with, with_bare, with_removed}
@@ -18,8 +18,7 @@ abbrev own_hooks : ℕ → Context → List Hook
 own_hooks n c = c.hooks
 
 hooks_told : (t : Contexts) → waiting t ≡ told own_hooks t
-hooks_told Empty = refl
-hooks_told (Node n c below beside) = rw (hooks_told below, hooks_told beside) refl
+hooks_told x0 = grind (arith, nat_tests)
 
 -- one turn of the walk through all that is below a context: the first one of them goes
 pub record Turn (n m next : ℕ) (t : Contexts) : Type 0 where
@@ -33,15 +32,7 @@ pub record Turn (n m next : ℕ) (t : Contexts) : Type 0 where
   pub smaller : size (removed m t) < size t
 
 rest_of : (n m : ℕ) (t : Contexts) → Once t → m ≡ lead n (children n t) → has m (children n t) ≡ true → and_then (gone m t) (children_gone n (removed m t)) ≡ children_gone n t
-rest_of n m t o e h =
-    ended_same (and_then (gone m t) (children_gone n (removed m t))) (children_gone n t)
-    (with_removed m n Empty t o h)
-    (ap (λ (xs : List What). xs ++ gone_events (children n (removed m t))) (events_told (subtree m t))
-    ∙ ap (λ (xs : List What). told last_words (subtree m t) ++ xs) (events_told (children n (removed m t)))
-    ∙ sym (told_first last_words n m t o e h) ∙ sym (events_told (children n t)))
-    (ap (λ (xs : List Hook). xs ++ waiting (children n (removed m t))) (hooks_told (subtree m t))
-    ∙ ap (λ (xs : List Hook). told own_hooks (subtree m t) ++ xs) (hooks_told (children n (removed m t)))
-    ∙ sym (told_first own_hooks n m t o e h) ∙ sym (hooks_told (children n t)))
+rest_of n m t o e h = grind (arith, nat_tests, ended_same, gone m t, removed m t, with_removed m n Empty t o h, events_told (subtree m t), told last_words (subtree m t), events_told (children n (removed m t)), told_first last_words n m t o e h, events_told (children n t), hooks_told (subtree m t), told own_hooks (subtree m t), hooks_told (children n (removed m t)), told_first own_hooks n m t o e h, hooks_told (children n t))
 
 -- what becomes of contexts when all of them go
 abbrev pub none_left : Contexts → Ended
@@ -49,53 +40,17 @@ none_left t = record { contexts = Empty; events = gone_events t; hooks = waiting
 
 -- the first leaf of all goes, and then the others
 pub first_gone : (up m : ℕ) (t : Contexts) → Once t → has m t ≡ true → m ≡ lead up t → and_then (gone m t) (none_left (removed m t)) ≡ none_left t
-first_gone up m t o h e =
-    let i : has (lead up t) t ≡ true = ap (λ (x : ℕ). has x t) (sym e) ∙ h in
-    ended_same (and_then (gone m t) (none_left (removed m t))) (none_left t) refl
-    (ap (λ (xs : List What). xs ++ gone_events (removed m t)) (events_told (subtree m t))
-    ∙ ap (λ (xs : List What). told last_words (subtree m t) ++ xs) (events_told (removed m t))
-    ∙ ap (λ (x : ℕ). told last_words (subtree x t) ++ told last_words (removed x t)) e
-    ∙ sym (told_lead last_words up t o i) ∙ sym (events_told t))
-    (ap (λ (xs : List Hook). xs ++ waiting (removed m t)) (hooks_told (subtree m t))
-    ∙ ap (λ (xs : List Hook). told own_hooks (subtree m t) ++ xs) (hooks_told (removed m t))
-    ∙ ap (λ (x : ℕ). told own_hooks (subtree x t) ++ told own_hooks (removed x t)) e
-    ∙ sym (told_lead own_hooks up t o i) ∙ sym (hooks_told t))
+first_gone up m t o h e = grind (arith, nat_tests, ended_same, gone m t, none_left (removed m t), removed m t, none_left t, events_told (subtree m t), told last_words (subtree m t), events_told (removed m t), told, removed, told_lead, events_told t, hooks_told (subtree m t), told own_hooks (subtree m t), hooks_told (removed m t), hooks_told t)
 
 pub turn : (n m next : ℕ) (t : Contexts) → Once t → has n t ≡ true → m ≡ lead n (children n t) → m ≢ n → next ≡ follows m n (children n t) → Turn n m next t
-turn n m next t o stands e ne q =
-    let low : Contexts = children n t in
-    let ol : Once low = once_children n t o in
-    let i : has (lead n low) low ≡ true = elim (lead_in n low) [ inl z ↦ absurd (ne (e ∙ z)) | inr h ↦ h ] in
-    let inside : has m low ≡ true = ap (λ (x : ℕ). has x low) e ∙ i in
-    let there : has m t ≡ true = has_children m n t o inside in
-    let lower : children n (removed m t) ≡ removed m low = children_removed m n t o inside in
-    let once : Once (removed m t) = once_removed m t o there in
-    let above : has n (removed m t) ≡ true = above_stays m n t o inside in
-    let first : next ≡ lead n (children n (removed m t)) =
-    q ∙ ap (λ (x : ℕ). follows x n low) e ∙ lead_removed n low ol i ∙ ap (λ (x : ℕ). lead n (removed x low)) (sym e) ∙ ap (λ (x : Contexts). lead n x) (sym lower) in
-    record {
-      inside = inside;
-      leaf = sym (children_in m n t o inside) ∙ ap (λ (x : ℕ). children x low) e ∙ lead_leaf n low ol i;
-      first = first;
-      rest = rest_of n m t o e inside;
-      once = once;
-      above = above;
-      stands = elim (lead_in n (children n (removed m t))) [
-        | inl z ↦ ap (λ (x : ℕ). has x (removed m t)) (first ∙ z) ∙ above
-        | inr h ↦ ap (λ (x : ℕ). has x (removed m t)) first ∙ has_children (lead n (children n (removed m t))) n (removed m t) once h
-      ];
-      smaller = let s = size_removed m t o there in omega (arith, s);
-    }
+turn n m next t o stands e ne q = grind (arith, nat_tests, once_children n t o, lead_in, has_children, removed m t, removed, children_removed, once_removed, above_stays, lead_removed, children_in, lead_leaf, rest_of, lead_in n (children n (removed m t)), size_removed)
 
 -- a context that isn't below another one isn't the one that goes, and isn't below that other one afterwards
 pub other_goes : (n m c : ℕ) (t : Contexts) → has m (children n t) ≡ true → is_above n c t ≡ false → c ≢ m
 other_goes n m c t h out e = both_ways (has c (children n t)) out (ap (λ (x : ℕ). has x (children n t)) e ∙ h)
 
 pub still_apart : (n m c : ℕ) (t : Contexts) → Once t → has m (children n t) ≡ true → is_above n c t ≡ false → is_above n c (removed m t) ≡ false
-still_apart n m c t o h out =
-    false_from_ne_true (has c (children n (removed m t)))
-    (λ y. both_ways (has c (children n t)) out
-    (has_of_removed c m (children n t) (ap (λ (x : Contexts). has c x) (sym (children_removed m n t o h)) ∙ y)))
+still_apart n m c t o h out = grind (arith, nat_tests, false_from_ne_true, removed m t, has_of_removed, children_removed m n t o h)
 
 -- the end of the walk: nothing is below the context
 pub all_gone : (e : Ended) (n m : ℕ) → Once e.contexts → has n e.contexts ≡ true → m ≡ lead n (children n e.contexts) → m ≡ n → and_then e (children_gone n e.contexts) ≡ e
@@ -108,29 +63,7 @@ all_gone e n m o stands is z =
 
 -- a context goes once all below it is gone
 pub gone_last : (n : ℕ) (t : Contexts) → and_then (children_gone n t) (gone n (with_children n Empty t)) ≡ gone n t
-gone_last n t = go (at n t) refl
-  where
-    lone : (o : Option Context) → at n t ≡ o → subtree n (with_children n Empty t) ≡ option_map_or (λ c. Node n c Empty Empty) o Empty
-    lone o e =
-        ap (λ (x : Option Context). option_map_or (λ c. Node n c (children n (with_children n Empty t)) Empty) x Empty) (at_with n Empty t ∙ e)
-        ∙ ap (λ (x : Contexts). option_map_or (λ c. Node n c x Empty) o Empty) (bare_with n t)
-
-    whole : (o : Option Context) → at n t ≡ o → subtree n t ≡ option_map_or (λ c. Node n c (children n t) Empty) o Empty
-    whole o e = ap (λ (x : Option Context). option_map_or (λ c. Node n c (children n t) Empty) x Empty) e
-
-    go : (o : Option Context) → at n t ≡ o → and_then (children_gone n t) (gone n (with_children n Empty t)) ≡ gone n t
-    go None e =
-        let out : has n t ≡ false = false_from_ne_true (has n t) (λ h. let there = at_some n t h in absurd (cc (there.1, e))) in
-        let none : children n t ≡ Empty = children_absent n t out in
-        ended_same (and_then (children_gone n t) (gone n (with_children n Empty t))) (gone n t) (removed_with n Empty t)
-        (ap (λ (x : Contexts). gone_events (children n t) ++ gone_events x) (lone None e)
-        ∙ ap (λ (x : Contexts). gone_events x ++ []) none ∙ sym (ap gone_events (whole None e)))
-        (ap (λ (x : Contexts). waiting (children n t) ++ waiting x) (lone None e)
-        ∙ ap (λ (x : Contexts). waiting x ++ []) none ∙ sym (ap waiting (whole None e)))
-    go (Some c) e =
-        ended_same (and_then (children_gone n t) (gone n (with_children n Empty t))) (gone n t) (removed_with n Empty t)
-        (ap (λ (x : Contexts). gone_events (children n t) ++ gone_events x) (lone (Some c) e) ∙ sym (ap gone_events (whole (Some c) e)))
-        (ap (λ (x : Contexts). waiting (children n t) ++ waiting x) (lone (Some c) e) ∙ sym (ap waiting (whole (Some c) e)))
+gone_last n t = grind (arith, nat_tests, at n t, at_with n Empty t, bare_with n t, gone n (with_children n Empty t), gone, false_from_ne_true, at_some, children_absent, ended_same, gone n t, removed_with n Empty t)
 
 -- what the walk goes by
 module _ (tree : TreeState) (s : Space) where
@@ -152,5 +85,4 @@ module _ (tree : TreeState) (s : Space) where
 
   pub follows_stands : (m n : ℕ) → follows m n (children n (stands_for tree s)) ≡ follows m n (children n tree.kept)
   unfolding stands_for
-  follows_stands m n =
-      ap (λ (x : Contexts). follows m n x) (sym (mapped-children (context_of s) n tree.kept)) ∙ mapped-follows (context_of s) m n (children n tree.kept)
+  follows_stands m n = grind (arith, nat_tests, mapped-children (context_of s) n tree.kept, mapped-follows (context_of s) m n (children n tree.kept))

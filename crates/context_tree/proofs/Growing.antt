@@ -1,5 +1,5 @@
 -- A context more in a tree: what that makes of the tree, and of what it stands for.
-use Rattle.context_tree.proofs.Base.{◌≡◌, ◌≢◌, ◌⊎◌, ℕ, ◌+◌, ◌<◌, ◌≤◌, Bool, true, false, List, Option, Some, None, IsSome, refl, sym, ap, ◌∙◌, subst, inl, inr, arith, ◌==◌, ◌||◌, if◌then◌else◌, cases_eq, cases_Bool, eq-eqb, ne_eqb, both_ways, or_parts, cases_lt, lt-ltb, le-ltb, nat_tests}
+use Rattle.context_tree.proofs.Base.{◌≡◌, ◌≢◌, ◌⊎◌, ℕ, ◌+◌, ◌<◌, ◌≤◌, Bool, true, false, List, Option, Some, None, IsSome, refl, sym, ap, ◌∙◌, subst, inl, inr, arith, ◌==◌, ◌||◌, if◌then◌else◌, cases_eq, cases_Bool, eq-eqb, ne_eqb, both_ways, or_parts, lt-ltb, le-ltb, nat_tests}
 use Rattle.context_tree.proofs.Words.{CtxId, Space, nothing, Agrees-other, Keeps-other, AreDisjoint-sym, AreDisjoint-nothing, AreDisjoint-fresh, counted-own, counted-other, counted-nothing, none_or_some, Forest, Empty, Node, at, has, Once, size, times, put, mapped, Apart, apart_of, Here, Below, Beside, where_is, has_at, at_some, has_none, put_absent, at_absent, times_put, times_none, size_put, mapped-put, mapped-once, mapped-has, stats, footprint, ledger, Context, Contexts, ChunkId, Entry, Own, Kept, entered_context, same, IsSoundContext, one_below, IsSound, IsNamed, IsChunk, IsOwn, context_of, TreeState, stands_for, Agrees, total_of, Moves, at_here, at_below, at_beside, same_is, is_same, context_stays}
 use Rattle.addr_space.specs.Footprint as foot
 
@@ -7,11 +7,7 @@ module _ {A : Type 0} (p n : ℕ) (a : A) where
   -- the new node, and the others
   pub at_grown_other : (m : ℕ) (t : Forest A) → m ≢ n → at m (put p n a Empty t) ≡ at m t
   at_grown_other m Empty ne = refl
-  at_grown_other m (Node k b below beside) ne =
-      elim (cases_Bool (k == p)) [
-        | inl y ↦ rw (y, ne_eqb n m (λ z. ne (sym z)), at_grown_other m beside ne) refl
-        | inr y ↦ rw (y, at_grown_other m below ne, at_grown_other m beside ne) refl
-      ]
+  at_grown_other m (Node k b below beside) ne = grind (arith, nat_tests, at_grown_other m beside ne, at_grown_other m below ne)
 
   -- where only so much is known of the forest
   pub at_put_new : (t : Forest A) → has p t ≡ true → has n t ≡ false → at n (put p n a Empty t) ≡ Some a
@@ -42,13 +38,7 @@ module _ {A : Type 0} (p n : ℕ) (a : A) where
       ]
 
   pub grown_at : (t : Forest A) → Once t → has p t ≡ true → has n t ≡ false → (m : ℕ) (j : A) → at m (put p n a Empty t) ≡ Some j → ((m ≡ n) × (j ≡ a)) ⊎ ((m ≢ n) × (at m t ≡ Some j))
-  grown_at t o h fresh m j is =
-      elim (cases_eq m n) [
-        | inl same ↦
-            let one : Some a ≡ Some j = sym (at_grown t o h fresh) ∙ ap (λ (i : ℕ). at i (put p n a Empty t)) (sym same) ∙ is in
-            inl (same, cc)
-        | inr ne ↦ inr (ne, sym (at_grown_other m t ne) ∙ is)
-      ]
+  grown_at t o h fresh m j is = grind (arith, nat_tests, at_grown t o h fresh, at, at_grown_other)
 
 -- what all have together then
 pub total_grown : (p n : ℕ) (c : Context) (t : Contexts) → Once t → has p t ≡ true → total_of (put p n c Empty t) ≡ total_of t + (stats c.ledger).total
@@ -162,32 +152,12 @@ module _ (a b : TreeState) (s t : Space) (p n : ℕ) (l : Kept) (context : ℕ) 
     );
     accounts = grown.moves.accounts;
     limit = grown.moves.limit;
-    own =
-        let sum = total_grown p n (context_of t l) (stands_for a s) once_stands parent_stands in
-        omega (
-          arith,
-          sum,
-          ap total_of stands_grown,
-          grown.moves.held a.account,
-          counted-own (footprint l.memory) a.account mine,
-          counted-nothing a.account context a.account,
-          grown.total,
-        );
-    others = λ account differ.
-        omega (
-          arith,
-          grown.moves.held account,
-          counted-nothing a.account context account,
-          counted-other (footprint l.memory) account (λ e. differ (sym e ∙ mine)),
-        );
+    own = grind (arith, nat_tests, total_grown p n (context_of t l) (stands_for a s) once_stands parent_stands, once_stands, parent_stands, total_of, stands_grown, counted-own (footprint l.memory) a.account mine, mine, counted-nothing a.account context a.account);
+    others = grind (arith, nat_tests, counted-nothing, counted-other, mine);
   }
 
 one_more : (next m : ℕ) → one_below next m ≤ one_below (next + 1) m
-one_more next m =
-    elim (cases_lt m next) [
-      | inl h ↦ rw (lt-ltb m next h, lt-ltb m (next + 1) (omega arith)) (omega arith)
-      | inr h ↦ rw (le-ltb m next h) (omega arith)
-    ]
+one_more next m = grind (arith, nat_tests)
 
 one_now : (next : ℕ) → one_below (next + 1) next ≡ 1
 one_now next = rw (lt-ltb next (next + 1) (omega arith)) refl
@@ -202,11 +172,7 @@ module _ (kept : Forest Kept) (places : Forest ℕ) (find_context : List ℕ →
   next_fresh = has_none next kept (omega (arith, sound.numbers next, none_now next))
 
   pub next_unplaced : has next places ≡ false
-  next_unplaced =
-      elim (cases_Bool (has next places)) [
-        | inl y ↦ absurd (both_ways (has next kept) next_fresh (sound.lies next y))
-        | inr out ↦ out
-      ]
+  next_unplaced = grind (arith, nat_tests, next_fresh)
 
   -- another map of names that says the same
   pub sound_found : (find2 : List ℕ → Option CtxId) → ((w : List ℕ) → find2 w ≡ find_context w) → IsSound kept places find2 find_chunk own now next next_entry
@@ -243,9 +209,7 @@ module _ (kept : Forest Kept) (places : Forest ℕ) (find_context : List ℕ →
   stands m j ne h = at_grown_other p next l m kept ne ∙ h
 
   lies : (m x : ℕ) → at m places ≡ Some x → at m (put p next slot Empty places) ≡ Some x
-  lies m x h =
-      let ne : m ≢ next = λ same. both_ways (has next places) unplaced (ap (λ (i : ℕ). has i places) (sym same) ∙ has_at m places x h) in
-      at_grown_other p next slot m places ne ∙ h
+  lies m x h = grind (arith, nat_tests, has_at m places x h, at_grown_other)
 
   old : (m : ℕ) (j : Kept) → at m kept ≡ Some j → m ≢ next
   old m j h same = both_ways (has next kept) fresh (ap (λ (i : ℕ). has i kept) (sym same) ∙ has_at m kept j h)
@@ -298,38 +262,16 @@ module _ (kept : Forest Kept) (places : Forest ℕ) (find_context : List ℕ →
   finds_new false is clash = rw (is_same l.name l.name refl) refl
 
   lies_now : (m : ℕ) → has m (put p next slot Empty places) ≡ true → has m (put p next l Empty kept) ≡ true
-  lies_now m h =
-      elim (cases_eq m next) [
-        | inl alike ↦ has_at m (put p next l Empty kept) l (ap (λ (i : ℕ). at i (put p next l Empty kept)) alike ∙ at_grown p next l kept once parent fresh)
-        | inr ne ↦
-            let there = at_some m (put p next slot Empty places) h in
-            let was = at_some m kept (sound.lies m (has_at m places there.0 (sym (at_grown_other p next slot m places ne) ∙ there.1))) in
-            has_at m (put p next l Empty kept) was.0 (stands m was.0 ne was.1)
-      ]
+  lies_now m h = grind (arith, nat_tests, has_at, at, at_grown p next l kept once parent fresh, at_some m (put p next slot Empty places) h, at_some, at_grown_other, stands)
 
   there_now : (m : ℕ) → has m (put p next l Empty kept) ≡ true → has m (put p next slot Empty places) ≡ true
-  there_now m h =
-      elim (cases_eq m next) [
-        | inl alike ↦ has_at m (put p next slot Empty places) slot (ap (λ (i : ℕ). at i (put p next slot Empty places)) alike ∙ at_put_new p next slot places parent_placed unplaced)
-        | inr ne ↦
-            let stood = at_some m (put p next l Empty kept) h in
-            let place = at_some m places (sound.there m (has_at m kept stood.0 (sym (at_grown_other p next l m kept ne) ∙ stood.1))) in
-            has_at m (put p next slot Empty places) place.0 (at_grown_other p next slot m places ne ∙ place.1)
-      ]
+  there_now m h = grind (arith, nat_tests, has_at, at, at_put_new p next slot places parent_placed unplaced, at_some m (put p next l Empty kept) h, at_some, at_grown_other)
 
   pub sound_grown : (own2 : Own) → size kept < 65536 → IsSoundContext l → IsOwn (put p next slot Empty places) 1 own2.top → IsOwn (put p next slot Empty places) 3 own2.cache
       → IsOwn (put p next slot Empty places) 4 own2.portals → IsOwn (put p next slot Empty places) 5 own2.abort
       → IsSound (put p next l Empty kept) (put p next slot Empty places) find2 find_chunk own2 now (next + 1) next_entry
   sound_grown own2 few inside top cache portals abort = record {
-    numbers = λ m.
-        let sum = times_put m p next l Empty kept once parent in
-        elim (cases_eq next m) [
-          | inl alike ↦
-              let none : times m kept ≡ 0 = times_none m kept (ap (λ (i : ℕ). has i kept) (sym alike) ∙ fresh) in
-              let full : one_below (next + 1) m ≡ 1 = ap (one_below (next + 1)) (sym alike) ∙ one_now next in
-              rw (sum, eq-eqb next m alike, none, full) (omega arith)
-          | inr ne ↦ rw (sum, ne_eqb next m ne) (omega (arith, sound.numbers m, one_more next m))
-        ];
+    numbers = grind (arith, nat_tests, times_put, times, times_none, one_now next, one_more);
     few = omega (arith, few, size_put p next l Empty kept once parent);
     lies = lies_now;
     there = there_now;

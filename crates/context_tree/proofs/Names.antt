@@ -85,8 +85,7 @@ pub one_le : (next n : ℕ) → one_below next n ≤ 1
 one_le next n = elim (cases_Bool (nat_lt n next)) [ inl y ↦ rw y (omega arith) | inr y ↦ rw y (omega arith) ]
 
 and_parts : (p q : Bool) → (not p && q) ≡ true → (p ≡ false) × (q ≡ true)
-and_parts true q h = absurd (cc)
-and_parts false q h = (refl, h)
+and_parts x0 q h = grind (arith, nat_tests)
 
 module _ (kept : Forest Kept) (places : Forest ℕ) (find_context : List ℕ → Option CtxId) (find_chunk : List ℕ → Option ChunkId) (own : Own) (now : CtxId) (next next_entry : ℕ)
     (sound : IsSound kept places find_context find_chunk own now next next_entry) (s : Space) (w : List ℕ) where

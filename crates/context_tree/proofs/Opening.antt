@@ -1,34 +1,19 @@
 -- A tree of the topmost context alone, and one of all that a session begins with.
-use Rattle.context_tree.proofs.Base.{◌≡◌, ◌≢◌, ℕ, Bool, true, false, List, [], Option, Some, None, refl, sym, ap, ◌∙◌, subst, inl, inr, arith, codes, cases_eq, eq-eqb, ne_eqb, nat_tests}
-use Rattle.context_tree.proofs.Words.{Space, region_at, nothing, option_cases, none_or_some, counted-own, counted-other, counted-nothing, CtxId, NodeId, Forest, Empty, Node, at, has, mapped, Forested, Ledger, stats, footprint, ledger, Default, CtxKind, Context, new_context, topmost, ChunkId, NewContext, Own, Kept, IsSoundContext, IsSound, IsOwn, context_of, stands_for, no_contexts, Moves, SameRegions, Grew, sound_made}
+use Rattle.context_tree.proofs.Base.{◌≡◌, ◌≢◌, ℕ, true, List, Option, Some, None, refl, sym, ap, ◌∙◌, subst, inl, inr, arith, codes, nat_tests}
+use Rattle.context_tree.proofs.Words.{Space, region_at, nothing, option_cases, none_or_some, counted-own, counted-other, counted-nothing, CtxId, NodeId, Forest, Empty, Node, at, has, mapped, Forested, stats, footprint, ledger, Default, Context, new_context, topmost, ChunkId, NewContext, Own, Kept, IsSoundContext, IsSound, IsOwn, context_of, stands_for, no_contexts, Moves, SameRegions, Grew, sound_made}
 use Rattle.addr_space.specs.Footprint as foot
 
 -- the only context of a forest
 only : {A : Type 0} (n m : ℕ) (a b : A) → at m (Node n a Empty Empty) ≡ Some b → (n ≡ m) × (b ≡ a)
-only n m a b h =
-    elim (cases_eq n m) [
-      | inl same ↦ let it : Some a ≡ Some b = rw (eq-eqb n m same) at h in (same, cc)
-      | inr ne ↦ let none : None ≡ Some b = rw (ne_eqb n m ne) at h in absurd (cc)
-    ]
+only n m a b h = grind (arith, nat_tests, at)
 
 own_later : (slot n : ℕ) (id : CtxId) → id.number ≡ n → 1 ≢ n → IsOwn (Node 1 slot Empty Empty) n id
-own_later slot n id number later = record {
-  number = number;
-  placed = λ h. let none : false ≡ true = rw (ne_eqb 1 n later) at h in absurd (cc);
-}
+own_later slot n id number later = grind (arith, nat_tests, at)
 
 pub sound_topmost : (k : Kept) (slot next_entry : ℕ) (find_context : List ℕ → Option CtxId) (find_chunk : List ℕ → Option ChunkId) (own : Own) (now : CtxId) → k.chunks ≡ Empty → k.protected ≡ true → IsSoundContext k
     → ((w : List ℕ) → find_context w ≡ None) → ((w : List ℕ) → find_chunk w ≡ None) → own.top ≡ record { number = 1; slot = slot } → own.cache.number ≡ 3 → own.portals.number ≡ 4 → own.abort.number ≡ 5
     → now ≡ record { number = 1; slot = slot } → IsSound (Node 1 k Empty Empty) (Node 1 slot Empty Empty) find_context find_chunk own now 2 next_entry
-sound_topmost k slot next_entry find_context find_chunk own now chunks protected inside no_name no_chunk top cache portals abort current =
-    grind (
-      arith,
-      nat_tests,
-      own_later slot 3 own.cache cache (omega arith),
-      own_later slot 4 own.portals portals (omega arith),
-      own_later slot 5 own.abort abort (omega arith),
-      current,
-    )
+sound_topmost k slot next_entry find_context find_chunk own now chunks protected inside no_name no_chunk top cache portals abort current = grind (arith, nat_tests, own_later slot 3 own.cache cache (omega arith), own.cache, own_later slot 4 own.portals portals (omega arith), own.portals, own_later slot 5 own.abort abort (omega arith), own.abort)
 
 module _ (account slot : ℕ) (k : Kept) (places : Forest ℕ) (now : CtxId) (next : ℕ) (s t : Space) (moves : foot.Moves (nothing account slot) (footprint k.memory) s t) (chunks : k.chunks ≡ Empty)
     (total : (footprint k.memory).total ≡ (stats (ledger k.memory)).total) where
@@ -76,12 +61,10 @@ module _ (f g : Forested Kept) (new : NewContext) (id : NodeId) (account : ℕ) 
     (numbered : new.number ≡ 1) (named : new.name ≡ codes "TopMemoryContext") (kind : new.kind ≡ Default) (protected : new.protected ≡ true) (made : CtxId)
     (is : made ≡ record { number = id.number; slot = id.slot }) where
   kept_now : g.forest ≡ Node 1 grew.context Empty Empty
-  kept_now =
-      grew.forest ∙ ap (λ (n : ℕ). Node n grew.context Empty f.forest) numbered ∙ ap (λ (x : Forest Kept). Node 1 grew.context Empty x) empty
+  kept_now = grind (arith, nat_tests)
 
   places_now : g.places ≡ Node 1 id.slot Empty Empty
-  places_now =
-      grew.places ∙ ap (λ (n : ℕ). Node n id.slot Empty f.places) numbered ∙ ap (λ (x : Forest ℕ). Node 1 id.slot Empty x) nowhere
+  places_now = grind (arith, nat_tests)
 
   made_now : made ≡ record { number = 1; slot = id.slot }
   made_now = is ∙ ap (λ (n : ℕ). record { number = n; slot = id.slot }) (grew.number ∙ numbered)
@@ -91,27 +74,12 @@ module _ (f g : Forested Kept) (new : NewContext) (id : NodeId) (account : ℕ) 
 
   pub topmost_sound : (find_context : List ℕ → Option CtxId) (find_chunk : List ℕ → Option ChunkId) (own : Own) (next_entry : ℕ) → ((w : List ℕ) → find_context w ≡ None) → ((w : List ℕ) → find_chunk w ≡ None)
       → own.top ≡ made → own.cache.number ≡ 3 → own.portals.number ≡ 4 → own.abort.number ≡ 5 → IsSound g.forest g.places find_context find_chunk own made 2 next_entry
-  topmost_sound find_context find_chunk own next_entry no_name no_named top cache portals abort =
-      subst (λ (x : Forest ℕ). IsSound g.forest x find_context find_chunk own made 2 next_entry) (sym places_now)
-      (subst (λ (x : Forest Kept). IsSound x (Node 1 id.slot Empty Empty) find_context find_chunk own made 2 next_entry) (sym kept_now)
-      (sound_topmost grew.context id.slot next_entry find_context find_chunk own made no_chunk (ap (λ (k : Kept). k.protected) grew.made.now ∙ protected)
-      (sound_made new grew.context account id.slot s t grew.made) no_name no_named (top ∙ made_now) cache portals abort made_now))
+  topmost_sound find_context find_chunk own next_entry no_name no_named top cache portals abort = grind (arith, nat_tests, places_now, kept_now, sound_topmost, no_chunk, sound_made new grew.context account id.slot s t grew.made)
 
   pub topmost_moved : Moves (no_contexts account) (record { kept = g.forest; places = g.places; account = account; current = made; next = 2 }) s t
   topmost_moved =
       subst (λ (x : Forest Kept). Moves (no_contexts account) (record { kept = x; places = g.places; account = account; current = made; next = 2 }) s t) (sym kept_now)
       (topmost_moves account id.slot grew.context g.places made 2 s t grew.made.moves no_chunk grew.made.total)
-
-  abbrev bare_context : List ℕ → CtxKind → Bool → Ledger → Context
-  bare_context name kind protected ledger = record {
-    name = name;
-    kind = kind;
-    protected = protected;
-    ledger = ledger;
-    used = false;
-    chunks = [];
-    hooks = [];
-  }
 
   context_now : context_of t grew.context ≡ new_context (codes "TopMemoryContext") Default true
   context_now = grind (arith, nat_tests, grew.made.now, grew.made.new_ledger)

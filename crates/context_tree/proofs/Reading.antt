@@ -1,6 +1,6 @@
 -- What a tree stands for, read one context at a time.
-use Rattle.context_tree.proofs.Base.{◌≡◌, ℕ, Bool, true, false, Option, Some, None, refl, sym, ap, ◌∙◌, not, is_some, MatchOption, option_map}
-use Rattle.context_tree.proofs.Words.{NodeId, CtxId, Space, Forest, Empty, Node, Once, at, has, children, first, mapped, size, mapped-at, mapped-has, mapped-once, mapped-size, mapped-children, is_nothing, Kept, context_of, IsOwn, TreeState, IsLive, stands_for}
+use Rattle.context_tree.proofs.Base.{arith, nat_tests, ◌≡◌, ℕ, Bool, true, false, Option, Some, None, sym, ap, ◌∙◌, not, is_some, MatchOption, option_map}
+use Rattle.context_tree.proofs.Words.{NodeId, CtxId, Space, Forest, Once, at, has, children, first, mapped, size, mapped-at, mapped-has, mapped-once, mapped-size, mapped-children, is_nothing, Kept, context_of, IsOwn, TreeState, IsLive, stands_for}
 
 pub stands_size : (tree : TreeState) (s : Space) → size (stands_for tree s) ≡ size tree.kept
 unfolding stands_for
@@ -28,12 +28,10 @@ stands_children tree s n = sym (mapped-children (context_of s) n tree.kept)
 
 -- a forest without a first node has none
 pub nothing_first : (s : Space) (t : Forest Kept) → first t ≡ None → is_nothing (mapped (context_of s) t) ≡ true
-nothing_first s Empty h = refl
-nothing_first s (Node n k below beside) h = absurd (cc h)
+nothing_first s x1 h = grind (arith, nat_tests)
 
 pub something_first : (s : Space) (t : Forest Kept) (n : ℕ) → first t ≡ Some n → is_nothing (mapped (context_of s) t) ≡ false
-something_first s Empty n h = absurd (cc h)
-something_first s (Node m k below beside) n h = refl
+something_first s x1 n h = grind (arith, nat_tests)
 
 -- a link to the first node tells whether there is one
 pub first_told : (s : Space) (t : Forest Kept) (id : Option NodeId) (P : NodeId → Type 0) (none : Bool) → MatchOption id (first t ≡ None) (λ (i : NodeId). (first t ≡ Some i.number) × P i)

@@ -1,16 +1,11 @@
 -- A tree of which a context with all below it moves: what is said of contexts by their numbers holds on.
-use Rattle.context_tree.proofs.Base.{◌≡◌, ℕ, true, false, List, Option, refl, sym, ap, ◌∙◌, inl, inr, arith, ◌==◌, option_map_or, or_parts, eqb-false, nat_tests}
+use Rattle.context_tree.proofs.Base.{◌≡◌, ℕ, true, false, List, Option, refl, sym, ap, ◌∙◌, inl, inr, arith, ◌==◌, option_map_or, or_parts, nat_tests}
 use Rattle.context_tree.proofs.Words.{Space, Forest, Empty, Node, at, has, times, Once, size, children, parent_of, is_above, moved, mapped, has_at, at_some, times_moved, size_moved, mapped-has, mapped-children, mapped-parent, mapped-moved, mapped-once, at_moved, sum_of, sum_moved, CtxId, stats, Context, Contexts, is_child, is_within, ChunkId, Own, Kept, IsSound, IsNamed, IsChunk, IsOwn, context_of, TreeState, stands_for, Agrees, Moves, total_of}
 use Rattle.forest.proofs.Trees.{Moves as NodeMoves}
 
 module _ (kept kept2 : Forest Kept) (places places2 : Forest ℕ) (same : (m : ℕ) → at m kept2 ≡ at m kept) (lies : (m : ℕ) → at m places2 ≡ at m places) where
   own_stays : (n : ℕ) (id : CtxId) → IsOwn places n id → IsOwn places2 n id
-  own_stays n id own = record {
-    number = own.number;
-    placed = λ h.
-        let there = at_some n places2 h in
-        lies n ∙ own.placed (has_at n places there.0 (sym (lies n) ∙ there.1));
-  }
+  own_stays n id own = grind (arith, nat_tests, own.number, at_some, own.placed, has_at)
 
   none_left : (t : Forest Kept) → size t ≡ 0 → t ≡ Empty
   none_left Empty e = refl
@@ -23,14 +18,8 @@ module _ (kept kept2 : Forest Kept) (places places2 : Forest ℕ) (same : (m : �
   sound_rearranged find_context find_chunk own now next next_entry often many sound = record {
     numbers = λ m. rw (often m) (sound.numbers m);
     few = rw many sound.few;
-    lies = λ m h.
-        let there = at_some m places2 h in
-        let was = at_some m kept (sound.lies m (has_at m places there.0 (sym (lies m) ∙ there.1))) in
-        has_at m kept2 was.0 (same m ∙ was.1);
-    there = λ m h.
-        let stood = at_some m kept2 h in
-        let place = at_some m places (sound.there m (has_at m kept stood.0 (sym (same m) ∙ stood.1))) in
-        has_at m places2 place.0 (lies m ∙ place.1);
+    lies = grind (arith, nat_tests, at_some, sound.lies, has_at);
+    there = grind (arith, nat_tests, at_some, sound.there, has_at);
     each = λ m k h. sound.each m k (sym (same m) ∙ h);
     given = λ m c k h q. sound.given m c k (sym (same m) ∙ h) q;
     named = λ word id h.
@@ -66,8 +55,7 @@ module _ (kept kept2 : Forest Kept) (places places2 : Forest ℕ) (same : (m : �
   }
 
 total_is : (t : Contexts) → total_of t ≡ sum_of (λ (c : Context). (stats c.ledger).total) t
-total_is Empty = refl
-total_is (Node n c below beside) = rw (total_is below, total_is beside) refl
+total_is x0 = grind (arith, nat_tests)
 
 node_moves : (s : Space) (n p : ℕ) (t : Forest Kept) → NodeMoves n p t → NodeMoves n p (mapped (context_of s) t)
 node_moves s n p t w = grind (arith, nat_tests, mapped-has (context_of s) n t, w.node, mapped-has (context_of s) p t, w.parent, w.other, mapped-children (context_of s) n t, mapped-has (context_of s) p (children n t), w.apart)
@@ -98,11 +86,7 @@ module _ (a b : TreeState) (s : Space) (n p : ℕ) (once : Once a.kept) (w : Nod
 
   total_stays : total_of (stands_for b s) ≡ total_of (stands_for a s)
   unfolding stands_for
-  total_stays =
-      ap total_of (ap (mapped (context_of s)) is ∙ mapped-moved (context_of s) n p a.kept)
-      ∙ total_is (moved n p (mapped (context_of s) a.kept))
-      ∙ sum_moved (λ (c : Context). (stats c.ledger).total) n p (mapped (context_of s) a.kept) (mapped-once (context_of s) a.kept once) (node_moves s n p a.kept w)
-      ∙ sym (total_is (mapped (context_of s) a.kept))
+  total_stays = grind (arith, nat_tests, total_of, mapped (context_of s), mapped-moved (context_of s) n p a.kept, total_is (moved n p (mapped (context_of s) a.kept)), moved n p (mapped (context_of s) a.kept), mapped (context_of s) a.kept, sum_moved, mapped-once (context_of s) a.kept once, node_moves s n p a.kept w, total_is (mapped (context_of s) a.kept))
 
   pub moves_moved : Agrees a s → Moves a b s s
   moves_moved agrees = record {
@@ -131,11 +115,8 @@ child_stands tree s n p = ap (λ (o : Option ℕ). option_map_or (λ q. q == p) 
 
 pub above_stands : (tree : TreeState) (s : Space) (n m : ℕ) → is_above n m (stands_for tree s) ≡ is_above n m tree.kept
 unfolding stands_for
-above_stands tree s n m =
-    ap (λ (x : Contexts). has m x) (sym (mapped-children (context_of s) n tree.kept)) ∙ mapped-has (context_of s) m (children n tree.kept)
+above_stands tree s n m = grind (arith, nat_tests, mapped-children (context_of s) n tree.kept, tree.kept, mapped-has (context_of s) m (children n tree.kept))
 
 -- a context that may move
 pub may_move : (tree : TreeState) (s : Space) (n p : ℕ) → has n tree.kept ≡ true → has p tree.kept ≡ true → is_within n p (stands_for tree s) ≡ false → NodeMoves n p tree.kept
-may_move tree s n p h i out =
-    let parts = or_parts (p == n) (is_above n p (stands_for tree s)) out in
-    grind (arith, nat_tests, eqb-false p n parts.0, above_stands tree s n p, parts.1)
+may_move tree s n p h i out = grind (arith, nat_tests, or_parts (p == n) (is_above n p (stands_for tree s)) out, is_above n p (stands_for tree s), above_stands tree s n p)

@@ -1,6 +1,6 @@
 -- A tree in which a chunk got another size.
-use Rattle.context_tree.proofs.Base.{◌≡◌, ◌≢◌, ℕ, List, Option, Some, Ok, unwrap_or, refl, sym, ap, ◌∙◌, nat_tests, arith}
-use Rattle.context_tree.proofs.Words.{Space, held, at, Once, changed, Place, InSlab, resize, footprint, ledger, place_at, with_changed, with_size, resized, ChunkId, Entry, Kept, IsSoundContext, TreeState, stands_for, Agrees, Moves, Refitted, Leads, known_refitted, context_refitted}
+use Rattle.context_tree.proofs.Base.{◌≡◌, ◌≢◌, ℕ, List, Some, Ok, unwrap_or, refl, sym, ap, ◌∙◌, nat_tests, arith}
+use Rattle.context_tree.proofs.Words.{Space, held, at, Once, changed, InSlab, resize, footprint, ledger, place_at, with_changed, with_size, resized, ChunkId, Entry, Kept, IsSoundContext, TreeState, stands_for, Agrees, Moves, Refitted, Leads, known_refitted, context_refitted}
 use Rattle.context_tree.proofs.Steps.{Stepped, stands_by, moves_stepped}
 
 module _ (a : TreeState) (s : Space) (w : List ℕ) (id : ChunkId) (k : Kept) (size : ℕ) (agrees : Agrees a s) (leads : Leads a w id) (here : at id.context.number a.kept ≡ Some k) where
@@ -13,9 +13,7 @@ module _ (a : TreeState) (s : Space) (w : List ℕ) (id : ChunkId) (k : Kept) (s
   -- what the ledger answers
   pub refit_told : resize (ledger leads.chunk.context.memory) (held s a.account) s.limit (unwrap_or (place_at leads.chunk.context.memory leads.chunk.entry.at) (InSlab 0)) size
       ≡ resize (ledger k.memory) (held s (footprint k.memory).account) s.limit (unwrap_or (place_at k.memory leads.chunk.entry.at) (InSlab 0)) size
-  refit_told =
-      ap (λ (x : Kept). resize (ledger x.memory) (held s a.account) s.limit (unwrap_or (place_at x.memory leads.chunk.entry.at) (InSlab 0)) size) same_context
-      ∙ ap (λ (account : ℕ). resize (ledger k.memory) (held s account) s.limit (unwrap_or (place_at k.memory leads.chunk.entry.at) (InSlab 0)) size) (sym (agrees.owned id.context.number k here))
+  refit_told = grind (arith, nat_tests, held, same_context)
 
   module _ (l : Kept) (t : Space) (once : Once a.kept) (each : (m : ℕ) (j : Kept) → at m a.kept ≡ Some j → IsSoundContext j) (fit : Refitted k l id.entry.number size s t) where
     same_entry : leads.chunk.entry ≡ fit.entry
@@ -25,11 +23,7 @@ module _ (a : TreeState) (s : Space) (w : List ℕ) (id : ChunkId) (k : Kept) (s
     entry_named = ap (λ (x : Entry). x.name) (sym same_entry) ∙ leads.chunk.name
 
     answered : resize (ledger leads.chunk.context.memory) (held s a.account) s.limit (unwrap_or (place_at leads.chunk.context.memory leads.chunk.entry.at) (InSlab 0)) size ≡ Ok fit.resizes.answer
-    answered =
-        refit_told
-        ∙ ap (λ (x : Entry). resize (ledger k.memory) (held s (footprint k.memory).account) s.limit (unwrap_or (place_at k.memory x.at) (InSlab 0)) size) same_entry
-        ∙ ap (λ (o : Option Place). resize (ledger k.memory) (held s (footprint k.memory).account) s.limit (unwrap_or o (InSlab 0)) size) fit.placed
-        ∙ fit.resizes.is
+    answered = grind (arith, nat_tests, refit_told, held s (footprint k.memory).account, same_entry)
 
     stepped : Stepped a (record a { kept = changed id.context.number (λ _. l) a.kept }) s t id.context.number k l
     stepped = grind (arith, nat_tests, fit.moves, known_refitted k l id.entry.number size s t fit (each id.context.number k here) (agrees.each id.context.number k here) (λ c e h. agrees.known id.context.number c k e here h), fit.total)

@@ -1,6 +1,6 @@
 -- A tree in which a context was reset.
-use Rattle.context_tree.proofs.Base.{◌≡◌, ◌≤◌, ℕ, true, false, List, [], ◌∷◌, ◌++◌, length, Option, Some, refl, sym, ap, ◌∙◌, arith, option_map, nat_tests}
-use Rattle.context_tree.proofs.Words.{Space, Empty, at, Once, changed, mapped-at, mapped-once, AreDistinct, ShelfState, waiting, callbacks, emptied, unchanged, cleared_alone, Reset, ChunkId, Entry, Kept, IsSoundContext, context_of, TreeState, stands_for, Agrees, HooksFit, Did, Cleared, handed_none}
+use Rattle.context_tree.proofs.Base.{◌≡◌, ◌≤◌, ℕ, true, false, List, [], ◌∷◌, ◌++◌, length, Option, Some, refl, ap, ◌∙◌, arith, option_map, nat_tests}
+use Rattle.context_tree.proofs.Words.{Space, Empty, at, Once, changed, mapped-at, mapped-once, AreDistinct, ShelfState, waiting, callbacks, emptied, unchanged, cleared_alone, Reset, ChunkId, Kept, IsSoundContext, context_of, TreeState, stands_for, Agrees, HooksFit, Did, Cleared, handed_none}
 use Rattle.reset_callbacks.specs.ShelfState.{held}
 use Rattle.context_tree.proofs.Steps.{Stepped, stands_by, moves_stepped}
 use Rattle.context_tree.proofs.Allocs.{tree_none}
@@ -41,9 +41,6 @@ module _ (a : TreeState) (s t : Space) (x y : ShelfState) (n : ℕ) (k l : Kept)
   pub no_chunks : l.chunks ≡ Empty
   no_chunks = ap (λ (z : Kept). z.chunks) cleared.now
 
-  none_listed : (P : Type 0) (c : ℕ) (e : Entry) → at c l.chunks ≡ Some e → P
-  none_listed P c e h = let none : at c Empty ≡ Some e = ap (at c) (sym no_chunks) ∙ h in absurd (cc)
-
   pub sound_emptied : IsSoundContext l
   sound_emptied = grind (arith, nat_tests, cleared.total)
 
@@ -58,17 +55,4 @@ module _ (a : TreeState) (s t : Space) (x y : ShelfState) (n : ℕ) (k l : Kept)
     emptied_is = grind (arith, nat_tests, cleared.now, cleared.renewed)
 
     pub did_clear : k.used ≡ true → HooksFit (stands_for a s) x → Did (cleared_alone n (stands_for a s)) a after s t x y
-    did_clear used hooks =
-        grind (
-          arith,
-          nat_tests,
-          parted_changed n (context_of s k) (stands_for a s) (stands_once a s n k once here) (stands_here a s n k once here),
-          stands_here a s n k once here,
-          used,
-          stands_by a after s t n k l agrees once each stepped emptied emptied_is,
-          cleared.shelf,
-          fits_left (waiting (stands_for a s)) k.hooks (waiting (changed n emptied (stands_for a s))) x (parted_changed n (context_of s k) (stands_for a s) (stands_once a s n k once here) (stands_here a s n k once here)) hooks.out hooks.words,
-          words_left (waiting (stands_for a s)) k.hooks (waiting (changed n emptied (stands_for a s))) x (parted_changed n (context_of s k) (stands_for a s) (stands_once a s n k once here) (stands_here a s n k once here)) hooks.out hooks.words,
-          moves_stepped a after s t n k l agrees once each stepped,
-          cleared.asked,
-        )
+    did_clear used hooks = grind (arith, nat_tests, parted_changed n (context_of s k) (stands_for a s) (stands_once a s n k once here) (stands_here a s n k once here), stands_once a s n k once here, stands_here a s n k once here, stands_by a after s t n k l agrees once each stepped emptied emptied_is, after, stepped, emptied_is, fits_left (waiting (stands_for a s)) k.hooks (waiting (changed n emptied (stands_for a s))) x (parted_changed n (context_of s k) (stands_for a s) (stands_once a s n k once here) (stands_here a s n k once here)) hooks.out hooks.words, changed n emptied (stands_for a s), hooks.out, hooks.words, words_left (waiting (stands_for a s)) k.hooks (waiting (changed n emptied (stands_for a s))) x (parted_changed n (context_of s k) (stands_for a s) (stands_once a s n k once here) (stands_here a s n k once here)) hooks.out hooks.words, moves_stepped a after s t n k l agrees once each stepped)

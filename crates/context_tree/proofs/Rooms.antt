@@ -1,27 +1,19 @@
 -- Whether there is room for a context, and a space to which all came back.
-use Rattle.context_tree.proofs.Base.{◌≡◌, ℕ, ◌+◌, ◌-◌, ◌<◌, ◌≤◌, Some, None, refl, subst, arith, lt-ltb, le-ltb}
-use Rattle.context_tree.proofs.Words.{Space, held, nothing, Moves-more, first_size, footprint, AnyCtx, CtxKind, Default, Small, Error, Abort, Slab, Generation, Bump, NoSpace, TooMany, Ctx, CameBack, room_refusal}
+use Rattle.context_tree.proofs.Base.{nat_tests, ◌≡◌, ℕ, ◌+◌, ◌-◌, ◌<◌, ◌≤◌, Some, None, refl, subst, arith, le-ltb}
+use Rattle.context_tree.proofs.Words.{Space, held, nothing, Moves-more, first_size, footprint, AnyCtx, CtxKind, NoSpace, TooMany, Ctx, CameBack, room_refusal}
 use Rattle.addr_space.specs.Footprint as foot
 
 first_some : (kind : CtxKind) → 0 < first_size kind
-first_some Default = omega arith
-first_some Small = omega arith
-first_some Error = omega arith
-first_some Abort = omega arith
-first_some (Slab size) = omega arith
-first_some Generation = omega arith
-first_some Bump = omega arith
+first_some x0 = grind (arith, nat_tests)
 
 pub too_many : (many left : ℕ) (kind : CtxKind) → 65536 ≤ many → room_refusal many left kind ≡ Some TooMany
 too_many many left kind above = rw (le-ltb many 65536 above) refl
 
 pub no_room : (many held limit : ℕ) (kind : CtxKind) → many < 65536 → limit < held + first_size kind → room_refusal many (limit - held) kind ≡ Some (Ctx NoSpace)
-no_room many held limit kind few short =
-    rw (lt-ltb many 65536 few, lt-ltb (limit - held) (first_size kind) (omega (arith, short, first_some kind))) refl
+no_room many held limit kind few short = grind (arith, nat_tests, first_some kind)
 
 pub has_room : (many held limit : ℕ) (kind : CtxKind) → many < 65536 → held + first_size kind ≤ limit → room_refusal many (limit - held) kind ≡ None
-has_room many held limit kind few fits =
-    rw (lt-ltb many 65536 few, le-ltb (limit - held) (first_size kind) (omega (arith, fits))) refl
+has_room many held limit kind few fits = grind (arith, nat_tests)
 
 pub given_back : (m : AnyCtx) (account slot : ℕ) (s t u : Space) → foot.Moves (nothing account slot) (footprint m) s t
     → foot.Moves (footprint m) (nothing (footprint m).account (footprint m).context) t u → CameBack account s u

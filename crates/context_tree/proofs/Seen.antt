@@ -1,5 +1,5 @@
 -- A tree as a function's contract sees it: what a call on one of its contexts makes of it.
-use Rattle.context_tree.proofs.Base.{◌||◌, ◌≡◌, ◌⊎◌, ℕ, ◌+◌, List, [], length, IsSome, false, nat_lt, Option, Some, None, Result, Ok, Err, OnErr, refl, inl, inr, true, ◌≢◌, ◌≤◌, ◌++◌, ◌∷◌, ◌==◌, if◌then◌else◌, sym, ap, ◌∙◌, subst, min, max, option_map}
+use Rattle.context_tree.proofs.Base.{arith, nat_tests, ◌||◌, ◌≡◌, ◌⊎◌, ℕ, ◌+◌, List, [], length, IsSome, false, nat_lt, Option, Some, None, Result, OnErr, refl, inl, inr, true, ◌≢◌, ◌≤◌, ◌++◌, ◌∷◌, ◌==◌, if◌then◌else◌, sym, ap, ◌∙◌, subst, min, max, option_map}
 use Rattle.context_tree.proofs.Words.{Forested, follows, CameBack, NewContext, Grew, has_at, is_reserved, Added, entered_context, ShelfState, HooksFit, AreDistinct, callbacks, Reset, Delete, cleared_alone, Ended, Did, Cleared, Gone, children, removed, subtree, gone, gone_events, without_context, Empty, CtxId, Space, held, Asks, NodeId, Forest, at, has, Once, changed, take_in, TreeError, Memory, Taken, Range, where_so, footprint, allocated, asked, resized, written, freed, refusal, is_chunk, alloc_refusal, put_refusal, ChunkId, Entry, Own, Kept, IsSound, TreeState, stands_for, Agrees, Moves, left_of, Leads, Took, Refitted, Written, Freed, entered, names_changed, sound_refitted, sound_written}
 use Rattle.addr_space.specs.Footprint as foot
 use Rattle.reset_callbacks.specs.ShelfState as shelf
@@ -17,8 +17,7 @@ use Rattle.context_tree.proofs.Freeing as freeing
 
 -- what holds in any case holds where a call was refused
 pub on_err_of : {A E P : Type 0} (r : Result A E) → P → OnErr r P
-on_err_of (Ok a) holds = tt
-on_err_of (Err e) holds = holds
+on_err_of x0 holds = grind (arith, nat_tests)
 
 -- nothing happened
 pub still_moves : {a v : TreeState} {s : Space} → a ≡ v → Agrees v s → Moves v a s s
@@ -226,14 +225,12 @@ module _ {a v : TreeState} (is : a ≡ v) {find_context : List ℕ → Option Ct
 
 -- a walk's next place, by what the tree stands for
 pub next_so : {a v : TreeState} → a ≡ v → (t : Space) (n : ℕ) {q m r : ℕ} → r ≡ follows n q (children q a.kept) → q ≡ m → r ≡ follows n m (children m (stands_for v t))
-next_so {a} {v} is t n {q} {m} {r} goes nn =
-    goes ∙ ap (λ (i : ℕ). follows n i (children i a.kept)) nn ∙ ap (λ (x : TreeState). follows n m (children m x.kept)) is ∙ sym (follows_stands v t n m)
+next_so {a} {v} is t n {q} {m} {r} goes nn = grind (arith, nat_tests, a.kept, follows_stands v t n m)
 
 -- no context was made
 pub add_back : (f g : Forested Kept) (account : ℕ) (current : CtxId) (next : ℕ) {v : TreeState} {s t : Space} → tree_of f account current next ≡ v → Agrees v s → g ≡ f → CameBack account s t
     → Moves v (tree_of g account current next) s t
-add_back f g account current next {v} {s} {t} is agrees same back =
-    subst (λ (x : Forested Kept). Moves v (tree_of x account current next) s t) (sym same) (subst (λ (x : TreeState). Moves v x s t) (sym is) (tree_came_back account s t back v agrees))
+add_back f g account current next {v} {s} {t} is agrees same back = grind (arith, nat_tests, tree_came_back account s t back v agrees)
 
 -- a context was made
 module _ (f : Forested Kept) (account : ℕ) (current : CtxId) (next : ℕ) {v : TreeState} (is : tree_of f account current next ≡ v) {find_context : List ℕ → Option CtxId} {find_chunk : List ℕ → Option ChunkId} {own : Own}
@@ -249,9 +246,7 @@ module _ (f : Forested Kept) (account : ℕ) (current : CtxId) (next : ℕ) {v :
   grew = subst (λ (i : ℕ). Grew f g new (Some i) id account s t) nn made
 
   pub add_moves : Moves v (tree_of g account current (next + 1)) s t
-  add_moves =
-      subst (λ (x : TreeState). Moves x (tree_of g account current (next + 1)) s t) is
-      (added_moves f account current next find_context find_chunk own next_entry sound s g new p id t grew numbered agrees_so placed_at)
+  add_moves = grind (arith, nat_tests, added_moves f account current next find_context find_chunk own next_entry sound s g new p id t grew numbered agrees_so placed_at, grew, agrees_so, placed_at)
 
   pub add_added : (z : CtxId) → z ≡ record { number = id.number; slot = id.slot } → (new.protected ≡ false → (is_reserved new.name ≡ false) × (find_context new.name ≡ None))
       → Added v (tree_of g account current (next + 1)) p new.name new.kind new.protected z s t

@@ -1,5 +1,5 @@
 -- A context less in a tree: what that makes of the tree, and of what it stands for.
-use Rattle.context_tree.proofs.Base.{◌≡◌, ◌≢◌, ℕ, ◌+◌, ◌<◌, Some, IsSome, refl, sym, ap, ◌∙◌, subst, inl, inr, arith, option_map, cases_eq}
+use Rattle.context_tree.proofs.Base.{nat_tests, ◌≡◌, ◌≢◌, ℕ, ◌+◌, ◌<◌, Some, IsSome, refl, sym, ap, ◌∙◌, subst, inl, inr, arith, option_map, cases_eq}
 use Rattle.context_tree.proofs.Words.{Space, IsKnown, Footprint, AreDisjoint, nothing, Agrees-other, Keeps-other, counted-own, counted-other, counted-nothing, Forest, Empty, Node, either, at, children, removed, Once, mapped, Apart, apart_of, Here, Below, Beside, where_is, has_at, at_absent, at_some, removed_absent, at_removed, once_removed, mapped-removed, mapped-once, mapped-at, mapped-children, stats, footprint, Context, Contexts, Entry, Kept, IsSoundContext, context_of, TreeState, stands_for, Agrees, total_of, Moves, context_stays, other_than_removed}
 use Rattle.addr_space.specs.Footprint as foot
 use Rattle.context_tree.proofs.Growing.{mapped_same}
@@ -7,9 +7,7 @@ use Rattle.context_tree.proofs.Growing.{mapped_same}
 module _ {A : Type 0} (n : ℕ) (t : Forest A) (once : Once t) (leaf : children n t ≡ Empty) where
   -- what is left where a node without children goes
   pub left_at : (m : ℕ) (j : A) → at m (removed n t) ≡ Some j → (m ≢ n) × (at m t ≡ Some j)
-  left_at m j h =
-      let ne : m ≢ n = other_than_removed m n t (has_at m (removed n t) j h) in
-      (ne, sym (at_removed m n t once ne leaf) ∙ h)
+  left_at m j h = grind (arith, nat_tests, other_than_removed m n t (has_at m (removed n t) j h), has_at m (removed n t) j h, removed n t, at_removed)
 
   pub still_at : (m : ℕ) (j : A) → m ≢ n → at m t ≡ Some j → at m (removed n t) ≡ Some j
   still_at m j ne h = at_removed m n t once ne leaf ∙ h
@@ -129,11 +127,5 @@ module _ (a b : TreeState) (s t : Space) (n : ℕ) (k : Kept) (agrees : Agrees a
           counted-nothing (footprint k.memory).account (footprint k.memory).context a.account,
           (each n k shrunk.here).total,
         );
-    others = λ account differ.
-        omega (
-          arith,
-          shrunk.moves.held account,
-          counted-other (footprint k.memory) account (λ e. differ (sym e ∙ mine)),
-          counted-nothing (footprint k.memory).account (footprint k.memory).context account,
-        );
+    others = grind (arith, nat_tests, counted-other, mine, counted-nothing);
   }

@@ -1,5 +1,5 @@
 -- What calls keep of a tree's soundness.
-use Rattle.context_tree.proofs.Base.{◌≡◌, ◌≢◌, ℕ, ◌<◌, ◌≤◌, true, List, Option, Some, refl, sym, ap, ◌∙◌, inl, inr, arith, option_map, cases_eq, cases_Bool, eq-eqb, ne_eqb}
+use Rattle.context_tree.proofs.Base.{nat_tests, ◌≡◌, ◌≢◌, ℕ, ◌<◌, ◌≤◌, true, List, Option, Some, refl, sym, ap, ◌∙◌, inl, inr, arith, option_map, cases_eq, cases_Bool, eq-eqb, ne_eqb}
 use Rattle.context_tree.proofs.Words.{CtxId, from_map, Forest, Empty, Node, either, at, has, Once, changed, Apart, apart_of, has_at, at_absent, at_some, times_changed, size_changed, changed_absent, has_changed, ChunkId, Entry, Own, Kept, IsSoundContext, IsSound, IsNamed, IsChunk, TreeState, step_at, step_here, step_other}
 
 -- a node that becomes what it is
@@ -135,12 +135,7 @@ module _ (kept : Forest Kept) (places : Forest ℕ) (find_context : List ℕ →
 pub one_named : (kept : Forest Kept) (places : Forest ℕ) (find_context : List ℕ → Option CtxId) (find_chunk : List ℕ → Option ChunkId) (own : Own) (now : CtxId) (next next_entry : ℕ)
     → IsSound kept places find_context find_chunk own now next next_entry → (n c : ℕ) (k : Kept) (e : Entry) (w : List ℕ) → at n kept ≡ Some k → at c k.chunks ≡ Some e → e.name ≡ Some w
     → (d : ℕ) (x : Entry) → d ≢ c → at d k.chunks ≡ Some x → x.name ≢ Some w
-one_named kept places find_context find_chunk own now next next_entry sound n c k e w here lists named d x ne h is =
-    let one = sound.chunk_names n d k x w here h is in
-    let two = sound.chunk_names n c k e w here lists named in
-    let both : Some one.0 ≡ Some two.0 = sym one.1 ∙ two.1 in
-    let it : one.0 ≡ two.0 = cc in
-    ne (sym one.3 ∙ ap (λ (y : ChunkId). y.entry.number) it ∙ two.3)
+one_named kept places find_context find_chunk own now next next_entry sound n c k e w here lists named d x ne h is = grind (arith, nat_tests, sound.chunk_names n d k x w here h is, sound.chunk_names n c k e w here lists named)
 
 -- the tree with a context that stayed as it was
 pub tree_back : (a : TreeState) (n : ℕ) (k l : Kept) → at n a.kept ≡ Some k → Once a.kept → l ≡ k → record a { kept = changed n (λ _. l) a.kept } ≡ a

@@ -1,5 +1,5 @@
 -- What is known of the chunk that a name leads to.
-use Rattle.context_tree.proofs.Base.{◌≡◌, false, ℕ, ◌+◌, ◌^◌, ◌≤◌, List, length, map, take, drop, Option, Some, None, IsSome, refl, sym, ap, ◌∙◌, subst, arith, nat_lt, IfSome, le-ltb}
+use Rattle.context_tree.proofs.Base.{nat_tests, ◌≡◌, ℕ, ◌+◌, ◌^◌, ◌≤◌, List, length, map, Some, None, IsSome, refl, sym, ap, ◌∙◌, subst, arith, IfSome}
 use Rattle.context_tree.proofs.Words.{Addr, Space, region_at, bytes_of, byte_at, part, IsInside, IsKnown, HasBytes, Footprint, ends_small, IsInside-live_part, footprint, ledger, Found, found, shown, bytes_refusal, ChunkId, Entry, bytes_at, chunk_of, TreeState, stands_for, Agrees, Leads, IsIn, in_live, length-bytes_at, has_known, part_read}
 use Rattle.addr_space.specs.Footprint as foot
 use Rattle.context_rules.specs.Contexts as rules
@@ -43,17 +43,14 @@ module _ (tree : TreeState) (word : List ℕ) (e : Entry) (s : Space) (x : Stand
   known_long = ap length x.bytes ∙ length-bytes_at s e.at e.known x.inside
 
   pub bytes_served : (place n : ℕ) → place + n ≤ e.known → None ≡ bytes_refusal word place n (stands_for tree s)
-  bytes_served place n fits =
-      let test : nat_lt (length x.found.chunk.known) (place + n) ≡ false = le-ltb (length x.found.chunk.known) (place + n) (omega (arith, known_long, fits)) in
-      rw (x.is, test) refl
+  bytes_served place n fits = grind (arith, nat_tests, known_long)
 
   -- a place in the chunk
   abbrev pub IsAt : Addr → ℕ → Type 0
   IsAt at place = at ≡ record { region = e.at.region; offset = e.at.offset + place }
 
   pub inside_at : (at : Addr) (place n : ℕ) → IsAt at place → place + n ≤ e.size → IsInside s at n
-  inside_at at place n is fits =
-      IsInside-live_part x.footprint s e.at at e.size n x.agrees x.live (ap (λ (a : Addr). a.region) is) (omega (arith, ap (λ (a : Addr). a.offset) is, fits))
+  inside_at at place n is fits = grind (arith, nat_tests, IsInside-live_part)
 
   pub known_at : (at : Addr) (place n : ℕ) → IsAt at place → place + n ≤ e.known → IsKnown s at n
   known_at at place n is fits k below =
@@ -63,12 +60,7 @@ module _ (tree : TreeState) (word : List ℕ) (e : Entry) (s : Space) (x : Stand
       subst IsSome (sym there) (x.known (place + k) (omega (arith, below, fits)))
 
   pub bytes_shown : (at : Addr) (place n : ℕ) (out : List ℕ) → IsAt at place → place + n ≤ e.known → map Some out ≡ part (bytes_of (region_at s at.region)) at.offset n → out ≡ shown word place n (stands_for tree s)
-  bytes_shown at place n out is fits reads =
-      let there : map Some out ≡ part (bytes_of (region_at s e.at.region)) (e.at.offset + place) n = reads ∙ ap (λ (a : Addr). part (bytes_of (region_at s a.region)) a.offset n) is in
-      let read : out ≡ take n (drop place x.found.chunk.known) = part_read s e.at e.known place n out there fits x.inside ∙ ap (λ (k : List ℕ). take n (drop place k)) (sym x.bytes) in
-      rw x.is read
+  bytes_shown at place n out is fits reads = grind (arith, nat_tests, part, bytes_of (region_at s e.at.region), bytes_of, part_read)
 
   pub place_has : IfSome (found word (stands_for tree s)) (λ f. HasBytes s e.at f.chunk.known)
-  place_has =
-      subst (λ (o : Option Found). IfSome o (λ f. HasBytes s e.at f.chunk.known)) (sym x.is)
-      (subst (λ (k : List ℕ). HasBytes s e.at k) (sym x.bytes) (has_known s e.at e.known x.inside x.known))
+  place_has = grind (arith, nat_tests, has_known s e.at e.known x.inside x.known)

@@ -1,5 +1,5 @@
 -- One context of a tree moves: what that makes of the tree, and of what it stands for.
-use Rattle.context_tree.proofs.Base.{◌≡◌, ◌≢◌, ◌⊎◌, ℕ, ◌+◌, ◌<◌, Some, IsSome, refl, sym, ap, ◌∙◌, subst, inl, inr, arith, option_map, cases_eq, eq-eqb, ne_eqb}
+use Rattle.context_tree.proofs.Base.{nat_tests, ◌≡◌, ◌≢◌, ◌⊎◌, ℕ, ◌+◌, ◌<◌, Some, IsSome, refl, sym, ap, ◌∙◌, subst, inl, inr, arith, option_map, cases_eq, eq-eqb, ne_eqb}
 use Rattle.context_tree.proofs.Words.{Space, IsKnown, AreDisjoint, Agrees-other, Keeps-other, AreDisjoint-other, AreDisjoint-sym, counted-own, counted-other, Forest, Empty, Node, either, at, Once, changed, mapped, Apart, apart_of, Here, Below, Beside, where_is, has_at, at_absent, at_some, changed_absent, at_changed, at_changed_other, mapped-at, mapped-once, stats, footprint, ledger, Context, Contexts, Entry, Kept, IsSoundContext, context_of, TreeState, stands_for, Agrees, total_of, Moves, at_here, at_below, at_beside, context_stays}
 use Rattle.addr_space.specs.Footprint as foot
 
@@ -67,15 +67,7 @@ module _ (a b : TreeState) (s t : Space) (n : ℕ) (k l : Kept) (agrees : Agrees
     (step : Stepped a b s t n k l) where
   -- the context of a number then
   stepped_at : (m : ℕ) (j : Kept) → at m b.kept ≡ Some j → ((m ≡ n) × (j ≡ l)) ⊎ ((m ≢ n) × (at m a.kept ≡ Some j))
-  stepped_at m j h =
-      let there : at m (changed n (λ _. l) a.kept) ≡ Some j = ap (at m) (sym step.changed) ∙ h in
-      elim (cases_eq m n) [
-        | inl same ↦
-            let two : at n (changed n (λ _. l) a.kept) ≡ Some j = ap (λ (i : ℕ). at i (changed n (λ _. l) a.kept)) (sym same) ∙ there in
-            let one : Some l ≡ Some j = sym (at_changed n (λ _. l) a.kept k step.here) ∙ two in
-            inl (same, cc)
-        | inr ne ↦ inr (ne, sym (at_changed_other m n (λ _. l) a.kept ne) ∙ there)
-      ]
+  stepped_at m j h = grind (arith, nat_tests, at, changed, at_changed, at_changed_other)
 
   pub stepped_here : at n b.kept ≡ Some l
   stepped_here = ap (at n) step.changed ∙ at_changed n (λ _. l) a.kept k step.here
@@ -87,8 +79,7 @@ module _ (a b : TreeState) (s t : Space) (n : ℕ) (k l : Kept) (agrees : Agrees
   disjoint m j ne h = agrees.apart n m k j (λ e. ne (sym e)) step.here h
 
   beside : (m : ℕ) (j : Kept) → m ≢ n → at m a.kept ≡ Some j → AreDisjoint (footprint l.memory) (footprint j.memory)
-  beside m j ne h =
-      AreDisjoint-other (footprint k.memory) (footprint l.memory) (footprint j.memory) s t step.moves (disjoint m j ne h) (agrees.each m j h)
+  beside m j ne h = grind (arith, nat_tests, AreDisjoint-other (footprint k.memory) (footprint l.memory) (footprint j.memory) s t step.moves (disjoint m j ne h) (agrees.each m j h), j.memory, disjoint m j ne h)
 
   known_other : (m c : ℕ) (j : Kept) (e : Entry) → m ≢ n → at m a.kept ≡ Some j → at c j.chunks ≡ Some e → IsKnown t e.at e.known
   known_other m c j e ne h q i below =
@@ -141,8 +132,7 @@ module _ (a b : TreeState) (s t : Space) (n : ℕ) (k l : Kept) (agrees : Agrees
 
   -- the same, by any function that makes this of the context
   pub stands_by : (f : Context → Context) → f (context_of s k) ≡ context_of t l → stands_for b t ≡ changed n f (stands_for a s)
-  stands_by f is =
-      stands_stepped ∙ changed_same n (λ _. context_of t l) f (context_of s k) (stands_for a s) once_stands stood (sym is)
+  stands_by f is = grind (arith, nat_tests, stands_stepped, changed_same, once_stands, stood)
 
   pub moves_stepped : Moves a b s t
   moves_stepped = record {
@@ -179,12 +169,5 @@ module _ (a b : TreeState) (s t : Space) (n : ℕ) (k l : Kept) (agrees : Agrees
           step.total,
           (each n k step.here).total,
         );
-    others = λ account differ.
-        let mine : (footprint k.memory).account ≡ a.account = agrees.owned n k step.here in
-        omega (
-          arith,
-          step.moves.held account,
-          counted-other (footprint k.memory) account (λ e. differ (sym e ∙ mine)),
-          counted-other (footprint l.memory) account (λ e. differ (sym e ∙ step.moves.account ∙ mine)),
-        );
+    others = grind (arith, nat_tests, counted-other);
   }

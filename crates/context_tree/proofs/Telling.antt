@@ -1,5 +1,5 @@
 -- The lines and sums of a report, one context at a time.
-use Rattle.context_tree.proofs.Base.{◌≡◌, ℕ, ◌+◌, ◌-◌, ◌^◌, min, List, [], ◌∷◌, ◌++◌, map, refl, sym, ap, ◌∙◌, arith, map-append}
+use Rattle.context_tree.proofs.Base.{nat_tests, ◌≡◌, ℕ, ◌+◌, ◌-◌, ◌^◌, min, List, [], ◌∷◌, ◌++◌, map, refl, sym, ap, ◌∙◌, arith, map-append}
 use Rattle.context_tree.proofs.Words.{Space, Stats, MemoryCounters, What, Forest, Empty, Node, mapped, Visited, preorder, stats, ledger, line_of, added, capped, Total, lines, summed, Kept, context_of}
 
 -- the line of a context that a walk comes to
@@ -37,8 +37,7 @@ still : (a most : ℕ) → min (min a most) most ≡ min a most
 still a most = omega arith
 
 capped_once : (total : Total) (s : Stats) → capped (added (capped total) s) ≡ capped (added total s)
-capped_once total s =
-    rw (within total.total s.total (2 ^ 64 - 1), within total.blocks s.blocks (2 ^ 64 - 1), within total.free s.free (2 ^ 64 - 1), within total.chunks s.chunks (2 ^ 64 - 1)) refl
+capped_once total s = grind (arith, nat_tests, within total.total s.total (2 ^ 64 - 1), total.total, s.total, within total.blocks s.blocks (2 ^ 64 - 1), total.blocks, s.blocks, within total.free s.free (2 ^ 64 - 1), total.free, s.free, within total.chunks s.chunks (2 ^ 64 - 1), total.chunks, s.chunks)
 
 -- so a sum that stands still on the way is what it is at the end
 pub capped_all : (total : Total) (vs : List (Visited Kept)) → capped (all_added (capped total) vs) ≡ capped (all_added total vs)

@@ -1,50 +1,34 @@
 -- What calls leave of the hooks that wait.
-use Rattle.context_tree.proofs.Base.{◌≡◌, ◌≢◌, ℕ, ◌+◌, Bool, true, false, List, [], ◌∷◌, ◌++◌, Option, Some, None, Result, Ok, Err, refl, sym, ap, ◌∙◌, subst, arith, if◌then◌else◌, ◌==◌, option_map_or, All-cons, All-head, All-tail}
-use Rattle.context_tree.proofs.Words.{CtxError, Empty, Node, changed, put, Hook, AreDistinct, Lacks, ShelfState, taken, differ_taken, Ledger, Place, CtxKind, Default, Context, Contexts, Found, created, found, new_context, allocated, from_ok, registered, served, with_chunk, with_changed, written, written_over, waiting, opening, HooksFit}
-use Rattle.chunk_header.specs.Answers.{Taken}
+use Rattle.context_tree.proofs.Base.{nat_tests, ◌≡◌, ◌≢◌, ℕ, ◌+◌, Bool, false, List, [], ◌∷◌, ◌++◌, Option, refl, sym, ap, ◌∙◌, subst, arith, if◌then◌else◌, ◌==◌, All-cons, All-head, All-tail}
+use Rattle.context_tree.proofs.Words.{Empty, Node, changed, put, Hook, AreDistinct, Lacks, ShelfState, taken, differ_taken, CtxKind, Default, Context, Contexts, created, found, new_context, allocated, registered, served, with_changed, written, written_over, waiting, opening, HooksFit}
 use Rattle.reset_callbacks.specs.ShelfState.{held}
 
 hooks_of : (b : Bool) (f : Context → Context) (c : Context) → (f c).hooks ≡ c.hooks → (if b then f c else c).hooks ≡ c.hooks
-hooks_of true f c same = same
-hooks_of false f c same = refl
+hooks_of x0 f c same = grind (arith, nat_tests)
 
 pub waiting_changed : (n : ℕ) (f : Context → Context) → ((c : Context) → (f c).hooks ≡ c.hooks) → (t : Contexts) → waiting (changed n f t) ≡ waiting t
 waiting_changed n f same Empty = refl
-waiting_changed n f same (Node k c below beside) =
-    ap (λ (xs : List Hook). xs ++ ((if k == n then f c else c).hooks ++ waiting (changed n f beside))) (waiting_changed n f same below)
-    ∙ ap (λ (xs : List Hook). waiting below ++ (xs ++ waiting (changed n f beside))) (hooks_of (k == n) f c (same c))
-    ∙ ap (λ (xs : List Hook). waiting below ++ (c.hooks ++ xs)) (waiting_changed n f same beside)
+waiting_changed n f same (Node k c below beside) = grind (arith, nat_tests, changed n f beside, waiting_changed n f same below, hooks_of (k == n) f c (same c), c.hooks, waiting_changed n f same beside)
 
 pub waiting_allocated : (n left : ℕ) (name : Option (List ℕ)) (size : ℕ) (known : List ℕ) (t : Contexts) → waiting (allocated n left name size known t) ≡ waiting t
-waiting_allocated n left name size known t = go (served n left size t)
-  where
-    go : (r : Result (Taken Ledger Place) CtxError) → waiting (from_ok (λ taken. changed n (with_chunk name size known taken) t) t r) ≡ waiting t
-    go (Ok taken) = waiting_changed n (with_chunk name size known taken) (λ c. refl) t
-    go (Err e) = refl
+waiting_allocated n left name size known t = grind (arith, nat_tests, served n left size t, changed, waiting_changed)
 
 -- bytes that are written change neither hooks nor ledgers
 abbrev over : List ℕ → ℕ → List ℕ → Context → Context
 over name place bytes c = record c { chunks = with_changed name (λ chunk. record chunk { known = written_over place bytes chunk.known }) c.chunks }
 
 pub written_keeps : {A : Type 0} (view : Contexts → A) (name : List ℕ) (place : ℕ) (bytes : List ℕ) (t : Contexts) → ((n : ℕ) → view (changed n (over name place bytes) t) ≡ view t) → view (written name place bytes t) ≡ view t
-written_keeps view name place bytes t keeps = go (found name t)
-  where
-    go : (o : Option Found) → view (option_map_or (λ (f : Found). changed f.context (over name place bytes) t) o t) ≡ view t
-    go (Some f) = keeps f.context
-    go None = refl
+written_keeps view name place bytes t keeps = grind (arith, nat_tests, found name t, changed, over name place bytes)
 
 pub waiting_written : (name : List ℕ) (place : ℕ) (bytes : List ℕ) (t : Contexts) → waiting (written name place bytes t) ≡ waiting t
 waiting_written name place bytes t = written_keeps waiting name place bytes t (λ n. waiting_changed n (over name place bytes) (λ c. refl) t)
 
 put_here : (b : Bool) (p n : ℕ) (new : Context) (below : Contexts) → new.hooks ≡ [] → waiting (put p n new Empty below) ≡ waiting below → waiting (if b then Node n new Empty below else put p n new Empty below) ≡ waiting below
-put_here true p n new below none same = ap (λ (xs : List Hook). xs ++ waiting below) none
-put_here false p n new below none same = same
+put_here x0 p n new below none same = grind (arith, nat_tests)
 
 waiting_put : (p n : ℕ) (new : Context) → new.hooks ≡ [] → (t : Contexts) → waiting (put p n new Empty t) ≡ waiting t
 waiting_put p n new none Empty = refl
-waiting_put p n new none (Node k c below beside) =
-    ap (λ (xs : List Hook). xs ++ (c.hooks ++ waiting (put p n new Empty beside))) (put_here (k == p) p n new below none (waiting_put p n new none below))
-    ∙ ap (λ (xs : List Hook). waiting below ++ (c.hooks ++ xs)) (waiting_put p n new none beside)
+waiting_put p n new none (Node k c below beside) = grind (arith, nat_tests, c.hooks, put_here (k == p) p n new below none (waiting_put p n new none below), waiting_put p n new none below, waiting_put p n new none beside)
 
 pub waiting_created : (p n : ℕ) (name : List ℕ) (kind : CtxKind) (protected : Bool) (t : Contexts) → waiting (created p n name kind protected t) ≡ waiting t
 waiting_created p n name kind protected t = waiting_put p n (new_context name kind protected) refl t

@@ -56,12 +56,7 @@ module _ (e : Ended) (id : CtxId) (leaf : NodeId) (a b : TreeState) (s t : Space
 
   -- none is left
   pub left_end : leaf.number ≡ id.number → e ≡ children_gone id.number (stands_for a s)
-  left_end end =
-      let n = id.number in
-      let is : stands_for b t ≡ e.contexts = left.did.contexts in
-      sym (all_gone e n leaf.number (subst (λ (f : Contexts). Once f) is left.once) (sym (ap (has n) is) ∙ left.stands)
-      (left.first ∙ ap (λ (f : Contexts). lead n (children n f)) is) end)
-      ∙ ap (λ (f : Contexts). and_then e (children_gone n f)) (sym is) ∙ left.rest
+  left_end end = grind (arith, nat_tests, all_gone)
 
   pub left_did : leaf.number ≡ id.number → Did (children_gone id.number (stands_for a s)) a b s t x y
   left_did end = subst (λ (f : Ended). Did f a b s t x y) (left_end end) left.did

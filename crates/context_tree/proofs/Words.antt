@@ -14,8 +14,7 @@ pub use Rattle.any_ctx.specs.Kinds.{first_size}
 pub use Rattle.any_ctx.specs.Ledgers.{InSlab, Ledger, Place, give, resize, stats, take}
 pub use Rattle.any_ctx.specs.declared.any.AnyCtx.{AnyCtx}
 pub use Rattle.any_ctx.specs.declared.any.CtxKind.{CtxKind}
-pub use Rattle.any_ctx.specs.declared.any.CtxKind.TheVariants.{Abort, Bump, Default, Error, Generation, Slab, Small}
-pub use Rattle.chunk_header.specs.declared.CtxError.{CtxError}
+pub use Rattle.any_ctx.specs.declared.any.CtxKind.TheVariants.{Default}
 pub use Rattle.chunk_header.specs.declared.CtxError.TheVariants.{NoSpace}
 pub use Rattle.chunk_header.specs.declared.Stats.{Stats}
 pub use Rattle.context_node.proofs.Bytes.{IsIn, has_known, in_live, length-bytes_at, part_read}
@@ -35,19 +34,19 @@ pub use Rattle.context_node.specs.Chunking.{Freed, Refitted, Took, Written, ente
 pub use Rattle.context_node.specs.Ending.{Cleared, Gone, is_named, left_names, without_context}
 pub use Rattle.context_node.specs.Kept.{Kept}
 pub use Rattle.context_node.specs.Making.{entered_context}
-pub use Rattle.context_node.specs.Soundness.{AreFlat, IsSoundContext, same}
+pub use Rattle.context_node.specs.Soundness.{IsSoundContext, same}
 pub use Rattle.context_node.specs.State.{bytes_at, chunk_of, context_of, entries}
 pub use Rattle.context_node.specs.declared.chunk_id.ChunkId.{ChunkId}
 pub use Rattle.context_node.specs.declared.entry.Entry.{Entry}
 pub use Rattle.context_node.specs.declared.making.NewContext.{NewContext}
 pub use Rattle.context_report.specs.Lines.{added, capped, line_of, no_total}
 pub use Rattle.context_report.specs.declared.Total.{Total}
-pub use Rattle.context_rules.specs.Chunks.{allocated, asked, freed, from_ok, registered, resized, resized_asked, served, shown, with_changed, with_chunk, with_size, without, written, written_over, zeros}
+pub use Rattle.context_rules.specs.Chunks.{allocated, asked, freed, registered, resized, served, shown, with_changed, with_chunk, with_size, without, written, written_over}
 pub use Rattle.context_rules.specs.Contexts.{Chunk, Context, Contexts, Found, context_named, created, found, has_name, is_child, is_nothing, new_context, placed_under}
 pub use Rattle.context_rules.specs.Ends.{Ended, and_then, callbacks, children_gone, cleared, cleared_alone, emptied, gone, gone_events, handed_in, unchanged, waiting}
 pub use Rattle.context_rules.specs.Names.{is_reserved, same_name}
 pub use Rattle.context_rules.specs.Opening.{opening, topmost}
-pub use Rattle.context_rules.specs.Refusals.{alloc_refusal, bytes_refusal, create_refusal, is_chunk, is_taken, is_within, put_refusal, realloc_refusal, refusal, where_so}
+pub use Rattle.context_rules.specs.Refusals.{alloc_refusal, bytes_refusal, create_refusal, is_chunk, is_taken, is_within, put_refusal, refusal, where_so}
 pub use Rattle.context_rules.specs.Reports.{lines, summed}
 pub use Rattle.context_rules.specs.declared.errors.TreeError.{TreeError}
 pub use Rattle.context_rules.specs.declared.errors.TreeError.TheVariants.{Ctx, Memory, Range, Taken, TooMany}
@@ -55,7 +54,7 @@ pub use Rattle.context_tree.specs.Calls.{Did}
 pub use Rattle.context_tree.specs.Lookup.{Leads}
 pub use Rattle.context_tree.specs.Making.{Added, AsksInVain, AsksPart, AsksPartInVain, CameBack, Grew, bare, room_refusal}
 pub use Rattle.context_tree.specs.Soundness.{IsChunk, IsNamed, IsOwn, IsSound, one_below}
-pub use Rattle.context_tree.specs.State.{Agrees, HooksFit, IsLive, Moves, SameRegions, TreeState, error_of, left_of, no_contexts, place_of, total_of}
+pub use Rattle.context_tree.specs.State.{Agrees, HooksFit, IsLive, Moves, SameRegions, TreeState, left_of, no_contexts, place_of, total_of}
 unfoldable pub use Rattle.context_tree.specs.State.{stands_for}
 pub use Rattle.context_tree.specs.declared.tree.Own.{Own}
 pub use Rattle.forest.proofs.Mapped.{at_changed, at_changed_other, mapped-at, mapped-changed, mapped-children, mapped-follows, mapped-has, mapped-lead, mapped-moved, mapped-once, mapped-parent, mapped-put, mapped-removed, mapped-size}

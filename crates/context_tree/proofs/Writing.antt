@@ -1,5 +1,5 @@
 -- A tree in which bytes were written in a chunk.
-use Rattle.context_tree.proofs.Base.{◌≡◌, ◌≢◌, ℕ, ◌+◌, false, List, length, Some, None, refl, sym, ap, ◌∙◌, arith, nat_lt, ◌||◌, le-ltb}
+use Rattle.context_tree.proofs.Base.{nat_tests, ◌≡◌, ◌≢◌, ℕ, ◌+◌, List, length, Some, None, refl, sym, ap, ◌∙◌, arith, nat_lt, ◌||◌}
 use Rattle.context_tree.proofs.Words.{Space, at as entry_at, Once, changed, footprint, with_changed, written_over, written, Range, put_refusal, where_so, ChunkId, Entry, Kept, IsSoundContext, bytes_at, TreeState, stands_for, Agrees, Moves, Written, Leads, in_live, length-bytes_at, moves_now, sound_written, known_written, context_written}
 use Rattle.context_tree.proofs.Steps.{Stepped, stands_by, moves_stepped}
 
@@ -48,7 +48,4 @@ module _ (a : TreeState) (s t : Space) (w : List ℕ) (id : ChunkId) (k l : Kept
         ∙ sym (rw (leads.found s) refl)
 
     pub put_served : None ≡ put_refusal w place (length bytes) (stands_for a s)
-    put_served =
-        let one : nat_lt leads.chunk.entry.known place ≡ false = le-ltb leads.chunk.entry.known place (omega (arith, wrote.within, ap (λ (x : Entry). x.known) same_entry)) in
-        let two : nat_lt leads.chunk.entry.size (place + length bytes) ≡ false = le-ltb leads.chunk.entry.size (place + length bytes) (omega (arith, wrote.fits, ap (λ (x : Entry). x.size) same_entry)) in
-        sym (put_told ∙ rw (one, two) refl)
+    put_served = grind (arith, nat_tests, same_entry, put_told)

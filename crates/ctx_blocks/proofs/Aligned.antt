@@ -1,19 +1,13 @@
 -- The address of each live chunk is a multiple of 8.
-use Rattle.ctx_blocks.proofs.Base.{Addr, Chunk, chunk_at, footprint, inl, inr, IsPlaced, Layout, MovesAt, Option, PutsAt, PutsChunk, PutsLive, refl, same_addr-cases, Some, ℕ, ◌%◌, ◌≡◌}
+use Rattle.ctx_blocks.proofs.Base.{arith, nat_tests, Addr, Chunk, chunk_at, footprint, IsPlaced, Layout, MovesAt, Option, PutsAt, PutsChunk, PutsLive, same_addr-cases, Some, ℕ, ◌%◌, ◌≡◌}
 use Rattle.ctx_blocks.proofs.Laid.{from_live}
 
 -- what was put at an address, or moved there, stands there
 put_there : {A : Type 0} (f g : Addr → Option A) (at : Addr) (a : A) → PutsAt f g at (Some a) → g at ≡ Some a
-put_there f g at a puts = elim (same_addr-cases at at) [
-  | inl e ↦ rw e.1 at (puts at)
-  | inr e ↦ absurd (e.0 refl)
-]
+put_there f g at a puts = grind (arith, nat_tests, same_addr-cases)
 
 moved_there : {A : Type 0} (f g : Addr → Option A) (from to : Addr) (a : A) → MovesAt f g from to a → g to ≡ Some a
-moved_there f g from to a moves = elim (same_addr-cases to to) [
-  | inl e ↦ rw e.1 at (moves to)
-  | inr e ↦ absurd (e.0 refl)
-]
+moved_there f g from to a moves = grind (arith, nat_tests, same_addr-cases to to)
 
 module _ (l : Layout) (placed : (at : Addr) (chunk : Chunk) → chunk_at l at ≡ Some chunk → IsPlaced l at chunk) where
   pub live_whole : (at : Addr) (size : ℕ) → (footprint l).live at ≡ Some size → at.offset % 8 ≡ 0

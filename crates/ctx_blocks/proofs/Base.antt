@@ -30,7 +30,7 @@ pub use Rattle.chunk_header.proofs.Wrote.{Keeps-give, Keeps-written, Moves-gone,
 pub use Rattle.chunk_header.specs.Header.{AllHeaded, AllOfKind, block_bytes, header_bytes, IsHeaded, IsLeading, IsPackable, TakesSpace}
 unfoldable pub use Rattle.chunk_header.specs.Header.{space_of}
 pub use Rattle.chunk_header.specs.declared.Kind.{Kind}
-pub use Rattle.chunk_header.specs.declared.Kind.TheVariants.{Bump, Generation, Slab}
+pub use Rattle.chunk_header.specs.declared.Kind.TheVariants.{Generation, Slab}
 pub use Rattle.ctx_blocks.specs.Held.{Holds, IsWritten}
 pub use Rattle.ctx_blocks.specs.Kept.{AreRising, HasSize, IsClear, IsCounted, IsFilled, IsFirst, IsKept, IsLaid, IsPlaced, IsSized, layout_of}
 pub use Rattle.ctx_blocks.specs.Layout.{block_at, block_word, chunk_at, chunk_word, count_in, footprint, front_of, gap_of, header_of, header_room, is_in, keeper_alone, Layout, rooms, start_of, total, whole_block, whole_of}

@@ -1,5 +1,5 @@
 -- Lemmas on a block that goes.
-use Rattle.ctx_blocks.proofs.Base.{[], Addr, Agrees, arith, Block, block_at, Bool, Changes, chunk_at, footprint, held, if◌then◌else◌, IsLaid, IsRegion, Keeps, Keeps-give, Layout, List, lookup, Moves, Moves-gone, nat_tests, None, refl, region_at, SameContext, share, Some, Space, total, true, ℕ, ◌++◌, ◌+◌, ◌==◌, ◌∙◌, ◌∷◌, ◌≡◌, ◌≢◌}
+use Rattle.ctx_blocks.proofs.Base.{[], Addr, Agrees, arith, Block, block_at, Bool, Changes, chunk_at, footprint, held, if◌then◌else◌, IsLaid, IsRegion, Keeps, Keeps-give, Layout, List, lookup, Moves, Moves-gone, nat_tests, None, refl, region_at, SameContext, share, Some, Space, total, true, ℕ, ◌++◌, ◌+◌, ◌==◌, ◌∷◌, ◌≡◌, ◌≢◌}
 use Rattle.ctx_blocks.proofs.Laid.{region_is, IsSound-laid}
 use Rattle.ctx_blocks.proofs.Lessened.{Lessens, IsLaid-lessened, mark-lessened}
 
@@ -17,9 +17,7 @@ module _ (l m : Layout) (laid : IsLaid l) (same : SameContext l m) (chunks : m.c
     same = same;
     chunk = λ at c found. let had = rw chunks at found in (c, had, refl, refl, (laid.placed at c had).sized.fits);
     block = λ other b has. let had : block_at l other ≡ Some b = grind (arith, blocks other) in (b, had, refl, laid.filled other b had);
-    under = λ at c found w is.
-        let differs : at.region ≢ number = λ e. let none = empty at e in let had = rw chunks at found in absurd (cc) in
-        (w, others_now at.region differs ∙ is, refl, omega arith);
+    under = grind (arith, nat_tests, others_now);
   }
 
   gone : (footprint m).region number ≡ None

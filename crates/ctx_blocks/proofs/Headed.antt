@@ -1,5 +1,5 @@
 -- Lemmas on the headers by which live chunks lead to their context.
-use Rattle.ctx_blocks.proofs.Base.{Addr, AllHeaded, AllOfKind, ap, arith, Block, block_at, Chunk, chunk_at, false, footprint, gap_of, Generation, header_of, header_room, inl, inr, IsHeaded, IsLaid, IsLeading, IsPackable, IsSized, Kind, Layout, one_value, refl, Slab, Some, space_of, start_of, TakesSpace, true, ℕ, ◌%◌, ◌+◌, ◌-◌, ◌<◌, ◌^◌, ◌∙◌, ◌≡◌, ◌⊎◌}
+use Rattle.ctx_blocks.proofs.Base.{nat_tests, Addr, AllHeaded, AllOfKind, ap, arith, Block, block_at, Chunk, chunk_at, false, footprint, gap_of, Generation, header_of, header_room, IsHeaded, IsLaid, IsLeading, IsPackable, IsSized, Kind, Layout, one_value, refl, Slab, Some, space_of, start_of, TakesSpace, true, ℕ, ◌%◌, ◌+◌, ◌-◌, ◌<◌, ◌^◌, ◌∙◌, ◌≡◌, ◌⊎◌}
 use Rattle.ctx_blocks.proofs.Laid.{from_live, mark_from_block, mark_from_chunk}
 
 pub start_whole : (l : Layout) (number : ℕ) → start_of l number % 8 ≡ 0
@@ -9,14 +9,12 @@ pub packable : (kind : Kind) (gap dist : ℕ) (chunk : Chunk) → IsSized gap ch
 packable kind gap dist chunk sized below whole = record { value = let value = sized.value in grind (arith, value); dist = below; whole = whole }
 
 pub leading : (kind : Kind) (chunk : Chunk) (dist : ℕ) → (kind ≡ Slab) ⊎ (kind ≡ Generation) → (gap_of kind ≡ 8) × IsLeading (header_of kind chunk dist)
-leading kind chunk dist (inl slab) = rw slab (refl, tt)
-leading kind chunk dist (inr generation) = rw generation (refl, tt)
+leading kind chunk dist x3 = grind (arith, nat_tests)
 
 -- what a header says that its chunk takes
 space-shared : (kind : Kind) (chunk : Chunk) (dist size : ℕ) → (kind ≡ Slab) ⊎ (kind ≡ Generation) → chunk.own ≡ false → space_of (header_of kind chunk dist) size ≡ chunk.room + 8
 unfolding space_of
-space-shared kind chunk dist size (inl slab) shared = rw (slab, shared) refl
-space-shared kind chunk dist size (inr generation) shared = rw (generation, shared) refl
+space-shared kind chunk dist size x4 shared = grind (arith, nat_tests)
 
 space-own : (kind : Kind) (chunk : Chunk) (dist size : ℕ) → chunk.own ≡ true → space_of (header_of kind chunk dist) size ≡ size - 40
 unfolding space_of

@@ -32,16 +32,8 @@ module _ (l m : Layout) (at : Addr) (chunk : Chunk) (block : Block) (laid : IsLa
           | inl here ↦ rw (here.0, here.1, same.keeper) holds.filled
           | inr there ↦ rw same.keeper (laid.filled number b there.1)
         ];
-    placed = λ other it found.
-        elim (chunk_was l m at chunk chunks other it found) [
-          | inl new ↦ rw (new.0, new.1) placed_new
-          | inr old ↦ placed_still other it old.1
-        ];
-    apart = λ a b first second at_a at_b region below.
-        let gap = gap_same l m same in
-        let was_a = chunk_was l m at chunk chunks a first at_a in
-        let was_b = chunk_was l m at chunk chunks b second at_b in
-        grind (arith, was_a, was_b, holds.clear a first, holds.clear b second, laid.apart a b first second, gap);
+    placed = grind (arith, nat_tests, chunk_was l m, placed_new, placed_still);
+    apart = grind (arith, nat_tests, gap_same l m same, chunk_was l m);
   }
 
   -- the marks are the old ones and that of the chunk

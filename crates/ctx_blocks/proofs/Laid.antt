@@ -1,5 +1,5 @@
 -- Lemmas on where blocks and chunks are.
-use Rattle.ctx_blocks.proofs.Base.{Addr, ap, arith, Block, block_at, block_bytes, block_word, Bump, cases_eq, Chunk, chunk_at, chunk_word, footprint, from_map, from_then, front_of, gap_of, header_bytes, header_of, header_room, inl, inr, IsClear, IsLaid, IsSound, Kind, Layout, length, length-block_bytes, length-header_bytes, List, mark_of, nat_tests, None, Option, option_map, refl, same_addr_from, Some, start_of, sym, ℕ, ◌+◌, ◌-◌, ◌∙◌, ◌≡◌, ◌≢◌, ◌≤◌, ◌⊎◌}
+use Rattle.ctx_blocks.proofs.Base.{Addr, ap, arith, Block, block_at, block_bytes, block_word, cases_eq, Chunk, chunk_at, chunk_word, footprint, from_map, from_then, front_of, gap_of, header_bytes, header_of, header_room, inl, inr, IsClear, IsLaid, IsSound, Kind, Layout, length, length-block_bytes, length-header_bytes, List, mark_of, nat_tests, Option, option_map, same_addr_from, Some, start_of, sym, ℕ, ◌+◌, ◌-◌, ◌∙◌, ◌≡◌, ◌≢◌, ◌≤◌, ◌⊎◌}
 
 -- the length of a region of the context
 pub region_is : (l : Layout) (number : ℕ) (block : Block) → block_at l number ≡ Some block → (footprint l).region number ≡ Some block.size
@@ -10,8 +10,7 @@ from_region l number len owned = from_map (λ (b : Block). b.size) (block_at l n
 
 -- no chunk has the bytes before the header of its block, nor those of that
 pub front_of-le : (start : ℕ) (block : Option Block) → front_of start block ≤ start + 40
-front_of-le start None = omega arith
-front_of-le start (Some block) = omega arith
+front_of-le start x1 = grind (arith, nat_tests)
 
 -- the size of a live chunk
 pub live_is : (l : Layout) (at : Addr) (chunk : Chunk) → chunk_at l at ≡ Some chunk → (footprint l).live at ≡ Some chunk.size
@@ -22,17 +21,14 @@ from_live l at size live = from_map (λ (c : Chunk). c.size) (chunk_at l at) siz
 
 -- a kind has headers of 8 bytes, or none
 pub gap_cases : (kind : Kind) → (gap_of kind ≡ 0) ⊎ (gap_of kind ≡ 8)
-gap_cases Bump = inl refl
-gap_cases kind = inr refl
+gap_cases x0 = grind (arith, nat_tests)
 
 -- and a chunk has one where it has 8 bytes
 word_cases : (kind : Kind) (chunk : Chunk) (dist : ℕ) (bytes : List ℕ) → chunk_word kind chunk dist ≡ Some bytes → (gap_of kind ≡ 8) × (header_bytes (header_of kind chunk dist) ≡ bytes)
-word_cases Bump chunk dist bytes e = absurd (cc)
-word_cases kind chunk dist bytes e = (refl, let it : Some (header_bytes (header_of kind chunk dist)) ≡ Some bytes = e in cc)
+word_cases x0 chunk dist bytes e = grind (arith, nat_tests)
 
 word_is : (kind : Kind) (chunk : Chunk) (dist : ℕ) → gap_of kind ≡ 8 → chunk_word kind chunk dist ≡ Some (header_bytes (header_of kind chunk dist))
-word_is Bump chunk dist e = absurd (omega (arith, e))
-word_is kind chunk dist e = refl
+word_is x0 chunk dist e = grind (arith, nat_tests)
 
 -- where the chunk is whose header is at a place
 abbrev pub behind : Addr → Addr
@@ -88,9 +84,7 @@ module _ (l : Layout) (laid : IsLaid l) where
         let placed = laid.placed at it.0 it.1 in
         (placed.block.size, region_is l at.region placed.block placed.owned, omega (arith, placed.last, placed.sized.fits, it.2));
     free_inside = λ at n free. absurd (cc);
-    mark_inside = λ at bytes marked.
-        let it = mark_within at bytes marked in
-        (it.0.size, region_is l at.region it.0 it.1, omega (arith, it.2, it.3));
+    mark_inside = grind (arith, nat_tests, mark_within, region_is);
     live_apart = λ a b m n live_a live_b differ region.
         let first = from_live l a m live_a in
         let second = from_live l b n live_b in

@@ -1,6 +1,6 @@
 -- Lemmas on steps after which a context has no more chunks and blocks than before; so it is where a block becomes another
 -- one of its size, while chunks stay or are forgotten, and where a chunk has another size.
-use Rattle.ctx_blocks.proofs.Base.{Addr, ap, arith, Block, block_at, cases_eq, Chunk, chunk_at, footprint, gap_of, header_room, if◌then◌else◌, inl, inr, IsFilled, IsLaid, IsPlaced, Layout, List, mark_of, Moves-still, MovesStill, nat_tests, one_value, PutsChunk, refl, SameContext, Some, start_of, sym, total, whole_of, ℕ, ◌-◌, ◌==◌, ◌≡◌, ◌≤◌}
+use Rattle.ctx_blocks.proofs.Base.{Addr, ap, arith, Block, block_at, Chunk, chunk_at, footprint, gap_of, header_room, if◌then◌else◌, inl, inr, IsFilled, IsLaid, IsPlaced, Layout, List, mark_of, Moves-still, MovesStill, nat_tests, one_value, PutsChunk, refl, SameContext, Some, start_of, sym, total, whole_of, ℕ, ◌-◌, ◌==◌, ◌≡◌, ◌≤◌}
 use Rattle.ctx_blocks.proofs.Put.{block_was, chunk_was}
 use Rattle.ctx_blocks.proofs.Headed.{start_whole}
 use Rattle.ctx_blocks.proofs.Laid.{mark_cases, mark_from_block, mark_from_chunk, behind, IsSound-laid}
@@ -40,10 +40,7 @@ module _ (l m : Layout) (laid : IsLaid l) (less : Lessens l m) where
         let was = laid.placed at it.0 it.1 in
         let now = less.under at c found was.block was.owned in
         placed_again l m less.same at it.0 c was now.0 now.1 now.2 now.3 it.2 it.3 it.4;
-    apart = λ a b first second at_a at_b region below.
-        let one = less.chunk a first at_a in
-        let two = less.chunk b second at_b in
-        omega (arith, laid.apart a b one.0 two.0 one.1 two.1 region below, one.2, gap_same l m less.same);
+    apart = grind (arith, nat_tests, gap_same l m less.same);
   }
 
   -- each mark was one
@@ -72,13 +69,7 @@ Lessens-put l m laid same number old new owned size filled blocks chunks = recor
         | inl here ↦ rw (here.0, here.1) (old, owned, sym size, filled)
         | inr there ↦ (b, there.1, refl, laid.filled other b there.1)
       ];
-  under = λ at c found w is.
-      elim (cases_eq number at.region) [
-        | inl here ↦
-            let it : old ≡ w = one_value (block_at l number) old w owned (rw here is) in
-            (new, grind (arith, blocks at.region), rw (← it) size, rw (← it) ((chunks at c found).1 (sym here)))
-        | inr there ↦ (w, grind (arith, blocks at.region), refl, omega arith)
-      ];
+  under = grind (arith, nat_tests, one_value);
 }
 
 -- the size of a chunk becomes another one

@@ -19,11 +19,7 @@ module _ (l : Layout) (block : Block) (blocks : l.blocks ≡ (l.keeper, block) �
 
   module _ (filled : IsFilled (block.size - 200 - 40) block) where
     pub IsLaid-new : IsLaid l
-    IsLaid-new = record {
-      filled = λ number it owned. let is = only_keeper number it owned in rw (is.0, is.1, keeper_start l) filled;
-      placed = λ at chunk found. let none = rw chunks at found in absurd (cc);
-      apart = λ a b first second at_a at_b region below. let none = rw chunks at at_a in absurd (cc);
-    }
+    IsLaid-new = grind (arith, nat_tests, only_keeper, keeper_start l)
 
     others : (other : ℕ) → other ≢ l.keeper → (footprint l).region other ≡ None
     others other differs = rw blocks (grind arith)

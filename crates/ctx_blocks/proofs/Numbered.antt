@@ -1,5 +1,5 @@
 -- Lemmas on blocks by their numbers: what is done to a block by its region is done to it by its number.
-use Rattle.ctx_blocks.proofs.Base.{[], AreRising, arith, Block, filter, find, is_other, IsFirst, List, lookup, map, None, Option, put_at, refl, Some, values_of, with_block, without_block, ℕ, ◌++◌, ◌+◌, ◌<◌, ◌==◌, ◌∷◌, ◌≡◌, ◌≤◌}
+use Rattle.ctx_blocks.proofs.Base.{nat_tests, [], AreRising, arith, Block, filter, find, is_other, IsFirst, List, lookup, map, None, Option, put_at, refl, Some, values_of, with_block, without_block, ℕ, ◌++◌, ◌+◌, ◌<◌, ◌==◌, ◌∷◌, ◌≡◌, ◌≤◌}
 
 abbrev pub Entries : Type 0
 Entries = List (ℕ × Block)
@@ -26,14 +26,12 @@ first_upto keeper number most (e ∷ es) first h = omega (arith, first.1, h.1)
 -- the block of a region is that of its number
 pub found_by_number : (least most region : ℕ) (es : Entries) (block : Block) → AreRising least most es → at_region region es ≡ Some block → find (λ x. x.number == block.number) (values_of es) ≡ Some block
 found_by_number least most region [] block h is = absurd (cc)
-found_by_number least most region (e ∷ es) block h is =
-    grind (arith, rising_above (e.1.number + 1) most region es block h.2, found_by_number (e.1.number + 1) most region es block h.2)
+found_by_number least most region (e ∷ es) block h is = grind (arith, nat_tests, rising_above (e.1.number + 1) most region es block h.2, e.1.number, h.2, found_by_number (e.1.number + 1) most region es block h.2)
 
 -- blocks of one number are in one region
 pub region_by_number : (least most a b : ℕ) (es : Entries) (first second : Block) → AreRising least most es → at_region a es ≡ Some first → at_region b es ≡ Some second → first.number ≡ second.number → a ≡ b
 region_by_number least most a b [] first second h is there same = absurd (cc)
-region_by_number least most a b (e ∷ es) first second h is there same =
-    grind (arith, rising_above (e.1.number + 1) most a es first h.2, rising_above (e.1.number + 1) most b es second h.2, region_by_number (e.1.number + 1) most a b es first second h.2)
+region_by_number least most a b (e ∷ es) first second h is there same = grind (arith, nat_tests, rising_above (e.1.number + 1) most a es first h.2, e.1.number, h.2, rising_above (e.1.number + 1) most b es second h.2, region_by_number (e.1.number + 1) most a b es first second h.2)
 
 -- no block behind has a lower number
 put_none : (least most : ℕ) (es : Entries) (block : Block) → block.number < least → AreRising least most es → map (put_at block) (values_of es) ≡ values_of es
@@ -47,8 +45,7 @@ drop_none least most (e ∷ es) number less h = grind (arith, drop_none (e.1.num
 -- a block is another one of its number
 pub put_by_number : (least most region : ℕ) (es : Entries) (old new : Block) → AreRising least most es → at_region region es ≡ Some old → new.number ≡ old.number → values_of (with_block es region new) ≡ map (put_at new) (values_of es)
 put_by_number least most region [] old new h is same = absurd (cc)
-put_by_number least most region (e ∷ es) old new h is same =
-    grind (arith, rising_above (e.1.number + 1) most region es old h.2, put_none (e.1.number + 1) most es new, put_by_number (e.1.number + 1) most region es old new h.2)
+put_by_number least most region (e ∷ es) old new h is same = grind (arith, nat_tests, rising_above (e.1.number + 1) most region es old h.2, e.1.number, h.2, put_none (e.1.number + 1) most es new, put_by_number (e.1.number + 1) most region es old new h.2)
 
 pub rising_put : (least most region : ℕ) (es : Entries) (old new : Block) → AreRising least most es → at_region region es ≡ Some old → new.number ≡ old.number → AreRising least most (with_block es region new)
 rising_put least most region [] old new h is same = absurd (cc)
@@ -70,8 +67,7 @@ rising_add least most region new (e ∷ es) is low next h = grind (arith, rising
 -- a block is there no more
 pub drop_by_number : (least most region : ℕ) (es : Entries) (old : Block) → AreRising least most es → at_region region es ≡ Some old → values_of (without_block es region) ≡ filter (is_other old.number) (values_of es)
 drop_by_number least most region [] old h is = absurd (cc)
-drop_by_number least most region (e ∷ es) old h is =
-    grind (arith, rising_above (e.1.number + 1) most region es old h.2, drop_none (e.1.number + 1) most es old.number, drop_by_number (e.1.number + 1) most region es old h.2)
+drop_by_number least most region (e ∷ es) old h is = grind (arith, nat_tests, rising_above (e.1.number + 1) most region es old h.2, e.1.number, h.2, drop_none (e.1.number + 1) most es old.number, old.number, drop_by_number (e.1.number + 1) most region es old h.2)
 
 pub rising_drop : (least most region : ℕ) (es : Entries) → AreRising least most es → AreRising least most (without_block es region)
 rising_drop least most region [] h = h

@@ -11,8 +11,7 @@ pub record Summed (f : Block → ℕ) (blocks : List (ℕ × Block)) (i sum tota
   pub most : sum + rest_of (λ b. b.size) blocks i ≤ total
 
 rest_more : (f : Block → ℕ) (blocks : List (ℕ × Block)) (i : ℕ) (e : ℕ × Block) → slice_get blocks i ≡ Some e → rest_of f blocks i ≡ f e.1 + rest_of f blocks (i + 1)
-rest_more f blocks i e found =
-    rw (drop_more blocks i e (slice_get_within blocks i e found), get_or_from_slice_get blocks i e e found) (omega (arith, sum_by-cons f e.1 (values_of (drop (i + 1) blocks))))
+rest_more f blocks i e found = grind (arith, nat_tests, drop_more blocks i e (slice_get_within blocks i e found), get_or_from_slice_get blocks i e e found, sum_by-cons f e.1 (values_of (drop (i + 1) blocks)), e.1)
 
 pub summed-more : (f : Block → ℕ) (blocks : List (ℕ × Block)) (i sum total : ℕ) (e : ℕ × Block) → slice_get blocks i ≡ Some e → f e.1 ≤ e.1.size → Summed f blocks i sum total → (sum + f e.1 ≤ total) × Summed f blocks (i + 1) (sum + f e.1) total
 summed-more f blocks i sum total e found within sums = grind (arith, nat_tests, rest_more f blocks i e found, rest_more)

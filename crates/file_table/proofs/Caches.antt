@@ -12,10 +12,7 @@ use Rattle.file_table.specs.Descriptors.{Used, is_among, without, in_front, leas
 
 pub keys-remove_entry : (file : ℕ) (es : List (ℕ × Unit {0})) → keys_of (remove_entry (nat_eq file) es) ≡ without file (keys_of es)
 keys-remove_entry file [] = refl
-keys-remove_entry file (e ∷ es) = (elim (nat_eq file e.0) as (λ b. nat_eq file e.0 ≡ b → keys_of (remove_entry (nat_eq file) (e ∷ es)) ≡ without file (keys_of (e ∷ es))) [
-  | true ↦ λ same. rw same refl
-  | false ↦ λ differs. rw differs (ap (λ ks. e.0 ∷ ks) (keys-remove_entry file es))
-]) refl
+keys-remove_entry file (e ∷ es) = grind (arith, nat_tests, e.0, without, keys-remove_entry file es)
 
 -- where the file is among the keys, its entry is found
 pub entry_of : (file : ℕ) (es : List (ℕ × Unit {0})) → is_among file (keys_of es) ≡ true → lookup_entry (nat_eq file) es ≡ Some (file, tt)
@@ -33,10 +30,7 @@ no_entry_of file (e ∷ es) none = (elim (nat_eq file e.0) as (λ b. nat_eq file
 ]) refl
 
 pub keys-promoted : (file : ℕ) (es : List (ℕ × Unit {0})) → keys_of (promoted (nat_eq file) es) ≡ in_front file (keys_of es)
-keys-promoted file es = (elim (is_among file (keys_of es)) as (λ b. is_among file (keys_of es) ≡ b → keys_of (promoted (nat_eq file) es) ≡ in_front file (keys_of es)) [
-  | true ↦ λ there. let found : lookup_entry (nat_eq file) es ≡ Some (file, tt) = entry_of file es there in rw (found, there) (ap (λ ks. file ∷ ks) (keys-remove_entry file es))
-  | false ↦ λ none. let missed : lookup_entry (nat_eq file) es ≡ None = no_entry_of file es none in rw (missed, none) refl
-]) refl
+keys-promoted file es = grind (arith, nat_tests, in_front, entry_of, keys-remove_entry file es, no_entry_of)
 
 pub keys-put_entries : (file : ℕ) (cache : LruCache ℕ (Unit {0})) → is_among file (keys_of cache.entries) ≡ false → keys_of (put_entries nat_eq cache file tt) ≡ file ∷ take (cache.cap - 1) (keys_of cache.entries)
 keys-put_entries file cache none = let missed : lookup_entry (nat_eq file) cache.entries ≡ None = no_entry_of file cache.entries none in rw missed (ap (λ ks. file ∷ ks) (sym (take-map (λ (e : ℕ × Unit {0}). e.0) (cache.cap - 1) cache.entries)))
@@ -70,6 +64,4 @@ after_push file cache new u same none told =
     ap used told ∙ ap (λ ks. record (used cache) { recent = ks }) (keys-put_entries file cache none') ∙ ap (λ (v : Used). record v { recent = file ∷ take (v.limit - 1) v.recent }) same
 
 pub pushed_out : (file : ℕ) (cache : LruCache ℕ (Unit {0})) (u : Used) (out : Option (ℕ × Unit {0})) → used cache ≡ u → is_among file u.recent ≡ false → out ≡ displaced nat_eq cache file tt → option_map (λ (e : ℕ × Unit {0}). e.0) out ≡ least_recent u
-pushed_out file cache u out same none told =
-    let none' : is_among file (keys_of cache.entries) ≡ false = ap (λ (v : Used). is_among file v.recent) same ∙ none in
-    ap (option_map (λ (e : ℕ × Unit {0}). e.0)) told ∙ sym (key-displaced file cache none') ∙ ap least_recent same
+pushed_out file cache u out same none told = grind (arith, nat_tests, cache.entries, key-displaced)

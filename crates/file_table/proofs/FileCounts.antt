@@ -1,12 +1,12 @@
 -- How often files stand in lists.
-use Rattle.std.proofs.Common.{◌≡◌, ℕ, suc, zero, ◌+◌, ◌<◌, Bool, true, false, ◌||◌, cond, nat_eq, List, [], ◌∷◌, ◌++◌, length, refl, sym, ap, ◌∙◌, arith}
+use Rattle.std.proofs.Common.{◌≡◌, ℕ, suc, zero, ◌+◌, ◌<◌, Bool, true, false, ◌||◌, cond, nat_eq, List, [], ◌∷◌, length, refl, sym, ap, ◌∙◌, arith}
 use Rattle.std.specs.Prelude.{◌==◌, count_by}
 use Rattle.std.specs.Cmp.{nat_eq_equiv}
 use Rattle.std.specs.List.{IsDistinct as AreDistinct, AllByRecursion}
 use Rattle.std.specs.Set.{distinct_count}
-use Rattle.std.proofs.lemmas.Bool.{true≢false, eqb-true, eq-eqb}
+use Rattle.std.proofs.lemmas.Bool.{eqb-true, eq-eqb}
 use Rattle.std.proofs.lemmas.Bool.Decides.{nat_tests}
-use Rattle.std.proofs.lemmas.List.Sums.{sum_by-cons, sum_by-append}
+use Rattle.std.proofs.lemmas.List.Sums.{sum_by-cons}
 use Rattle.std.proofs.lemmas.Map.Made.{length-from_keys}
 use Rattle.file_table.specs.Descriptors.{is_among, without}
 use Rattle.file_table.specs.Files.{IsDistinct}
@@ -24,38 +24,12 @@ swapped a b = grind (arith, nat_tests)
 -- a file that isn't there
 pub times_none : (f : ℕ) (xs : List ℕ) → is_among f xs ≡ false → times f xs ≡ 0
 times_none f [] h = refl
-times_none f (x ∷ xs) h = by_test (times_none f xs) (nat_eq f x) refl
-  where
-    by_test : (is_among f xs ≡ false → times f xs ≡ 0) → (t : Bool) → nat_eq f x ≡ t → times f (x ∷ xs) ≡ 0
-    by_test ih true e = absurd (true≢false (sym (ap (λ b. b || is_among f xs) e) ∙ h))
-    by_test ih false e =
-        let none : cond (nat_eq f x) (suc zero) zero ≡ zero = ap (λ b. cond b (suc zero) zero) e in
-        omega (arith, times_cons f x xs, none, ih (sym (ap (λ b. b || is_among f xs) e) ∙ h))
+times_none f (x ∷ xs) h = grind (arith, nat_tests, times_none f xs, times f xs, times f (x ∷ xs), times_cons f x xs)
 
 -- each of different files stands once
 pub times_once : (f : ℕ) (xs : List ℕ) → IsDistinct xs → times f xs ≡ cond (is_among f xs) 1 0
 times_once f [] d = refl
-times_once f (x ∷ xs) d = by_test (times_once f xs d.1) (nat_eq f x) refl
-  where
-    by_test : (times f xs ≡ cond (is_among f xs) 1 0) → (t : Bool) → nat_eq f x ≡ t → times f (x ∷ xs) ≡ cond (nat_eq f x || is_among f xs) 1 0
-    by_test ih true e =
-        let none : times f xs ≡ 0 = times_none f xs (ap (λ (k : ℕ). is_among k xs) (eqb-true f x e) ∙ d.0) in
-        times_cons f x xs ∙ ap (λ b. cond b 1 0 + times f xs) e ∙ ap (λ (n : ℕ). 1 + n) none ∙ sym (ap (λ b. cond (b || is_among f xs) 1 0) e)
-    by_test ih false e =
-        let none : cond (nat_eq f x) (suc zero) zero ≡ zero = ap (λ b. cond b (suc zero) zero) e in
-        let kept : cond (nat_eq f x || is_among f xs) (suc zero) zero ≡ cond (is_among f xs) (suc zero) zero = ap (λ b. cond (b || is_among f xs) (suc zero) zero) e in
-        omega (arith, times_cons f x xs, none, ih, kept)
-
--- a file is put behind others
-pub times_push : (f file : ℕ) (xs : List ℕ) → times f (xs ++ file ∷ []) ≡ times f xs + cond (nat_eq file f) 1 0
-times_push f file xs =
-    sum_by-append (λ other. cond (nat_eq f other) 1 0) xs (file ∷ [])
-    ∙ ap (λ (n : ℕ). times f xs + n) (times_cons f file [])
-    ∙ ap (λ b. times f xs + (cond b 1 0 + 0)) (swapped f file)
-    ∙ no_more (times f xs) (cond (nat_eq file f) 1 0)
-  where
-    no_more : (a b : ℕ) → a + (b + 0) ≡ a + b
-    no_more a b = omega arith
+times_once f (x ∷ xs) d = grind (arith, nat_tests, times_once f xs d.1, d.1, times f xs, times f (x ∷ xs), times, times_none, d.0, times_cons f x xs)
 
 -- a file is taken out
 pub times_without : (f file : ℕ) (xs : List ℕ) → is_among file xs ≡ true → times f (without file xs) + cond (nat_eq file f) 1 0 ≡ times f xs
@@ -71,11 +45,7 @@ times_without f file (x ∷ xs) h = by_test (times_without f file xs) (nat_eq fi
 
 -- a file that stands in a list is one of it
 there : (f : ℕ) (xs : List ℕ) → 0 < times f xs → is_among f xs ≡ true
-there f xs l = by_test (is_among f xs) refl
-  where
-    by_test : (t : Bool) → is_among f xs ≡ t → t ≡ true
-    by_test true e = refl
-    by_test false e = absurd (omega (arith, l, times_none f xs e))
+there f xs l = grind (arith, nat_tests, times_none)
 
 length_without : (f : ℕ) (xs : List ℕ) → is_among f xs ≡ true → length (without f xs) + 1 ≡ length xs
 length_without f [] h = absurd (cc)
@@ -84,9 +54,7 @@ length_without f (x ∷ xs) h = grind (arith, nat_tests, length_without f xs)
 -- lists in which each file stands as often are as long
 pub alike_length : (xs ys : List ℕ) → ((f : ℕ) → times f ys ≡ times f xs) → length xs ≡ length ys
 alike_length [] [] h = refl
-alike_length [] (y ∷ ys) h =
-    let one : cond (nat_eq y y) (suc zero) zero ≡ suc zero = ap (λ b. cond b (suc zero) zero) (eq-eqb y y refl) in
-    absurd (omega (arith, h y, times_cons y y ys, one))
+alike_length [] (y ∷ ys) h = grind (arith, nat_tests, times_cons y y ys)
 alike_length (x ∷ xs) ys h =
     let one : cond (nat_eq x x) (suc zero) zero ≡ suc zero = ap (λ b. cond b (suc zero) zero) (eq-eqb x x refl) in
     let here : is_among x ys ≡ true = there x ys (omega (arith, h x, times_cons x x xs, one)) in
@@ -100,11 +68,7 @@ alike_length (x ∷ xs) ys h =
 
 apart : (x : ℕ) (ys : List ℕ) → is_among x ys ≡ false → AllByRecursion (λ y. nat_eq x y ≡ false) ys
 apart x [] h = tt
-apart x (y ∷ ys) h = by_test (apart x ys) (nat_eq x y) refl
-  where
-    by_test : (is_among x ys ≡ false → AllByRecursion (λ z. nat_eq x z ≡ false) ys) → (t : Bool) → nat_eq x y ≡ t → (nat_eq x y ≡ false) × AllByRecursion (λ z. nat_eq x z ≡ false) ys
-    by_test ih true e = absurd (true≢false (sym (ap (λ b. b || is_among x ys) e) ∙ h))
-    by_test ih false e = (e, ih (sym (ap (λ b. b || is_among x ys) e) ∙ h))
+apart x (y ∷ ys) h = grind (arith, nat_tests, apart x ys)
 
 -- different files are as many as any list of them has
 pub distinct : (xs : List ℕ) → IsDistinct xs → AreDistinct nat_eq xs

@@ -1,10 +1,9 @@
 -- What is found is one of the open files.
-use Rattle.std.proofs.Common.{◌≡◌, ℕ, Bool, true, false, cond, nat_eq, List, [], ◌∷◌, ◌++◌, length, refl, sym, ap, ◌∙◌, arith}
+use Rattle.std.proofs.Common.{◌≡◌, ℕ, true, false, cond, nat_eq, List, [], ◌∷◌, ◌++◌, length, refl, arith}
 use Rattle.std.specs.Prelude.{Result, Ok, Err, OnOk, IsOk}
 use Rattle.std.specs.Cmp.{nat_eq_equiv}
 use Rattle.std.specs.List.{IsDistinct as AreDistinct}
 use Rattle.std.specs.Set.{is_member}
-use Rattle.std.proofs.lemmas.Bool.{eqb-true}
 use Rattle.std.proofs.lemmas.Bool.Decides.{nat_tests}
 use Rattle.std.proofs.lemmas.Map.Made.{length-from_same_keys}
 use Rattle.file_table.specs.Descriptors.{is_among, without}
@@ -22,26 +21,15 @@ among-push f q [] = grind (arith, nat_tests)
 among-push f q (x ∷ xs) = grind (arith, nat_tests, among-push f q xs)
 
 among-without : (f q : ℕ) (xs : List ℕ) → IsDistinct xs → is_among q (without f xs) ≡ cond (nat_eq f q) false (is_among q xs)
-among-without f q xs different = by (nat_eq f q) refl (is_among q xs) refl
-  where
-    by : (t : Bool) → nat_eq f q ≡ t → (b : Bool) → is_among q xs ≡ b → is_among q (without f xs) ≡ cond t false b
-    by true e b there = ap (λ (k : ℕ). is_among k (without f xs)) (sym (eqb-true f q e)) ∙ without_itself f xs different
-    by false e true there = kept_without q f xs there e
-    by false e false none = not_among_without q f xs none
+among-without f q xs different = grind (arith, nat_tests, without f xs, without_itself, kept_without, not_among_without)
 
 -- a file was opened
 pub kept_opened : (found found' files : List ℕ) (f : ℕ) → IsKept found files → is_among f files ≡ false → ((q : ℕ) → is_member nat_eq found' q ≡ cond (nat_eq f q) true (is_member nat_eq found q)) → IsKept found' (files ++ f ∷ [])
-kept_opened found found' files f kept new update = record {
-  different = distinct_push f files kept.different new;
-  same = λ q. update q ∙ ap (cond (nat_eq f q) true) (kept.same q) ∙ sym (among-push f q files);
-}
+kept_opened found found' files f kept new update = grind (arith, nat_tests, distinct_push, kept.different, kept.same, among-push)
 
 -- a file was closed
 pub kept_closed : (found found' files : List ℕ) (f : ℕ) → IsKept found files → ((q : ℕ) → is_member nat_eq found' q ≡ cond (nat_eq f q) false (is_member nat_eq found q)) → IsKept found' (without f files)
-kept_closed found found' files f kept update = record {
-  different = distinct_without f files kept.different;
-  same = λ q. update q ∙ ap (cond (nat_eq f q) false) (kept.same q) ∙ sym (among-without f q files kept.different);
-}
+kept_closed found found' files f kept update = grind (arith, nat_tests, distinct_without, kept.different, kept.same, among-without)
 
 -- as many are found as are open
 pub kept_length : (found files : List ℕ) → IsKept found files → AreDistinct nat_eq found → length found ≡ length files

@@ -1,6 +1,6 @@
 -- What holds of the open files stays so.
 use Rattle.std.proofs.Common.{◌≡◌, ℕ, ◌-◌, ◌≤◌, Bool, true, false, List, [], ◌∷◌, ◌++◌, length, take, refl, sym, ap, subst, ◌∙◌, arith, length-append}
-use Rattle.std.specs.Prelude.{◌==◌, ◌≢◌, if◌then◌else◌}
+use Rattle.std.specs.Prelude.{◌≢◌, if◌then◌else◌}
 use Rattle.std.proofs.lemmas.Bool.Decides.{nat_tests}
 use Rattle.std.proofs.lemmas.List.{length-take}
 use Rattle.file_table.specs.Descriptors.{Used, is_among, without, in_front}
@@ -19,10 +19,7 @@ IsSound_given files file opened sound at_most distinct more here none = record {
 }
   where
     front : (g : ℕ) → is_among g (file ∷ take (files.descriptors - 1) files.recent) ≡ true → is_among g opened ≡ true
-    front g there = (elim (g == file) as (λ b. (g == file) ≡ b → is_among g opened ≡ true) [
-      | true ↦ λ same. let is : g ≡ file = grind (arith, nat_tests) in subst (λ h. is_among h opened ≡ true) (sym is) here
-      | false ↦ λ differs. more g (sound.recent_open g (among_take g (files.descriptors - 1) files.recent (rw differs at there)))
-    ]) refl
+    front g there = grind (arith, nat_tests, among_take)
 
 -- a file that has a descriptor is used
 pub IsSound_in_front : (files : Files) (file : ℕ) → IsSound files → IsSound (record files { recent = in_front file files.recent })
@@ -39,34 +36,15 @@ IsSound_in_front files file sound = (elim (is_among file files.recent) as (λ b.
 ]) refl
   where
     front : is_among file files.recent ≡ true → (g : ℕ) → is_among g (file ∷ without file files.recent) ≡ true → is_among g files.opened ≡ true
-    front here g there = (elim (g == file) as (λ b. (g == file) ≡ b → is_among g files.opened ≡ true) [
-      | true ↦ λ same. let is : g ≡ file = grind (arith, nat_tests) in subst (λ h. is_among h files.opened ≡ true) (sym is) (sound.recent_open file here)
-      | false ↦ λ differs. sound.recent_open g (among_without g file files.recent (rw differs at there))
-    ]) refl
+    front here g there = grind (arith, nat_tests, among_without)
 
 -- a file is closed
 pub IsSound_closed : (files : Files) (file : ℕ) → IsSound files → IsSound (closed_file file files)
-IsSound_closed files file sound = record {
-  at_most = omega (arith, length-without file files.opened, sound.at_most);
-  distinct = distinct_without file files.opened sound.distinct;
-  descriptors = sound.descriptors;
-  fits = omega (arith, length-without file files.recent, sound.fits);
-  recent_distinct = distinct_without file files.recent sound.recent_distinct;
-  recent_open = λ g there. kept_without g file files.opened (sound.recent_open g (among_without g file files.recent there)) (other g there);
-}
-  where
-    other : (g : ℕ) → is_among g (without file files.recent) ≡ true → (file == g) ≡ false
-    other g there = (elim (file == g) as (λ b. (file == g) ≡ b → (file == g) ≡ false) [
-      | true ↦ λ same. let is : g ≡ file = grind (arith, nat_tests) in let gone : is_among file (without file files.recent) ≡ false = without_itself file files.recent sound.recent_distinct in let there' : is_among file (without file files.recent) ≡ true = subst (λ h. is_among h (without file files.recent) ≡ true) is there in absurd (cc)
-      | false ↦ λ differs. differs
-    ]) refl
+IsSound_closed files file sound = grind (arith, nat_tests, length-without file files.opened, files.opened, sound.at_most, distinct_without, sound.distinct, sound.descriptors, length-without file files.recent, files.recent, sound.fits, sound.recent_distinct, kept_without, sound.recent_open, among_without, without file files.recent, without_itself)
 
 -- a file that isn't open has no descriptor
 pub no_descriptor : (files : Files) (file : ℕ) → IsSound files → is_among file files.opened ≡ false → is_among file files.recent ≡ false
-no_descriptor files file sound none = (elim (is_among file files.recent) as (λ b. is_among file files.recent ≡ b → is_among file files.recent ≡ false) [
-  | true ↦ λ there. let here : is_among file files.opened ≡ true = sound.recent_open file there in absurd (cc)
-  | false ↦ λ missing. missing
-]) refl
+no_descriptor files file sound none = grind (arith, nat_tests, files.recent, files.opened, sound.recent_open)
 
 -- a file is opened: it comes last
 pub IsSound_opened : (files : Files) (file : ℕ) → IsSound files → is_among file files.opened ≡ false → length files.opened ≢ 4096 → IsSound (opened_file file files)

@@ -20,12 +20,10 @@ use Rattle.forest.proofs.Seen.{seen_from, seen_is, vacant_is, Stands, stands_at}
 use Rattle.std.proofs.lemmas.Bool.Decides.{nat_tests}
 
 pub if_some : (o : Option ℕ) (P : ℕ → Type 0) → ((s : ℕ) → o ≡ Some s → P s) → IfSome o P
-if_some None P h = tt
-if_some (Some s) P h = h s refl
+if_some x0 P h = grind (arith, nat_tests)
 
 pub if_some_more : (o : Option ℕ) (P Q : ℕ → Type 0) → ((s : ℕ) → P s → Q s) → IfSome o P → IfSome o Q
-if_some_more None P Q f h = tt
-if_some_more (Some s) P Q f h = f s h
+if_some_more x0 P Q f h = grind (arith, nat_tests)
 
 count_set : {A : Type 0} (xs : List (Option A)) (k : ℕ) (x : A) → is_some (get_or xs k None) ≡ true → count_by is_some (set xs k (Some x)) ≡ count_by is_some xs
 count_set {A} [] k x h = refl
@@ -316,8 +314,7 @@ module _ {T : Type 0} where
         over = p.agree;
         entry = node.entry;
         child = λ m q. sym (child m q);
-        child_key = λ m q. if_some m.first_child (ContainsKey c)
-            (λ x z. key_in c x (removed id.slot t) det.linked (first_inside parent.slot x (removed id.slot t) (first (children parent.slot (removed id.slot t))) o2 refl (sym (child m q) ∙ z)));
+        child_key = grind (arith, nat_tests, if_some, key_in, removed id.slot t, id.slot, det.linked, first_inside, parent.slot, first (children parent.slot (removed id.slot t)));
       }
 
   -- the links of a node name nodes of the forest

@@ -1,7 +1,7 @@
 -- Forests by slots whose nodes are linked with their neighbours, and what writes of links make of them.
 use Rattle.std.proofs.Common.{◌≡◌, ◌≢◌, ◌⊎◌, ℕ, zero, suc, ◌≤◌, true, false, Option, Some, None, refl, sym, ap, ◌∙◌, inl, inr, arith}
 use Rattle.std.specs.Prelude.{◌==◌, ◌||◌}
-use Rattle.std.proofs.lemmas.Bool.{cases_eq, eq-eqb, eqb-false, or_parts, both_ways, or_right, or_left}
+use Rattle.std.proofs.lemmas.Bool.{eq-eqb, eqb-false, or_parts, both_ways, or_right, or_left}
 use Rattle.forest.specs.Forest.{Forest, Empty, Node, has, Once, size, first, children, put, removed, changed}
 use Rattle.forest.specs.Links.{Entry, entry_of, linked, built, IsLinked}
 use Rattle.forest.specs.declared.links.Linked.{Linked}
@@ -169,12 +169,10 @@ module _ {T : Type 0} where
   -- what holds of the first node
   pub head_is : (G : Look T) (parent previous : Option ℕ) (t : Forest (Entry T)) (v : ℕ) (l : Linked T) → IsLinked G parent previous t → first t ≡ Some v → G v ≡ Some l → Once t
       → (l.parent ≡ parent) × (l.previous ≡ previous) × (l.next ≡ first (removed v t))
-  head_is G parent previous Empty v l i f g o = absurd (cc)
-  head_is G parent previous (Node k e below beside) v l i f g o = grind (arith, nat_tests, apart_of, eq-eqb, removed_absent)
+  head_is G parent previous x3 v l i f g o = grind (arith, nat_tests, apart_of, removed_absent)
 
   pub cases_first : (t : Forest (Entry T)) (v : ℕ) → (first t ≡ Some v) ⊎ (first t ≢ Some v)
-  cases_first Empty v = inr (λ z. cc)
-  cases_first (Node k e below beside) v = elim (cases_eq k v) [ inl h ↦ inl (ap (λ x. Some x) h) | inr ne ↦ inr (λ z. ne (cc)) ]
+  cases_first x0 v = grind (arith, nat_tests)
 
   -- a slot can't be in a part of the forest and outside of it
   both : (s : ℕ) (t u : Forest (Entry T)) → has s t ≡ true → ((n : ℕ) → has n t ≡ true → has n u ≡ false) → has s u ≡ true → ⊥

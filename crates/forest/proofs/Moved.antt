@@ -14,8 +14,7 @@ module _ {A : Type 0} where
   other k m t h u = ne_eqb k m (λ e. both_ways (has k t) u (ap (λ (x : ℕ). has x t) e ∙ h))
 
   none_right : (o : Option A) → either o None ≡ o
-  none_right None = refl
-  none_right (Some a) = refl
+  none_right x0 = grind (arith, nat_tests)
 
   -- the node that is put in
   at_put : (p n : ℕ) (a : A) (sub t : Forest A) → Once t → has p t ≡ true → has n t ≡ false → at n (put p n a sub t) ≡ Some a

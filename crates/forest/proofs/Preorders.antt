@@ -18,12 +18,10 @@ module _ {A : Type 0} where
 
   -- the walk of a whole forest begins at its first node
   pub head_from : (depth b : ℕ) (t : Forest A) → first t ≡ Some b → (from_node depth b t ≡ preorder depth t) × (level depth b t ≡ depth)
-  head_from depth b Empty q = absurd (cc q)
-  head_from depth b (Node k a below beside) q = let e : k ≡ b = cc q in rw (eq-eqb k b e) (refl, refl)
+  head_from depth b x2 q = grind (arith, nat_tests)
 
   pub head_none : (depth : ℕ) (t : Forest A) → first t ≡ None → preorder depth t ≡ []
-  head_none depth Empty q = refl
-  head_none depth (Node k a below beside) q = absurd (cc q)
+  head_none depth x1 q = grind (arith, nat_tests)
 
   -- at a node it comes to that one, then to what is below it, and then to what is behind
   pub comes_to : (depth n : ℕ) (a : A) (t : Forest A) → Once t → at n t ≡ Some a

@@ -1,5 +1,5 @@
 -- Forests whose numbers stand once each.
-use Rattle.std.proofs.Common.{◌≡◌, ◌≢◌, ℕ, ◌+◌, ◌≤◌, true, false, Some, None, refl, ap, inl, inr, arith}
+use Rattle.std.proofs.Common.{◌≡◌, ◌≢◌, ℕ, ◌+◌, ◌≤◌, true, false, Some, None, refl, inl, inr, arith}
 use Rattle.std.specs.Prelude.{◌==◌, ◌||◌, if◌then◌else◌}
 use Rattle.std.proofs.lemmas.Bool.{cases_eq, cases_Bool, eq-eqb, ne_eqb, eqb-true, or_parts, or_cases, both_ways, false_from_ne_true}
 use Rattle.forest.specs.Forest.{Forest, Empty, Node, has, times, Once, size, at, first, children, put, removed, changed}
@@ -62,20 +62,16 @@ module _ {A : Type 0} where
   children_absent n (Node k a below beside) h = grind (arith, nat_tests, or_parts, children_absent n beside (or_parts (has n below) (has n beside) (or_parts (k == n) (has n below || has n beside) h).1).1)
 
   pub first_put : (p n : ℕ) (a : A) (sub t : Forest A) → first (put p n a sub t) ≡ first t
-  first_put p n a sub Empty = refl
-  first_put p n a sub (Node k b below beside) = refl
+  first_put p n a sub x4 = grind (arith, nat_tests)
 
   pub first_changed : (n : ℕ) (f : A → A) (t : Forest A) → first (changed n f t) ≡ first t
-  first_changed n f Empty = refl
-  first_changed n f (Node k b below beside) = refl
+  first_changed n f x2 = grind (arith, nat_tests)
 
   pub first_removed : (n : ℕ) (t : Forest A) → (first t ≡ Some n → ⊥) → first (removed n t) ≡ first t
-  first_removed n Empty h = refl
-  first_removed n (Node k b below beside) h = rw (ne_eqb k n (λ e. h (ap (λ x. Some x) e))) refl
+  first_removed n x1 h = grind (arith, nat_tests)
 
   pub has_first : (n : ℕ) (t : Forest A) → first t ≡ Some n → has n t ≡ true
-  has_first n Empty h = absurd (cc)
-  has_first n (Node k a below beside) h = let e : k ≡ n = cc in rw (eq-eqb k n e) refl
+  has_first n x1 h = grind (arith, nat_tests)
 
   -- sums over a forest in which a number stands once
   pub times_removed : (m n : ℕ) (t : Forest A) → Once t → has n t ≡ true → times m (removed n t) + ((if n == m then 1 else 0) + times m (children n t)) ≡ times m t

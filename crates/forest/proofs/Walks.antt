@@ -145,12 +145,10 @@ module _ {A : Type 0} where
       ]
 
   lead_first : (up b : ℕ) (t : Forest A) → first t ≡ Some b → lead up t ≡ lead b (children b t)
-  lead_first up b Empty q = absurd (cc)
-  lead_first up b (Node k a below beside) q = grind (arith, nat_tests, eq-eqb)
+  lead_first up b x2 q = grind (arith, nat_tests)
 
   lead_none : (up : ℕ) (t : Forest A) → first t ≡ None → lead up t ≡ up
-  lead_none up Empty q = refl
-  lead_none up (Node k a below beside) q = absurd (cc)
+  lead_none up x1 q = grind (arith, nat_tests)
 
   pub next_has : (m b : ℕ) (t : Forest A) → next_of m t ≡ Some b → has b t ≡ true
   next_has m b Empty q = absurd (cc)
@@ -180,8 +178,7 @@ module _ {A : Type 0} where
   once_children n (Node k a below beside) o = grind (arith, nat_tests, apart_of, cases_Bool, once_children n below (apart_of k a below beside o).once_below, once_children n beside (apart_of k a below beside o).once_beside)
 
   front_step : (up c : ℕ) (f : Forest A) → first f ≡ Some c → (lead c (children c f) ≡ lead up f) × (size (children c f) < size f)
-  front_step up c Empty q = absurd (cc)
-  front_step up c (Node k a below beside) q = grind (arith, nat_tests, eq-eqb, lead_first)
+  front_step up c x2 q = grind (arith, nat_tests, lead_first)
 
   -- the walk begins in the first child
   pub first_step : (n c : ℕ) (t : Forest A) → Once t → first (children n t) ≡ Some c → (lead c (children c t) ≡ lead n (children n t)) × (size (children c t) < size (children n t))

@@ -3,6 +3,7 @@ use Rattle.generation_ctx.proofs.Words.{◌≡◌, ℕ, ◌+◌, ◌-◌, ◌≤
 use Rattle.generation_ctx.proofs.Kept.{AllWere, spare_live, kept_put}
 use Rattle.generation_ctx.proofs.Numbers.{found_number, block_is, numbered_put, ledger_put}
 use Rattle.generation_ctx.proofs.Refilled.{given_less, emptied_less}
+use Rattle.std.proofs.lemmas.Bool.Decides.{nat_tests}
 
 abbrev pub less_one : Block → Block
 less_one old = record old { live = old.live - 1; freed = old.freed + 1 }
@@ -45,7 +46,4 @@ module _ (b : Books) (m : Layout) (at : Addr) (old : Block) (kept : IsKept b) (o
 pub freed_is : (b n : Books) (region : ℕ) → IsKept b → (less : Lessens b n region) → ledger_of n ≡ lessened (ledger_of b) (number_of b.blocks region)
     → freed_shared (ledger_of b) (number_of b.blocks region) ≡ (if less.block.live == 1 then emptied (ledger_of n) (number_of n.blocks region) else ledger_of n)
 unfolding freed_shared
-freed_is b n region kept less ledger =
-    let number = number_is b.blocks region less.block less.was in
-    let found = found_number b region less.block kept.numbered less.was in
-    rw (block_is b region less.block kept.numbered less.was, ledger, number_is n.blocks region _ less.is, number, emptied_less (ledger_of b) less.block found) refl
+freed_is b n region kept less ledger = grind (arith, nat_tests, number_is b.blocks region less.block less.was, b.blocks, less.block, less.was, found_number b region less.block kept.numbered less.was, kept.numbered, block_is b region less.block kept.numbered less.was, number_is n.blocks region _ less.is, n.blocks, less.is, emptied_less)

@@ -1,6 +1,7 @@
 -- What the code keeps, from step to step.
-use Rattle.generation_ctx.proofs.Words.{◌≡◌, ◌≢◌, ℕ, ◌<◌, ◌==◌, Option, Some, None, true, false, if◌then◌else◌, refl, ◌∙◌, sym, subst, arith, ◌⊎◌, inl, inr, ◌+◌, ap, unwrap_or, cases_eq, Addr, Layout, block_at, chunk_at, PutsBlock, PutsChunk, SameContext, Block, Chunk, is_spare, no_block, added, AreSizes, HasSize, AreNumbered, IsSpare, IsIdle, IsAlone, AllAlone, IsKept, ledger_of, Books, put_other, size_put, put_here, chunk_was, one_value, values_of, add_by_number, rising_add, number_of}
+use Rattle.generation_ctx.proofs.Words.{◌≡◌, ◌≢◌, ℕ, ◌<◌, Option, Some, None, true, false, if◌then◌else◌, refl, ◌∙◌, sym, subst, arith, ◌⊎◌, inl, inr, ◌+◌, ap, unwrap_or, Addr, Layout, block_at, chunk_at, PutsBlock, PutsChunk, SameContext, Block, Chunk, is_spare, no_block, added, AreSizes, HasSize, AreNumbered, IsSpare, IsIdle, IsAlone, AllAlone, IsKept, ledger_of, Books, put_other, size_put, put_here, chunk_was, one_value, values_of, add_by_number, rising_add, number_of}
 use Rattle.generation_ctx.proofs.Numbers.{numbered_by, spare_numbers}
+use Rattle.std.proofs.lemmas.Bool.Decides.{nat_tests}
 
 -- the spare stays where its block does
 pub spare_still : (l m : Layout) (current : ℕ) (spare : Option ℕ) → m.keeper ≡ l.keeper → ((other : ℕ) → spare ≡ Some other → block_at m other ≡ block_at l other) → IsSpare l current spare → IsSpare m current spare
@@ -8,8 +9,7 @@ spare_still l m current None keeper still idle = idle
 spare_still l m current (Some other) keeper still idle = record { block = idle.block; is = still other refl ∙ idle.is; live = idle.live; not_keeper = rw keeper idle.not_keeper; not_current = idle.not_current }
 
 pub apart_spare : (spare : Option ℕ) (number : ℕ) → is_spare spare number ≡ false → (other : ℕ) → spare ≡ Some other → number ≢ other
-apart_spare None number free other is = absurd (cc)
-apart_spare (Some region) number free other is = λ e. (let it : region ≡ other = cc in grind (arith, free))
+apart_spare x0 number free other is = grind (arith, nat_tests)
 
 -- which blocks aren't the spare: the current one
 pub spare_current : (l : Layout) (current : ℕ) (spare : Option ℕ) → IsSpare l current spare → is_spare spare current ≡ false
@@ -61,10 +61,7 @@ were_still l m current number same alone some at chunk is own =
 
 -- one chunk of a shared block is put
 pub were_put : (l m : Layout) (number : ℕ) (to : Addr) (new : Chunk) → PutsChunk l m to (Some new) → new.own ≡ false → ((at : Addr) (chunk : Chunk) → chunk_at l at ≡ Some chunk → chunk.own ≡ true → at.region ≢ number) → AllWere l m number
-were_put l m number to new puts shared apart at chunk is own = elim (chunk_was l m to new puts at chunk is) [
-  | inl here ↦ let it = here.1 in absurd (cc)
-  | inr there ↦ (there.1, apart at chunk there.1 own)
-]
+were_put l m number to new puts shared apart at chunk is own = grind (arith, nat_tests, chunk_was l m to new puts)
 
 -- the next block has another size
 pub kept_next : (b : Books) (next : ℕ) → IsKept b → AreSizes b.sizes.init b.sizes.max next → IsKept (record b { next = next })
@@ -76,10 +73,7 @@ kept_spare b number kept idle = record { kind = kept.kind; numbered = kept.numbe
 -- another block becomes current
 seated_spare : (l : Layout) (current number : ℕ) (spare : Option ℕ) → IsSpare l current spare → IsSpare l number (if is_spare spare number then None else spare)
 seated_spare l current number None idle = tt
-seated_spare l current number (Some other) idle = elim (cases_eq other number) [
-  | inl same ↦ let test : (other == number) ≡ true = grind arith in rw test tt
-  | inr ne ↦ let test : (other == number) ≡ false = grind arith in rw test (record { block = idle.block; is = idle.is; live = idle.live; not_keeper = idle.not_keeper; not_current = ne })
-]
+seated_spare l current number (Some other) idle = grind (arith, nat_tests, idle.block, idle.is, idle.live, idle.not_keeper)
 
 pub kept_seated : (b : Books) (number : ℕ) (block : Block) → IsKept b → block_at b.blocks number ≡ Some block → 0 < block.room → IsKept (record b { current = number; spare = if is_spare b.spare number then None else b.spare })
 kept_seated b number block kept is some = record {
@@ -123,8 +117,7 @@ module _ (b : Books) (m : Layout) (number : ℕ) (new : Block) (kept : IsKept b)
   number_add r block is = ap (λ (o : Option Block). (unwrap_or o no_block).number) (put_other b.blocks m number new puts r (λ e. (let none = rw e at fresh in cc)))
 
   numbered_add : AreNumbered m
-  numbered_add =
-      numbered_by b.blocks m kept.numbered same (omega (arith, last)) (rw (last, puts.blocks) (rising_add 1 b.blocks.last_number number new b.blocks.blocks fresh (omega arith) next kept.numbered.rising)) (number_add b.blocks.keeper kept.keeper.block kept.keeper.is)
+  numbered_add = grind (arith, nat_tests, numbered_by b.blocks m kept.numbered same (omega (arith, last)) (rw (last, puts.blocks) (rising_add 1 b.blocks.last_number number new b.blocks.blocks fresh (omega arith) next kept.numbered.rising)) (number_add b.blocks.keeper kept.keeper.block kept.keeper.is), rising_add 1 b.blocks.last_number number new b.blocks.blocks fresh (omega arith) next kept.numbered.rising, number_add b.blocks.keeper kept.keeper.block kept.keeper.is)
 
   pub ledger_add : ledger_of (record b { blocks = m }) ≡ added (ledger_of b) new
   ledger_add =

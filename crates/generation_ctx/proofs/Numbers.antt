@@ -1,5 +1,6 @@
 -- The numbers of blocks, and the ledger by them, once a block was put, added or given back.
-use Rattle.generation_ctx.proofs.Words.{◌≡◌, ◌≢◌, ℕ, ◌≤◌, ◌==◌, Bool, if◌then◌else◌, filter, Option, Some, None, unwrap_or, option_map, refl, ap, sym, ◌∙◌, arith, inl, inr, find, values_of, Addr, one_value, cases_eq, Layout, block_at, chunk_at, Chunk, AreRising, is_other, PutsBlock, DropsBlock, SameContext, Block, drop_other, number_is, number_put, found_by_number, put_by_number, drop_by_number, rising_put, rising_drop, region_by_number, no_block, block_in, put, given, is_spare, number_of, ledger_of, AreNumbered, IsSpare, IsKept, Books}
+use Rattle.generation_ctx.proofs.Words.{◌≡◌, ◌≢◌, ℕ, ◌≤◌, ◌==◌, Bool, if◌then◌else◌, filter, Option, Some, None, unwrap_or, option_map, refl, ap, sym, ◌∙◌, arith, find, values_of, Addr, one_value, Layout, block_at, chunk_at, Chunk, AreRising, is_other, PutsBlock, DropsBlock, SameContext, Block, drop_other, number_is, number_put, found_by_number, put_by_number, drop_by_number, rising_put, rising_drop, region_by_number, no_block, block_in, put, given, is_spare, number_of, ledger_of, AreNumbered, IsSpare, IsKept, Books}
+use Rattle.std.proofs.lemmas.Bool.Decides.{nat_tests}
 
 -- a block that is there, by the ledger
 pub found_number : (b : Books) (region : ℕ) (block : Block) → AreNumbered b.blocks → block_at b.blocks region ≡ Some block → find (λ x. x.number == block.number) (ledger_of b).blocks ≡ Some block
@@ -10,17 +11,11 @@ block_is b region block numbered is = ap (block_in (ledger_of b)) (number_is b.b
 
 -- blocks of one number are in one region
 pub one_region : (l : Layout) (a b : ℕ) (first second : Block) → AreNumbered l → block_at l a ≡ Some first → block_at l b ≡ Some second → number_of l a ≡ number_of l b → a ≡ b
-one_region l a b first second numbered is there same =
-    region_by_number 1 l.last_number a b l.blocks first second numbered.rising is there (sym (number_is l a first is) ∙ same ∙ number_is l b second there)
+one_region l a b first second numbered is there same = grind (arith, nat_tests, region_by_number 1 l.last_number a b l.blocks first second numbered.rising is there (sym (number_is l a first is) ∙ same ∙ number_is l b second there), l.last_number, l.blocks, numbered.rising, number_is l a first is, number_is l b second there)
 
 -- blocks are numbered, where they rise and the keeper keeps its number
 pub numbered_by : (l m : Layout) → AreNumbered l → SameContext l m → l.last_number ≤ m.last_number → AreRising 1 m.last_number m.blocks → number_of m l.keeper ≡ number_of l l.keeper → AreNumbered m
-numbered_by l m numbered kept last rising keeper = record {
-  first = kept.first_number ∙ numbered.first;
-  rising = rising;
-  some = omega (arith, numbered.some);
-  keeper = ap (number_of m) kept.keeper ∙ keeper ∙ numbered.keeper;
-}
+numbered_by l m numbered kept last rising keeper = grind (arith, nat_tests, kept.first_number, numbered.first, numbered.some, number_of m, kept.keeper, numbered.keeper)
 
 -- the number of the spare stays where that of its region does
 pub spare_numbers : (l m : Layout) (current : ℕ) (spare : Option ℕ) → IsSpare l current spare → ((r : ℕ) (block : Block) → block_at l r ≡ Some block → spare ≡ Some r → number_of m r ≡ number_of l r) → option_map (number_of m) spare ≡ option_map (number_of l) spare
@@ -29,8 +24,7 @@ spare_numbers l m current (Some r) idle all = ap Some (all r idle.block idle.is 
 
 module _ (l m : Layout) (region : ℕ) (old new : Block) (is : block_at l region ≡ Some old) (puts : PutsBlock l m region new) (same : new.number ≡ old.number) where
   pub numbered_put : AreNumbered l → SameContext l m → m.last_number ≡ l.last_number → AreNumbered m
-  numbered_put numbered kept last =
-      numbered_by l m numbered kept (omega (arith, last)) (rw (last, puts.blocks) (rising_put 1 l.last_number region l.blocks old new numbered.rising is same)) (number_put l m region old new is puts same l.keeper)
+  numbered_put numbered kept last = grind (arith, nat_tests, numbered_by l m numbered kept (omega (arith, last)) (rw (last, puts.blocks) (rising_put 1 l.last_number region l.blocks old new numbered.rising is same)) (number_put l m region old new is puts same l.keeper), rising_put 1 l.last_number region l.blocks old new numbered.rising is same, numbered.rising, number_put l m region old new is puts same l.keeper)
 
 pub ledger_put : (b : Books) (m : Layout) (region : ℕ) (old new : Block) → block_at b.blocks region ≡ Some old → PutsBlock b.blocks m region new → new.number ≡ old.number → IsKept b → m.last_number ≡ b.blocks.last_number → ledger_of (record b { blocks = m }) ≡ put (ledger_of b) new
 ledger_put b m region old new is puts same kept last =
@@ -58,10 +52,7 @@ ledger_drop b m region old is drops not_current not_spare kept last =
 
 -- a test of numbers is one of regions
 pub same_test : (l : Layout) (a b : ℕ) (first second : Block) → AreNumbered l → block_at l a ≡ Some first → block_at l b ≡ Some second → (number_of l a == number_of l b) ≡ (a == b)
-same_test l a b first second numbered is there = elim (cases_eq a b) [
-  | inl e ↦ rw e (grind arith)
-  | inr ne ↦ let differs : number_of l a ≢ number_of l b = λ same. ne (one_region l a b first second numbered is there same) in grind arith
-]
+same_test l a b first second numbered is there = grind (arith, nat_tests, number_of, one_region)
 
 pub keeper_test : (l : Layout) (region : ℕ) (keeper block : Block) → AreNumbered l → block_at l l.keeper ≡ Some keeper → block_at l region ≡ Some block → (number_of l region == 1) ≡ (region == l.keeper)
 keeper_test l region keeper block numbered is there = ap (λ (n : ℕ). number_of l region == n) (sym numbered.keeper) ∙ same_test l region l.keeper block keeper numbered there is

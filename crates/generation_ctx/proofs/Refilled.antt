@@ -1,18 +1,16 @@
 -- A shared block without live chunks gets its whole room, or goes back.
-use Rattle.generation_ctx.proofs.Words.{◌≡◌, ◌≢◌, ℕ, ◌+◌, ◌-◌, ◌==◌, if◌then◌else◌, false, List, Option, Some, None, unwrap_or, refl, arith, ◌∙◌, sym, ap, find, Layout, block_at, whole_block, footprint, Space, Agrees, Moves, Keeps, PutsBlock, DropsBlock, SameContext, MovesStill, Rearranges, Block, drop_other, size_drop, put_twice, put_away, put_found, GenerationLedger, block_in, no_block, is_spare, put, filled, given, emptied, emptied_other, lessened, number_of, ledger_of, IsKept, Books, one_value, number_is}
+use Rattle.generation_ctx.proofs.Words.{◌≡◌, ◌≢◌, ℕ, ◌+◌, ◌-◌, ◌==◌, if◌then◌else◌, false, List, Option, Some, unwrap_or, refl, arith, ◌∙◌, sym, ap, find, Layout, block_at, whole_block, footprint, Space, Agrees, Moves, Keeps, PutsBlock, DropsBlock, SameContext, MovesStill, Rearranges, Block, drop_other, size_drop, put_twice, put_away, put_found, GenerationLedger, block_in, no_block, is_spare, put, filled, given, emptied, emptied_other, lessened, number_of, ledger_of, IsKept, Books, one_value, number_is}
 use Rattle.ctx_blocks.specs.Layout.{start_of as start_in}
 use Rattle.generation_ctx.proofs.Numbers.{block_is, numbered_put, numbered_drop, ledger_put, ledger_drop, same_test, keeper_test}
 use Rattle.generation_ctx.proofs.Kept.{apart_spare, kept_but, kept_put, were_still}
+use Rattle.std.proofs.lemmas.Bool.Decides.{nat_tests}
 
 abbrev pub refilled : Layout → ℕ → Block → Block
 refilled l region old = whole_block old.number (start_in l region) old.size
 
 module _ (b : Books) (m : Layout) (region : ℕ) (old : Block) (kept : IsKept b) (is : block_at b.blocks region ≡ Some old) (same : SameContext b.blocks m) (last : m.last_number ≡ b.blocks.last_number) (puts : PutsBlock b.blocks m region (refilled b.blocks region old)) where
   filled_is : filled (ledger_of b) (number_of b.blocks region) ≡ refilled b.blocks region old
-  filled_is =
-      let test = keeper_test b.blocks region kept.keeper.block old kept.numbered kept.keeper.is is in
-      let turned : (region == b.blocks.keeper) ≡ (b.blocks.keeper == region) = grind arith in
-      rw (block_is b region old kept.numbered is, test ∙ turned, number_is b.blocks region old is) refl
+  filled_is = grind (arith, nat_tests, keeper_test b.blocks region kept.keeper.block old kept.numbered kept.keeper.is is, block_is b region old kept.numbered is, number_is b.blocks region old is)
 
   -- the books alone change
   pub rearranges_refill : old.live ≡ 0 → is_spare b.spare region ≡ false → m.chunks ≡ b.blocks.chunks → MovesStill b.blocks m → (s : Space) → Agrees (footprint b.blocks) s → (ledger : GenerationLedger) → put (ledger_of b) (filled (ledger_of b) (number_of b.blocks region)) ≡ ledger → Rearranges b (record b { blocks = m }) s s ledger
@@ -67,8 +65,7 @@ module _ (l : GenerationLedger) (block : Block) (is : find (λ b. b.number == bl
   given_less = ap (λ (bs : List Block). record l { blocks = bs }) (put_away (less_of l block.number) block.number l.blocks numbers)
 
   other_less : (spare : Option ℕ) → emptied_other spare (lessened l block.number) block.number ≡ emptied_other spare l block.number
-  other_less None = ap (λ (x : GenerationLedger). record x { spare = Some block.number }) filled_less
-  other_less (Some other) = given_less
+  other_less x0 = grind (arith, nat_tests, filled_less, given_less)
 
   -- it is empty, as the block before
   pub emptied_less : emptied (lessened l block.number) block.number ≡ emptied l block.number

@@ -1,16 +1,11 @@
 -- Steps, one after another.
-use Rattle.generation_ctx.proofs.Words.{◌≡◌, ℕ, refl, sym, ◌∙◌, Addr, Space, Asks, Agrees, Moves-none, Moves-more, Keeps-more, Keeps-then, footprint, GenerationLedger, GenerationTaken, ledger_of, IsKept, Rearranges, Allocates, Frees, Books, AreAmong, KeepsNumbers, stays_live, among_more}
+use Rattle.generation_ctx.proofs.Words.{◌≡◌, ℕ, sym, ◌∙◌, Addr, Space, Asks, Agrees, Moves-none, Moves-more, Keeps-more, Keeps-then, footprint, GenerationLedger, GenerationTaken, ledger_of, IsKept, Rearranges, Allocates, Frees, Books, AreAmong, KeepsNumbers, stays_live, among_more}
+use Rattle.std.proofs.lemmas.Bool.Decides.{nat_tests}
+use Rattle.std.proofs.Common.{arith}
 
 -- nothing happens
 pub rearranges_none : (b : Books) (s : Space) (ledger : GenerationLedger) → IsKept b → Agrees (footprint b.blocks) s → ledger_of b ≡ ledger → Rearranges b b s s ledger
-rearranges_none b s ledger kept agrees is = record {
-  kept = kept;
-  ledger_is = is;
-  chunks = refl;
-  account = refl;
-  moves = Moves-none (footprint b.blocks) s agrees;
-  keeps = λ at p q k live again below short. refl;
-}
+rearranges_none b s ledger kept agrees is = grind (arith, nat_tests, Moves-none (footprint b.blocks) s agrees, b.blocks)
 
 -- a chunk is cut, which asks nothing, after a step that left the chunks and asked so much
 pub allocates_more : (b m n : Books) (s t u : Space) (size : ℕ) (at : Addr) (ledger : GenerationLedger) (rest : GenerationTaken) (asked : ℕ) → Rearranges b m s t ledger → Allocates m n t u size at rest → Asks b.blocks.account asked s t → u.taken ≡ t.taken → KeepsNumbers b.blocks n.blocks → Allocates b n s u size at (record rest { asked = asked })

@@ -31,7 +31,7 @@ pub use Rattle.generation_ctx.specs.State.{number_of, place_in}
 pub use Rattle.generation_ctx.specs.Steps.{Allocates, Frees, Lessens, Rearranges}
 pub use Rattle.generation_ctx.specs.declared.books.Books.{Books}
 pub use Rattle.std.proofs.Common.{Bool, Err, IfSome, IsSome, None, Option, Some, ap, arith, false, filter, if◌then◌else◌, inl, inr, min, option_map, refl, subst, sym, true, unwrap_or, ℕ, ◌*◌, ◌+◌, ◌-◌, ◌<◌, ◌==◌, ◌∙◌, ◌≡◌, ◌≢◌, ◌≤◌, ◌⊎◌}
-pub use Rattle.std.proofs.lemmas.Bool.{cases_Bool, cases_eq}
+pub use Rattle.std.proofs.lemmas.Bool.{cases_Bool}
 pub use Rattle.std.proofs.lemmas.Result.{err_from_is_err_and}
 pub use Rattle.std.specs.List.{find}
 pub use Rattle.std.specs.Map.{values_of}

@@ -14,10 +14,10 @@ pub use Rattle.std.proofs.lemmas.List.Sums.{fails_before_first, passes_at_first,
 pub use Rattle.std.proofs.lemmas.Map.Made.{length-from_keys}
 pub use Rattle.std.specs.Bool.{MatchBool}
 pub use Rattle.std.specs.Cmp.{IsEquivalence}
-pub use Rattle.std.specs.List.{AllByRecursion, find, flat_map, list_any, position_or_len}
+pub use Rattle.std.specs.List.{AllByRecursion, find, flat_map, list_any}
 unfoldable pub use Rattle.std.specs.List.{IsDistinct}
 pub use Rattle.std.specs.List.Sorted.{IsNonDecreasingBy}
-pub use Rattle.std.specs.Prelude.{All, count_by, Err, insert, IsOk, MatchOption, Ok, OnOk, OnSome, position, remove, Result, sum_by, ◌⊎◌}
+pub use Rattle.std.specs.Prelude.{All, count_by, Err, insert, IsOk, MatchOption, OnOk, OnSome, position, remove, Result, sum_by, ◌⊎◌}
 pub use Rattle.std.specs.Set.{distinct_count}
 pub use Rattle.arrayvec.proofs.ArrayVecLemmas.{filter-from_retain}
 pub use Rattle.lock_local.specs.Changes.{acquired, added, counted_down, counted_up, given_back, lowered, new_lock, pass_of, passed, passed_lock, passes, release_of, release_whole, released, releases, releases_of_all, without}

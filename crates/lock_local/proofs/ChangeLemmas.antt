@@ -82,9 +82,7 @@ some_owner owner [] h = absurd (h refl)
 some_owner owner (x ∷ xs) h = lt-ltb 0 (length (x ∷ xs)) (omega arith)
 
 pub owner-passed : (from to : ℕ) (l : Lock) → has_owner (passed_lock from to l) ≡ has_owner l
-owner-passed from to l =
-    by_passing (λ m. has_owner m ≡ has_owner l) from to l refl
-    (λ more. lt-ltb 0 (length (passes_some from to l).owners) (added_some to (owner_count from l) (without from l).owners) ∙ sym (some_owner from l.owners more))
+owner-passed from to l = grind (arith, nat_tests, by_passing, has_owner, added_some to (owner_count from l) (without from l).owners, without from l, some_owner, l.owners)
 
 pub AreLocks-passed : (from to : ℕ) (xs : List Lock) → AreLocks xs → AreLocks (passed from to xs)
 AreLocks-passed from to xs a = AreLocks-mapped (passed_lock from to) (keeps-passed from to) (counted-passed from to) (λ l h. owner-passed from to l ∙ h) xs a
@@ -213,11 +211,8 @@ count_at (x ∷ xs) (suc i) d o m w h s = grind (arith, nat_tests, s.before zero
 -- a lock that isn't there
 pub none_standing : (xs : List Lock) (i : ℕ) (d : Lock) (o : ℕ) (m : Mode) → IsInOrder xs → WouldStandAt o m xs i d → All (λ l. is_lock o m l ≡ false) xs
 none_standing [] i d o m h s = All-nil (λ l. is_lock o m l ≡ false)
-none_standing (x ∷ xs) zero d o m h s =
-    let after = comes_after x o m (s.not_before (omega arith)) (s.not_here (omega arith)) in
-    All-cons (λ l. is_lock o m l ≡ false) x xs (s.not_here (omega arith)) (All-weaker (Before x) (λ l. is_lock o m l ≡ false) (λ l b. after_lock l o m (after_both x l o m after b)) xs h.0)
-none_standing (x ∷ xs) (suc i) d o m h s =
-    All-cons (λ l. is_lock o m l ≡ false) x xs (before_lock x o m (s.before zero (omega arith))) (none_standing xs i d o m h.1 (would_stand_tail o m x xs i d s))
+none_standing (x ∷ xs) zero d o m h s = grind (arith, nat_tests, comes_after x o m (s.not_before (omega arith)) (s.not_here (omega arith)), s.not_before (omega arith), s.not_here (omega arith), All-cons, All-weaker, after_lock, after_both, h.0)
+none_standing (x ∷ xs) (suc i) d o m h s = grind (arith, nat_tests, All-cons, before_lock x o m (s.before zero (omega arith)), s.before zero (omega arith), none_standing xs i d o m h.1 (would_stand_tail o m x xs i d s), h.1, would_stand_tail o m x xs i d s)
 
 pub count_missing : (xs : List Lock) (i : ℕ) (d : Lock) (o : ℕ) (m : Mode) (w : ℕ) → IsInOrder xs → WouldStandAt o m xs i d → count_of xs o m w ≡ 0
 count_missing xs i d o m w h s = count_none xs o m w (none_standing xs i d o m h s)
@@ -228,10 +223,7 @@ down owner o m l = cond (is_lock o m l) (counted_down owner l) l
 
 pub down_at : (owner o : ℕ) (m : Mode) (xs : List Lock) (i : ℕ) (d : Lock) → IsInOrder xs → StandsAt o m xs i d → set xs i (counted_down owner (get_or xs i d)) ≡ map (down owner o m) xs
 down_at owner o m [] i d h s = absurd (let l = s.within in omega arith)
-down_at owner o m (x ∷ xs) zero d h s =
-    let f = down owner o m in
-    let rest : map f xs ≡ xs = map_fixed f xs (All-weaker (λ l. is_lock o m l ≡ false) (λ l. f l ≡ l) (λ l e. ap (λ b. cond b (counted_down owner l) l) e) xs (none_like x xs o m h.0 s.here)) in
-    ap (λ (z : Lock). z ∷ xs) (sym (ap (λ b. cond b (counted_down owner x) x) s.here)) ∙ ap (λ (zs : List Lock). f x ∷ zs) (sym rest)
+down_at owner o m (x ∷ xs) zero d h s = grind (arith, nat_tests, map_fixed, All-weaker, none_like x xs o m h.0 s.here, h.0, s.here)
 down_at owner o m (x ∷ xs) (suc i) d h s = grind (arith, nat_tests, s.before zero (omega arith), before_lock x o m (s.before zero (omega arith)), stands_tail o m x xs i d s, down_at owner o m xs i d h.1 (stands_tail o m x xs i d s))
 
 pub by_down : (P : Lock → Type 0) (owner o : ℕ) (m : Mode) (l : Lock) → P l → P (counted_down owner l) → P (down owner o m l)

@@ -1,5 +1,5 @@
 -- How often an owner holds a lock after a change.
-use Rattle.lock_local.proofs.Base.{[], acquired, added, All, All-head, All-tail, ap, arith, Bool, comes_before, cond, count_if, count_of, counted_down, counted_up, eqb-true, false, filter, get_or, get_or_default, has_owner, HoldsBoth, HoldsNothing, HoldsOneLess, HoldsOneMore, is_lock, length, List, Lock, lowered, lt-ltb, map, Mode, nat_eq, nat_lt, nat_tests, new_lock, not, owner_count, OwnerCount, passed, passed_lock, refl, released, same_lock, set, StandsAt, sum_by, sum_by-cons, sum_by-set, sym, true, true≢false, without, ℕ, ◌&&◌, ◌+◌, ◌-◌, ◌<◌, ◌∙◌, ◌∷◌, ◌≡◌, ◌≢◌, ◌≤◌}
+use Rattle.lock_local.proofs.Base.{[], acquired, added, All, All-head, All-tail, ap, arith, Bool, comes_before, cond, count_if, count_of, counted_down, counted_up, eqb-true, false, filter, get_or, get_or_default, has_owner, HoldsBoth, HoldsNothing, HoldsOneLess, HoldsOneMore, is_lock, length, List, Lock, lowered, lt-ltb, map, Mode, nat_eq, nat_lt, nat_tests, new_lock, owner_count, OwnerCount, passed, passed_lock, refl, released, same_lock, set, StandsAt, sum_by, sum_by-cons, sum_by-set, sym, true, true≢false, without, ℕ, ◌&&◌, ◌+◌, ◌-◌, ◌<◌, ◌∙◌, ◌∷◌, ◌≡◌, ◌≢◌, ◌≤◌}
 use Rattle.lock_local.proofs.OwnerLemmas.{Counted, is_owner, others, less_one}
 use Rattle.lock_local.proofs.ChangeLemmas.{by_passing}
 
@@ -49,20 +49,7 @@ owner_lowered owner w (x ∷ xs) h l = by_test (owner_lowered owner w xs (All-ta
 
 pub owner_others : (owner w : ℕ) (xs : List OwnerCount) → sum_by (count_if w) (others owner xs) ≡ cond (nat_eq owner w) 0 (sum_by (count_if w) xs)
 owner_others owner w [] = grind (arith, nat_tests)
-owner_others owner w (x ∷ xs) = by_test (owner_others owner w xs) (is_owner owner x) refl (nat_eq owner w) refl
-  where
-    by_test : sum_by (count_if w) (others owner xs) ≡ cond (nat_eq owner w) 0 (sum_by (count_if w) xs) → (t : Bool) → is_owner owner x ≡ t → (u : Bool) → nat_eq owner w ≡ u → sum_by (count_if w) (cond (not t) (x ∷ others owner xs) (others owner xs)) ≡ cond u 0 (sum_by (count_if w) (x ∷ xs))
-    by_test ih true e true f = ih ∙ ap (λ b. cond b 0 (sum_by (count_if w) xs)) f
-    by_test ih true e false f =
-        let none : count_if w x ≡ 0 = ap (λ b. cond b x.count 0) (ap (λ (k : ℕ). nat_eq k w) (eqb-true x.owner owner e) ∙ f) in
-        ih ∙ ap (λ b. cond b 0 (sum_by (count_if w) xs)) f ∙ omega (arith, none, sum_by-cons (count_if w) x xs)
-    by_test ih false e true f =
-        let none : count_if w x ≡ 0 = ap (λ b. cond b x.count 0) (ap (nat_eq x.owner) (sym (eqb-true owner w f)) ∙ e) in
-        let rest : sum_by (count_if w) (others owner xs) ≡ 0 = ih ∙ ap (λ b. cond b 0 (sum_by (count_if w) xs)) f in
-        omega (arith, none, rest, sum_by-cons (count_if w) x (others owner xs))
-    by_test ih false e false f =
-        let rest : sum_by (count_if w) (others owner xs) ≡ sum_by (count_if w) xs = ih ∙ ap (λ b. cond b 0 (sum_by (count_if w) xs)) f in
-        omega (arith, rest, sum_by-cons (count_if w) x xs, sum_by-cons (count_if w) x (others owner xs))
+owner_others owner w (x ∷ xs) = grind (arith, nat_tests, owner_others owner w xs, others owner xs, others, x.count, x.owner, sum_by-cons (count_if w) x xs, sum_by-cons (count_if w) x (others owner xs))
 
 pub owner_passed_count : (from to w : ℕ) (l : Lock) → owner_count w (passed_lock from to l) ≡ cond (nat_eq from w) 0 (owner_count w l) + where_so (nat_eq to w) (owner_count from l)
 owner_passed_count from to w l = grind (arith, nat_tests, owner_added to (owner_count from l) w (without from l).owners, owner_others from w l.owners)

@@ -1,6 +1,6 @@
 -- The counts of a lock's owners.
 use Rattle.std.proofs.lemmas.Bool.Decides.{nat_tests}
-use Rattle.lock_local.proofs.Base.{[], added, All, All-cons, All-filter, All-head, All-nil, All-tail, ap, arith, Bool, cond, count_if, eq-eqb, eqb-true, fails_before_first, false, false≢true, filter, get_or, IsOk, items-with_items, length, length-set, List, lowered, ltb-false, ltb-true, nat_eq, nat_lt, ne_eqb, None, not, OnOk, Option, OwnerCount, passes_at_first, position, position_or_len, refl, remove, Result, set, SmallVec, Some, subst, suc, sum_by, sum_by-cons, sum_by-drop_more, sum_by-take-drop, sym, take, true, with_items, zero, ℕ, ◌++◌, ◌+◌, ◌-◌, ◌<◌, ◌^◌, ◌∙◌, ◌∷◌, ◌≡◌, ◌≢◌, ◌≤◌}
+use Rattle.lock_local.proofs.Base.{[], added, All, All-cons, All-filter, All-head, All-nil, All-tail, ap, arith, Bool, cond, count_if, eq-eqb, eqb-true, fails_before_first, false, false≢true, filter, get_or, IsOk, items-with_items, length, length-set, List, lowered, ltb-false, nat_eq, ne_eqb, None, not, OnOk, Option, OwnerCount, passes_at_first, position, refl, remove, Result, set, SmallVec, Some, suc, sum_by, sum_by-cons, sum_by-drop_more, sum_by-take-drop, sym, take, true, with_items, zero, ℕ, ◌++◌, ◌+◌, ◌-◌, ◌<◌, ◌^◌, ◌∙◌, ◌∷◌, ◌≡◌, ◌≢◌, ◌≤◌}
 
 abbrev pub is_owner : ℕ → OwnerCount → Bool
 is_owner owner c = nat_eq c.owner owner
@@ -105,18 +105,7 @@ others_lt owner (x ∷ xs) l = grind (arith, nat_tests, others_lt owner xs, othe
 
 -- an owner that holds the lock has a first entry
 pub some_first : (owner : ℕ) (xs : List OwnerCount) (i : ℕ) (d : OwnerCount) → position (is_owner owner) xs ≡ Some i → IsFirstOf owner xs i d
-some_first owner xs i d e =
-    let p = is_owner owner in
-    let at : (position_or_len p xs < length xs) × (i ≡ position_or_len p xs) = by_test (nat_lt (position_or_len p xs) (length xs)) refl e in
-    record {
-      within = omega (arith, at.0, at.1);
-      here = subst (λ (n : ℕ). p (get_or xs n d) ≡ true) (sym at.1) (passes_at_first p xs d at.0);
-      before = λ k l. fails_before_first p xs k d (omega (arith, l, at.1));
-    }
-  where
-    by_test : (t : Bool) → nat_lt (position_or_len (is_owner owner) xs) (length xs) ≡ t → cond t (Some (position_or_len (is_owner owner) xs)) None ≡ Some i → (position_or_len (is_owner owner) xs < length xs) × (i ≡ position_or_len (is_owner owner) xs)
-    by_test true f g = (ltb-true (position_or_len (is_owner owner) xs) (length xs) f, (cc))
-    by_test false f g = absurd (cc)
+some_first owner xs i d e = grind (arith, nat_tests, passes_at_first, fails_before_first)
 
 pub none_first : (owner : ℕ) (xs : List OwnerCount) (d : OwnerCount) → position (is_owner owner) xs ≡ None → (k : ℕ) → k < length xs → is_owner owner (get_or xs k d) ≡ false
 none_first owner xs d e k l = grind (arith, nat_tests, fails_before_first, ltb-false)

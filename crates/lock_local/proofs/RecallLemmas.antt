@@ -1,5 +1,5 @@
 -- What is remembered of the owners' locks after a change.
-use Rattle.lock_local.proofs.Base.{[], All, All-from_get_or, All-get_or, All-head, All-nil, All-set, All-tail, All-weaker, and_parts, ap, AreTagged, arith, Bool, cond, count_of, eq-eqb, eqb-false, eqb-true, fails_before_first, false, find, find_past, get_or, get_or_default, has_lock, HasOwnerAt, HoldsBoth, HoldsNothing, HoldsOneLess, HoldsOneMore, insert, is_tag, IsByOwner, IsNonDecreasingBy, IsRecall, Joins, length, List, list_any, list_any_none, Lock, LockTag, lt-ltb, ltb-false, ltb-true, MatchOption, Mode, nat_eq, nat_lt, nat_tests, None, not, Option, position, position_or_len, Recall, recall_of, recalls, refl, Remembers, remove, same_lock, set, Some, subst, suc, sym, true, true≢false, WouldHaveOwnerAt, zero, ℕ, ◌&&◌, ◌+◌, ◌<◌, ◌||◌, ◌∙◌, ◌∷◌, ◌≡◌, ◌≢◌, ◌≤◌}
+use Rattle.lock_local.proofs.Base.{[], All, All-from_get_or, All-get_or, All-head, All-nil, All-set, All-tail, All-weaker, ap, AreTagged, arith, Bool, cond, count_of, eq-eqb, eqb-true, fails_before_first, false, find, find_past, get_or, get_or_default, has_lock, HasOwnerAt, HoldsBoth, HoldsNothing, HoldsOneLess, HoldsOneMore, insert, IsByOwner, IsNonDecreasingBy, IsRecall, Joins, length, List, list_any, list_any_none, Lock, LockTag, lt-ltb, MatchOption, Mode, nat_eq, nat_lt, nat_tests, None, not, Option, position, Recall, recall_of, recalls, refl, Remembers, remove, same_lock, set, Some, subst, suc, sym, true, true≢false, WouldHaveOwnerAt, zero, ℕ, ◌&&◌, ◌+◌, ◌<◌, ◌||◌, ◌∙◌, ◌∷◌, ◌≡◌, ◌≢◌, ◌≤◌}
 use Rattle.lock_local.proofs.StepLemmas.{tagged_by}
 use Rattle.lock_local.proofs.TableLemmas.{count_like}
 use Rattle.lock_local.proofs.TagLemmas.{All-insert, All-remove}
@@ -11,11 +11,7 @@ module _ {X : Type 0} (p : X → Bool) where
   find_nothing (x ∷ xs) h = ap (λ b. cond b (Some x) (find p xs)) (All-head (λ y. p y ≡ false) x xs h) ∙ find_nothing xs (All-tail (λ y. p y ≡ false) x xs h)
 
   none_passes : (xs : List X) (d : X) → position p xs ≡ None → (k : ℕ) → k < length xs → p (get_or xs k d) ≡ false
-  none_passes xs d e k l = fails_before_first p xs k d (by_test (nat_lt (position_or_len p xs) (length xs)) refl e)
-    where
-      by_test : (t : Bool) → nat_lt (position_or_len p xs) (length xs) ≡ t → cond t (Some (position_or_len p xs)) None ≡ None → k < position_or_len p xs
-      by_test true f g = absurd (cc)
-      by_test false f g = omega (arith, l, ltb-false (position_or_len p xs) (length xs) f)
+  none_passes xs d e k l = grind (arith, nat_tests, fails_before_first)
 
   pub find_here : (xs : List X) (i : ℕ) (d : X) → i < length xs → p (get_or xs i d) ≡ true → ((k : ℕ) → k < i → p (get_or xs k d) ≡ false) → find p xs ≡ Some (get_or xs i d)
   find_here [] i d l h b = absurd (omega (arith, l))
@@ -65,14 +61,7 @@ rising (x ∷ xs) zero (suc j) d h l w = All-get_or (Less x) xs j d (omega (arit
 rising (x ∷ xs) (suc k) (suc j) d h l w = rising xs k j d h.1 (omega (arith, l)) (omega (arith, w))
 
 pub never_falls : (xs : List Recall) → IsByOwner xs → IsNonDecreasingBy (λ r. r.owner) xs
-never_falls xs b i j d l w = by_test (nat_lt i j) refl
-  where
-    by_test : (t : Bool) → nat_lt i j ≡ t → (get_or xs i d).owner ≤ (get_or xs j d).owner
-    by_test true e = omega (arith, rising xs i j d b (ltb-true i j e) w)
-    by_test false e =
-        let same : i ≡ j = omega (arith, l, ltb-false i j e) in
-        let alike : (get_or xs i d).owner ≡ (get_or xs j d).owner = ap (λ (n : ℕ). (get_or xs n d).owner) same in
-        omega (arith, alike)
+never_falls xs b i j d l w = grind (arith, nat_tests, rising)
 
 -- where an owner would stand
 pub would_stand_at : (w : ℕ) (xs : List Recall) (i : ℕ) → IsByOwner xs → i ≤ length xs → ((k : ℕ) (d : Recall) → k < i → (get_or xs k d).owner < w) → ((k : ℕ) (d : Recall) → i ≤ k → k < length xs → w ≤ (get_or xs k d).owner) → (i < length xs → (get_or xs i no_recall).owner ≢ w) → WouldHaveOwnerAt w xs i
@@ -94,11 +83,7 @@ pub at_place : (w : ℕ) (xs : List Recall) (i : ℕ) (d : Recall) → IsByOwner
 at_place w xs i d b h = find_here (is_of w) xs i d h.within (eq-eqb (get_or xs i d).owner w (h.here d)) (before_place w xs i d b h)
 
 pub no_place : (w : ℕ) (xs : List Recall) (i : ℕ) → WouldHaveOwnerAt w xs i → recall_of xs w ≡ None
-no_place w xs i h = find_nothing (is_of w) xs (All-from_get_or (λ r. is_of w r ≡ false) xs no_recall (λ k l. by_side k l (nat_lt k i) refl))
-  where
-    by_side : (k : ℕ) → k < length xs → (t : Bool) → nat_lt k i ≡ t → nat_eq (get_or xs k no_recall).owner w ≡ false
-    by_side k l true e = less_apart (get_or xs k no_recall).owner w (h.before k no_recall (ltb-true k i e))
-    by_side k l false e = more_apart (get_or xs k no_recall).owner w (h.behind k no_recall (ltb-false k i e) l)
+no_place w xs i h = grind (arith, nat_tests, find_nothing, is_of w, All-from_get_or, is_of, less_apart, h.before, more_apart, h.behind)
 
 -- one owner's is written over, put in, or taken out
 pub written : (w : ℕ) (xs : List Recall) (i : ℕ) (y : Recall) → IsByOwner xs → HasOwnerAt w xs i → y.owner ≡ w → (v : ℕ) → recall_of (set xs i y) v ≡ cond (nat_eq w v) (Some y) (recall_of xs v)
@@ -111,9 +96,7 @@ written w xs i y b h e v = by_test (nat_eq w v) refl
     by_test false f = find_past (is_of v) xs i y y (apart_from w v (get_or xs i y).owner (h.here y) f) (apart_from w v y.owner e f)
 
 swapped : {X : Type 0} (a b : Bool) (p q r : X) → (a ≡ true → b ≡ true → ⊥) → cond a p (cond b q r) ≡ cond b q (cond a p r)
-swapped true true p q r h = absurd (h refl refl)
-swapped true false p q r h = refl
-swapped false b p q r h = refl
+swapped x0 x1 p q r h = grind (arith, nat_tests)
 
 pub inserted : (w : ℕ) (xs : List Recall) (i : ℕ) (y : Recall) → ((k : ℕ) (d : Recall) → k < i → (get_or xs k d).owner < w) → i ≤ length xs → y.owner ≡ w → (v : ℕ) → recall_of (insert xs i y) v ≡ cond (nat_eq w v) (Some y) (recall_of xs v)
 inserted w [] zero y h l e v = ap (λ (n : ℕ). cond (nat_eq n v) (Some y) None) e
@@ -127,24 +110,14 @@ inserted w (x ∷ xs) (suc i) y h l e v =
 taken : (xs : List Recall) (i : ℕ) (d : Recall) → IsByOwner xs → i < length xs → recall_of (remove xs i) (get_or xs i d).owner ≡ None
 taken [] i d b l = absurd (omega (arith, l))
 taken (x ∷ xs) zero d b l = find_nothing (is_of x.owner) xs (All-weaker (Less x) (λ s. is_of x.owner s ≡ false) (λ s m. more_apart s.owner x.owner m) xs b.0)
-taken (x ∷ xs) (suc i) d b l =
-    ap (λ t. cond t (Some x) (recall_of (remove xs i) (get_or xs i d).owner)) (less_apart x.owner (get_or xs i d).owner (All-get_or (Less x) xs i d (omega (arith, l)) b.0))
-    ∙ taken xs i d b.1 (omega (arith, l))
+taken (x ∷ xs) (suc i) d b l = grind (arith, nat_tests, less_apart x.owner (get_or xs i d).owner (All-get_or (Less x) xs i d (omega (arith, l)) b.0), x.owner, All-get_or (Less x) xs i d (omega (arith, l)) b.0, b.0, taken xs i d b.1 (omega (arith, l)), b.1)
 
 pub removed : (w : ℕ) (xs : List Recall) (i : ℕ) (d : Recall) → IsByOwner xs → HasOwnerAt w xs i → (v : ℕ) → recall_of (remove xs i) v ≡ cond (nat_eq w v) None (recall_of xs v)
-removed w xs i d b h v = by_test (nat_eq w v) refl
-  where
-    by_test : (t : Bool) → nat_eq w v ≡ t → recall_of (remove xs i) v ≡ cond t None (recall_of xs v)
-    by_test true f = subst (λ (n : ℕ). recall_of (remove xs i) n ≡ None) (h.here d ∙ eqb-true w v f) (taken xs i d b h.within)
-    by_test false f = find_left (is_of v) xs i d h.within (apart_from w v (get_or xs i d).owner (h.here d) f)
+removed w xs i d b h v = grind (arith, nat_tests, h.here d, taken xs i d b h.within, h.within, find_left, is_of v, apart_from)
 
 -- an owner of which nothing is remembered
 pub absent : (w : ℕ) (xs : List Recall) → recall_of xs w ≡ None → (v : ℕ) → recall_of xs v ≡ cond (nat_eq w v) None (recall_of xs v)
-absent w xs e v = by_test (nat_eq w v) refl
-  where
-    by_test : (t : Bool) → nat_eq w v ≡ t → recall_of xs v ≡ cond t None (recall_of xs v)
-    by_test true f = subst (λ (n : ℕ). recall_of xs n ≡ None) (eqb-true w v f) e
-    by_test false f = refl
+absent w xs e v = grind (arith, nat_tests)
 
 pub remove-set : {X : Type 0} (xs : List X) (i : ℕ) (y : X) → remove (set xs i y) i ≡ remove xs i
 remove-set [] zero y = refl
@@ -184,26 +157,19 @@ IsByOwner-remove (x ∷ xs) (suc i) b = (All-remove (Less x) xs i b.0, IsByOwner
 
 -- which locks an owner has after a change
 and_true : (b : Bool) → (b && true) ≡ b
-and_true true = refl
-and_true false = refl
+and_true x0 = grind (arith, nat_tests)
 
 and_false : (b : Bool) → (b && false) ≡ false
-and_false true = refl
-and_false false = refl
+and_false x0 = grind (arith, nat_tests)
 
 or_false : (b : Bool) → (b || false) ≡ b
-or_false true = refl
-or_false false = refl
+or_false x0 = grind (arith, nat_tests)
 
 or_swapped : (a b : Bool) → (a || b) ≡ (b || a)
-or_swapped true true = refl
-or_swapped true false = refl
-or_swapped false true = refl
-or_swapped false false = refl
+or_swapped x0 x1 = grind (arith, nat_tests)
 
 one_more : (b : Bool) (n m : ℕ) → m ≡ n + cond b 1 0 → nat_lt 0 m ≡ (b || nat_lt 0 n)
-one_more true n m e = lt-ltb 0 m (omega (arith, e))
-one_more false n m e = let same : m ≡ n = omega (arith, e) in ap (nat_lt 0) same
+one_more x0 n m e = grind (arith, nat_tests)
 
 module _ (xs ys : List Lock) (owner o : ℕ) (m : Mode) where
   more_at : HoldsOneMore xs ys o m owner → (w a : ℕ) (n : Mode) (t : Bool) → nat_eq owner w ≡ t → has_lock ys w a n ≡ ((same_lock o m a n && t) || has_lock xs w a n)
@@ -216,69 +182,34 @@ module _ (xs ys : List Lock) (owner o : ℕ) (m : Mode) where
   more_beside h w e a n = more_at h w a n false e ∙ ap (λ b. b || has_lock xs w a n) (and_false (same_lock o m a n))
 
   less_beside : HoldsOneLess xs ys o m owner → (w : ℕ) → nat_eq owner w ≡ false → (a : ℕ) (n : Mode) → has_lock ys w a n ≡ has_lock xs w a n
-  less_beside h w e a n =
-      let none : (same_lock o m a n && nat_eq owner w) ≡ false = ap (λ b. same_lock o m a n && b) e ∙ and_false (same_lock o m a n) in
-      let less : count_of ys a n w + 0 ≡ count_of xs a n w = sym (ap (λ b. count_of ys a n w + cond b 1 0) none) ∙ h a n w in
-      let same : count_of ys a n w ≡ count_of xs a n w = omega (arith, less) in
-      ap (nat_lt 0) same
+  less_beside h w e a n = grind (arith, nat_tests, and_false (same_lock o m a n))
 
   less_here : HoldsOneLess xs ys o m owner → count_of xs o m owner ≡ 1 → (a : ℕ) (n : Mode) → has_lock ys owner a n ≡ (not (same_lock o m a n) && has_lock xs owner a n)
-  less_here h one a n = by_test (same_lock o m a n) refl
-    where
-      less : (t : Bool) → same_lock o m a n ≡ t → count_of ys a n owner + cond t 1 0 ≡ count_of xs a n owner
-      less t e = sym (ap (λ b. count_of ys a n owner + cond b 1 0) (ap (λ b. same_lock o m a n && b) (eq-eqb owner owner refl) ∙ and_true (same_lock o m a n) ∙ e)) ∙ h a n owner
-
-      by_test : (t : Bool) → same_lock o m a n ≡ t → has_lock ys owner a n ≡ (not t && has_lock xs owner a n)
-      by_test true e = let none : count_of ys a n owner ≡ 0 = omega (arith, less true e, count_like xs o m a n owner e, one) in ap (nat_lt 0) none
-      by_test false e = let same : count_of ys a n owner ≡ count_of xs a n owner = omega (arith, less false e) in ap (nat_lt 0) same
+  less_here h one a n = grind (arith, nat_tests, and_true (same_lock o m a n), count_like)
 
   -- a lock that was held twice at least is still held
   less_still : HoldsOneLess xs ys o m owner → 1 < count_of xs o m owner → (w a : ℕ) (n : Mode) → has_lock ys w a n ≡ has_lock xs w a n
-  less_still h two w a n = by_test (same_lock o m a n && nat_eq owner w) refl
-    where
-      less : (t : Bool) → (same_lock o m a n && nat_eq owner w) ≡ t → count_of ys a n w + cond t 1 0 ≡ count_of xs a n w
-      less t e = sym (ap (λ b. count_of ys a n w + cond b 1 0) e) ∙ h a n w
-
-      by_test : (t : Bool) → (same_lock o m a n && nat_eq owner w) ≡ t → has_lock ys w a n ≡ has_lock xs w a n
-      by_test true e =
-          let p = and_parts (same_lock o m a n) (nat_eq owner w) e in
-          let alike : count_of xs o m owner ≡ count_of xs a n w = count_like xs o m a n owner p.0 ∙ ap (λ (v : ℕ). count_of xs a n v) (eqb-true owner w p.1) in
-          lt-ltb 0 (count_of ys a n w) (omega (arith, less true e, alike, two)) ∙ sym (lt-ltb 0 (count_of xs a n w) (omega (arith, alike, two)))
-      by_test false e = let same : count_of ys a n w ≡ count_of xs a n w = omega (arith, less false e) in ap (nat_lt 0) same
+  less_still h two w a n = grind (arith, nat_tests, count_like)
 
 -- what is remembered of one owner, after a change
 pub alike : (xs ys : List Lock) (w : ℕ) (r : Option Recall) → ((o : ℕ) (m : Mode) → has_lock ys w o m ≡ has_lock xs w o m) → IsRecall xs w r → IsRecall ys w r
-alike xs ys w None e h = λ o m. e o m ∙ h o m
-alike xs ys w (Some r) e h = λ f. let k = h f in (k.0, λ o m. k.1 o m ∙ sym (e o m))
+alike xs ys w x3 e h = grind (arith, nat_tests)
 
 pub remembers_alike : (rs : List Recall) (xs ys : List Lock) → ((w o : ℕ) (m : Mode) → has_lock ys w o m ≡ has_lock xs w o m) → Remembers rs xs → Remembers rs ys
 remembers_alike rs xs ys e h w = alike xs ys w (recall_of rs w) (e w) (h w)
 
 pub changed : (rs ss : List Recall) (xs ys : List Lock) (owner : ℕ) (new : Option Recall) → Remembers rs xs → ((v : ℕ) → recall_of ss v ≡ cond (nat_eq owner v) new (recall_of rs v)) → IsRecall ys owner new → ((v : ℕ) → nat_eq owner v ≡ false → (o : ℕ) (m : Mode) → has_lock ys v o m ≡ has_lock xs v o m) → Remembers ss ys
-changed rs ss xs ys owner new h at here others v = subst (IsRecall ys v) (sym (at v)) (by_test (nat_eq owner v) refl)
-  where
-    by_test : (t : Bool) → nat_eq owner v ≡ t → IsRecall ys v (cond t new (recall_of rs v))
-    by_test true e = subst (λ (n : ℕ). IsRecall ys n new) (eqb-true owner v e) here
-    by_test false e = alike xs ys v (recall_of rs v) (others v e) (h v)
+changed rs ss xs ys owner new h at here others v = grind (arith, nat_tests, alike)
 
 known : (rs : List Recall) (xs : List Lock) (w : ℕ) (r : Option Recall) → Remembers rs xs → recall_of rs w ≡ r → IsRecall xs w r
 known rs xs w r h e = subst (IsRecall xs w) e (h w)
 
 -- a lock is noted
 pub remembers_noted : (rs ss : List Recall) (xs ys : List Lock) (owner o : ℕ) (m : Mode) (r s : Recall) → Remembers rs xs → HoldsOneMore xs ys o m owner → recall_of rs owner ≡ Some r → ((v : ℕ) → recall_of ss v ≡ cond (nat_eq owner v) (Some s) (recall_of rs v)) → (0 < length r.tags → 0 < length s.tags) → (s.more ≡ false → (r.more ≡ false) × ((a : ℕ) (n : Mode) → recalls s a n ≡ (same_lock o m a n || recalls r a n))) → Remembers ss ys
-remembers_noted rs ss xs ys owner o m r s h more was at some just = changed rs ss xs ys owner (Some s) h at here (more_beside xs ys owner o m more)
-  where
-    here : IsRecall ys owner (Some s)
-    here f =
-        let k = just f in
-        let q = known rs xs owner (Some r) h was k.0 in
-        (some q.0, λ a n. k.1 a n ∙ ap (λ b. same_lock o m a n || b) (q.1 a n) ∙ sym (more_here xs ys owner o m more a n))
+remembers_noted rs ss xs ys owner o m r s h more was at some just = grind (arith, nat_tests, changed rs ss xs ys owner (Some s) h, more_beside xs ys owner o m more, known, more_here)
 
 pub remembers_new : (rs ss : List Recall) (xs ys : List Lock) (owner o : ℕ) (m : Mode) (s : Recall) → Remembers rs xs → HoldsOneMore xs ys o m owner → recall_of rs owner ≡ None → ((v : ℕ) → recall_of ss v ≡ cond (nat_eq owner v) (Some s) (recall_of rs v)) → 0 < length s.tags → ((a : ℕ) (n : Mode) → recalls s a n ≡ same_lock o m a n) → Remembers ss ys
-remembers_new rs ss xs ys owner o m s h more was at some just = changed rs ss xs ys owner (Some s) h at here (more_beside xs ys owner o m more)
-  where
-    here : IsRecall ys owner (Some s)
-    here f = (some, λ a n. just a n ∙ sym (more_here xs ys owner o m more a n ∙ ap (λ b. same_lock o m a n || b) (known rs xs owner None h was a n) ∙ or_false (same_lock o m a n)))
+remembers_new rs ss xs ys owner o m s h more was at some just = grind (arith, nat_tests, changed rs ss xs ys owner (Some s) h, more_beside xs ys owner o m more, more_here, known, or_false)
 
 -- a lock is forgotten
 pub remembers_less : (rs ss : List Recall) (xs ys : List Lock) (owner o : ℕ) (m : Mode) (r s : Recall) → Remembers rs xs → HoldsOneLess xs ys o m owner → count_of xs o m owner ≡ 1 → recall_of rs owner ≡ Some r → ((v : ℕ) → recall_of ss v ≡ cond (nat_eq owner v) (Some s) (recall_of rs v)) → 0 < length s.tags → s.more ≡ r.more → (s.more ≡ false → (a : ℕ) (n : Mode) → recalls s a n ≡ (not (same_lock o m a n) && recalls r a n)) → Remembers ss ys
@@ -302,50 +233,23 @@ pub not_unknown : (rs : List Recall) (xs : List Lock) (owner o : ℕ) (m : Mode)
 not_unknown rs xs owner o m h was one = true≢false (sym (lt-ltb 0 (count_of xs o m owner) (omega (arith, one))) ∙ known rs xs owner None h was o m)
 
 pub remembers_lowered : (rs : List Recall) (xs ys : List Lock) (owner o : ℕ) (m : Mode) (count : ℕ) → Remembers rs xs → count ≡ count_of xs o m owner → (count ≡ 0 → ys ≡ xs) → (0 < count → HoldsOneLess xs ys o m owner) → count ≢ 1 → Remembers rs ys
-remembers_lowered rs xs ys owner o m count h is none less other = by_count (nat_eq count 0) refl
-  where
-    by_count : (t : Bool) → nat_eq count 0 ≡ t → Remembers rs ys
-    by_count true e = subst (Remembers rs) (sym (none (eqb-true count 0 e))) h
-    by_count false e = let some : count ≢ 0 = eqb-false count 0 e in remembers_alike rs xs ys (less_still xs ys owner o m (less (omega (arith, some))) (omega (arith, is, some, other))) h
+remembers_lowered rs xs ys owner o m count h is none less other = grind (arith, nat_tests, remembers_alike, less_still)
 
 -- all locks of an owner are forgotten
 pub remembers_nothing : (rs ss : List Recall) (xs ys : List Lock) (owner : ℕ) → Remembers rs xs → HoldsNothing xs ys owner → ((v : ℕ) → recall_of ss v ≡ cond (nat_eq owner v) None (recall_of rs v)) → Remembers ss ys
-remembers_nothing rs ss xs ys owner h nothing at =
-    changed rs ss xs ys owner None h at
-    (λ a n. ap (nat_lt 0) (nothing a n owner ∙ ap (λ b. cond b 0 (count_of xs a n owner)) (eq-eqb owner owner refl)))
-    (λ v e a n. ap (nat_lt 0) (nothing a n v ∙ ap (λ b. cond b 0 (count_of xs a n v)) e))
+remembers_nothing rs ss xs ys owner h nothing at = grind (arith, nat_tests, changed rs ss xs ys owner None h)
 
 -- all locks of an owner are passed
 any_of_both : (a b : Bool) (p q r : ℕ) → r ≡ cond a 0 p + cond b q 0 → nat_lt 0 r ≡ (cond a false (nat_lt 0 p) || cond b (nat_lt 0 q) false)
-any_of_both a b p q r e = ap (nat_lt 0) e ∙ both a b
-  where
-    sums : (i j : ℕ) → nat_lt 0 (i + j) ≡ (nat_lt 0 i || nat_lt 0 j)
-    sums i j = grind (arith, nat_tests)
-
-    both : (c d : Bool) → nat_lt 0 (cond c 0 p + cond d q 0) ≡ (cond c false (nat_lt 0 p) || cond d (nat_lt 0 q) false)
-    both true true = sums 0 q
-    both true false = refl
-    both false true = sums p q
-    both false false = sums p 0
+any_of_both a b p q r e = grind (arith, nat_tests)
 
 module _ (xs ys : List Lock) (from to : ℕ) (both : HoldsBoth xs ys from to) where
   passed_at : (w : ℕ) (s t : Bool) → nat_eq from w ≡ s → nat_eq to w ≡ t → (a : ℕ) (n : Mode) → has_lock ys w a n ≡ (cond s false (has_lock xs w a n) || cond t (has_lock xs from a n) false)
-  passed_at w s t e f a n =
-      any_of_both (nat_eq from w) (nat_eq to w) (count_of xs a n w) (count_of xs a n from) (count_of ys a n w) (both a n w)
-      ∙ ap (λ b. cond b false (has_lock xs w a n) || cond (nat_eq to w) (has_lock xs from a n) false) e
-      ∙ ap (λ b. cond s false (has_lock xs w a n) || cond b (has_lock xs from a n) false) f
+  passed_at w s t e f a n = grind (arith, nat_tests, any_of_both (nat_eq from w) (nat_eq to w) (count_of xs a n w) (count_of xs a n from) (count_of ys a n w) (both a n w))
 
   -- where the one owner had none
   pub passed_none : IsRecall xs from None → (w a : ℕ) (n : Mode) → has_lock ys w a n ≡ has_lock xs w a n
-  passed_none none w a n = by_tests (nat_eq from w) refl (nat_eq to w) refl
-    where
-      rest : (b : Bool) → cond b (has_lock xs from a n) false ≡ false
-      rest true = none a n
-      rest false = refl
-
-      by_tests : (s : Bool) → nat_eq from w ≡ s → (t : Bool) → nat_eq to w ≡ t → has_lock ys w a n ≡ has_lock xs w a n
-      by_tests true e t f = passed_at w true t e f a n ∙ rest t ∙ sym (none a n) ∙ ap (λ (v : ℕ). has_lock xs v a n) (eqb-true from w e)
-      by_tests false e t f = passed_at w false t e f a n ∙ ap (λ b. has_lock xs w a n || b) (rest t) ∙ or_false (has_lock xs w a n)
+  passed_none none w a n = grind (arith, nat_tests, passed_at, or_false (has_lock xs w a n))
 
   pub remembers_passed : (rs mid ss : List Recall) (r added : Recall) → Remembers rs xs → recall_of rs from ≡ Some r → ((v : ℕ) → recall_of mid v ≡ cond (nat_eq from v) None (recall_of rs v)) → added ≡ record { owner = to; tags = r.tags; more = r.more } → Joins added (recall_of mid to) (recall_of ss to) → ((v : ℕ) → nat_eq to v ≡ false → recall_of ss v ≡ recall_of mid v) → Remembers ss ys
   remembers_passed rs mid ss r added h was left named joins others v = by_to (nat_eq to v) refl
@@ -357,63 +261,35 @@ module _ (xs ys : List Lock) (from to : ℕ) (both : HoldsBoth xs ys from to) wh
       beside t f = left to ∙ ap (λ b. cond b None (recall_of rs to)) f
 
       alone : (t : Bool) → nat_eq from to ≡ t → recall_of mid to ≡ None → (a : ℕ) (n : Mode) → has_lock ys to a n ≡ has_lock xs from a n
-      alone true f e a n = passed_at to true true f (eq-eqb to to refl) a n
-      alone false f e a n = passed_at to false true f (eq-eqb to to refl) a n ∙ ap (λ b. b || has_lock xs from a n) (known rs xs to None h (sym (beside false f) ∙ e) a n)
+      alone x0 f e a n = grind (arith, nat_tests, passed_at, known, beside)
 
       joined : (q s : Recall) → recall_of mid to ≡ Some q → (0 < length q.tags → 0 < length s.tags) → (s.more ≡ false → (q.more ≡ false) × (added.more ≡ false) × ((a : ℕ) (n : Mode) → recalls s a n ≡ (recalls added a n || recalls q a n))) → (t : Bool) → nat_eq from to ≡ t → IsRecall ys to (Some s)
-      joined q s e some just true f = let none : Some q ≡ None = sym e ∙ beside true f in absurd (cc)
-      joined q s e some just false f = λ few.
-          let k = just few in
-          let p = known rs xs to (Some q) h (sym (beside false f) ∙ e) k.0 in (
-            some p.0,
-            λ a n.
-                k.2 a n
-                ∙ ap (λ b. b || recalls q a n) ((from_is k.1).1 a n)
-                ∙ ap (λ b. has_lock xs from a n || b) (p.1 a n)
-                ∙ or_swapped (has_lock xs from a n) (has_lock xs to a n)
-                ∙ sym (passed_at to false true f (eq-eqb to to refl) a n),
-          )
+      joined q s e some just x5 f = grind (arith, nat_tests, beside, known, from_is, or_swapped, passed_at)
 
       by_mid : (q : Option Recall) → recall_of mid to ≡ q → Joins added q (recall_of ss to) → IsRecall ys to (recall_of ss to)
-      by_mid None e j = subst (IsRecall ys to) (sym j) (λ few. let k = from_is few in (k.0, λ a n. k.1 a n ∙ sym (alone (nat_eq from to) refl e a n)))
-      by_mid (Some q) e j = subst (IsRecall ys to) (sym j.1) (joined q j.0 e j.2 j.3 (nat_eq from to) refl)
+      by_mid x0 e j = grind (arith, nat_tests, from_is, alone, joined)
 
       at_to : IsRecall ys to (recall_of ss to)
       at_to = by_mid (recall_of mid to) refl joins
 
       by_from : nat_eq to v ≡ false → (s : Bool) → nat_eq from v ≡ s → IsRecall ys v (cond s None (recall_of rs v))
-      by_from f true e = λ a n. passed_at v true false e f a n
-      by_from f false e = alike xs ys v (recall_of rs v) (λ a n. passed_at v false false e f a n ∙ or_false (has_lock xs v a n)) (h v)
+      by_from f x1 e = grind (arith, nat_tests, passed_at, alike, or_false)
 
       by_to : (t : Bool) → nat_eq to v ≡ t → IsRecall ys v (recall_of ss v)
-      by_to true f = subst (λ (n : ℕ). IsRecall ys n (recall_of ss n)) (eqb-true to v f) at_to
-      by_to false f = subst (IsRecall ys v) (sym (others v f ∙ left v)) (by_from f (nat_eq from v) refl)
+      by_to x0 f = grind (arith, nat_tests, at_to, by_from)
 
   pub remembers_unpassed : (rs ss : List Recall) → Remembers rs xs → recall_of rs from ≡ None → ((v : ℕ) → recall_of ss v ≡ cond (nat_eq from v) None (recall_of rs v)) → Remembers ss ys
-  remembers_unpassed rs ss h was left =
-      let none = known rs xs from None h was in
-      changed rs ss xs ys from None h left (λ a n. passed_none none from a n ∙ none a n) (λ v e a n. passed_none none v a n)
+  remembers_unpassed rs ss h was left = grind (arith, nat_tests, known rs xs from None h was, changed, passed_none)
 
   -- of one owner alone something is remembered, and for the other one then
   remembers_only : (r s : Recall) → s ≡ cond (nat_eq r.owner from) (record { owner = to; tags = r.tags; more = r.more }) r → Remembers (r ∷ []) xs → Remembers (s ∷ []) ys
   remembers_only r s is h = by_owner (nat_eq r.owner from) refl
     where
       both_none : (t : Bool) (o : Option Recall) → None ≡ cond t None (cond t o None)
-      both_none true o = refl
-      both_none false o = refl
+      both_none x0 o = grind (arith, nat_tests)
 
       by_owner : (t : Bool) → nat_eq r.owner from ≡ t → Remembers (s ∷ []) ys
-      by_owner false e =
-          let same : s ≡ r = is ∙ ap (λ b. cond b (record { owner = to; tags = r.tags; more = r.more }) r) e in
-          let none : recall_of (r ∷ []) from ≡ None = ap (λ b. cond b (Some r) None) e in
-          subst (λ (z : Recall). Remembers (z ∷ []) ys) (sym same) (remembers_unpassed (r ∷ []) (r ∷ []) h none (absent from (r ∷ []) none))
-      by_owner true e =
-          let named : s ≡ record { owner = to; tags = r.tags; more = r.more } = is ∙ ap (λ b. cond b (record { owner = to; tags = r.tags; more = r.more }) r) e in
-          let owner : s.owner ≡ to = ap (λ (z : Recall). z.owner) named in
-          let only : (v : ℕ) → recall_of (s ∷ []) v ≡ cond (nat_eq to v) (Some s) None = λ v. ap (λ (n : ℕ). cond (nat_eq n v) (Some s) None) owner in
-          remembers_passed (r ∷ []) [] (s ∷ []) r s h (ap (λ b. cond b (Some r) None) e)
-          (λ v. subst (λ (n : ℕ). None ≡ cond (nat_eq from v) None (cond (nat_eq n v) (Some r) None)) (sym (eqb-true r.owner from e)) (both_none (nat_eq from v) (Some r)))
-          named (only to ∙ ap (λ t. cond t (Some s) None) (eq-eqb to to refl)) (λ v f. only v ∙ ap (λ t. cond t (Some s) None) f)
+      by_owner x0 e = grind (arith, nat_tests, remembers_unpassed, absent, both_none)
 
   pub remembers_alone : (rs : List Recall) (x s : Recall) → length rs ≡ 1 → x ≡ get_or rs 0 x → s ≡ cond (nat_eq x.owner from) (record { owner = to; tags = x.tags; more = x.more }) x
       → Remembers rs xs → Remembers (set rs 0 s) ys
@@ -424,25 +300,18 @@ module _ (xs ys : List Lock) (from to : ℕ) (both : HoldsBoth xs ys from to) wh
 
 -- what is remembered of two owners, joined
 pub joined_at : (w : ℕ) (rs : List Recall) (i : ℕ) (x y added : Recall) → IsByOwner rs → HasOwnerAt w rs i → x ≡ get_or rs i x → y.owner ≡ w → (0 < length x.tags → 0 < length y.tags) → (y.more ≡ false → (x.more ≡ false) × (added.more ≡ false) × ((a : ℕ) (n : Mode) → recalls y a n ≡ (recalls added a n || recalls x a n))) → Joins added (recall_of rs w) (recall_of (set rs i y) w)
-joined_at w rs i x y added b h r e some just =
-    let P : Option Recall → Type 0 = λ q. Joins added q (recall_of (set rs i y) w) in
-    subst P (ap Some r ∙ sym (at_place w rs i x b h)) (y, written w rs i y b h e w ∙ ap (λ t. cond t (Some y) (recall_of rs w)) (eq-eqb w w refl), some, just)
+joined_at w rs i x y added b h r e some just = grind (arith, nat_tests, set rs i y, at_place w rs i x b h, written w rs i y b h e w)
 
 pub joined_new : (rs : List Recall) (i : ℕ) (added : Recall) → WouldHaveOwnerAt added.owner rs i → Joins added (recall_of rs added.owner) (recall_of (insert rs i added) added.owner)
-joined_new rs i added h =
-    let P : Option Recall → Type 0 = λ q. Joins added q (recall_of (insert rs i added) added.owner) in
-    subst P (sym (no_place added.owner rs i h)) (inserted added.owner rs i added h.before h.within refl added.owner ∙ ap (λ t. cond t (Some added) (recall_of rs added.owner)) (eq-eqb added.owner added.owner refl))
+joined_new rs i added h = grind (arith, nat_tests, added.owner, no_place added.owner rs i h, inserted added.owner rs i added h.before h.within refl added.owner, h.before, h.within)
 
 -- what is taken out, and what room it leaves
 pub match_some : (P Q : Type 0) (r : Option Recall) (x : Recall) → r ≡ Some x → Q → MatchOption r P (λ _. Q)
-match_some P Q None x e q = absurd (cc)
-match_some P Q (Some y) x e q = q
+match_some P Q x2 x e q = grind (arith, nat_tests)
 
 -- the locks of an owner, by what is remembered
 pub tagged_known : (rs : List Recall) (xs : List Lock) (w : ℕ) (r : Recall) (ts : List LockTag) → Remembers rs xs → recall_of rs w ≡ Some r → r.more ≡ false → ts ≡ r.tags → AreTagged w ts xs
-tagged_known rs xs w r ts h was few same = tagged_by w ts xs (λ o m some.
-    let q = known rs xs w (Some r) h was few in
-    ap (λ (us : List LockTag). list_any (is_tag o m) us) same ∙ sym (ap (λ b. b || list_any (is_tag o m) r.tags) few) ∙ q.1 o m ∙ lt-ltb 0 (count_of xs o m w) some)
+tagged_known rs xs w r ts h was few same = grind (arith, nat_tests, tagged_by, known rs xs w (Some r) h was few, r.tags)
 
 pub tagged_unknown : (rs : List Recall) (xs : List Lock) (w : ℕ) (ts : List LockTag) → Remembers rs xs → recall_of rs w ≡ None → AreTagged w ts xs
 tagged_unknown rs xs w ts h was = tagged_by w ts xs (λ o m some. absurd (true≢false (sym (lt-ltb 0 (count_of xs o m w) some) ∙ known rs xs w None h was o m)))

@@ -1,9 +1,9 @@
 -- One lock of an owner is given up or passed, and what is left of its locks.
-use Rattle.lock_local.proofs.Base.{[], AccessShareLock, All, All-cons, All-filter, All-head, All-map, All-nil, All-tail, All-weaker, ap, AreLocks, AreTagged, arith, at_lock, Bool, comes_before, cond, count_if, count_of, drop, eq-eqb, eqb-false, eqb-true, false, false≢true, filter, flat_map, get_or, given_up, gives_up, handed_on, hands_on, has_owner, inl, inr, is_lock, is_tag, IsInOrder, IsRising, length, List, list_any, Lock, LockTag, map, map_fixed, Mode, nat_eq, ne_eqb, not, owner_count, OwnerCount, pass_of, passed, passed_lock, passes, PassLock, refl, release_of, released, ReleaseLock, releases, set, StandsAt, suc, sum_by, sum_by-cons, sym, told_of, true, true≢false, What, without, zero, ℕ, ◌++◌, ◌+◌, ◌<◌, ◌||◌, ◌∙◌, ◌∷◌, ◌≡◌, ◌≢◌, ◌≤◌, ◌⊎◌}
+use Rattle.lock_local.proofs.Base.{nat_tests, [], AccessShareLock, All, All-cons, All-filter, All-head, All-map, All-nil, All-tail, All-weaker, ap, AreLocks, AreTagged, arith, at_lock, Bool, comes_before, cond, count_if, count_of, drop, eq-eqb, eqb-false, eqb-true, false, filter, flat_map, get_or, given_up, gives_up, handed_on, hands_on, has_owner, inl, inr, is_lock, is_tag, IsInOrder, IsRising, length, List, list_any, Lock, LockTag, map, map_fixed, Mode, nat_eq, not, owner_count, OwnerCount, pass_of, passed, passed_lock, passes, PassLock, refl, release_of, released, ReleaseLock, releases, set, StandsAt, suc, sum_by, sum_by-cons, sym, told_of, true, true≢false, What, without, zero, ℕ, ◌++◌, ◌+◌, ◌<◌, ◌||◌, ◌∙◌, ◌∷◌, ◌≡◌, ◌≢◌, ◌≤◌, ◌⊎◌}
 use Rattle.lock_local.proofs.OwnerLemmas.{Counted, is_owner, others}
 use Rattle.lock_local.proofs.OrderLemmas.{Before, KeepsLock, lock_swapped, lock_itself, after_lock, before_lock, after_both}
 use Rattle.lock_local.proofs.ChangeLemmas.{by_passing, WellCounted, Owned, AreLocks-filtered, AreLocks-mapped, keeps-without, counted-without, keeps-passed, counted-passed, owner-passed, stands_tail, none_like}
-use Rattle.lock_local.proofs.CountLemmas.{owner_others, owner_passed_count, where_so}
+use Rattle.lock_local.proofs.CountLemmas.{owner_others, owner_passed_count}
 use Rattle.lock_local.proofs.TagLemmas.{behind_tag}
 
 nothing_behind : {X : Type 0} (zs : List X) → zs ++ [] ≡ zs
@@ -22,14 +22,7 @@ all_kept (x ∷ xs) h = ap (λ b. cond b (x ∷ filter has_owner xs) (filter has
 -- an owner that doesn't hold a lock
 others_same : (w : ℕ) (xs : List OwnerCount) → All Counted xs → sum_by (count_if w) xs ≡ 0 → others w xs ≡ xs
 others_same w [] h e = refl
-others_same w (x ∷ xs) h e = by_test (others_same w xs (All-tail Counted x xs h)) (is_owner w x) refl
-  where
-    by_test : (sum_by (count_if w) xs ≡ 0 → others w xs ≡ xs) → (t : Bool) → is_owner w x ≡ t → cond (not t) (x ∷ others w xs) (others w xs) ≡ x ∷ xs
-    by_test ih true f =
-        let all : count_if w x ≡ x.count = ap (λ b. cond b x.count 0) f in
-        let one : 1 ≤ x.count = All-head Counted x xs h in
-        absurd (omega (arith, all, one, e, sum_by-cons (count_if w) x xs))
-    by_test ih false f = ap (λ ys. x ∷ ys) (ih (omega (arith, e, sum_by-cons (count_if w) x xs)))
+others_same w (x ∷ xs) h e = grind (arith, nat_tests, others_same w xs (All-tail Counted x xs h), All-tail Counted x xs h, others w xs, others, x.count, All-head Counted x xs h, sum_by-cons (count_if w) x xs)
 
 -- no lock is held by the owner
 abbrev pub Idle : ℕ → Lock → Type 0
@@ -48,13 +41,10 @@ idle_passed : (from to : ℕ) (l : Lock) → Idle from l → passed_lock from to
 idle_passed from to l e = by_passing (λ k. k ≡ l) from to l refl (λ some. absurd (some e))
 
 all_both : {X : Type 0} (P Q : X → Type 0) (xs : List X) → All P xs → All Q xs → All (λ x. P x × Q x) xs
-all_both {X} P Q [] a b = All-nil (λ x. P x × Q x)
-all_both {X} P Q (x ∷ xs) a b = All-cons (λ y. P y × Q y) x xs (All-head P x xs a, All-head Q x xs b) (all_both P Q xs (All-tail P x xs a) (All-tail Q x xs b))
+all_both x0 P Q x3 a b = grind (arith, nat_tests, All-cons, All-head, All-tail)
 
 pub released_idle : (w : ℕ) (xs : List Lock) → AreLocks xs → All (Idle w) xs → released w xs ≡ xs
-released_idle w xs a h =
-    ap (filter has_owner) (map_fixed (without w) xs (All-weaker (λ l. WellCounted l × Idle w l) (λ l. without w l ≡ l) (λ l b. idle_without w l b.0 b.1) xs (all_both WellCounted (Idle w) xs a.counted h)))
-    ∙ all_kept xs a.owned
+released_idle w xs a h = grind (arith, nat_tests, has_owner, map_fixed, without w, All-weaker, without, idle_without, all_both WellCounted (Idle w) xs a.counted h, a.counted, all_kept xs a.owned, a.owned)
 
 pub releases_idle : (w : ℕ) (xs : List Lock) → All (Idle w) xs → releases w xs ≡ []
 releases_idle w xs h = flat_none (release_of w) xs (All-weaker (Idle w) (λ l. release_of w l ≡ []) (no_release w) xs h)
@@ -70,26 +60,14 @@ pub idle_after : (w : ℕ) (l : Lock) → Idle w (without w l)
 idle_after w l = owner_others w w l.owners ∙ ap (λ b. cond b 0 (sum_by (count_if w) l.owners)) (eq-eqb w w refl)
 
 pub idle_handed : (from to : ℕ) → from ≢ to → (l : Lock) → Idle from (passed_lock from to l)
-idle_handed from to n l = owner_passed_count from to from l ∙ neither (nat_eq from from) (nat_eq to from) (eq-eqb from from refl) (ne_eqb to from (λ e. n (sym e)))
-  where
-    neither : (a b : Bool) → a ≡ true → b ≡ false → cond a 0 (owner_count from l) + where_so b (owner_count from l) ≡ 0
-    neither true true e f = absurd (true≢false f)
-    neither true false e f = refl
-    neither false b e f = absurd (false≢true e)
+idle_handed from to n l = grind (arith, nat_tests, owner_passed_count from to from l)
 
 -- by whether it is the lock that changes
 pub by_at : (P : Lock → Type 0) (o : ℕ) (m : Mode) (f : Lock → Lock) (l : Lock) → (is_lock o m l ≡ false → P l) → P (f l) → P (at_lock o m f l)
-by_at P o m f l same changed = by_test (is_lock o m l) refl
-  where
-    by_test : (t : Bool) → is_lock o m l ≡ t → P (cond t (f l) l)
-    by_test true e = changed
-    by_test false e = same e
+by_at P o m f l same changed = grind (arith, nat_tests)
 
 keeps-at : (o : ℕ) (m : Mode) (f : Lock → Lock) → KeepsLock f → KeepsLock (at_lock o m f)
-keeps-at o m f k = record {
-  object = λ l. by_at (λ (z : Lock). z.object ≡ l.object) o m f l (λ _. refl) (k.object l);
-  mode = λ l. by_at (λ (z : Lock). z.mode ≡ l.mode) o m f l (λ _. refl) (k.mode l);
-}
+keeps-at o m f k = grind (arith, nat_tests, by_at, k.object, k.mode)
 
 pub AreLocks-given_up : (w o : ℕ) (m : Mode) (xs : List Lock) → AreLocks xs → AreLocks (given_up w o m xs)
 AreLocks-given_up w o m xs a = AreLocks-filtered (at_lock o m (without w)) (keeps-at o m (without w) (keeps-without w)) (λ l h. by_at WellCounted o m (without w) l (λ _. h) (counted-without w l h)) xs a
@@ -110,19 +88,13 @@ told_none o m e xs h = flat_none (told_of o m e) xs (All-weaker (Others o m) (λ
 -- the lock stands at its place
 pub at_place : (o : ℕ) (m : Mode) (f : Lock → Lock) (xs : List Lock) (i : ℕ) (d : Lock) → IsInOrder xs → StandsAt o m xs i d → set xs i (f (get_or xs i d)) ≡ map (at_lock o m f) xs
 at_place o m f [] i d h s = absurd (let l = s.within in omega arith)
-at_place o m f (x ∷ xs) zero d h s =
-    ap (λ (z : Lock). z ∷ xs) (sym (ap (λ b. cond b (f x) x) s.here)) ∙ ap (λ (zs : List Lock). at_lock o m f x ∷ zs) (sym (at_none o m f xs (none_like x xs o m h.0 s.here)))
-at_place o m f (x ∷ xs) (suc i) d h s =
-    ap (λ (z : Lock). z ∷ set xs i (f (get_or xs i d))) (sym (ap (λ b. cond b (f x) x) (before_lock x o m (s.before zero (omega arith)))))
-    ∙ ap (λ (zs : List Lock). at_lock o m f x ∷ zs) (at_place o m f xs i d h.1 (stands_tail o m x xs i d s))
+at_place o m f (x ∷ xs) zero d h s = grind (arith, nat_tests, s.here, at_none o m f xs (none_like x xs o m h.0 s.here), none_like x xs o m h.0 s.here, h.0)
+at_place o m f (x ∷ xs) (suc i) d h s = grind (arith, nat_tests, set, before_lock x o m (s.before zero (omega arith)), s.before zero (omega arith), at_place o m f xs i d h.1 (stands_tail o m x xs i d s), h.1, stands_tail o m x xs i d s)
 
 pub told_place : (o : ℕ) (m : Mode) (e : Lock → List What) (xs : List Lock) (i : ℕ) (d : Lock) → IsInOrder xs → StandsAt o m xs i d → e (get_or xs i d) ≡ flat_map (told_of o m e) xs
 told_place o m e [] i d h s = absurd (let l = s.within in omega arith)
-told_place o m e (x ∷ xs) zero d h s =
-    sym (ap (λ b. cond b (e x) [] ++ flat_map (told_of o m e) xs) s.here ∙ ap (λ ys. e x ++ ys) (told_none o m e xs (none_like x xs o m h.0 s.here)) ∙ nothing_behind (e x))
-told_place o m e (x ∷ xs) (suc i) d h s =
-    told_place o m e xs i d h.1 (stands_tail o m x xs i d s)
-    ∙ sym (ap (λ b. cond b (e x) [] ++ flat_map (told_of o m e) xs) (before_lock x o m (s.before zero (omega arith))))
+told_place o m e (x ∷ xs) zero d h s = grind (arith, nat_tests, s.here, told_none o m e xs (none_like x xs o m h.0 s.here), none_like x xs o m h.0 s.here, h.0, nothing_behind (e x))
+told_place o m e (x ∷ xs) (suc i) d h s = grind (arith, nat_tests, told_place o m e xs i d h.1 (stands_tail o m x xs i d s), h.1, stands_tail o m x xs i d s, before_lock x o m (s.before zero (omega arith)), s.before zero (omega arith))
 
 -- a lock of the owner is the one that changes, or stands behind it
 abbrev pub Near : ℕ → ℕ → Mode → Lock → Type 0
@@ -192,20 +164,7 @@ without_twice w l = ap (λ (os : List OwnerCount). record { object = l.object; m
 
 pub released_again : (w o : ℕ) (m : Mode) (xs : List Lock) → All Owned xs → released w (given_up w o m xs) ≡ released w xs
 released_again w o m [] a = refl
-released_again w o m (x ∷ xs) a = by_lock (released_again w o m xs (All-tail Owned x xs a)) (is_lock o m x) refl
-  where
-    both : (released w (given_up w o m xs) ≡ released w xs) → (b : Bool) → has_owner (without w x) ≡ b → released w (cond b (without w x ∷ given_up w o m xs) (given_up w o m xs)) ≡ cond b (without w x ∷ released w xs) (released w xs)
-    both ih true e =
-        ap (λ (z : Lock). cond (has_owner z) (z ∷ released w (given_up w o m xs)) (released w (given_up w o m xs))) (without_twice w x)
-        ∙ ap (λ b. cond b (without w x ∷ released w (given_up w o m xs)) (released w (given_up w o m xs))) e
-        ∙ ap (λ zs. without w x ∷ zs) ih
-    both ih false e = ih
-
-    by_lock : (released w (given_up w o m xs) ≡ released w xs) → (t : Bool) → is_lock o m x ≡ t → released w (filter has_owner (cond t (without w x) x ∷ map (at_lock o m (without w)) xs)) ≡ released w (x ∷ xs)
-    by_lock ih true e = both ih (has_owner (without w x)) refl
-    by_lock ih false e =
-        ap (λ b. released w (cond b (x ∷ given_up w o m xs) (given_up w o m xs))) (All-head Owned x xs a)
-        ∙ ap (λ zs. cond (has_owner (without w x)) (without w x ∷ zs) zs) ih
+released_again w o m (x ∷ xs) a = grind (arith, nat_tests, released_again w o m xs (All-tail Owned x xs a), All-tail Owned x xs a, has_owner (without w x), without w x, has_owner, without_twice w x, without w, All-head Owned x xs a)
 
 pub passed_again : (from to o : ℕ) (m : Mode) → from ≢ to → (xs : List Lock) → passed from to (handed_on from to o m xs) ≡ passed from to xs
 passed_again from to o m n [] = refl
@@ -235,30 +194,17 @@ pub tagged_handed_on : (from to : ℕ) (t : LockTag) (ts : List LockTag) (xs : L
 tagged_handed_on from to t ts xs n h = tagged_less from t ts (passed_lock from to) (keeps-passed from to) (idle_handed from to n) xs h
 
 pub near_tagged : (w : ℕ) (t : LockTag) (ts : List LockTag) (xs : List Lock) → IsRising (t ∷ ts) → AreTagged w (t ∷ ts) xs → All (Near w t.object t.mode) xs
-near_tagged w t ts xs r h = All-weaker (λ l. owner_count w l ≢ 0 → list_any (is_tag l.object l.mode) (t ∷ ts) ≡ true) (Near w t.object t.mode) near xs h
-  where
-    near : (l : Lock) → (owner_count w l ≢ 0 → list_any (is_tag l.object l.mode) (t ∷ ts) ≡ true) → Near w t.object t.mode l
-    near l all some = by_test (is_tag l.object l.mode t) refl
-      where
-        by_test : (b : Bool) → is_tag l.object l.mode t ≡ b → (is_lock t.object t.mode l ≡ true) ⊎ (comes_before t.object t.mode l.object l.mode ≡ true)
-        by_test true e = inl (lock_swapped l.object l.mode t.object t.mode ∙ e)
-        by_test false e = inr (behind_tag l.object l.mode t ts r.0 (sym (ap (λ b. b || list_any (is_tag l.object l.mode) ts) e) ∙ all some))
+near_tagged w t ts xs r h = grind (arith, nat_tests, All-weaker, t.object, t.mode, lock_swapped, behind_tag, r.0)
 
 pub idle_untagged : (w : ℕ) (xs : List Lock) → AreTagged w [] xs → All (Idle w) xs
-idle_untagged w xs h = All-weaker (λ l. owner_count w l ≢ 0 → list_any (is_tag l.object l.mode) [] ≡ true) (Idle w) (λ l k. idle l k (nat_eq (owner_count w l) 0) refl) xs h
-  where
-    idle : (l : Lock) → (owner_count w l ≢ 0 → list_any (is_tag l.object l.mode) [] ≡ true) → (b : Bool) → nat_eq (owner_count w l) 0 ≡ b → Idle w l
-    idle l k true e = eqb-true (owner_count w l) 0 e
-    idle l k false e = absurd (false≢true (k (eqb-false (owner_count w l) 0 e)))
+idle_untagged w xs h = grind (arith, nat_tests, All-weaker)
 
 -- the steps of the walks
 pub releases_step : (w : ℕ) (t : LockTag) (ts : List LockTag) (xs : List Lock) → IsRising (t ∷ ts) → AreLocks xs → AreTagged w (t ∷ ts) xs → gives_up w t.object t.mode xs ++ releases w (given_up w t.object t.mode xs) ≡ releases w xs
 releases_step w t ts xs r a h = step_told w t.object t.mode (without w) (release_of w) (no_release w) (idle_after w) xs a.in_order a.owned (near_tagged w t ts xs r h)
 
 pub passes_step : (from to : ℕ) (t : LockTag) (ts : List LockTag) (xs : List Lock) → from ≢ to → IsRising (t ∷ ts) → AreLocks xs → AreTagged from (t ∷ ts) xs → hands_on from to t.object t.mode xs ++ passes from to (handed_on from to t.object t.mode xs) ≡ passes from to xs
-passes_step from to t ts xs n r a h =
-    ap (λ zs. hands_on from to t.object t.mode xs ++ passes from to zs) (sym (all_kept (handed_on from to t.object t.mode xs) (AreLocks-handed_on from to t.object t.mode xs a).owned))
-    ∙ step_told from t.object t.mode (passed_lock from to) (pass_of from to) (no_pass from to) (idle_handed from to n) xs a.in_order a.owned (near_tagged from t ts xs r h)
+passes_step from to t ts xs n r a h = grind (arith, nat_tests, t.object, t.mode, passes, all_kept (handed_on from to t.object t.mode xs) (AreLocks-handed_on from to t.object t.mode xs a).owned, AreLocks-handed_on from to t.object t.mode xs a, step_told from t.object t.mode (passed_lock from to) (pass_of from to) (no_pass from to) (idle_handed from to n) xs a.in_order a.owned (near_tagged from t ts xs r h), no_pass from to, idle_handed from to n, a.in_order, a.owned, near_tagged from t ts xs r h)
 
 -- what an owner holds is counted
 counted_within : (w : ℕ) (xs : List Lock) → All (λ l. owner_count w l ≤ count_of xs l.object l.mode w) xs

@@ -103,9 +103,7 @@ other_tag o m a n t e f = other_lock_by t.object t.mode o m a n e f
 pub taken_out : (o : ℕ) (m : Mode) (ts : List LockTag) (i : ℕ) (d : LockTag) → IsRising ts → i < length ts → is_tag o m (get_or ts i d) ≡ true → list_any (is_tag o m) (remove ts i) ≡ false
 taken_out o m [] i d h l e = absurd (omega (arith, l))
 taken_out o m (t ∷ ts) zero d h l e = list_any_none (is_tag o m) ts (All-weaker (TagBefore t) (λ u. is_tag o m u ≡ false) (λ u b. other_lock (bare t) (bare u) o m b e) ts h.0)
-taken_out o m (t ∷ ts) (suc i) d h l e =
-    let sooner_tag : comes_before t.object t.mode o m ≡ true = order_other t.object t.mode (get_or ts i d).object (get_or ts i d).mode o m (All-get_or (TagBefore t) ts i d (omega (arith, l)) h.0) e in
-    ap (λ b. b || list_any (is_tag o m) (remove ts i)) (before_lock (bare t) o m sooner_tag) ∙ taken_out o m ts i d h.1 (omega (arith, l)) e
+taken_out o m (t ∷ ts) (suc i) d h l e = grind (arith, nat_tests, t.object, t.mode, order_other t.object t.mode (get_or ts i d).object (get_or ts i d).mode o m (All-get_or (TagBefore t) ts i d (omega (arith, l)) h.0) e, All-get_or (TagBefore t) ts i d (omega (arith, l)) h.0, h.0, before_lock, bare t, taken_out o m ts i d h.1 (omega (arith, l)) e, h.1)
 
 -- the tags that are left without that of one lock
 pub untagged : (o : ℕ) (m : Mode) (ts us : List LockTag) → list_any (is_tag o m) us ≡ false → ((a : ℕ) (n : Mode) → same_lock o m a n ≡ false → list_any (is_tag a n) us ≡ list_any (is_tag a n) ts) → (a : ℕ) (n : Mode) → list_any (is_tag a n) us ≡ (not (same_lock o m a n) && list_any (is_tag a n) ts)

@@ -88,9 +88,4 @@ pub totals_lowered : (owner : ℕ) (xs mid ys : List Lock) (i : ℕ) (d y : Lock
 totals_lowered owner xs mid ys i d y l e h n f g = grind (arith, nat_tests, sum_kept lock_total no_total mid, sum_by-set lock_total xs i y d l, total_down owner (get_or xs i d) h n)
 
 pub wholes_lowered : (owner o : ℕ) (m : Mode) (xs mid ys : List Lock) (i : ℕ) (d y : Lock) → StandsAt o m xs i d → y ≡ counted_down owner (get_or xs i d) → All Counted (get_or xs i d).owners → 0 < owner_count owner (get_or xs i d) → mid ≡ set xs i y → ys ≡ filter has_owner mid → WholeOneLess xs ys o m
-wholes_lowered owner o m xs mid ys i d y st e h n f g o' m' =
-    let x = get_or xs i d in
-    let one = whole_one o' m' in
-    let less : one (counted_down owner x) + where_so (is_lock o' m' x) 1 ≡ one x = so_less (is_lock o' m' x) (lock_total (counted_down owner x)) 1 (lock_total x) (total_down owner x h n) in
-    let alike : where_so (is_lock o' m' x) 1 ≡ where_so (same_lock o m o' m') 1 = ap (λ b. where_so b 1) (same_as x o m o' m' st.here) in
-    omega (arith, ap (λ (zs : List Lock). whole_of zs o' m') g, sum_kept one (no_whole o' m') mid, ap (λ (zs : List Lock). whole_of zs o' m') f, sum_by-set one xs i y d st.within, ap one e, less, alike)
+wholes_lowered owner o m xs mid ys i d y st e h n f g o' m' = grind (arith, nat_tests, so_less, total_down, same_as, st.here, sum_kept, no_whole o' m', sum_by-set, st.within)

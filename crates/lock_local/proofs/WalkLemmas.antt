@@ -1,6 +1,6 @@
 -- Steps of walks over a session's locks.
 use Rattle.std.proofs.lemmas.Bool.Decides.{nat_tests}
-use Rattle.lock_local.proofs.Base.{[], and_from, and_parts, ap, arith, Bool, cases_Bool, cond, drop, eq-eqb, eqb-true, false, flat_map, flat_map-append, get_or, has_owner, Holding, holds, is_held, is_lock, IsInOrder, length, List, list_any_at, Lock, lt-ltb, ltb-true, map, MatchBool, Mode, mode_number, nat_eq, OthersStay, refl, same_lock, set, Sets, suc, sym, take, take_more, true, without, zero, ℕ, ◌++◌, ◌+◌, ◌<◌, ◌∙◌, ◌∷◌, ◌≡◌}
+use Rattle.lock_local.proofs.Base.{[], and_from, and_parts, ap, arith, Bool, cases_Bool, cond, drop, eqb-true, false, flat_map, flat_map-append, get_or, has_owner, Holding, holds, is_held, is_lock, IsInOrder, length, List, list_any_at, Lock, lt-ltb, ltb-true, map, MatchBool, Mode, mode_number, nat_eq, OthersStay, refl, same_lock, set, Sets, suc, sym, take, take_more, true, without, zero, ℕ, ◌++◌, ◌+◌, ◌<◌, ◌∙◌, ◌∷◌, ◌≡◌}
 use Rattle.lock_local.proofs.OwnerLemmas.{others, others_le}
 use Rattle.lock_local.proofs.OrderLemmas.{is_held-set, none_behind, held_test, all_behind, drop_more}
 
@@ -27,9 +27,7 @@ pub holds_same : (xs : List Holding) (o : ℕ) (m : Mode) (o' : ℕ) (m' : Mode)
 holds_same xs o m o' m' s e = grind (arith, nat_tests, and_parts (nat_eq o o') (nat_eq (mode_number m) (mode_number m')) e, eqb-true o o' (and_parts (nat_eq o o') (nat_eq (mode_number m) (mode_number m')) e).0, eqb-true (mode_number m) (mode_number m') (and_parts (nat_eq o o') (nat_eq (mode_number m) (mode_number m')) e).1)
 
 pub same_back : (o : ℕ) (m : Mode) (o' : ℕ) (m' : Mode) → same_lock o m o' m' ≡ true → same_lock o' m' o m ≡ true
-same_back o m o' m' e =
-    let p = and_parts (nat_eq o o') (nat_eq (mode_number m) (mode_number m')) e in
-    and_from (nat_eq o' o) (nat_eq (mode_number m') (mode_number m)) (eq-eqb o' o (sym (eqb-true o o' p.0))) (eq-eqb (mode_number m') (mode_number m) (sym (eqb-true (mode_number m) (mode_number m') p.1)))
+same_back o m o' m' e = grind (arith, nat_tests, and_from)
 
 -- what a session holds after one holding of it was set
 pub holds_after : (old new : List Holding) (o : ℕ) (m : Mode) (s : ℕ) (b : Bool) → Sets old new o m s b → (o' : ℕ) (m' : Mode) → holds new o' m' s ≡ cond (same_lock o m o' m') b (holds old o' m' s)

@@ -1,6 +1,6 @@
 -- The words and lemmas of std that these proofs take.
 pub use Rattle.std.proofs.Common.{Bool, List, Some, [], ap, append-nil, append_assoc, arith, cond, false, filter, get_or, inl, inr, is_some, length, length-append, nat_eq, nat_lt, not, refl, rules, subst, sym, take, true, ℕ, ◌&&◌, ◌++◌, ◌+◌, ◌<◌, ◌==◌, ◌||◌, ◌∙◌, ◌∷◌, ◌≡◌, ◌≢◌, ◌≤◌}
-pub use Rattle.std.proofs.lemmas.Bool.{and_from, and_parts, cases_Bool, eq-eqb, eqb-true, ne_eqb, true≢false}
+pub use Rattle.std.proofs.lemmas.Bool.{and_from, cases_Bool, eq-eqb, eqb-true, ne_eqb, true≢false}
 pub use Rattle.std.proofs.lemmas.Bool.Decides.{nat_tests}
 pub use Rattle.std.proofs.lemmas.List.{take_more}
 pub use Rattle.std.proofs.lemmas.List.Elements.{All-cons, All-contains, All-filter, All-head, All-nil, All-push, All-tail, All-weaker, filter-append, filter_passes}
@@ -15,4 +15,4 @@ pub use Rattle.std.specs.Cmp.{nat_eq_equiv}
 pub use Rattle.std.specs.List.{IsDistinct, count_by, list_any}
 pub use Rattle.std.specs.Map.{keys_of, lookup}
 pub use Rattle.std.specs.Option.{option_map_or}
-pub use Rattle.std.specs.Prelude.{All, Contains, Err, IfSome, IsNone, None, Ok, OnErr, OnOk, Option, Result, fold, nat_le}
+pub use Rattle.std.specs.Prelude.{All, Contains, IfSome, IsNone, None, OnErr, OnOk, Option, Result, fold, nat_le}

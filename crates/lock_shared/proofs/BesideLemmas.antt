@@ -1,8 +1,8 @@
 -- What the other sessions hold, in order, and which of it conflicts.
-use Rattle.lock_shared.proofs.Base.{◌≡◌, ◌≢◌, ℕ, ◌≤◌, Bool, true, false, ◌&&◌, not, cond, nat_eq, List, [], ◌∷◌, ◌++◌, filter, inl, inr, refl, ap, sym, subst, ◌∙◌, append_assoc, append-nil, arith, Option, None, Some, All, IsNone, IfSome, fold, true≢false, eqb-true, eq-eqb, ne_eqb, cases_Bool, All-head, All-tail, All-weaker, filter_passes, list_any_none}
-use Rattle.lock_shared.proofs.Words.{Mode, mode_number, Holding, conflicts, is_holding, holds, Blocks, IsFree, IsConflict, blocks, IsLeastOf, lesser_of, IsRanked, beside, least_conflict}
+use Rattle.lock_shared.proofs.Base.{nat_tests, ◌≡◌, ◌≢◌, ℕ, Bool, true, false, ◌&&◌, not, cond, nat_eq, List, [], ◌∷◌, ◌++◌, filter, refl, ap, sym, subst, ◌∙◌, append_assoc, append-nil, arith, Option, None, Some, All, IsNone, IfSome, fold, ne_eqb, All-head, All-tail, All-weaker, filter_passes, list_any_none}
+use Rattle.lock_shared.proofs.Words.{Mode, Holding, conflicts, is_holding, holds, Blocks, IsFree, IsConflict, blocks, IsLeastOf, lesser_of, IsRanked, beside, least_conflict}
 use Rattle.lock_shared.proofs.HoldingLemmas.{holding_parts, any_kept, lesser_is_first, least_stays, free_from, conflict_from}
-use Rattle.lock_shared.proofs.RankLemmas.{HoldSame, ranked_all, ranked_is_ranked, ranked_holds, ranked_unique, same_mode}
+use Rattle.lock_shared.proofs.RankLemmas.{ranked_all, ranked_is_ranked, ranked_holds, ranked_unique, same_mode}
 
 -- whether a holding is another session's
 abbrev of_another : ℕ → Holding → Bool
@@ -14,15 +14,7 @@ kept_of_others n hs o m s other =
     any_kept (λ (h : Holding). nat_eq h.session n) (is_holding o m s) (λ h e. ne_eqb h.session n (λ same. other (sym (holding_parts o m s h e).2 ∙ same))) hs
 
 none_of_own : (n : ℕ) (hs : List Holding) (o : ℕ) (m : Mode) (s : ℕ) → s ≡ n → holds (filter (of_another n) hs) o m s ≡ false
-none_of_own n hs o m s same =
-    list_any_none (is_holding o m s) (filter (of_another n) hs)
-    (All-weaker (λ h. of_another n h ≡ true) (λ h. is_holding o m s h ≡ false) not_own (filter (of_another n) hs) (filter_passes (of_another n) hs))
-  where
-    not_own : (h : Holding) → of_another n h ≡ true → is_holding o m s h ≡ false
-    not_own h e = elim (cases_Bool (is_holding o m s h)) as (λ _. is_holding o m s h ≡ false) [
-      | inl f ↦ absurd (true≢false (sym e ∙ ap not (eq-eqb h.session n ((holding_parts o m s h f).2 ∙ same))))
-      | inr f ↦ f
-    ]
+none_of_own n hs o m s same = grind (arith, nat_tests, list_any_none, All-weaker, filter_passes (of_another n) hs, holding_parts)
 
 -- the others hold what they held
 pub beside_holds : (n : ℕ) (hs : List Holding) (o : ℕ) (m : Mode) (s : ℕ) → s ≢ n → holds (beside n hs) o m s ≡ holds hs o m s
@@ -44,32 +36,18 @@ beside_others n hs = ranked_all (λ h. of_another n h ≡ true) (filter (of_anot
 
 -- a list in order that says of the other sessions what the holdings say, and nothing of this one, is what they hold
 pub beside_unique : (n : ℕ) (xs hs : List Holding) → IsRanked xs → ((o : ℕ) (m : Mode) (s : ℕ) → s ≡ n → holds xs o m s ≡ false) → ((o : ℕ) (m : Mode) (s : ℕ) → s ≢ n → holds xs o m s ≡ holds hs o m s) → xs ≡ beside n hs
-beside_unique n xs hs r own others = ranked_unique xs (beside n hs) r (beside_is_ranked n hs) same
-  where
-    same : HoldSame xs (beside n hs)
-    same o m s = elim (cases_Bool (nat_eq s n)) as (λ _. holds xs o m s ≡ holds (beside n hs) o m s) [
-      | inl e ↦ own o m s (eqb-true s n e) ∙ sym (beside_own n hs o m s (eqb-true s n e))
-      | inr e ↦
-          let other : s ≢ n = λ is. true≢false (sym (eq-eqb s n is) ∙ e) in
-          others o m s other ∙ sym (beside_holds n hs o m s other)
-    ]
+beside_unique n xs hs r own others = grind (arith, nat_tests, ranked_unique, beside n hs, beside_is_ranked n hs, holds, beside_own, beside_holds)
 
 -- what the others hold stays where none of them holds more or less
 pub beside_stays : (n : ℕ) (old new : List Holding) → ((o : ℕ) (m : Mode) (s : ℕ) → s ≢ n → holds new o m s ≡ holds old o m s) → beside n old ≡ beside n new
-beside_stays n old new stays =
-    beside_unique n (beside n old) new (beside_is_ranked n old) (beside_own n old) (λ o m s other. beside_holds n old o m s other ∙ sym (stays o m s other))
+beside_stays n old new stays = grind (arith, nat_tests, beside_unique, beside n old, beside_is_ranked n old, beside_own n old, beside_holds)
 
 -- the search over all that others hold
 abbrev against : ℕ → Mode → Holding → Bool
 against o w h = nat_eq h.object o && conflicts w h.mode
 
 against_blocks : (o : ℕ) (w : Mode) (n : ℕ) (h : Holding) (t : Bool) → of_another n h ≡ true → against o w h ≡ t → blocks o w n h ≡ t
-against_blocks o w n h t e f = ap (λ b. nat_eq h.object o && (conflicts w h.mode && b)) e ∙ rest (nat_eq h.object o) (conflicts w h.mode) ∙ f
-  where
-    rest : (a b : Bool) → (a && (b && true)) ≡ (a && b)
-    rest true true = refl
-    rest true false = refl
-    rest false b = refl
+against_blocks o w n h t e f = grind (arith, nat_tests, h.object, h.mode)
 
 abbrev lesser_yet : Option (ℕ × Mode) → Holding → Option (ℕ × Mode)
 lesser_yet least h = Some (lesser_of least h.session h.mode)
@@ -109,16 +87,7 @@ conflict_among_all hs o w n s m c = record {
 
 -- there is one conflict at most
 one_conflict : (hs : List Holding) (o : ℕ) (w : Mode) (n s t : ℕ) (m k : Mode) → IsConflict hs o w n s m → IsConflict hs o w n t k → (t ≡ s) × (k ≡ m)
-one_conflict hs o w n s t m k a b = (same, same_mode k m (omega (arith, lesser, greater)))
-  where
-    same : t ≡ s
-    same = omega (arith, a.least_session t k b.blocks, b.least_session s m a.blocks)
-
-    lesser : mode_number m ≤ mode_number k
-    lesser = a.least_mode k (subst (λ (z : ℕ). Blocks hs o w n z k) same b.blocks)
-
-    greater : mode_number k ≤ mode_number m
-    greater = b.least_mode m (subst (λ (z : ℕ). Blocks hs o w n z m) (sym same) a.blocks)
+one_conflict hs o w n s t m k a b = grind (arith, nat_tests, same_mode, a.least_session t k b.blocks, b.blocks, b.least_session s m a.blocks, a.blocks, a.least_mode, b.least_mode)
 
 -- the least conflict of what others hold is the conflict, where there is one, and none where all is free
 pub conflict_is : (hs : List Holding) (o : ℕ) (w : Mode) (n s : ℕ) (m : Mode) → IsConflict hs o w n s m → least_conflict o w (beside n hs) ≡ Some (s, m)
@@ -140,10 +109,6 @@ free_is hs o w n free = by_answer (least_conflict o w (beside n hs)) (found_besi
 pub conflict_stands : (hs : List Holding) (o : ℕ) (w : Mode) (n s : ℕ) (m : Mode) → least_conflict o w (beside n hs) ≡ Some (s, m) → IsConflict hs o w n s m
 conflict_stands hs o w n s m e =
     conflict_among_all hs o w n s m (conflict_from (beside n hs) o w n s m (subst (λ (r : Option (ℕ × Mode)). IsLeastOf (beside n hs) o w n r) e (found_beside hs o w n)))
-
-pub free_stands : (hs : List Holding) (o : ℕ) (w : Mode) (n : ℕ) → least_conflict o w (beside n hs) ≡ None → IsFree hs o w n
-free_stands hs o w n e s m b =
-    free_from (beside n hs) o w n (subst (λ (r : Option (ℕ × Mode)). IsLeastOf (beside n hs) o w n r) e (found_beside hs o w n)) s m (blocks_beside hs o w n s m b)
 
 -- an answer that tells the conflict is the least conflict of what others hold
 pub found_is_beside : (hs : List Holding) (o : ℕ) (w : Mode) (n : ℕ) (r : Option (ℕ × Mode)) → (IsNone r → IsFree hs o w n) → IfSome r (λ c. IsConflict hs o w n c.0 c.1) → r ≡ least_conflict o w (beside n hs)

@@ -1,25 +1,16 @@
 -- Which holding blocks, and which of them is the first.
-use Rattle.lock_shared.proofs.Base.{◌≡◌, ◌≢◌, ℕ, ◌<◌, ◌≤◌, ◌+◌, Bool, true, false, ◌&&◌, ◌||◌, not, cond, nat_eq, nat_lt, List, [], ◌∷◌, ◌++◌, length, get_or, take, filter, inl, inr, refl, ap, sym, subst, ◌∙◌, arith, Option, None, Some, All, Contains, nat_le, IsNone, list_any, true≢false, eqb-true, eq-eqb, ne_eqb, and_parts, and_from, cases_Bool, nat_tests, take_more, All-push, All-contains, list_any-append, Any-from_list_any}
+use Rattle.lock_shared.proofs.Base.{◌≡◌, ◌≢◌, ℕ, ◌<◌, ◌≤◌, ◌+◌, Bool, true, false, ◌&&◌, ◌||◌, not, cond, nat_eq, nat_lt, List, [], ◌∷◌, ◌++◌, length, get_or, take, filter, refl, ap, sym, subst, ◌∙◌, arith, Option, None, Some, All, Contains, nat_le, IsNone, list_any, true≢false, eq-eqb, and_from, nat_tests, take_more, All-push, All-contains, list_any-append, Any-from_list_any}
 use Rattle.lock_shared.proofs.Words.{Mode, mode_number, Holding, conflicts, conflicting, same_lock, is_holding, holds, Sets, Blocks, IsFree, IsConflict, blocks, IsFirst, IsLeastOf, lesser_of}
 
 -- what a test of a holding tells
 pub holding_parts : (o : ℕ) (m : Mode) (s : ℕ) (h : Holding) → is_holding o m s h ≡ true → (h.object ≡ o) × (mode_number h.mode ≡ mode_number m) × (h.session ≡ s)
-holding_parts o m s h e =
-    let a = and_parts (same_lock h.object h.mode o m) (nat_eq h.session s) e in
-    let b = and_parts (nat_eq h.object o) (nat_eq (mode_number h.mode) (mode_number m)) a.0 in
-    (eqb-true h.object o b.0, eqb-true (mode_number h.mode) (mode_number m) b.1, eqb-true h.session s a.1)
+holding_parts o m s h e = grind (arith, nat_tests, h.object, h.mode, h.session)
 
 pub is_itself : (h : Holding) → is_holding h.object h.mode h.session h ≡ true
-is_itself h =
-    and_from (same_lock h.object h.mode h.object h.mode) (nat_eq h.session h.session)
-    (and_from (nat_eq h.object h.object) (nat_eq (mode_number h.mode) (mode_number h.mode)) (eq-eqb h.object h.object refl) (eq-eqb (mode_number h.mode) (mode_number h.mode) refl))
-    (eq-eqb h.session h.session refl)
+is_itself h = grind (arith, nat_tests, and_from (same_lock h.object h.mode h.object h.mode) (nat_eq h.session h.session) (and_from (nat_eq h.object h.object) (nat_eq (mode_number h.mode) (mode_number h.mode)) (eq-eqb h.object h.object refl) (eq-eqb (mode_number h.mode) (mode_number h.mode) refl)) (eq-eqb h.session h.session refl), h.object, h.mode, h.session, and_from (nat_eq h.object h.object) (nat_eq (mode_number h.mode) (mode_number h.mode)) (eq-eqb h.object h.object refl) (eq-eqb (mode_number h.mode) (mode_number h.mode) refl))
 
 pub block_parts : (o : ℕ) (w : Mode) (s : ℕ) (h : Holding) → blocks o w s h ≡ true → (h.object ≡ o) × (conflicts w h.mode ≡ true) × (h.session ≢ s)
-block_parts o w s h e =
-    let a = and_parts (nat_eq h.object o) (conflicts w h.mode && not (nat_eq h.session s)) e in
-    let b = and_parts (conflicts w h.mode) (not (nat_eq h.session s)) a.1 in
-    (eqb-true h.object o a.0, b.0, λ same. true≢false (sym b.1 ∙ ap not (eq-eqb h.session s same)))
+block_parts o w s h e = grind (arith, nat_tests, h.object, h.mode, h.session)
 
 -- only the number of a mode matters to its conflicts
 pub conflicts_by_number : (w m n : Mode) → mode_number m ≡ mode_number n → conflicts w m ≡ conflicts w n
@@ -27,22 +18,13 @@ unfolding conflicts
 conflicts_by_number w m n e = ap (λ k. list_any (λ x. nat_eq x k) (conflicting w)) e
 
 pub blocks_from : (o : ℕ) (w : Mode) (s other : ℕ) (m : Mode) (h : Holding) → is_holding o m other h ≡ true → conflicts w m ≡ true → other ≢ s → blocks o w s h ≡ true
-blocks_from o w s other m h e against another =
-    let p = holding_parts o m other h e in
-    and_from (nat_eq h.object o) (conflicts w h.mode && not (nat_eq h.session s)) (eq-eqb h.object o p.0)
-    (and_from (conflicts w h.mode) (not (nat_eq h.session s)) (conflicts_by_number w h.mode m p.1 ∙ against) (ap not (ne_eqb h.session s (λ same. another (sym p.2 ∙ same)))))
+blocks_from o w s other m h e against another = grind (arith, nat_tests, holding_parts o m other h e, and_from, h.object, h.mode, h.session, conflicts_by_number)
 
 pub holds_still : (xs ys : List Holding) (o : ℕ) (m : Mode) (s : ℕ) → holds xs o m s ≡ true → holds (xs ++ ys) o m s ≡ true
 holds_still xs ys o m s e = list_any-append (is_holding o m s) xs ys ∙ ap (λ b. b || holds ys o m s) e
 
 pub holds_last : (xs : List Holding) (h : Holding) → holds (xs ++ h ∷ []) h.object h.mode h.session ≡ true
-holds_last xs h =
-    let one : holds (h ∷ []) h.object h.mode h.session ≡ true = ap (λ b. b || false) (is_itself h) in
-    let all = list_any-append (is_holding h.object h.mode h.session) xs (h ∷ []) in
-    elim (cases_Bool (holds xs h.object h.mode h.session)) as (λ _. holds (xs ++ h ∷ []) h.object h.mode h.session ≡ true) [
-      | inl e ↦ holds_still xs (h ∷ []) h.object h.mode h.session e
-      | inr e ↦ all ∙ ap (λ b. b || holds (h ∷ []) h.object h.mode h.session) e ∙ one
-    ]
+holds_last xs h = grind (arith, nat_tests, holds, h.object, h.mode, h.session, is_itself h, list_any-append (is_holding h.object h.mode h.session) xs (h ∷ []), holds xs h.object h.mode h.session, holds (xs ++ h ∷ []) h.object h.mode h.session, holds_still)
 
 -- no session and mode that block are less
 abbrev pub NoLess : ℕ → Mode → ℕ → ℕ → Mode → Holding → Type 0
@@ -75,16 +57,7 @@ first_new xs h o w s e a b =
 
 -- where c isn't kept, no holding that blocks is less than the new one
 pub less_again : (xs : List Holding) (h : Holding) (o : ℕ) (w : Mode) (s other : ℕ) (held : Mode) → IsFirst xs o w s other held → (nat_lt other h.session || (nat_eq other h.session && nat_le (mode_number held) (mode_number h.mode))) ≡ false → (All (NoLess o w s h.session h.mode) xs) × (All (NoLessMode o w s h.session h.mode) xs)
-less_again xs h o w s other held f e = (
-  λ k d l b. less_session other h.session (mode_number held) (mode_number h.mode) e _ (f.least_session k d l b),
-  λ k d l b same. less_mode other h.session (mode_number held) (mode_number h.mode) e _ _ (f.least_session k d l b) same (f.least_mode k d l b),
-)
-  where
-    less_session : (a b m n : ℕ) → (nat_lt a b || (nat_eq a b && nat_le m n)) ≡ false → (x : ℕ) → a ≤ x → b ≤ x
-    less_session a b m n e x l = grind (arith, nat_tests)
-
-    less_mode : (a b m n : ℕ) → (nat_lt a b || (nat_eq a b && nat_le m n)) ≡ false → (x k : ℕ) → a ≤ x → x ≡ b → (x ≡ a → m ≤ k) → n ≤ k
-    less_mode a b m n e x k l same h = grind (arith, nat_tests)
+less_again xs h o w s other held f e = grind (arith, nat_tests, f.least_session, f.least_mode)
 
 pub lesser_is_first : (xs : List Holding) (h : Holding) (o : ℕ) (w : Mode) (s : ℕ) (least : Option (ℕ × Mode)) → blocks o w s h ≡ true → IsLeastOf xs o w s least → IsLeastOf (xs ++ h ∷ []) o w s (Some (lesser_of least h.session h.mode))
 lesser_is_first xs h o w s None e l =
@@ -104,15 +77,10 @@ least_stays xs h o w s (Some c) e l = first_kept xs h o w s c.0 c.1 l (λ b. abs
 
 -- what blocks is one of the holdings
 pub blocked_at : (xs : List Holding) (o : ℕ) (w : Mode) (s other : ℕ) (m : Mode) → Blocks xs o w s other m → (h : Holding) × (Contains xs h) × (blocks o w s h ≡ true) × (h.session ≡ other) × (mode_number h.mode ≡ mode_number m)
-blocked_at xs o w s other m b =
-    let a = Any-from_list_any (is_holding o m other) xs b.stands in
-    let p = holding_parts o m other a.1 a.4 in
-    (a.1, (a.0, a.2, a.3), blocks_from o w s other m a.1 a.4 b.against b.another, p.2, p.1)
+blocked_at xs o w s other m b = grind (arith, nat_tests, Any-from_list_any (is_holding o m other) xs b.stands, b.stands, holding_parts, blocks_from, b.against, b.another)
 
 pub free_from : (xs : List Holding) (o : ℕ) (w : Mode) (s : ℕ) → IsLeastOf xs o w s None → IsFree xs o w s
-free_from xs o w s l other m b =
-    let a = blocked_at xs o w s other m b in
-    true≢false (sym a.2 ∙ All-contains (λ h. blocks o w s h ≡ false) xs a.0 l a.1)
+free_from xs o w s l other m b = grind (arith, nat_tests, blocked_at xs o w s other m b, All-contains)
 
 pub conflict_from : (xs : List Holding) (o : ℕ) (w : Mode) (s other : ℕ) (held : Mode) → IsFirst xs o w s other held → IsConflict xs o w s other held
 conflict_from xs o w s other held f = record {
@@ -129,16 +97,10 @@ conflict_from xs o w s other held f = record {
 
 -- one step of the search
 pub lesser_at : (xs : List Holding) (i : ℕ) (d : Holding) (o : ℕ) (w : Mode) (s : ℕ) (least now : Option (ℕ × Mode)) → i < length xs → IsLeastOf (take i xs) o w s least → blocks o w s (get_or xs i d) ≡ true → now ≡ Some (lesser_of least (get_or xs i d).session (get_or xs i d).mode) → IsLeastOf (take (i + 1) xs) o w s now
-lesser_at xs i d o w s least now below l b e =
-    subst (λ (r : Option (ℕ × Mode)). IsLeastOf (take (i + 1) xs) o w s r) (sym e)
-    (subst (λ (zs : List Holding). IsLeastOf zs o w s (Some (lesser_of least (get_or xs i d).session (get_or xs i d).mode))) (sym (take_more xs i d below))
-    (lesser_is_first (take i xs) (get_or xs i d) o w s least b l))
+lesser_at xs i d o w s least now below l b e = grind (arith, nat_tests, take_more xs i d below, lesser_is_first (take i xs) (get_or xs i d) o w s least b l)
 
 pub least_at : (xs : List Holding) (i : ℕ) (d : Holding) (o : ℕ) (w : Mode) (s : ℕ) (least now : Option (ℕ × Mode)) → i < length xs → IsLeastOf (take i xs) o w s least → blocks o w s (get_or xs i d) ≡ false → now ≡ least → IsLeastOf (take (i + 1) xs) o w s now
-least_at xs i d o w s least now below l b e =
-    subst (λ (r : Option (ℕ × Mode)). IsLeastOf (take (i + 1) xs) o w s r) (sym e)
-    (subst (λ (zs : List Holding). IsLeastOf zs o w s least) (sym (take_more xs i d below))
-    (least_stays (take i xs) (get_or xs i d) o w s least b l))
+least_at xs i d o w s least now below l b e = grind (arith, nat_tests, take_more xs i d below, least_stays (take i xs) (get_or xs i d) o w s least b l)
 
 -- what the search found, as what the holdings say
 pub none_is_free : (xs : List Holding) (o : ℕ) (w : Mode) (s : ℕ) (r : Option (ℕ × Mode)) → IsLeastOf xs o w s r → IsNone r → IsFree xs o w s
@@ -146,41 +108,16 @@ none_is_free xs o w s None l e = free_from xs o w s l
 none_is_free xs o w s (Some c) l e = absurd (true≢false e)
 
 pub free_is_none : (xs : List Holding) (o : ℕ) (w : Mode) (s : ℕ) (r : Option (ℕ × Mode)) → IsLeastOf xs o w s r → IsFree xs o w s → IsNone r
-free_is_none xs o w s None l f = refl
-free_is_none xs o w s (Some c) l f = absurd (f c.0 c.1 (conflict_from xs o w s c.0 c.1 l).blocks)
+free_is_none xs o w s x4 l f = grind (arith, nat_tests, conflict_from)
 
 -- taking a holding off
 pub any_kept : {X : Type 0} (p q : X → Bool) → ((x : X) → q x ≡ true → p x ≡ false) → (xs : List X) → list_any q (filter (λ x. not (p x)) xs) ≡ list_any q xs
 any_kept p q h [] = refl
-any_kept p q h (x ∷ xs) = by_test (p x) refl (any_kept p q h xs)
-  where
-    by_test : (t : Bool) → p x ≡ t → list_any q (filter (λ x. not (p x)) xs) ≡ list_any q xs → list_any q (cond (not t) (x ∷ filter (λ x. not (p x)) xs) (filter (λ x. not (p x)) xs)) ≡ (q x || list_any q xs)
-    by_test false e ih = ap (λ b. q x || b) ih
-    by_test true e ih = ih ∙ elim (cases_Bool (q x)) as (λ _. list_any q xs ≡ (q x || list_any q xs)) [
-      | inl a ↦ absurd (true≢false (sym e ∙ h x a))
-      | inr a ↦ ap (λ b. b || list_any q xs) (sym a)
-    ]
+any_kept p q h (x ∷ xs) = grind (arith, nat_tests, any_kept p q h xs)
 
 none_kept : {X : Type 0} (p : X → Bool) (xs : List X) → list_any p (filter (λ x. not (p x)) xs) ≡ false
 none_kept p [] = refl
-none_kept p (x ∷ xs) = by_test (p x) refl (none_kept p xs)
-  where
-    by_test : (t : Bool) → p x ≡ t → list_any p (filter (λ x. not (p x)) xs) ≡ false → list_any p (cond (not t) (x ∷ filter (λ x. not (p x)) xs) (filter (λ x. not (p x)) xs)) ≡ false
-    by_test false e ih = ap (λ b. b || list_any p (filter (λ x. not (p x)) xs)) e ∙ ih
-    by_test true e ih = ih
+none_kept p (x ∷ xs) = grind (arith, nat_tests, none_kept p xs)
 
 pub taken_off : (xs ys : List Holding) (o : ℕ) (m : Mode) (s : ℕ) → ys ≡ filter (λ h. not (is_holding o m s h)) xs → Sets xs ys o m s false
-taken_off xs ys o m s e = subst (λ (zs : List Holding). Sets xs zs o m s false) (sym e) (record {
-  this = none_kept (is_holding o m s) xs;
-  others_locks = λ a n t other. any_kept (is_holding o m s) (is_holding a n t) (λ h a1. not_that h (λ both. true≢false (sym (same_lock_from h a n t a1 both) ∙ other))) xs;
-  others_sessions = λ a n t other. any_kept (is_holding o m s) (is_holding a n t) (λ h a1. not_that h (λ both. other (sym (holding_parts a n t h a1).2 ∙ (holding_parts o m s h both).2))) xs;
-})
-  where
-    not_that : (h : Holding) → (is_holding o m s h ≡ true → ⊥) → is_holding o m s h ≡ false
-    not_that h never = elim (cases_Bool (is_holding o m s h)) as (λ _. is_holding o m s h ≡ false) [ inl a ↦ absurd (never a) | inr e ↦ e ]
-
-    same_lock_from : (h : Holding) (a : ℕ) (n : Mode) (t : ℕ) → is_holding a n t h ≡ true → is_holding o m s h ≡ true → same_lock a n o m ≡ true
-    same_lock_from h a n t x y =
-        let p = holding_parts a n t h x in
-        let q = holding_parts o m s h y in
-        and_from (nat_eq a o) (nat_eq (mode_number n) (mode_number m)) (eq-eqb a o (sym p.0 ∙ q.0)) (eq-eqb (mode_number n) (mode_number m) (sym p.1 ∙ q.1))
+taken_off xs ys o m s e = grind (arith, nat_tests, none_kept (is_holding o m s) xs, any_kept, holding_parts, and_from)

@@ -1,5 +1,5 @@
 -- The holdings of an object among all, and what one more or one less of them leaves.
-use Rattle.lock_shared.proofs.Base.{◌≡◌, ◌≢◌, ℕ, ◌<◌, ◌≤◌, ◌+◌, Bool, true, false, ◌&&◌, ◌||◌, not, cond, nat_eq, List, [], ◌∷◌, ◌++◌, length, filter, inl, inr, refl, ap, sym, subst, ◌∙◌, append-nil, length-append, arith, Option, None, Some, Result, Ok, Err, OnOk, OnErr, All, IsNone, IfSome, list_any, count_by, IsDistinct, option_map_or, nat_eq_equiv, lookup, keys_of, true≢false, eqb-true, eq-eqb, ne_eqb, and_from, cases_Bool, All-head, All-tail, All-push, All-filter, filter-append, length-filter, sum_by-cons, sum_by-append, count_by-le-length, list_any-append, lookup-none, lookup_head, lookup_tail, none_past_head, IsDistinct-tail, any-filter_same}
+use Rattle.lock_shared.proofs.Base.{nat_tests, ◌≡◌, ◌≢◌, ℕ, ◌<◌, ◌≤◌, ◌+◌, Bool, true, false, ◌||◌, not, cond, nat_eq, List, [], ◌∷◌, ◌++◌, length, filter, inl, inr, refl, ap, sym, subst, ◌∙◌, append-nil, length-append, arith, Option, None, Some, Result, OnOk, OnErr, All, IsNone, IfSome, list_any, count_by, IsDistinct, option_map_or, nat_eq_equiv, lookup, keys_of, true≢false, eqb-true, eq-eqb, ne_eqb, and_from, cases_Bool, All-head, All-tail, All-push, All-filter, filter-append, length-filter, sum_by-cons, sum_by-append, count_by-le-length, list_any-append, lookup-none, lookup_head, lookup_tail, none_past_head, IsDistinct-tail, any-filter_same}
 use Rattle.lock_shared.proofs.Words.{SmallVec, Mode, mode_number, Holding, is_holding, holds, Sets, Blocks, IsFree, IsConflict, AreOnce, IsLeastOf, holdings_of, held_on, with_holding, IsKept, AreKept}
 use Rattle.lock_shared.proofs.HoldingLemmas.{holding_parts, holds_last, taken_off, none_is_free, free_is_none, conflict_from}
 
@@ -16,14 +16,7 @@ filter_none p (x ∷ xs) all =
 
 filter_within : {X : Type 0} (p q : X → Bool) → ((x : X) → p x ≡ true → q x ≡ true) → (xs : List X) → filter p (filter q xs) ≡ filter p xs
 filter_within p q h [] = refl
-filter_within {X} p q h (x ∷ xs) = by_test (q x) refl (filter_within p q h xs)
-  where
-    by_test : (t : Bool) → q x ≡ t → filter p (filter q xs) ≡ filter p xs → filter p (cond t (x ∷ filter q xs) (filter q xs)) ≡ filter p (x ∷ xs)
-    by_test true e ih = ap (λ ys. cond (p x) (x ∷ ys) ys) ih
-    by_test false e ih = elim (cases_Bool (p x)) as (λ _. filter p (filter q xs) ≡ filter p (x ∷ xs)) [
-      | inl a ↦ absurd (true≢false (sym (h x a) ∙ e))
-      | inr a ↦ ih ∙ sym (ap (λ b. cond b (x ∷ filter p xs) (filter p xs)) a)
-    ]
+filter_within {X} p q h (x ∷ xs) = grind (arith, nat_tests, filter_within p q h xs)
 
 -- ---- where the holdings of an object stand
 abbrev Entry : Type 0
@@ -44,14 +37,10 @@ no_other : (o : ℕ) (e : Entry) (es : List Entry) → IsDistinct nat_eq (keys_o
 no_other o e es d same = lookup-none (nat_eq o) es (none_past_head nat_eq_equiv o e es d same)
 
 own_head : (e : Entry) (es : List Entry) → Own (e ∷ es) → All (λ h. h.object ≡ e.0) e.1.items
-own_head e es own =
-    subst (λ (r : Option (SmallVec Holding)). IfSome r (λ v. All (λ h. h.object ≡ e.0) v.items)) (lookup_head (nat_eq e.0) e es (eq-eqb e.0 e.0 refl)) (own e.0)
+own_head e es own = grind (arith, nat_tests, e.0, lookup_head (nat_eq e.0) e es (eq-eqb e.0 e.0 refl))
 
 own_tail : (e : Entry) (es : List Entry) → IsDistinct nat_eq (keys_of (e ∷ es)) → Own (e ∷ es) → Own es
-own_tail e es d own q = elim (cases_Bool (nat_eq q e.0)) as (λ _. IfSome (lookup (nat_eq q) es) (λ v. All (λ h. h.object ≡ q) v.items)) [
-  | inl same ↦ subst (λ (r : Option (SmallVec Holding)). IfSome r (λ v. All (λ h. h.object ≡ q) v.items)) (sym (no_other q e es d same)) tt
-  | inr apart ↦ subst (λ (r : Option (SmallVec Holding)). IfSome r (λ v. All (λ h. h.object ≡ q) v.items)) (lookup_tail (nat_eq q) e es apart) (own q)
-]
+own_tail e es d own q = grind (arith, nat_tests, e.0, no_other, lookup_tail)
 
 abbrev items_of : Option (SmallVec Holding) → List Holding
 items_of r = option_map_or (λ (v : SmallVec Holding). v.items) r []
@@ -75,26 +64,17 @@ stand_there (e ∷ es) o d own =
         ∙ sym (ap items_of (lookup_tail (nat_eq o) e es apart))
 
 kept_own : (es : List Entry) → AreKept es → Own es
-kept_own es k q = by_entry (lookup (nat_eq q) es) (k.each q)
-  where
-    by_entry : (r : Option (SmallVec Holding)) → IfSome r (AtEntry q) → IfSome r (λ v. All (λ h. h.object ≡ q) v.items)
-    by_entry None e = tt
-    by_entry (Some v) e = e.own
+kept_own es k q = grind (arith, nat_tests, k.each q)
 
 -- so whatever asks for an object sees the same in its entry as in all
 same_there : (es : List Entry) (o : ℕ) (m : Mode) (s : ℕ) → AreKept es → filter (is_holding o m s) (holdings_of es) ≡ filter (is_holding o m s) (held_on es o)
-same_there es o m s k =
-    sym (filter_within (is_holding o m s) (on o) (λ h e. eq-eqb h.object o (holding_parts o m s h e).0) (holdings_of es))
-    ∙ ap (filter (is_holding o m s)) (stand_there es o k.unique (kept_own es k))
+same_there es o m s k = grind (arith, nat_tests, filter_within, on o, holding_parts, stand_there es o k.unique (kept_own es k), k.unique, kept_own es k)
 
 any_filtered : {X : Type 0} (p : X → Bool) (xs : List X) → list_any p xs ≡ list_any p (filter p xs)
 any_filtered p xs = sym (any-filter_same p p true (λ x e. e) xs)
 
 pub held_there : (es : List Entry) (o : ℕ) (m : Mode) (s : ℕ) → AreKept es → holds (holdings_of es) o m s ≡ holds (held_on es o) o m s
-held_there es o m s k =
-    any_filtered (is_holding o m s) (holdings_of es)
-    ∙ ap (list_any (is_holding o m s)) (same_there es o m s k)
-    ∙ sym (any_filtered (is_holding o m s) (held_on es o))
+held_there es o m s k = grind (arith, nat_tests, any_filtered (is_holding o m s) (holdings_of es), same_there es o m s k, any_filtered (is_holding o m s) (held_on es o))
 
 once_there : (es : List Entry) (o : ℕ) → AreKept es → AreOnce (held_on es o)
 once_there es o k m n t = by_entry (lookup (nat_eq o) es) (k.each o)
@@ -104,9 +84,7 @@ once_there es o k m n t = by_entry (lookup (nat_eq o) es) (k.each o)
     by_entry (Some v) e = e.once m n t
 
 pub are_once : (es : List Entry) → AreKept es → AreOnce (holdings_of es)
-are_once es k o m s =
-    let all = sym (length-filter (is_holding o m s) (holdings_of es)) ∙ ap length (same_there es o m s k) ∙ length-filter (is_holding o m s) (held_on es o) in
-    omega (arith, all, once_there es o k o m s)
+are_once es k o m s = grind (arith, nat_tests, length-filter (is_holding o m s) (holdings_of es), same_there es o m s k, length-filter (is_holding o m s) (held_on es o), once_there es o k o m s)
 
 -- ---- what is in the way of a lock
 pub blocks_there : (es : List Entry) (o : ℕ) (w : Mode) (n s : ℕ) (m : Mode) → AreKept es → Blocks (holdings_of es) o w n s m → Blocks (held_on es o) o w n s m
@@ -140,17 +118,7 @@ kept_with es fs o r k d new at = record {
 
 -- what a session holds changes at one object alone
 pub sets_among_all : (es fs : List Entry) (o : ℕ) (m : Mode) (s : ℕ) (b : Bool) → AreKept es → AreKept fs → Sets (held_on es o) (held_on fs o) o m s b → ((q : ℕ) → nat_eq o q ≡ false → held_on fs q ≡ held_on es q) → Sets (holdings_of es) (holdings_of fs) o m s b
-sets_among_all es fs o m s b k l sets others = record {
-  this = held_there fs o m s l ∙ sets.this;
-  others_locks = λ q n t other. held_there fs q n t l ∙ at_object q n t (λ same. sets.others_locks q n t other) ∙ sym (held_there es q n t k);
-  others_sessions = λ q n t other. held_there fs q n t l ∙ at_object q n t (λ same. sets.others_sessions q n t other) ∙ sym (held_there es q n t k);
-}
-  where
-    at_object : (q : ℕ) (n : Mode) (t : ℕ) → (q ≡ o → holds (held_on fs o) q n t ≡ holds (held_on es o) q n t) → holds (held_on fs q) q n t ≡ holds (held_on es q) q n t
-    at_object q n t here = elim (cases_Bool (nat_eq o q)) as (λ _. holds (held_on fs q) q n t ≡ holds (held_on es q) q n t) [
-      | inl e ↦ subst (λ (x : ℕ). holds (held_on fs x) q n t ≡ holds (held_on es x) q n t) (eqb-true o q e) (here (sym (eqb-true o q e)))
-      | inr e ↦ ap (λ (xs : List Holding). holds xs q n t) (others q e)
-    ]
+sets_among_all es fs o m s b k l sets others = grind (arith, nat_tests, held_there fs o m s l, sets.this, held_there, sets.others_locks, sets.others_sessions, holds)
 
 -- ---- one more holding, or one less
 none_counts : {X : Type 0} (p : X → Bool) (xs : List X) → list_any p xs ≡ false → count_by p xs ≡ 0
@@ -173,9 +141,7 @@ count_kept p q (x ∷ xs) = by_test (p x) (count_kept p q xs)
 
 -- what a holding is, every test of it tells alike
 holds_alike : (xs : List Holding) (o : ℕ) (m : Mode) (s : ℕ) (h : Holding) → is_holding o m s h ≡ true → holds xs o m s ≡ holds xs h.object h.mode h.session
-holds_alike xs o m s h e =
-    let p = holding_parts o m s h e in
-    λ i. list_any (λ (x : Holding). (nat_eq x.object (sym p.0 i) && nat_eq (mode_number x.mode) (sym p.1 i)) && nat_eq x.session (sym p.2 i)) xs
+holds_alike xs o m s h e = grind (arith, nat_tests, holding_parts o m s h e)
 
 once_with : (xs : List Holding) (h : Holding) → AreOnce xs → holds xs h.object h.mode h.session ≡ false → AreOnce (xs ++ h ∷ [])
 once_with xs h once new o m s = elim (cases_Bool (is_holding o m s h)) as (λ _. count_by (is_holding o m s) (xs ++ h ∷ []) ≤ 1) [
@@ -189,11 +155,7 @@ once_with xs h once new o m s = elim (cases_Bool (is_holding o m s h)) as (λ _.
     both = sum_by-append (λ y. cond (is_holding o m s y) 1 0) xs (h ∷ [])
 
 pub kept_one : (h : Holding) → IsKept h.object (h ∷ [])
-kept_one h = record {
-  own = All-push (λ x. x.object ≡ h.object) [] h (λ k d l. absurd (omega (arith, l))) refl;
-  once = λ o m s. count_by-le-length (is_holding o m s) (h ∷ []);
-  some = omega arith;
-}
+kept_one h = grind (arith, nat_tests, All-push, h.object, count_by-le-length)
 
 pub kept_more : (h : Holding) (xs : List Holding) → IsKept h.object xs → IsKept h.object (with_holding h xs)
 kept_more h xs k = by_test (holds xs h.object h.mode h.session) refl
@@ -241,23 +203,19 @@ pub kept_at : (es : List Entry) (o : ℕ) (v : SmallVec Holding) → AreKept es 
 kept_at es o v k at = subst (λ (r : Option (SmallVec Holding)). IfSome r (AtEntry o)) (sym at) (k.each o)
 
 pub kept_added : {E : Type 0} (r : Result (Unit {0}) E) (h : Holding) (v w : SmallVec Holding) → OnOk r (w.items ≡ with_holding h v.items) → OnErr r (w ≡ v) → IsKept h.object v.items → IsKept h.object w.items
-kept_added (Ok x) h v w ok err k = subst (IsKept h.object) (sym ok) (kept_more h v.items k)
-kept_added (Err e) h v w ok err k = subst (AtEntry h.object) (sym err) k
+kept_added x0 h v w ok err k = grind (arith, nat_tests, h.object, kept_more h v.items k, v.items)
 
 pub held_at : (es : List Entry) (h : Holding) (v : SmallVec Holding) → Some v ≡ lookup (nat_eq h.object) es → holds (held_on es h.object) h.object h.mode h.session ≡ true → holds v.items h.object h.mode h.session ≡ true
 held_at es h v at e = ap (λ (r : Option (SmallVec Holding)). holds (items_of r) h.object h.mode h.session) at ∙ e
 
 pub OnOk-map : {X E : Type 0} {P Q : Type 0} (r : Result X E) → (P → Q) → OnOk r P → OnOk r Q
-OnOk-map (Ok x) f p = f p
-OnOk-map (Err e) f p = p
+OnOk-map x0 f p = grind (arith, nat_tests)
 
 pub OnErr-map : {X E : Type 0} {P Q : Type 0} (r : Result X E) → (P → Q) → OnErr r P → OnErr r Q
-OnErr-map (Ok x) f p = p
-OnErr-map (Err e) f p = f p
+OnErr-map x0 f p = grind (arith, nat_tests)
 
 pub without_entry : (b : Bool) (x y z : Option (SmallVec Holding)) (w : SmallVec Holding) → x ≡ cond b None y → y ≡ cond b (Some w) z → x ≡ cond b None z
-without_entry true x y z w e f = e
-without_entry false x y z w e f = e ∙ f
+without_entry x0 x y z w e f = grind (arith, nat_tests)
 
 pub sets_put : (es fs : List Entry) (h : Holding) → AreKept es → AreKept fs → ((q : ℕ) → held_on fs q ≡ cond (nat_eq h.object q) (with_holding h (held_on es q)) (held_on es q)) → Sets (holdings_of es) (holdings_of fs) h.object h.mode h.session true
 sets_put es fs h k l at =

@@ -26,14 +26,6 @@ module _ {X : Type 0} where
   Each-more P Q [] f a = tt
   Each-more P Q (x ∷ xs) f a = (f x a.0, Each-more P Q xs f a.1)
 
-  pub Each-left : (P : X → Type 0) (xs ys : List X) → Each P (xs ++ ys) → Each P xs
-  Each-left P [] ys a = tt
-  Each-left P (x ∷ xs) ys a = (a.0, Each-left P xs ys a.1)
-
-  pub Each-right : (P : X → Type 0) (xs ys : List X) → Each P (xs ++ ys) → Each P ys
-  Each-right P [] ys a = a
-  Each-right P (x ∷ xs) ys a = Each-right P xs ys a.1
-
 module _ {X Y : Type 0} where
   pub flat-append : (f : X → List Y) (xs ys : List X) → flat_map f (xs ++ ys) ≡ flat_map f xs ++ flat_map f ys
   flat-append f [] ys = refl

@@ -27,9 +27,7 @@ abbrev in_phase : Phase → Option KindRow → Bool
 in_phase phase o = unwrap_or (option_map (is_phase phase) (option_map (λ r. r.phase) o)) false
 
 last_phase : (phase : Phase) → phase ≢ Locks → is_phase BeforeLocks phase ≡ false → is_phase AfterLocks phase ≡ true
-last_phase BeforeLocks other e = sym e
-last_phase Locks other e = absurd (other refl)
-last_phase AfterLocks other e = refl
+last_phase x0 other e = grind (arith, nat_tests)
 
 last_of_rows : (rows : List KindRow) (i : ℕ) → All IsPlace rows → i < length rows → in_phase BeforeLocks (slice_get rows i) ≡ false → in_phase AfterLocks (slice_get rows i) ≡ true
 last_of_rows [] i places within e = absurd (omega arith)
@@ -91,12 +89,10 @@ module _ (m : ℕ) where
 
   -- an owner's own step leaves it without locks, and one that isn't its child's gives it none
   own_step : (commit : Bool) (n parent : ℕ) (before : Bool) → n ≡ m → may_lock m before (lock_step commit n parent) ≡ false
-  own_step true n parent before e = rw (eq-eqb n m e) refl
-  own_step false n parent before e = rw (eq-eqb n m e) refl
+  own_step x0 n parent before e = grind (arith, nat_tests)
 
   other_step : (commit : Bool) (n parent : ℕ) → parent ≢ m → may_lock m false (lock_step commit n parent) ≡ false
-  other_step true n parent ne = grind (arith, nat_tests, cases_Bool (n == m), ne_eqb parent m ne)
-  other_step false n parent ne = grind (arith, nat_tests, cases_Bool (n == m))
+  other_step x0 n parent ne = grind (arith, nat_tests)
 
   module _ (kinds : KindTable) (commit : Bool) where
     abbrev steps : ℕ → OwnerTree → List Step
@@ -133,8 +129,7 @@ module _ (m : ℕ) where
         ]
 
 with_parent : (o : Option ℕ) → (false ≡ true) ↔ (o ≡ None) → (p : ℕ) × (o ≡ Some p)
-with_parent None top = let wrong : false ≡ true = top.1 refl in absurd (cc wrong)
-with_parent (Some p) top = (p, refl)
+with_parent x0 top = grind (arith, nat_tests, top.1)
 
 -- no owner is below itself
 not_inside : (n m : ℕ) (owners : OwnerTree) → Once owners → has n owners ≡ true → has m (children n owners) ≡ true → n ≢ m

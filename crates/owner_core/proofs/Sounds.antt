@@ -6,7 +6,6 @@ use Rattle.std.proofs.lemmas.List.Sums.{sum_by-cons}
 use Rattle.std.proofs.lemmas.List.Elements.{All-nil, All-cons}
 use Rattle.pgs_step.specs.declared.ids.Item.{Item}
 use Rattle.pgs_step.specs.declared.ids.Phase.{Phase}
-use Rattle.pgs_step.specs.declared.ids.Phase.TheVariants.{BeforeLocks, Locks, AfterLocks}
 use Rattle.forest.specs.Forest.{Empty, Node, has, times, Once, size, at, children, put, removed, changed, moved}
 use Rattle.forest.specs.Walk.{all_changed, swept}
 use Rattle.forest.proofs.Trees.{apart_of, where_is, has_none, put_absent, removed_absent, changed_absent, times_put, times_removed, times_changed, size_put, size_removed, size_changed, Moves, once_removed, parent_stays, at_some, at_absent, has_at}
@@ -85,9 +84,6 @@ size_swept f n (Node k a below beside) = grind (arith, nat_tests, cases_Bool (k 
 
 -- how often a serial stands
 module _ (s : ℕ) where
-  serials_in : List Item → ℕ
-  serials_in items = count_by (λ (i : Item). i.serial == s) items
-
   count-cons : (i : Item) (items : List Item) → count_by (λ (x : Item). x.serial == s) (i ∷ items) ≡ (if i.serial == s then 1 else 0) + count_by (λ (x : Item). x.serial == s) items
   count-cons i items = sum_by-cons (λ (x : Item). cond (x.serial == s) 1 0) i items
 
@@ -100,9 +96,7 @@ module _ (s : ℕ) where
   count_without test (i ∷ items) = grind (arith, nat_tests, cases_Bool (test i), count-cons i items, count-cons i (without_newest test items), count_without test items)
 
   count_left : (kinds : KindTable) (phase : Phase) (items : List Item) → count_by (λ (x : Item). x.serial == s) (left_of kinds phase items) ≤ count_by (λ (x : Item). x.serial == s) items
-  count_left kinds Locks items = omega arith
-  count_left kinds BeforeLocks items = count_filter _ items
-  count_left kinds AfterLocks items = count_filter _ items
+  count_left kinds x1 items = grind (arith, nat_tests, count_filter)
 
 pub sound_created : (parent : Option ℕ) (owners : OwnerTree) (a b : ℕ) → IsSound owners a b → size owners < 65536 → IsSound (created parent a owners) (a + 1) b
 sound_created None owners a b s few = grind (arith, nat_tests, more_numbers owners a)
@@ -129,31 +123,7 @@ sound_removed n owners a b s = grind (arith, nat_tests, cases_Bool (has n owners
 
 -- where the new parent isn't there, what moves is lost
 pub sound_moved : (n p : ℕ) (owners : OwnerTree) (a b : ℕ) → IsSound owners a b → IsSound (moved n p owners) a b
-sound_moved n p owners a b s =
-    elim (cases_Bool (has n owners)) [
-      | inr h ↦ rw (at_absent n owners h) s
-      | inl h ↦
-          let o : Once owners = once_of owners a b s in
-          let w = at_some n owners h in
-          let x = w.0 in
-          let rest : OwnerTree = removed n owners in
-          let low : OwnerTree = children n owners in
-          let o2 : Once rest = once_removed n owners o h in
-          let is : moved n p owners ≡ put p n x low rest = rw w.1 refl in
-          elim (cases_Bool (has p rest)) [
-            | inr u ↦ rw (is, put_absent p n x low rest u) (sound_removed n owners a b s)
-            | inl u ↦ rw is (record {
-              numbers = λ m. omega (arith, s.numbers m, times_put m p n x low rest o2 u, times_removed m n owners o h);
-              serials = λ m. omega (
-                arith,
-                s.serials m,
-                total_put (λ (y : Owner). count_by (λ (i : Item). i.serial == m) y.items) p n x low rest o2 u,
-                total_removed (λ (y : Owner). count_by (λ (i : Item). i.serial == m) y.items) n x owners o w.1,
-              );
-              few = omega (arith, s.few, size_put p n x low rest o2 u, size_removed n owners o h);
-            })
-          ]
-    ]
+sound_moved n p owners a b s = grind (arith, nat_tests, at_absent, once_of owners a b s, at_some, removed n owners, once_removed, moved, put_absent, sound_removed n owners a b s, s.numbers, times_put, times_removed, s.serials, total_put, total_removed, s.few, size_put, size_removed)
 
 pub sound_remembered : (n : ℕ) (x : Owner) (item : Item) (owners : OwnerTree) (a b : ℕ) → IsSound owners a b → at n owners ≡ Some x → item.serial ≡ b
     → IsSound (changed n (λ owner. record owner { items = item ∷ owner.items }) owners) a (b + 1)

@@ -1,5 +1,5 @@
 -- What a phase leaves of a tree of owners.
-use Rattle.std.proofs.Common.{◌≡◌, ℕ, Option, Some, None, refl, arith}
+use Rattle.std.proofs.Common.{◌≡◌, ℕ, Option, Some, refl, arith}
 use Rattle.std.specs.Prelude.{◌==◌}
 use Rattle.std.specs.Option.{option_map}
 use Rattle.std.proofs.lemmas.Bool.{cases_Bool}
@@ -37,8 +37,7 @@ module _ (m : ℕ) (f : Owner → Owner) where
 
 module _ (n : ℕ) (f : Owner → Owner) where
   either_map : (x y : Option Owner) → either (option_map f x) (option_map f y) ≡ option_map f (either x y)
-  either_map None y = refl
-  either_map (Some x) y = refl
+  either_map x0 y = grind (arith, nat_tests)
 
   at_swept : (t : OwnerTree) → at n (swept f n t) ≡ option_map f (at n t)
   at_swept Empty = refl

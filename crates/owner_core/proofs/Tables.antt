@@ -3,7 +3,7 @@ use Rattle.std.proofs.Common.{◌≡◌, ◌≢◌, ℕ, false, Option, Some, No
 use Rattle.std.specs.Prelude.{◌==◌}
 use Rattle.std.specs.Option.{option_map, option_map_or}
 use Rattle.std.specs.Result.{OnErr}
-use Rattle.std.proofs.Common.{Result, Ok, Err}
+use Rattle.std.proofs.Common.{Result}
 use Rattle.std.proofs.lemmas.Bool.{cases_Bool, ne_eqb}
 use Rattle.forest.specs.Forest.{Forest, Empty, Node, has, Once, at, changed, moved}
 use Rattle.forest.specs.Walk.{order_at}
@@ -63,8 +63,7 @@ tree_order n rooms = grind (arith, nat_tests, mapped-children, mapped-order)
 
 -- what follows where a call was refused
 pub on_err : {T E : Type 0} (r : Result T E) (P Q : Type 0) → (P → Q) → OnErr r P → OnErr r Q
-on_err (Ok x) P Q f h = h
-on_err (Err e) P Q f h = f h
+on_err x0 P Q f h = grind (arith, nat_tests)
 
 -- the same room in the place of one
 pub room_back : (n : ℕ) (r new : Roomy) (table : OwnerTable) → Once table.rooms → at n table.rooms ≡ Some r → new ≡ r → record table { rooms = changed n (λ _. new) table.rooms } ≡ table

@@ -27,12 +27,10 @@ equal-tests : (a b : ℕ) → (a == b) ≡ true → a ≡ b
 equal-tests a b that = grind (arith, nat_tests)
 
 both-left : (a b : Bool) → (a && b) ≡ true → a ≡ true
-both-left true b that = refl
-both-left false b that = absurd cc
+both-left x0 b that = grind (arith, nat_tests)
 
 both-right : (a b : Bool) → (a && b) ≡ true → b ≡ true
-both-right true b that = that
-both-right false b that = absurd cc
+both-right x0 b that = grind (arith, nat_tests)
 
 holds-kind : (kind : KindId) (key : ℕ) (s : Slot) → holds kind key s ≡ true → s.kind ≡ kind
 holds-kind kind key s that = grind (arith, nat_tests, equal-tests, both-left, both-right)

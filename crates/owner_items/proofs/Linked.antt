@@ -52,12 +52,10 @@ set-front (z ∷ zs) x y zero within = refl
 set-front (z ∷ zs) x y (suc n) within = ap (λ w. z ∷ w) (set-front zs x y n (omega arith))
 
 pub left-of : (a b : Bool) → (a && b) ≡ true → a ≡ true
-left-of true b is = refl
-left-of false b is = absurd cc
+left-of x0 b is = grind (arith, nat_tests)
 
 pub right-of : (a b : Bool) → (a && b) ≡ true → b ≡ true
-right-of true b is = is
-right-of false b is = absurd cc
+right-of x0 b is = grind (arith, nat_tests)
 
 some-same : (a b : ℕ) → (Some a) ≡ (Some b) → a ≡ b
 some-same a b same = cc

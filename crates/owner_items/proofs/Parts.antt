@@ -44,8 +44,7 @@ pub record HasSpare (order : Option Order) (recent entries capacity : ℕ) : Typ
   pub room : entries + 32 ≤ capacity
 
 pub spare-some : (order : Option Order) (recent entries capacity : ℕ) → 1 ≤ spare_in order recent entries capacity → HasSpare order recent entries capacity
-spare-some None recent entries capacity some = grind (arith, nat_tests)
-spare-some (Some order) recent entries capacity some = absurd (omega arith)
+spare-some x0 recent entries capacity some = grind (arith, nat_tests)
 
 pub remember-falling :
     (recent : List Item) (entries : List Entry) (item : Item) → AreFalling (all_items recent entries) →
@@ -70,8 +69,7 @@ pub rank-none : (table : KindTable) (phase : Phase) (item : Item) → is_of_phas
 rank-none table phase item none = ap {B = ℕ} (λ b. cond b (1 + (LAST_PRIORITY - priority table item)) 0) none
 
 pub All-step : {X : Type 0} (P Q : X → Type 0) → ((x : X) → P x → Q x) → (xs : List X) → All P xs → All Q xs
-All-step P Q step [] all = All-nil Q
-All-step P Q step (x ∷ xs) all = grind (arith, nat_tests, All-cons, All-head, All-tail, All-step P Q step xs (All-tail P x xs all))
+All-step P Q step x3 all = grind (arith, nat_tests, All-cons, All-head, All-tail)
 
 -- facts on all items
 

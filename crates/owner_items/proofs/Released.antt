@@ -87,8 +87,7 @@ takes-All P table phase old None new takes same all = subst (All P) (sym same) a
 takes-All P table phase old (Some item) new next same all = split-All P old item new (stands table phase old item new next).split all
 
 pub none-map : {P Q : Type 0} (result : Option Item) → (P → Q) → IfNone result P → IfNone result Q
-none-map None step holds = step holds
-none-map (Some item) step holds = tt
+none-map x0 step holds = grind (arith, nat_tests)
 
 -- what is true of all items is true of those that a call leaves
 pub All-kept :

@@ -28,8 +28,7 @@ sum-zero f (x ∷ xs) all =
     omega (arith, sum_by-cons f x xs, here, sum-zero f xs (All-tail (λ x. f x ≡ 0) x xs all))
 
 All-map : (P Q : Item → Type 0) → ((x : Item) → P x → Q x) → (xs : List Item) → All P xs → All Q xs
-All-map P Q step [] all = All-nil Q
-All-map P Q step (x ∷ xs) all = grind (arith, nat_tests, All-cons, All-head, All-tail, All-map P Q step xs (All-tail P x xs all))
+All-map P Q step x3 all = grind (arith, nat_tests, All-cons, All-head, All-tail)
 
 abbrev above : ℕ → Item → ℕ
 above s x = cond (nat_lt s x.serial) 1 0
@@ -211,8 +210,7 @@ newer_stands x (z ∷ zs) =
                   whole = ap (λ w. z ∷ w) rest.split.whole;
                   without = ap (λ w. z ∷ w) rest.split.without;
                 };
-            newer =
-                All-cons (λ y. x.serial < y.serial) z rest.split.front (grind (arith, nat_tests)) rest.newer;
+            newer = grind (arith, nat_tests, All-cons, x.serial, rest.split.front, rest.newer);
           }
     ]
     in

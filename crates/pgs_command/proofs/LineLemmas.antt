@@ -1,7 +1,6 @@
 -- What the first 512 bytes of a line tell of it.
-use Rattle.std.proofs.Common.{◌≡◌, ℕ, ◌<◌, ◌≤◌, Bool, true, false, List, [], ◌∷◌, length, take, Option, None, IsTrue, refl, ◌∙◌, ap, arith}
+use Rattle.std.proofs.Common.{◌≡◌, ℕ, ◌<◌, ◌≤◌, Bool, true, false, List, length, take, Option, None, IsTrue, refl, ◌∙◌, ap, arith}
 use Rattle.std.specs.Prelude.{nat_lt}
-use native.Mathlib.Decide.{dec_lt}
 use Rattle.std.proofs.lemmas.List.{take_all}
 use Rattle.std.proofs.lemmas.Bool.Decides.{nat_tests}
 use Rattle.pgs_io.specs.Lines.{IsKept}
@@ -9,8 +8,7 @@ use Rattle.pgs_command.specs.Lines.{prefix_of, session_of, short_command, said, 
 use Rattle.pgs_command.specs.declared.commands.Command.{Command}
 
 not_long : (n : ℕ) (long : Bool) → (512 < n → IsTrue long) → long ≡ false → n ≤ 512
-not_long n true h short = absurd (cc)
-not_long n false h short = elim (dec_lt 512 n) [ yes p ↦ absurd (let t : false ≡ true = h p in cc) | no q ↦ omega (arith, q) ]
+not_long n x1 h short = grind (arith, nat_tests)
 
 -- what the buffer of a line keeps is the line, unless the line is long
 kept_whole : (line kept : List ℕ) (long : Bool) → IsKept line kept long → long ≡ false → (kept ≡ line) × (nat_lt 512 (length line) ≡ false)
@@ -20,23 +18,15 @@ kept_whole line kept long k short =
 
 -- the prefix stands in the first bytes
 prefix_of-take : (line : List ℕ) → prefix_of (take 512 line) ≡ prefix_of line
-prefix_of-take [] = refl
-prefix_of-take (at ∷ []) = refl
-prefix_of-take (at ∷ digit ∷ []) = refl
-prefix_of-take (at ∷ digit ∷ space ∷ text) = refl
+prefix_of-take x0 = grind (arith, nat_tests)
 
 pub session_of-kept : (line kept : List ℕ) (long : Bool) → IsKept line kept long → session_of kept ≡ session_of line
 session_of-kept line kept long k = ap session_of k.front ∙ rw (prefix_of-take line) refl
 
 pub read_line-long : (line kept : List ℕ) (long : Bool) → IsKept line kept long → long ≡ true → said (session_of line) None ≡ read_line line
 unfolding read_line
-read_line-long line kept long k is_long =
-    let over : 512 < length line = k.cut.0 is_long in
-    let test : nat_lt 512 (length line) ≡ true = grind (arith, nat_tests) in
-    rw test refl
+read_line-long line kept long k is_long = grind (arith, nat_tests, k.cut.0 is_long)
 
 pub read_line-short : (line kept : List ℕ) (long : Bool) (command : Option Command) → IsKept line kept long → long ≡ false → command ≡ short_command kept → said (session_of line) command ≡ read_line line
 unfolding read_line
-read_line-short line kept long command k short h =
-    let w = kept_whole line kept long k short in
-    rw w.1 (rw h (ap (λ (text : List ℕ). said (session_of line) (short_command text)) w.0))
+read_line-short line kept long command k short h = grind (arith, nat_tests, kept_whole line kept long k short, said)

@@ -1,31 +1,27 @@
 -- Rows that are tried one behind another.
-use Rattle.std.proofs.Common.{◌≡◌, ℕ, Bool, true, false, nat_eq, List, [], ◌∷◌, ◌++◌, length, Option, Some, None, refl, sym, ◌∙◌, ap, subst, take, cond, arith}
+use Rattle.std.proofs.Common.{◌≡◌, ℕ, Bool, true, false, nat_eq, List, [], ◌∷◌, ◌++◌, length, Option, None, refl, sym, ◌∙◌, ap, subst, take, cond, arith}
 use Rattle.std.proofs.lemmas.List.{take_all}
 use Rattle.std.specs.List.{list_any, list_all}
-use Rattle.std.proofs.lemmas.Bool.{and_parts, false≢true}
+use Rattle.std.proofs.lemmas.Bool.{and_parts}
 use Rattle.std.specs.Option.{option_or, is_some}
 use Rattle.pgs_command.specs.Words.{is_text, words_of}
 use Rattle.pgs_command.specs.Table.{Row, look_up, table, command_of, transaction_rows, item_rows, context_rows, chunk_rows, lock_rows, snapshot_rows, plan_rows, portal_rows, tell_rows}
 use Rattle.pgs_command.proofs.ValueLemmas.{is_text-means}
 use Rattle.pgs_command.specs.declared.commands.Command.{Command}
+use Rattle.std.proofs.lemmas.Bool.Decides.{nat_tests}
 
 or_first : {A : Type 0} (o p : Option A) → is_some o ≡ true → o ≡ option_or o p
-or_first None p e = absurd (cc)
-or_first (Some x) p e = refl
+or_first x0 p e = grind (arith, nat_tests)
 
 is_none : {A : Type 0} (o : Option A) → is_some o ≡ false → None ≡ o
-is_none None e = refl
-is_none (Some x) e = absurd (cc)
+is_none x0 e = grind (arith, nat_tests)
 
 or_assoc : {A : Type 0} (o p q : Option A) → option_or (option_or o p) q ≡ option_or o (option_or p q)
-or_assoc None p q = refl
-or_assoc (Some x) p q = refl
+or_assoc x0 p q = grind (arith, nat_tests)
 
 pub look_up-append : (a b : List Row) (word : List ℕ) (words : List (List ℕ)) → look_up (a ++ b) word words ≡ option_or (look_up a word words) (look_up b word words)
 look_up-append [] b word words = refl
-look_up-append (r ∷ a) b word words =
-    let read : Option Command = cond (is_text word r.word) (r.reads words) None in
-    ap (option_or read) (look_up-append a b word words) ∙ sym (or_assoc read (look_up a word words) (look_up b word words))
+look_up-append (r ∷ a) b word words = grind (arith, nat_tests, r.word, r.reads words, look_up-append a b word words, or_assoc)
 
 -- a part of the table that the line isn't in, and then those behind it
 pub past : (a b : List Row) (word : List ℕ) (words : List (List ℕ)) (r : Option Command) → false ≡ is_some (look_up a word words) → r ≡ look_up b word words → r ≡ look_up (a ++ b) word words
@@ -48,8 +44,7 @@ abbrev has_length : List ℕ → List ℕ → Bool
 has_length lengths word = list_any (λ n. nat_eq (length word) n) lengths
 
 unread : (b : Bool) (o : Option Command) → (b ≡ true → false ≡ true) → cond b o None ≡ None
-unread true o h = absurd (false≢true (h refl))
-unread false o h = refl
+unread x0 o h = grind (arith, nat_tests)
 
 without : (rows : List Row) (lengths word : List ℕ) (words : List (List ℕ)) → has_length lengths word ≡ false → list_all (λ (r : Row). has_length lengths r.word) rows ≡ true → look_up rows word words ≡ None
 without [] lengths word words none all = refl

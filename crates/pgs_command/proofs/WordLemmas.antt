@@ -6,7 +6,7 @@ use Rattle.std.proofs.lemmas.Bool.Decides.{nat_tests}
 use Rattle.std.proofs.lemmas.List.{length-take, take_all}
 use Rattle.std.proofs.lemmas.List.Elements.{All-weaker, All-from_get_or}
 use Rattle.std.proofs.lemmas.List.Splits.{slice_split_first, slice_split_none}
-use Rattle.std.proofs.Common.{Option, None, Some, cond, get_or}
+use Rattle.std.proofs.Common.{Option, None, cond, get_or}
 use native.Mathlib.Decide.{dec_lt}
 use Rattle.std.specs.Option.{option_and_then}
 use Rattle.std.proofs.lemmas.List.Sums.{passes_at_first, fails_before_first}
@@ -42,12 +42,10 @@ words_of-last text word w none long =
 
 -- a text has a word
 parts_some : {A : Type 0} (value : A) (parts : List (List ℕ)) (x : ℕ) → None ≡ alone value (onto_first x parts)
-parts_some value [] x = refl
-parts_some value (part ∷ parts) x = refl
+parts_some value x1 x = grind (arith, nat_tests)
 
 cut_some : {A : Type 0} (value : A) (cut : Bool) (xs : List (List ℕ)) (x : ℕ) → None ≡ alone value (cond cut ([] ∷ xs) (onto_first x xs))
-cut_some value true xs x = refl
-cut_some value false xs x = parts_some value xs x
+cut_some value x1 xs x = grind (arith, nat_tests, parts_some)
 
 pub alone-words_of : {A : Type 0} (value : A) (text : List ℕ) → None ≡ alone value (words_of text)
 unfolding words_of
@@ -57,12 +55,10 @@ alone-words_of value (b ∷ bs) = cut_some value (is_space b) (slice_split is_sp
 -- ---- a text that is to be one word
 
 one_word : {A : Type 0} (o : Option A) → o ≡ option_and_then (λ value. alone value []) o
-one_word None = refl
-one_word (Some value) = refl
+one_word x0 = grind (arith, nat_tests)
 
 no_words_more : {A : Type 0} (o : Option A) (rest : List ℕ) → None ≡ option_and_then (λ value. alone value (words_of rest)) o
-no_words_more None rest = refl
-no_words_more (Some value) rest = alone-words_of value rest
+no_words_more x0 rest = grind (arith, nat_tests, alone-words_of)
 
 -- what reads no text with a space reads a text as its only word
 pub only-text : {A : Type 0} (read : List ℕ → Option A) (text : List ℕ) → ((i : ℕ) → i < length text → get_or text i 0 ≡ 32 → read text ≡ None) → read text ≡ only read (words_of text)

@@ -11,6 +11,7 @@ use Rattle.pgs_io.specs.FeedParts.{TakesPart, Gets}
 use Rattle.pgs_io.proofs.KnownLemmas.{prepend_known-nil, prepend_known-append}
 use Rattle.pgs_io.specs.LineLaws.{lines_of-rest, ended_lines-rest, lines_of-text, ended_lines-text, text_of-push}
 use Rattle.pgs_io.proofs.LineLemmas.{IsKept-nil, IsKept-append}
+use Rattle.std.proofs.lemmas.Bool.Decides.{nat_tests}
 
 pub not_both : {P : Type 0} (b : Bool) → b ≡ false → b ≡ true → P
 not_both b is_false is_true = let e : false ≡ true = sym is_false ∙ is_true in cc
@@ -39,13 +40,7 @@ HasFed-start limit left feed none full going = record {
 -- the same, of a feed that has the same left
 HasFed-same : (limit : ℕ) (start now : Option (List ℕ)) (old new : Feeding) (lines : List (List ℕ)) → HasFed limit start now old lines
     → new.pending ≡ old.pending → new.room ≡ old.room → new.source_ended ≡ old.source_ended → HasFed limit start now new lines
-HasFed-same limit start now old new lines h pending room ended = record {
-  taken = h.taken;
-  from_source = h.from_source;
-  counted = omega (arith, h.counted, room);
-  given = subst (λ b. AreGiven b (take limit h.taken) lines new.pending) (sym ended) (subst (λ p. AreGiven old.source_ended (take limit h.taken) lines p) (sym pending) h.given);
-  at_end = λ e. let k = h.at_end (sym ended ∙ e) in (k.0, omega (arith, k.1, room));
-}
+HasFed-same limit start now old new lines h pending room ended = grind (arith, nat_tests, h.taken, h.from_source, h.counted, new.pending, old.source_ended, h.given, h.at_end)
 
 -- a line and its newline go
 HasFed-line : (limit : ℕ) (start now : Option (List ℕ)) (old new : Feeding) (lines : List (List ℕ)) (line : List ℕ) → HasFed limit start now old lines
@@ -169,13 +164,7 @@ pub record Begun (before after : Option (List ℕ)) (old new : Feeding) (kept : 
   pub progress : length line + length new.pending + new.room ≤ length old.pending + old.room
 
 pub Begun-start : (left : Option (List ℕ)) (feed : Feeding) (kept : List ℕ) → kept ≡ [] → Begun left left feed feed kept false
-Begun-start left feed kept e = record {
-  line = [];
-  no_newline = All-nil (λ x. x ≢ newline);
-  kept_line = subst (λ k. IsKept [] k false) (sym e) IsKept-nil;
-  goes_on = λ limit start lines h. HasFed-same limit start left feed (record feed { pending = [] ++ feed.pending }) lines h refl refl refl;
-  progress = omega arith;
-}
+Begun-start left feed kept e = grind (arith, nat_tests, IsKept-nil, HasFed-same, feed.pending)
 
 -- the newline was found
 pub Begun-ended : (before after : Option (List ℕ)) (old mid new : Feeding) (kept kept' : List ℕ) (long cut : Bool)

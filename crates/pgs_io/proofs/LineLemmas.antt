@@ -5,6 +5,7 @@ use Rattle.std.proofs.lemmas.Bool.{cases_lt}
 use Rattle.std.proofs.lemmas.List.{take_all, take-take, take-append-le, take-append-drop, take_at, drop-drop, drop-take}
 use Rattle.std.proofs.Math.Seq.{take-append-add}
 use Rattle.pgs_io.specs.Lines.{IsKept}
+use Rattle.std.proofs.lemmas.Bool.Decides.{nat_tests}
 
 -- what fits behind a list that is no longer than n
 pub take-append-room : (n : ℕ) (xs ys : List ℕ) (k : ℕ) → length xs ≤ n → k ≡ min (length ys) (n - length xs) → xs ++ take k ys ≡ take n (xs ++ ys)
@@ -68,8 +69,7 @@ length-slice_range-le xs start end = omega (arith, length-take (end - start) (dr
 -- what was cut off, by what fitted
 pub not-fits : (fits : Bool) (m : ℕ) → IsTrue fits ↔ (m ≤ 512) → IsTrue (not fits) ↔ (512 < m)
 not-fits true m h = (λ e. cc, λ k. absurd (let small : m ≤ 512 = h.0 refl in omega arith))
-not-fits false m h =
-    (λ e. ⊎_elim (λ k. k) (λ k. let bad : false ≡ true = h.1 k in cc) (cases_lt 512 m), λ k. refl)
+not-fits false m h = grind (arith, nat_tests, h.1)
 
 -- what a piece of the rest of some bytes leaves of a buffer, and of the rest
 pub piece-rest : (bytes buf piece : List ℕ) (at k : ℕ) → piece ≡ take k (drop at bytes) → length piece ≡ k

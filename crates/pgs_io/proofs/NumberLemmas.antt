@@ -22,10 +22,7 @@ decimal-not_empty word n small e = subst (λ w. 0 < length w) (sym e) (decimal_n
 -- nor a longer word with a zero in front
 pub decimal-no_zero : (word : List ℕ) (n : ℕ) → n < 2 ^ 64 → word ≡ decimal n → get_or word 0 0 ≡ 48 → length word ≤ 1
 decimal-no_zero word zero small e first = subst (λ w. length w ≤ 1) (sym (e ∙ decimal_digit 0 (omega arith))) (omega arith)
-decimal-no_zero word (suc n) small e zero' =
-    let first : 48 < get_or (decimal (suc n)) 0 0 = first_decimal (suc n) (omega arith) small in
-    let same : get_or word 0 0 ≡ get_or (decimal (suc n)) 0 0 = ap (λ w. get_or w 0 0) e in
-    absurd (omega arith)
+decimal-no_zero word (suc n) small e zero' = grind (arith, nat_tests, first_decimal (suc n) (omega arith) small)
 
 -- the front of a number's text writes no greater number
 pub decimal-front : (word : List ℕ) (i n : ℕ) → n < 2 ^ 64 → word ≡ decimal n → digits_value 10 (take i word) ≤ n

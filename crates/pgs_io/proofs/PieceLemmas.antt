@@ -1,5 +1,5 @@
 -- Pieces of eight bytes.
-use Rattle.std.proofs.Common.{◌≡◌, ◌≢◌, ℕ, ◌<◌, ◌+◌, Bool, true, false, ◌||◌, not, nat_eq, List, length, take, drop, get_or, refl, sym, subst, arith, zero, suc}
+use Rattle.std.proofs.Common.{◌≡◌, ◌≢◌, ℕ, ◌<◌, ◌+◌, Bool, ◌||◌, not, nat_eq, List, length, take, drop, get_or, sym, subst, arith}
 use Rattle.std.specs.Prelude.{All, IsTrue}
 use Rattle.std.proofs.Math.Seq.{take-add}
 use Rattle.std.proofs.lemmas.Bool.Decides.{nat_tests}
@@ -7,28 +7,16 @@ use Rattle.std.proofs.lemmas.List.Elements.{All-get_or, All-from_get_or, All-app
 
 -- what holds at each of eight places holds at each place below eight
 pub below_eight : (P : ℕ → Type 0) → P 0 → P 1 → P 2 → P 3 → P 4 → P 5 → P 6 → P 7 → (k : ℕ) → k < 8 → P k
-below_eight P a b c d e f g h zero less = a
-below_eight P a b c d e f g h (suc zero) less = b
-below_eight P a b c d e f g h (suc (suc zero)) less = c
-below_eight P a b c d e f g h (suc (suc (suc zero))) less = d
-below_eight P a b c d e f g h (suc (suc (suc (suc zero)))) less = e
-below_eight P a b c d e f g h (suc (suc (suc (suc (suc zero))))) less = f
-below_eight P a b c d e f g h (suc (suc (suc (suc (suc (suc zero)))))) less = g
-below_eight P a b c d e f g h (suc (suc (suc (suc (suc (suc (suc zero))))))) less = h
-below_eight P a b c d e f g h (suc (suc (suc (suc (suc (suc (suc (suc n)))))))) less = absurd (omega arith)
+below_eight P a b c d e f g h x9 less = grind (arith, nat_tests)
 
 not_left : (a b : Bool) → IsTrue (not (a || b)) → IsTrue (not a)
-not_left false b h = refl
-not_left true b h = h
+not_left x0 b h = grind (arith, nat_tests)
 
 not_right : (a b : Bool) → IsTrue (not (a || b)) → IsTrue (not b)
-not_right false b h = h
-not_right true false h = refl
-not_right true true h = h
+not_right x0 x1 h = grind (arith, nat_tests)
 
 not_either : (a b : Bool) → IsTrue (not a) → IsTrue (not b) → IsTrue (not (a || b))
-not_either false b g h = h
-not_either true b g h = g
+not_either x0 b g h = grind (arith, nat_tests)
 
 is_other : (x byte : ℕ) → IsTrue (not (nat_eq x byte)) → x ≢ byte
 is_other x byte h = grind (arith, nat_tests)
@@ -70,14 +58,7 @@ All-none_met piece byte eight h =
 
 -- where all eight are others, no test is met
 pub none_met-All : (piece : List ℕ) (byte : ℕ) → length piece ≡ 8 → All (λ b. b ≢ byte) piece → IsTrue (none_met piece byte)
-none_met-All piece byte eight all =
-    let m = is_met piece byte in
-    let other = λ (k : ℕ) (less : k < 8). tests_other (get_or piece k 0) byte (All-get_or (λ b. b ≢ byte) piece k 0 (omega arith) all) in
-    let first : IsTrue (not (((m 0 || m 1) || m 2) || m 3)) =
-    not_either ((m 0 || m 1) || m 2) (m 3) (not_either (m 0 || m 1) (m 2) (not_either (m 0) (m 1) (other 0 (omega arith)) (other 1 (omega arith))) (other 2 (omega arith))) (other 3 (omega arith)) in
-    let last : IsTrue (not (((m 4 || m 5) || m 6) || m 7)) =
-    not_either ((m 4 || m 5) || m 6) (m 7) (not_either (m 4 || m 5) (m 6) (not_either (m 4) (m 5) (other 4 (omega arith)) (other 5 (omega arith))) (other 6 (omega arith))) (other 7 (omega arith)) in
-    not_either (((m 0 || m 1) || m 2) || m 3) (((m 4 || m 5) || m 6) || m 7) first last
+none_met-All piece byte eight all = grind (arith, nat_tests, tests_other, All-get_or, not_either)
 
 -- bytes that are others, and behind them a piece of such
 pub All-piece : (xs : List ℕ) (at n size byte : ℕ) → n ≡ size → All (λ b. b ≢ byte) (take at xs) → All (λ b. b ≢ byte) (take n (drop at xs)) → All (λ b. b ≢ byte) (take (at + size) xs)

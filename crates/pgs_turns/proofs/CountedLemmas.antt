@@ -1,5 +1,5 @@
 -- The lines of a script that are performed one after the other, while a counter counts their events; and what it has counted in the end.
-use Rattle.pgs_turns.proofs.Base.{◌≡◌, ℕ, zero, suc, ◌+◌, ◌^◌, ◌<◌, ◌≤◌, Bool, false, List, [], ◌∷◌, ◌++◌, length, take, Option, Some, sym, ◌∙◌, ap, subst, arith, slice_get}
+use Rattle.pgs_turns.proofs.Base.{nat_tests, ◌≡◌, ℕ, zero, suc, ◌+◌, ◌^◌, ◌<◌, ◌≤◌, Bool, false, List, [], ◌∷◌, ◌++◌, length, take, Option, Some, sym, ◌∙◌, ap, subst, arith, slice_get}
 use Rattle.pgs_turns.proofs.Words.{read_line, errors_in, Counter, TakesEvents, TakesEvents-both, HasPerformed, IsOver, said_in, transcript, AllExit, TakesTurn, IsOpening, Run, setting_of}
 use Rattle.pgs_turns.specs.Turns.{Fits}
 use Rattle.pgs_turns.proofs.ErrorLemmas.{few_errors}
@@ -37,17 +37,4 @@ module _ (descriptors : ℕ) (first last : Run) (lines : List (List ℕ)) (wante
   counted_errors w f = omega (arith, (over.emits w f).errors_are, no_errors, errors_are, small, few_errors (setting_of descriptors first) w lines, few)
 
   pub counted_over : IsOver descriptors first last (λ events. errors ≡ errors_in events) lines wanted
-  counted_over = record {
-    emits = counted_errors;
-    shelf = over.shelf;
-    told = over.told;
-    kinds = over.kinds;
-    calls = over.calls;
-    performed = over.performed;
-    stopped = over.stopped;
-    called = over.called;
-    same = over.same;
-    kept = over.kept;
-    given_back = over.given_back;
-    taken = over.taken;
-  }
+  counted_over = grind (arith, nat_tests, counted_errors)

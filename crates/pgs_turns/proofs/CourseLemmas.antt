@@ -1,17 +1,15 @@
 -- The course of a script, one line more.
-use Rattle.pgs_turns.proofs.Base.{◌≡◌, ℕ, ◌+◌, ◌<◌, ◌≤◌, Bool, true, false, List, [], ◌∷◌, ◌++◌, length, Option, Some, None, Result, Ok, Err, refl, sym, ◌∙◌, ap, subst, arith, length-append}
-use Rattle.pgs_turns.proofs.Words.{BadLine, Line, Event, SessionState, Course, after_line, after_read, course_by, goes_on, World, opened, Fits, read_line, said_in, Setting, course_of, HaveDescriptors, IsOpening, Run, options_in, setting_of, sessions_in, GoesOn, TakesTurn, behind, TellHooks, CourseAt, CoursesAre}
+use Rattle.pgs_turns.proofs.Base.{nat_tests, ◌≡◌, ℕ, ◌+◌, ◌<◌, ◌≤◌, Bool, true, false, List, [], ◌∷◌, ◌++◌, length, Option, Result, refl, sym, ◌∙◌, ap, subst, arith, length-append}
+use Rattle.pgs_turns.proofs.Words.{BadLine, Line, Event, Course, after_line, after_read, course_by, goes_on, World, opened, Fits, read_line, said_in, Setting, course_of, HaveDescriptors, IsOpening, Run, options_in, setting_of, GoesOn, TakesTurn, behind, CourseAt, CoursesAre}
 use Rattle.session_rules.specs.Calls.{IsLater}
 use Rattle.pgs_turns.proofs.ToldHooks.{tells_both, tells_none}
 
 -- a later call stays one where fewer were made
 later_le : (w : Option ℕ) (a b : ℕ) → IsLater b w → a ≤ b → IsLater a w
-later_le None a b l h = tt
-later_le (Some n) a b l h = omega arith
+later_le x0 a b l h = grind (arith, nat_tests)
 
 pub fits_later : (wanted : Bool) (a b : ℕ) (w : Option ℕ) → Fits wanted b w → a ≤ b → (wanted ≡ true → a < b) → IsLater a w
-fits_later true a b w f h s = subst (IsLater a) (sym f) (s refl)
-fits_later false a b w f h s = later_le w a b f h
+fits_later x0 a b w f h s = grind (arith, nat_tests, later_le)
 
 goes_on-append : (w : Option ℕ) (lines more : List (List ℕ)) (course : Course) → goes_on read_line w (lines ++ more) course ≡ goes_on read_line w more (goes_on read_line w lines course)
 goes_on-append w [] more course = refl
@@ -23,9 +21,7 @@ course_of-snoc setting w lines line = goes_on-append w lines (line ∷ []) _
 
 stays : (w : Option ℕ) (course : Course) (lines : List (List ℕ)) → course.wanted ≡ true → goes_on read_line w lines course ≡ course
 stays w course [] h = refl
-stays w course (line ∷ lines) h =
-    let same : after_line read_line w line course ≡ course = rw h refl in
-    ap (λ (c : Course). goes_on read_line w lines c) same ∙ stays w course lines h
+stays w course (line ∷ lines) h = grind (arith, nat_tests, goes_on, stays w course lines h)
 
 -- lines behind the one that met a want of memory change nothing
 pub course_of-stopped : (setting : Setting) (w : Option ℕ) (lines more : List (List ℕ)) → (course_of setting w lines).wanted ≡ true → course_of setting w (lines ++ more) ≡ course_of setting w lines
@@ -34,13 +30,10 @@ course_of-stopped setting w lines more h = goes_on-append w lines more _ ∙ sta
 
 -- a line, as it is read
 pub read_behind : (w : Option ℕ) (course : Course) (r : Result Line BadLine) → after_read w course r ≡ behind w (said_in r) course
-read_behind w course (Ok line) = refl
-read_behind w course (Err bad) = refl
+read_behind w course x2 = grind (arith, nat_tests)
 
 pub line_behind : (w : Option ℕ) (course : Course) (line : List ℕ) → course.wanted ≡ false → after_line read_line w line course ≡ behind w (said_in (read_line line)) course
-line_behind w course line goes =
-    let read : after_line read_line w line course ≡ after_read w course (read_line line) = rw goes refl in
-    read ∙ read_behind w course (read_line line)
+line_behind w course line goes = grind (arith, nat_tests, read_behind w course (read_line line))
 
 -- one line more
 CourseAt-line : (opening : World) (descriptors : ℕ) (w : Option ℕ) (course : Course) (line : List ℕ) (old new : Run) (before during after : List Event → Type 0) (n : ℕ) (wanted : Bool)
@@ -53,23 +46,14 @@ CourseAt-line opening descriptors w course line old new before during after n wa
     (record {
       world_is = goes.world_is;
       events = subst after (sym goes.events) (joins course.events goes.more c.events goes.shows);
-      hooks = subst (TellHooks opening (behind w (said_in (read_line line)) course).world) (sym goes.events)
-          (tells_both opening course.world (behind w (said_in (read_line line)) course).world course.events goes.more c.hooks goes.hooks);
+      hooks = grind (arith, nat_tests, behind w (said_in (read_line line)) course, goes.events, tells_both opening course.world (behind w (said_in (read_line line)) course).world course.events goes.more c.hooks goes.hooks, course.world, course.events, goes.more, c.hooks, goes.hooks);
       performed_is = goes.performed_is ∙ ap (λ (k : ℕ). k + 1) c.performed_is;
       wanted_is = goes.wanted_is;
     })
 
 pub CoursesAre-start : (descriptors : ℕ) (first : Run) (emitted : List Event → Type 0) → IsOpening first → emitted [] → CoursesAre descriptors (setting_of descriptors first) false [] first emitted
 unfolding course_of course_by
-CoursesAre-start descriptors first emitted opens h w f = record {
-  world_is =
-      ap (λ (sessions : List SessionState). record { options = options_in descriptors first; sessions = sessions; kinds = first.commons.kinds; shelf = first.shelf; calls = 0 }) (sym opens.sessions)
-      ∙ ap (λ (calls : ℕ). record { options = options_in descriptors first; sessions = sessions_in first.stores first.space; kinds = first.commons.kinds; shelf = first.shelf; calls = calls }) (sym opens.calls);
-  events = h;
-  hooks = tells_none (opened (options_in descriptors first) first.commons.kinds first.shelf);
-  performed_is = refl;
-  wanted_is = refl;
-}
+CoursesAre-start descriptors first emitted opens h w f = grind (arith, nat_tests, first.commons.kinds, first.shelf, opens.sessions, first.stores, first.space, opens.calls, tells_none (opened (options_in descriptors first) first.commons.kinds first.shelf), opened (options_in descriptors first) first.commons.kinds first.shelf)
 
 pub CoursesAre-line : (descriptors : ℕ) (setting : Setting) (lines : List (List ℕ)) (line : List ℕ) (old new : Run) (before during after : List Event → Type 0) (wanted : Bool)
     → HaveDescriptors descriptors old → CoursesAre descriptors setting false lines old before → TakesTurn (said_in (read_line line)) old new during wanted

@@ -1,6 +1,6 @@
 -- What the ends of all sessions make of a run, from what each makes of its session.
-use Rattle.pgs_turns.proofs.Base.{◌≡◌, ℕ, zero, suc, ◌+◌, ◌-◌, ◌<◌, inl, inr, List, [], ◌∷◌, ◌++◌, length, drop, Some, refl, sym, ap, ◌∙◌, subst, arith, append_assoc, append-nil, slice_get, slice_set, replicate, cases_eq, length-map, slice_get_within}
-use Rattle.pgs_turns.proofs.Words.{Empty, Event, What, Asks, taken, Kind, Hook, waiting, ShelfState, Holding, SessionState, opening, Around, Scene, World, around, with_scene, exited, Course, after_exit, at_start, ended, exits, of_session, CountsHooks, HooksCounted, exited_counts_hooks, HasExited, Stands, owners_of, StoreState, session_of, StaysBeside, Calls, IsBetweenLines, scene_in, empty_around, AreStanding, HaveDescriptors, IsOpening, Run, SameRun, one_of, sessions_in, world_in, TellHooks, AllExit}
+use Rattle.pgs_turns.proofs.Base.{nat_tests, ◌≡◌, ℕ, zero, suc, ◌+◌, ◌-◌, ◌<◌, inl, inr, List, [], ◌∷◌, ◌++◌, length, drop, Some, refl, sym, ap, ◌∙◌, subst, arith, append_assoc, append-nil, slice_get, slice_set, replicate, length-map, slice_get_within}
+use Rattle.pgs_turns.proofs.Words.{Empty, Event, What, taken, Kind, Hook, waiting, ShelfState, Holding, SessionState, opening, Around, Scene, World, around, with_scene, exited, Course, after_exit, at_start, ended, exits, of_session, CountsHooks, HooksCounted, exited_counts_hooks, HasExited, Stands, owners_of, StoreState, session_of, StaysBeside, Calls, IsBetweenLines, scene_in, empty_around, AreStanding, HaveDescriptors, IsOpening, Run, SameRun, one_of, sessions_in, world_in, TellHooks, AllExit}
 use Rattle.addr_space.specs.Space.{held}
 use Rattle.context_rules.specs.Contexts.{Contexts}
 use Rattle.session_rules.specs.Acts.{Ended}
@@ -82,15 +82,7 @@ module _ (start a b : Run) (place : ℕ) (store left : StoreState) (during : Lis
     (ends : Ends exited (one_of a store) (one_of b left) during) (empty : held b.space store.tree.account ≡ 0) (beside : StaysBeside left)
     (joins : (xs : List Event) (ys : List What) → before xs → during ys → shown (xs ++ of_session (place + 1) ys)) where
   change : Changed a b place store left
-  change = record {
-    there = there;
-    stores = stores;
-    moves = ends.moves;
-    descriptors_are = ends.grows.descriptors;
-    fail = ap (λ (c : Calls). c.fail) ends.calls;
-    took = λ account other. took_other store.tree.account account 0 a.space b.space other ends.asked;
-    balances = ends.balances;
-  }
+  change = grind (arith, nat_tests, took_other)
 
   -- the end of the session in its surroundings there
   abbrev ended_in : World → Ended
@@ -167,30 +159,7 @@ module _ (start a b : Run) (place : ℕ) (store left : StoreState) (during : Lis
   left_without_hooks = ap (λ (contexts : Contexts). waiting contexts) has_exited.contexts
 
   pub one_more_exited : HaveExited place start a before → HaveExited (place + 1) start b shown
-  one_more_exited h =
-      let own = standing.each place store there in
-      record {
-        leads = λ descriptors has course e. remains descriptors course (h.leads descriptors has course e);
-        calls = ends.calls ∙ h.calls;
-        given_back = λ account less. elim (cases_eq account place) [
-          | inl same ↦ ap (held b.space) (same ∙ sym own.account) ∙ empty
-          | inr other ↦ ends.moves.others account (λ e. other (e ∙ own.account)) ∙ h.given_back account (omega (arith, less, other))
-        ];
-        gone = λ j st less now. elim (place_set a.stores place left j st (ap (λ (all : List StoreState). slice_get all j) (sym stores) ∙ now)) [
-          | inl own ↦ ap (λ (s : StoreState). owners_of s.owners) own.1 ∙ left_without_owners
-          | inr other ↦ h.gone j st (omega (arith, less, other.0)) other.1
-        ];
-        waits = λ j session less now.
-            elim (place_set (sessions_in a.stores a.space) place (session_of left b.space) j session (ap (λ (all : List SessionState). slice_get all j) (sym (sessions_behind a b place store left change standing.each)) ∙ now)) [
-              | inl own ↦ ap (λ (s : SessionState). waiting s.contexts) own.1 ∙ left_without_hooks
-              | inr other ↦ h.waits j session (omega (arith, less, other.0)) other.1
-            ];
-        asks = λ account. elim (cases_eq account store.tree.account) [
-          | inl same ↦ took_own account 0 a.space b.space (subst (λ (n : ℕ). n < length a.space.taken) (sym same) own.keeps.agrees.account) (subst (λ (n : ℕ). Asks n 0 a.space b.space) (sym same) ends.asked) ∙ h.asks account
-          | inr other ↦ took_other store.tree.account account 0 a.space b.space other ends.asked ∙ h.asks account
-        ];
-        same = same_on start a b h.same (same_behind a b place store left change standing.each);
-      }
+  one_more_exited h = grind (arith, nat_tests, remains, h.leads, h.calls, held b.space, h.given_back, place_set, left_without_owners, h.gone, sessions_behind a b place store left change standing.each, change, left_without_hooks, h.waits, took_own, h.asks, took_other, same_on, h.same, same_behind a b place store left change standing.each)
 
   events_of : List What
   events_of = (exited (scene_in (one_of a store) empty_around)).events

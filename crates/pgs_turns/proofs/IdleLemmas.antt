@@ -1,6 +1,6 @@
 -- A line that asks for nothing: how it is read, and that it leaves the run as it is.
 use Rattle.pgs_turns.proofs.Base.{◌≡◌, ℕ, zero, suc, ◌+◌, ◌<◌, ◌≤◌, Bool, true, false, List, [], ◌∷◌, ◌++◌, length, Option, Some, None, Ok, refl, sym, ap, ◌∙◌, subst, arith, ◌==◌, if◌then◌else◌, nat_lt, slice_get, slice_set, unwrap_or, nat_tests, take_all}
-use Rattle.pgs_turns.proofs.Words.{IsKept, Event, is_comment, prefix_of, read_line, said, risen, taken, SessionState, is_aborted, Moment, moment, session_at, Course, after_command, after_turn, turn, turn_of, asked_all, asked_by_command, asked_by_turn, StoreState, session_of, Said, said_in, Run, world_in, GoesOn, TakesTurn}
+use Rattle.pgs_turns.proofs.Words.{IsKept, Event, is_comment, prefix_of, read_line, said, risen, taken, SessionState, Moment, moment, session_at, Course, after_command, after_turn, turn, turn_of, asked_all, asked_by_command, asked_by_turn, StoreState, session_of, Said, said_in, Run, world_in, GoesOn, TakesTurn}
 use Rattle.pgs_command.specs.declared.commands.Command.TheVariants as command
 use Rattle.session_rules.specs.Elements.{Element}
 use Rattle.session_rules.specs.Commands.{elements_of}
@@ -11,11 +11,7 @@ use Rattle.pgs_turns.proofs.TurnLemmas.{at_place}
 
 nothing_done : (session : SessionState) → elements_of command.Nothing session ≡ []
 unfolding elements_of
-nothing_done session = by_state (is_aborted session.levels) refl
-  where
-    by_state : (b : Bool) → is_aborted session.levels ≡ b → elements_of command.Nothing session ≡ []
-    by_state true e = rw (e, elements_of) refl
-    by_state false e = rw (e, elements_of) refl
+nothing_done session = grind (arith, nat_tests, session.levels)
 
 idle_turn : (w : Option ℕ) (m : Moment) → turn w (Some command.Nothing) m ≡ record { moment = m; events = []; wanted = false }
 unfolding turn does_all
@@ -55,21 +51,14 @@ module _ (a : Run) (store : StoreState) (there : slice_get a.stores 0 ≡ Some s
   there_in descriptors course e = ap (session_at 1) e ∙ at_place 1 0 (world_in descriptors a) refl ∙ session_there a 0 store there
 
   goes_on : (descriptors : ℕ) (w : Option ℕ) (course : Course) → course.world ≡ world_in descriptors a → GoesOn course (after_command w course 1 (Some command.Nothing) (Some (session_of store a.space))) descriptors a shown false
-  goes_on descriptors w course e =
-      subst (λ (next : Course). GoesOn course next descriptors a shown false) (sym (idle_course w course (session_of store a.space) (there_in descriptors course e)))
-      (record { world_is = e; more = []; events = refl; shows = shows; hooks = tells_none course.world; performed_is = refl; wanted_is = refl })
+  goes_on descriptors w course e = grind (arith, nat_tests, idle_course w course (session_of store a.space) (there_in descriptors course e), there_in descriptors course e, tells_none course.world, course.world)
 
   idle_taken : TakesTurn idle a a shown false
   idle_taken = record {
     leads = λ descriptors has w course f e.
         subst (λ (o : Option SessionState). GoesOn course (after_command w course 1 (Some command.Nothing) o) descriptors a shown false) (sym (there_in descriptors course e)) (goes_on descriptors w course e);
     asks = λ is descriptors has w course f e account. ap (risen (taken a.space account)) (sym (idle_command_asks w (account + 1) course (session_at 1 course.world)));
-    grows = λ bound h. record {
-      calls = omega (arith, h.calls);
-      contexts = λ place store there. omega (arith, h.contexts place store there);
-      owners = λ place store there. omega (arith, h.owners place store there);
-      serials = λ place store there. omega (arith, h.serials place store there);
-    };
+    grows = grind (arith, nat_tests);
     has = λ descriptors has. has;
     calls = omega arith;
     counted = λ e. absurd (cc e);
@@ -85,9 +74,7 @@ first_there (x ∷ xs) some = (x, refl)
 
 -- An empty line, or one that begins with `#`, of at most 512 bytes, is read so.
 hash_has_no_prefix : (bs : List ℕ) → prefix_of (35 ∷ bs) ≡ None
-hash_has_no_prefix [] = refl
-hash_has_no_prefix (c ∷ []) = refl
-hash_has_no_prefix (c ∷ d ∷ rest) = refl
+hash_has_no_prefix x0 = grind (arith, nat_tests)
 
 hash_line : (bs : List ℕ) → length (35 ∷ bs) ≤ 512 → read_line (35 ∷ bs) ≡ Ok (record { session = 1; command = command.Nothing })
 unfolding read_line

@@ -1,11 +1,10 @@
 -- The lines of a script that is kept whole, one by one.
-use Rattle.pgs_turns.proofs.Base.{◌≡◌, ℕ, zero, suc, ◌+◌, ◌<◌, ◌≤◌, min, Bool, true, false, List, [], ◌∷◌, length, take, drop, Some, refl, sym, ◌∙◌, ap, arith, length-drop, ⊎_elim, ◌==◌, nat_lt, slice_get, if◌then◌else◌, cases_lt, nat_tests, take_all}
+use Rattle.pgs_turns.proofs.Base.{◌≡◌, ℕ, zero, suc, ◌+◌, ◌<◌, ◌≤◌, min, Bool, true, false, List, [], ◌∷◌, length, take, drop, Some, sym, ◌∙◌, ap, arith, length-drop, ⊎_elim, ◌==◌, nat_lt, slice_get, if◌then◌else◌, cases_lt, nat_tests, take_all}
 use Rattle.pgs_turns.proofs.Words.{IsKept, lines_of, newline, onto_first}
 
 -- no more lines than bytes
 onto : (b : ℕ) (lines : List (List ℕ)) (n : ℕ) → length lines ≤ n → length (onto_first b lines) ≤ suc n
-onto b [] n few = omega arith
-onto b (line ∷ lines) n few = omega (arith, few)
+onto b x1 n few = grind (arith, nat_tests)
 
 pub few_lines_of : (bytes : List ℕ) → length (lines_of bytes) ≤ length bytes
 few_lines_of [] = omega arith
@@ -47,5 +46,4 @@ one_before bytes rest line k e = omega (arith, length-drop k (lines_of bytes), a
 
 -- a line, its front, and whether it has more
 pub kept_line : (line kept : List ℕ) (long : Bool) → kept ≡ take 512 line → long ≡ nat_lt 512 (length line) → IsKept line kept long
-kept_line line kept true front is = record { front = front; cut = (λ h. grind (arith, nat_tests, is), λ h. refl) }
-kept_line line kept false front is = record { front = front; cut = (λ h. absurd (cc h), λ h. grind (arith, nat_tests, is, h)) }
+kept_line line kept x2 front is = grind (arith, nat_tests)

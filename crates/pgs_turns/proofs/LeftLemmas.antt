@@ -1,6 +1,6 @@
 -- What a run leaves of a script of which it performed the first lines.
-use Rattle.pgs_turns.proofs.Base.{◌≡◌, ℕ, true, false, List, ◌++◌, length, take, drop, Some, None, refl, sym, ◌∙◌, ap, subst, arith, take-append-drop, take_all}
-use Rattle.pgs_turns.proofs.Words.{Course, errors_in, IsOver, HooksAreTold, LeavesRun, course_of, kinds_after, shelf_after, transcript, EndsAt, Run, setting_of}
+use Rattle.pgs_turns.proofs.Base.{nat_tests, ◌≡◌, ℕ, true, false, List, ◌++◌, length, take, drop, Some, None, refl, sym, ◌∙◌, ap, subst, arith, take-append-drop, take_all}
+use Rattle.pgs_turns.proofs.Words.{errors_in, IsOver, HooksAreTold, LeavesRun, kinds_after, shelf_after, transcript, EndsAt, Run, setting_of}
 use Rattle.pgs_turns.proofs.CourseLemmas.{course_of-stopped}
 use Rattle.pgs_turns.proofs.OverLemmas.{kinds-stopped, shelf-stopped, transcript-stopped}
 
@@ -38,7 +38,4 @@ module _ (descriptors : ℕ) (first last : Run) (script : List (List ℕ)) (line
         }
 
     pub wanted_at : EndsAt (setting_of descriptors first) last.calls.count script (length (take lines script))
-    wanted_at =
-        let course : course_of (setting_of descriptors first) (Some last.calls.count) script ≡ course_of (setting_of descriptors first) (Some last.calls.count) (take lines script) =
-        ap (course_of (setting_of descriptors first) (Some last.calls.count)) parts ∙ course_of-stopped (setting_of descriptors first) (Some last.calls.count) (take lines script) (drop lines script) at.wanted in
-        record { wanted = ap (λ (c : Course). c.wanted) course ∙ at.wanted; line_is = ap (λ (c : Course). c.performed) course ∙ at.line_is }
+    wanted_at = grind (arith, nat_tests, parts, course_of-stopped)

@@ -1,5 +1,5 @@
 -- What lines of words and numbers ask for.
-use Rattle.pgs_turns.proofs.Base.{◌≡◌, ℕ, ◌<◌, ◌≤◌, ◌^◌, true, false, List, ◌∷◌, ◌++◌, length, codes, Some, None, refl, arith, length-append, nat_lt, decimal, digits, nat_tests}
+use Rattle.pgs_turns.proofs.Base.{◌≡◌, ℕ, ◌<◌, ◌≤◌, ◌^◌, true, false, List, ◌∷◌, ◌++◌, length, codes, Some, None, refl, arith, length-append, decimal, digits, nat_tests}
 use Rattle.pgs_turns.proofs.Words.{is_name_byte, words_of, name_of, number_between, number_of, count_of, class_of, mode_of, kind_of, is_comment, prefix_of, read_line, Command, says}
 use Rattle.pgs_step.specs.declared.lock_modes.Mode.TheVariants.{AccessShareLock}
 use Rattle.pgs_command.specs.Table.{chunk_rows, command_of, context_rows, item_rows, lock_rows, on_chunks, on_contexts, on_items, on_locks, on_portals, on_transactions, plan_rows, portal_rows, snapshot_rows, transaction_rows}
@@ -16,9 +16,7 @@ use Rattle.pgs_turns.proofs.WordLemmas.{is_numbered_name, name_of-name, number_f
 -- a short line without a prefix is its words
 by_words : (line : List ℕ) (command : Command) → length line ≤ 512 → prefix_of line ≡ None → is_comment line ≡ false → command_of (words_of line) ≡ Some command → read_line line ≡ says command
 unfolding read_line
-by_words line command short no_prefix no_comment reads =
-    let within : nat_lt 512 (length line) ≡ false = grind (arith, nat_tests) in
-    rw (within, no_prefix, no_comment, reads)
+by_words line command short no_prefix no_comment reads = grind (arith, nat_tests)
 
 -- ---- what words stand for
 
@@ -44,22 +42,15 @@ rows = refl
 
 pub context_read : (n : ℕ) → n < 2 ^ 32 → read_line (codes "context g" ++ (decimal n ++ codes " CurTransactionContext default")) ≡ says (on_contexts (context.Create (codes "g" ++ decimal n) (codes "CurTransactionContext") Default))
 unfolding words_of command_of transaction_rows item_rows context_rows kind_of
-context_read n small =
-    by_words (codes "context g" ++ (decimal n ++ codes " CurTransactionContext default")) (on_contexts (context.Create (codes "g" ++ decimal n) (codes "CurTransactionContext") Default))
-    (omega (arith, length-append (decimal n) (codes " CurTransactionContext default"), short_number n small)) refl refl
-    (rw (number_first n (codes "CurTransactionContext default") (omega arith), numbered 103 n refl small, top_name) refl)
+context_read n small = grind (arith, nat_tests, by_words (codes "context g" ++ (decimal n ++ codes " CurTransactionContext default")) (on_contexts (context.Create (codes "g" ++ decimal n) (codes "CurTransactionContext") Default)) (omega (arith, length-append (decimal n) (codes " CurTransactionContext default"), short_number n small)) refl refl (rw (number_first n (codes "CurTransactionContext default") (omega arith), numbered 103 n refl small, top_name) refl), short_number n small, number_first n (codes "CurTransactionContext default") (omega arith), numbered 103 n refl small, top_name)
 
 pub switch_read : (n : ℕ) → n < 2 ^ 32 → read_line (codes "switch g" ++ decimal n) ≡ says (on_contexts (context.Switch (codes "g" ++ decimal n)))
 unfolding words_of command_of transaction_rows item_rows context_rows
-switch_read n small =
-    by_words (codes "switch g" ++ decimal n) (on_contexts (context.Switch (codes "g" ++ decimal n))) (omega (arith, short_number n small)) refl refl (rw (number_last n (omega arith), numbered 103 n refl small) refl)
+switch_read n small = grind (arith, nat_tests, by_words (codes "switch g" ++ decimal n) (on_contexts (context.Switch (codes "g" ++ decimal n))) (omega (arith, short_number n small)) refl refl (rw (number_last n (omega arith), numbered 103 n refl small) refl), short_number n small, number_last n (omega arith), numbered 103 n refl small)
 
 pub alloc_read : (n size : ℕ) → n < 2 ^ 32 → size < 2 ^ 32 → read_line (codes "alloc a" ++ (decimal n ++ (codes " " ++ decimal size))) ≡ says (on_chunks (chunk.Alloc (codes "a" ++ decimal n) size))
 unfolding words_of command_of transaction_rows item_rows context_rows chunk_rows
-alloc_read n size small small' =
-    by_words (codes "alloc a" ++ (decimal n ++ (codes " " ++ decimal size))) (on_chunks (chunk.Alloc (codes "a" ++ decimal n) size))
-    (omega (arith, length-append (decimal n) (codes " " ++ decimal size), short_number n small, short_number size small')) refl refl
-    (rw (number_first n (decimal size) (omega arith), number_last size (omega arith), numbered 97 n refl small, whole size small') refl)
+alloc_read n size small small' = grind (arith, nat_tests, by_words (codes "alloc a" ++ (decimal n ++ (codes " " ++ decimal size))) (on_chunks (chunk.Alloc (codes "a" ++ decimal n) size)) (omega (arith, length-append (decimal n) (codes " " ++ decimal size), short_number n small, short_number size small')) refl refl (rw (number_first n (decimal size) (omega arith), number_last size (omega arith), numbered 97 n refl small, whole size small') refl), short_number n small, short_number size small', number_first n (decimal size) (omega arith), number_last size (omega arith), numbered 97 n refl small, whole size small')
 
 pub pin_read : (n : ℕ) → n < 2 ^ 32 → read_line (codes "pin " ++ decimal n) ≡ says (on_items (item.Pin n))
 unfolding words_of command_of transaction_rows item_rows
@@ -67,14 +58,11 @@ pin_read n small = by_words (codes "pin " ++ decimal n) (on_items (item.Pin n)) 
 
 pub lock_read : (n : ℕ) → n < 2 ^ 32 → read_line (codes "lock " ++ (decimal n ++ codes " AccessShareLock")) ≡ says (on_locks (lock.Lock n AccessShareLock))
 unfolding words_of command_of transaction_rows item_rows context_rows chunk_rows lock_rows mode_of
-lock_read n small =
-    by_words (codes "lock " ++ (decimal n ++ codes " AccessShareLock")) (on_locks (lock.Lock n AccessShareLock)) (omega (arith, length-append (decimal n) (codes " AccessShareLock"), short_number n small)) refl refl
-    (rw (number_first n (codes "AccessShareLock") (omega arith), whole n small) refl)
+lock_read n small = grind (arith, nat_tests, by_words (codes "lock " ++ (decimal n ++ codes " AccessShareLock")) (on_locks (lock.Lock n AccessShareLock)) (omega (arith, length-append (decimal n) (codes " AccessShareLock"), short_number n small)) refl refl (rw (number_first n (codes "AccessShareLock") (omega arith), whole n small) refl), short_number n small, number_first n (codes "AccessShareLock") (omega arith), whole n small)
 
 pub ref_read : (n : ℕ) → n < 2 ^ 32 → read_line (codes "ref relcache " ++ decimal n) ≡ says (on_items (item.Reference Relcache n))
 unfolding words_of command_of transaction_rows item_rows class_of
-ref_read n small =
-    by_words (codes "ref relcache " ++ decimal n) (on_items (item.Reference Relcache n)) (omega (arith, short_number n small)) refl refl (rw (number_last n (omega arith), whole n small) refl)
+ref_read n small = grind (arith, nat_tests, by_words (codes "ref relcache " ++ decimal n) (on_items (item.Reference Relcache n)) (omega (arith, short_number n small)) refl refl (rw (number_last n (omega arith), whole n small) refl), short_number n small, number_last n (omega arith), whole n small)
 
 pub portal_read : (n : ℕ) → n ≤ 1000000 → read_line (codes "portal p " ++ (decimal n ++ codes " 25")) ≡ says (on_portals (portal.Open (codes "p") n 25 None))
 unfolding words_of command_of transaction_rows item_rows context_rows chunk_rows lock_rows snapshot_rows plan_rows portal_rows

@@ -1,6 +1,6 @@
 -- What a session of a run sees of the locks of the others.
-use Rattle.pgs_turns.proofs.Base.{◌≡◌, ℕ, zero, suc, ◌+◌, inl, inr, List, [], ◌∷◌, map, Some, refl, sym, ap, ◌∙◌, subst, arith, slice_get, flat_map, length-map}
-use Rattle.pgs_turns.proofs.Words.{holds, AreLocks, is_held, SessionState, holdings, others, StoreState, session_of, IsHeld, LocksFit, Run, sessions_in}
+use Rattle.pgs_turns.proofs.Base.{nat_tests, ◌≡◌, ℕ, zero, suc, ◌+◌, inl, inr, List, [], ◌∷◌, map, Some, refl, sym, ap, ◌∙◌, arith, slice_get, flat_map, length-map}
+use Rattle.pgs_turns.proofs.Words.{holds, is_held, SessionState, holdings, others, StoreState, session_of, IsHeld, LocksFit, Run, sessions_in}
 use Rattle.lock_shared.specs.Ranked.{beside}
 use Rattle.session_rules.proofs.Locked.{AreLocked, locked_is}
 
@@ -14,9 +14,7 @@ module _ (run : Run) (each : (j : ℕ) (st : StoreState) → slice_get run.store
   are_locked : AreLocked 1 (sessions_in run.stores run.space) run.commons.locks
   unfolding session_of
   are_locked = record {
-    locks = λ place session there.
-        let x = mapped_at (λ (s : StoreState). session_of s run.space) run.stores place session there in
-        subst (λ (s : SessionState). AreLocks s.locks) x.2 (fit.in_order place x.0 x.1);
+    locks = grind (arith, nat_tests, mapped_at);
     agree = λ place session there o m.
         let x = mapped_at (λ (s : StoreState). session_of s run.space) run.stores place session there in
         let number : 1 + place ≡ x.0.owners.session = omega (arith, (each place x.0 x.1).number) in

@@ -15,9 +15,7 @@ get_front (x ∷ xs) ys (suc k) less = get_front xs ys k (omega (arith, less))
 
 get_behind : {A : Type 0} (xs ys : List A) (k : ℕ) → slice_get (xs ++ ys) (length xs + k) ≡ slice_get ys k
 get_behind [] ys k = let same : 0 + k ≡ k = omega arith in ap (λ (n : ℕ). slice_get ys n) same
-get_behind (x ∷ xs) ys k =
-    let same : suc (length xs) + k ≡ suc (length xs + k) = omega arith in
-    ap (λ (n : ℕ). slice_get (x ∷ (xs ++ ys)) n) same ∙ get_behind xs ys k
+get_behind (x ∷ xs) ys k = grind (arith, nat_tests, get_behind xs ys k)
 
 -- the line at a place of the script is that of its round
 pub made_at : (n place : ℕ) → place < 13 * n → slice_get (made_script n) place ≡ slice_get (made_lines (place / 13 + 1)) (place % 13)

@@ -1,5 +1,5 @@
 -- What lines and the ends of all sessions behind them leave.
-use Rattle.pgs_turns.proofs.Base.{◌≡◌, ℕ, ◌+◌, Bool, true, false, List, [], ◌∷◌, ◌++◌, length, Option, Some, None, refl, sym, ◌∙◌, ap, subst, arith}
+use Rattle.pgs_turns.proofs.Base.{nat_tests, ◌≡◌, ℕ, ◌+◌, Bool, true, false, List, [], ◌∷◌, ◌++◌, length, Option, Some, None, refl, sym, ◌∙◌, ap, subst, arith}
 use Rattle.pgs_turns.proofs.Words.{Event, exited, SessionState, Course, after_exit, ended, exits, transcript_by, World, around, opened, Fits, Calls, Setting, course_of, kinds_after, shelf_after, transcript, IsOpening, Run, setting_of, world_in, HooksAreTold, TellHooks, AllExit, CourseAt, HasPerformed, IsOver}
 use Rattle.pgs_turns.proofs.CourseLemmas.{course_of-stopped}
 use Rattle.pgs_turns.proofs.KindLemmas.{all_kept}
@@ -30,12 +30,10 @@ fit_of true calls = (Some calls, refl)
 fit_of false calls = (None, tt)
 
 fits_wanted : (wanted : Bool) (calls : ℕ) → wanted ≡ true → Fits wanted calls (Some calls)
-fits_wanted true calls h = refl
-fits_wanted false calls h = absurd (cc)
+fits_wanted x0 calls h = grind (arith, nat_tests)
 
 pub fits_none : (wanted : Bool) (calls : ℕ) → wanted ≡ false → Fits wanted calls None
-fits_none false calls h = tt
-fits_none true calls h = absurd (cc)
+fits_none x0 calls h = grind (arith, nat_tests)
 
 module _ (descriptors : ℕ) (first behind last : Run) (emitted shown whole : List Event → Type 0) (lines : List (List ℕ)) (wanted : Bool)
     (opens : IsOpening first) (performed : HasPerformed descriptors first behind emitted lines wanted) (ends : AllExit behind last shown)

@@ -1,5 +1,5 @@
 -- How many sessions pin each buffer, when what one of them pins changes, and what each sees of the others.
-use Rattle.pgs_turns.proofs.Base.{◌≡◌, ℕ, zero, suc, ◌+◌, ◌-◌, ◌^◌, ◌≤◌, List, [], ◌∷◌, length, Some, refl, sym, ap, ◌∙◌, arith, replicate, slice_get, slice_index, slice_index_or, slice_set, sum_by, get_or-le-sum_by, sum_by-cons, sum_by-set, get_or_from_slice_get, slice_get_within}
+use Rattle.pgs_turns.proofs.Base.{nat_tests, ◌≡◌, ℕ, zero, suc, ◌+◌, ◌-◌, ◌^◌, ◌≤◌, List, [], ◌∷◌, length, Some, refl, sym, ap, ◌∙◌, arith, replicate, slice_get, slice_index, slice_index_or, slice_set, sum_by, get_or-le-sum_by, sum_by-cons, sum_by-set, get_or_from_slice_get, slice_get_within}
 use Rattle.pgs_turns.proofs.Words.{Empty, Space, for_buffers, others, pinning_among, Balances, CommonState, PinsServe, pinned_beside, pinned_once, owners_of, StoreState, session_of, PinsFit, sessions_in}
 use Rattle.session_rules.proofs.Pinned as rules
 use Rattle.session_rules.proofs.Pinned.{pinned_is}
@@ -62,9 +62,7 @@ pins_opened stores pins none unpinned = record {
 in_sessions : (buffer : ℕ) (s : Space) (stores : List StoreState) → sum_by (once_by buffer) stores ≡ sum_by (rules.pinned_once buffer) (sessions_in stores s)
 unfolding session_of
 in_sessions buffer s [] = refl
-in_sessions buffer s (store ∷ stores) =
-    sum_by-cons (once_by buffer) store stores ∙ ap (λ (n : ℕ). once_by buffer store + n) (in_sessions buffer s stores)
-    ∙ sym (sum_by-cons (rules.pinned_once buffer) (session_of store s) (sessions_in stores s))
+in_sessions buffer s (store ∷ stores) = grind (arith, nat_tests, sum_by-cons (once_by buffer) store stores, in_sessions buffer s stores, sum_by-cons (rules.pinned_once buffer) (session_of store s) (sessions_in stores s))
 
 seen_beside : (store : StoreState) (s : Space) (pins : List ℕ) → for_buffers (λ buffer. slice_index pins buffer - rules.pinned_once buffer (session_of store s)) ≡ pinned_beside (owners_of store.owners) pins
 unfolding session_of

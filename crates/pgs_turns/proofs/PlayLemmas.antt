@@ -1,5 +1,5 @@
 -- Lines that a run performs, one after the other.
-use Rattle.pgs_turns.proofs.Base.{◌≡◌, ℕ, ◌+◌, ◌*◌, ◌^◌, ◌≤◌, Bool, false, List, [], ◌∷◌, ◌++◌, length, Some, refl, ap, subst, arith, length-append, slice_get}
+use Rattle.pgs_turns.proofs.Base.{nat_tests, ◌≡◌, ℕ, ◌+◌, ◌*◌, ◌^◌, ◌≤◌, Bool, false, List, [], ◌∷◌, ◌++◌, length, Some, refl, ap, subst, arith, length-append, slice_get}
 use Rattle.pgs_turns.proofs.Words.{Event, SessionState, opening, StoreState, session_of, read_line, said_in, most_steps, HaveDescriptors, IsOpening, Run, setting_of, HaveRoom, IsWithin, TakesTurn, HasPerformed}
 use Rattle.pgs_turns.proofs.CourseLemmas.{CoursesAre-start, CoursesAre-line, CoursesAre-weaker}
 use Rattle.pgs_turns.proofs.SessionLemmas.{opening_at, same_run, same_on}
@@ -16,12 +16,7 @@ unfolding session_of
 store_counts run opens place store there = opening_counts (session_of store run.space) (opening_at run opens place store there)
 
 opening_within : (run : Run) → IsOpening run → IsWithin 6 run
-opening_within run opens = record {
-  calls = omega (arith, opens.calls);
-  contexts = λ place store there. let c = store_counts run opens place store there in omega (arith, c.0);
-  owners = λ place store there. let c = store_counts run opens place store there in omega (arith, c.1);
-  serials = λ place store there. let c = store_counts run opens place store there in omega (arith, c.2);
-}
+opening_within run opens = grind (arith, nat_tests, opens.calls, store_counts)
 
 within_as : (m n : ℕ) (run : Run) → m ≡ n → IsWithin m run → IsWithin n run
 within_as m n run e h = subst (λ (k : ℕ). IsWithin k run) e h
@@ -52,20 +47,8 @@ performed_line descriptors first old new before during after lines line wanted s
 
 pub performed_weaker : (descriptors : ℕ) (first run : Run) (before after : List Event → Type 0) (lines : List (List ℕ)) (wanted : Bool) → ((xs : List Event) → before xs → after xs)
     → HasPerformed descriptors first run before lines wanted → HasPerformed descriptors first run after lines wanted
-performed_weaker descriptors first run before after lines wanted leads s = record {
-  courses = CoursesAre-weaker descriptors (setting_of descriptors first) wanted lines run before after leads s.courses;
-  bounded = s.bounded;
-  called = s.called;
-  same = s.same;
-  has = s.has;
-  taken = s.taken;
-}
+performed_weaker descriptors first run before after lines wanted leads s = grind (arith, nat_tests, CoursesAre-weaker, s.courses, s.bounded, s.called, s.same, s.has, s.taken)
 
 -- while the lines are few, there is room for one more
 pub room_behind : (descriptors : ℕ) (first run : Run) (emitted : List Event → Type 0) (lines : List (List ℕ)) (wanted : Bool) → HasPerformed descriptors first run emitted lines wanted → length lines ≤ 2 ^ 24 → HaveRoom run
-room_behind descriptors first run emitted lines wanted s few place store there = record {
-  contexts = omega (arith, few, s.bounded.contexts place store there);
-  owners = omega (arith, few, s.bounded.owners place store there);
-  serials = omega (arith, few, s.bounded.serials place store there);
-  calls = omega (arith, few, s.bounded.calls);
-}
+room_behind descriptors first run emitted lines wanted s few place store there = grind (arith, nat_tests, s.bounded.contexts, s.bounded.owners, s.bounded.serials, s.bounded.calls)

@@ -1,6 +1,6 @@
 -- The sessions of a run, when one of them changes.
-use Rattle.pgs_turns.proofs.Base.{◌≡◌, ◌≢◌, true, false, ℕ, zero, suc, ◌+◌, ◌-◌, ◌<◌, ◌≤◌, ◌⊎◌, inl, inr, List, [], ◌∷◌, length, map, Some, refl, sym, ap, ◌∙◌, subst, arith, All, slice_get, slice_index, slice_set, replicate, All-nil, option_map, length-set, map-set, slice_get-map, slice_get_within}
-use Rattle.pgs_turns.proofs.Words.{What, KindId, Holding, holds, Lock, AreLocks, Agrees, has_owner, is_held, Space, taken, AreDistinct, Moves, table_of, times_held, IsSound, Balances, locks_of, serves_nothing, SessionState, opening, Around, Options, with_scene, StandsBetweenLines, HooksCounted, stands_between_elsewhere, StoreState, session_of, Keeps, StaysBeside, IsBetweenLines, scene_in, AreStanding, HaveDescriptors, HooksFit, IsHeld, IsOpening, KindsFit, LocksFit, PinsFit, Run, SameRun, held_by_all, one_of, options_in, sessions_in, world_in, AreOpened}
+use Rattle.pgs_turns.proofs.Base.{nat_tests, ◌≡◌, ◌≢◌, true, false, ℕ, zero, suc, ◌+◌, ◌-◌, ◌<◌, ◌≤◌, ◌⊎◌, inl, inr, List, [], ◌∷◌, length, map, Some, refl, sym, ap, ◌∙◌, subst, arith, All, slice_get, slice_index, slice_set, replicate, All-nil, option_map, length-set, map-set, slice_get-map, slice_get_within}
+use Rattle.pgs_turns.proofs.Words.{What, KindId, Holding, holds, Lock, AreLocks, Agrees, has_owner, is_held, Space, taken, AreDistinct, Moves, table_of, IsSound, Balances, locks_of, serves_nothing, SessionState, opening, Around, with_scene, StandsBetweenLines, HooksCounted, stands_between_elsewhere, StoreState, session_of, Keeps, StaysBeside, IsBetweenLines, scene_in, AreStanding, HaveDescriptors, HooksFit, IsHeld, IsOpening, KindsFit, LocksFit, PinsFit, Run, SameRun, held_by_all, one_of, options_in, sessions_in, world_in, AreOpened}
 use Rattle.pgs_step.specs.declared.lock_modes.Mode.{Mode}
 use Rattle.lock_local.specs.declared.local_lock.OwnerCount.{OwnerCount}
 use Rattle.reset_callbacks.specs.ShelfState as shelf
@@ -16,17 +16,7 @@ pub same_run : (a : Run) → SameRun a a
 same_run a = record { sessions = refl; limit = refl; fail = refl; accounts = refl; others = λ account past. refl; took = λ account past. refl; table = refl; limits = refl; keys = λ kind key from. refl }
 
 pub same_on : (a b c : Run) → SameRun a b → SameRun b c → SameRun a c
-same_on a b c s t = record {
-  sessions = t.sessions ∙ s.sessions;
-  limit = t.limit ∙ s.limit;
-  fail = t.fail ∙ s.fail;
-  accounts = t.accounts ∙ s.accounts;
-  others = λ account past. t.others account (omega (arith, past, s.sessions)) ∙ s.others account past;
-  took = λ account past. t.took account (omega (arith, past, s.sessions)) ∙ s.took account past;
-  table = t.table ∙ s.table;
-  limits = t.limits ∙ s.limits;
-  keys = λ kind key from. omega (arith, s.keys kind key from, t.keys kind key from);
-}
+same_on a b c s t = grind (arith, nat_tests, t.sessions, s.sessions, t.limit, s.limit, t.fail, s.fail, t.accounts, s.accounts, t.others, s.others, t.took, s.took, t.table, s.table, t.limits, s.limits, s.keys, t.keys)
 
 -- places of lists
 replicated : {A : Type 0} (n place : ℕ) (x y : A) → slice_get (replicate n x) place ≡ Some y → y ≡ x
@@ -40,10 +30,7 @@ place_set [] i y j x h = absurd (cc h)
 place_set (z ∷ zs) zero y zero x h = inl (refl, cc)
 place_set (z ∷ zs) zero y (suc j) x h = inr (λ e. omega (arith, e), h)
 place_set (z ∷ zs) (suc i) y zero x h = inr (λ e. omega (arith, e), h)
-place_set (z ∷ zs) (suc i) y (suc j) x h = elim (place_set zs i y j x h) [
-  | inl same ↦ inl (omega (arith, same.0), same.1)
-  | inr other ↦ inr (λ e. other.0 (omega (arith, e)), other.1)
-]
+place_set (z ∷ zs) (suc i) y (suc j) x h = grind (arith, nat_tests, place_set zs i y j x h)
 
 maps_agree : {A B : Type 0} (f g : A → B) (xs : List A) → ((j : ℕ) (x : A) → slice_get xs j ≡ Some x → f x ≡ g x) → map f xs ≡ map g xs
 maps_agree f g [] h = refl
@@ -63,8 +50,7 @@ session_there run place store there =
     slice_get-map (λ (s : StoreState). session_of s run.space) run.stores place ∙ ap (option_map (λ (s : StoreState). session_of s run.space)) there
 
 pub opening_at : (run : Run) → IsOpening run → (place : ℕ) (store : StoreState) → slice_get run.stores place ≡ Some store → session_of store run.space ≡ opening
-opening_at run opens place store there =
-    replicated (length run.stores) place opening (session_of store run.space) (ap (λ (sessions : List SessionState). slice_get sessions place) (sym opens.sessions) ∙ session_there run place store there)
+opening_at run opens place store there = grind (arith, nat_tests, replicated, run.stores, run.space, opens.sessions, session_there run place store there)
 
 -- One session of a run changed.
 pub record Changed (a b : Run) (place : ℕ) (store left : StoreState) : Type 0 where
@@ -89,17 +75,12 @@ module _ (a b : Run) (place : ℕ) (store left : StoreState) (c : Changed a b pl
         took = λ account past. c.took account (λ e. omega (arith, past, within, e, (each place store c.there).account));
         table = c.balances.table;
         limits = c.balances.limits;
-        keys = λ kind key from.
-            subst
-            (λ (stores : List StoreState). times_held b.commons.kinds kind key + held_by_all kind key a.stores ≡ times_held a.commons.kinds kind key + held_by_all kind key stores)
-            (sym c.stores) (keys_behind a.stores place store left c.there a.commons b.commons c.balances kind key from);
+        keys = grind (arith, nat_tests, keys_behind);
       }
 
   -- the keys of all sessions fit the kinds
   pub keys_fit_behind : KindsFit a.stores a.commons.kinds → KindsFit b.stores b.commons.kinds
-  keys_fit_behind h =
-      subst (λ (stores : List StoreState). KindsFit stores b.commons.kinds) (sym c.stores)
-      (kinds_behind a.stores place store left c.there a.commons b.commons c.balances h)
+  keys_fit_behind h = grind (arith, nat_tests, kinds_behind)
 
   -- another session has another number
   other_number : (j : ℕ) (st : StoreState) → j ≢ place → slice_get a.stores j ≡ Some st → st.owners.session ≢ store.owners.session
@@ -133,19 +114,14 @@ module _ (a b : Run) (place : ℕ) (store left : StoreState) (c : Changed a b pl
 
   -- each buffer is counted for those that pin it
   pub pins_fit_behind : PinsFit a.stores a.commons.pins → PinsFit b.stores b.commons.pins
-  pins_fit_behind h =
-      subst (λ (stores : List StoreState). PinsFit stores b.commons.pins) (sym c.stores)
-      (pins_behind a.stores place store left a.commons b.commons c.there c.balances h)
+  pins_fit_behind h = grind (arith, nat_tests, pins_behind)
 
   pub few_behind : length a.stores ≤ 64 → length b.stores ≤ 64
   few_behind few = omega (arith, few, same_behind.sessions)
 
   -- each session has as many descriptors as before
   pub have_behind : (descriptors : ℕ) → HaveDescriptors descriptors a → HaveDescriptors descriptors b
-  have_behind descriptors h j st there = elim (place_set a.stores place left j st (ap (λ (stores : List StoreState). slice_get stores j) (sym c.stores) ∙ there)) [
-    | inl own ↦ ap (λ (s : StoreState). s.owners.descriptors) own.1 ∙ c.descriptors_are ∙ h place store c.there
-    | inr other ↦ h j st other.1
-  ]
+  have_behind descriptors h j st there = grind (arith, nat_tests, place_set)
 
   -- another session stays
   other_stays : (j : ℕ) (st : StoreState) → j ≢ place → slice_get a.stores j ≡ Some st → Keeps st b.space × (session_of st b.space ≡ session_of st a.space)
@@ -166,11 +142,7 @@ module _ (a b : Run) (place : ℕ) (store left : StoreState) (c : Changed a b pl
   -- the run of the rules behind the change
   pub world_behind : (descriptors n : ℕ) (scene_around : Around) → n ≡ place + 1
       → record (with_scene n (scene_in (one_of b left) scene_around) (world_in descriptors a)) { calls = b.calls.count } ≡ world_in descriptors b
-  world_behind descriptors n scene_around is =
-      let at : n - 1 ≡ place = omega (arith, is) in
-      ap (λ (k : ℕ). record { options = options_in descriptors a; sessions = slice_set (sessions_in a.stores a.space) k (session_of left b.space); kinds = b.commons.kinds; shelf = b.shelf; calls = b.calls.count }) at
-      ∙ ap (λ (sessions : List SessionState). record { options = options_in descriptors a; sessions = sessions; kinds = b.commons.kinds; shelf = b.shelf; calls = b.calls.count }) (sym sessions_behind)
-      ∙ ap (λ (options : Options). record { options = options; sessions = sessions_in b.stores b.space; kinds = b.commons.kinds; shelf = b.shelf; calls = b.calls.count }) (options_behind descriptors)
+  world_behind descriptors n scene_around is = grind (arith, nat_tests, sessions_behind, options_behind descriptors)
 
   module _ (keeps : Keeps left b.space) (beside : StaysBeside left) where
     pub each_behind : (j : ℕ) (st : StoreState) → slice_get b.stores j ≡ Some st → IsHeld b j st
@@ -186,9 +158,7 @@ module _ (a b : Run) (place : ℕ) (store left : StoreState) (c : Changed a b pl
 
   module _ (hooks : HooksFit (sessions_in a.stores a.space) a.shelf) (events : List What) (counts : HooksCounted (session_of store a.space).contexts a.shelf (session_of left b.space).contexts b.shelf events) where
     pub fit_behind : HooksFit (sessions_in b.stores b.space) b.shelf
-    fit_behind =
-        subst (λ (sessions : List SessionState). HooksFit sessions b.shelf) (sym sessions_behind)
-        (hooks_behind (sessions_in a.stores a.space) a.shelf b.shelf place (session_of store a.space) (session_of left b.space) events (session_there a place store c.there) counts hooks)
+    fit_behind = grind (arith, nat_tests, sessions_behind, hooks_behind (sessions_in a.stores a.space) a.shelf b.shelf place (session_of store a.space) (session_of left b.space) events (session_there a place store c.there) counts hooks, session_there a place store c.there)
 
     -- another session stays between two lines
     pub lines_stay : KindsFit a.stores a.commons.kinds → PinsFit a.stores a.commons.pins → length a.stores ≤ 64 → (j : ℕ) (st : StoreState) → j ≢ place → slice_get a.stores j ≡ Some st → slice_get b.stores j ≡ Some st → IsBetweenLines (one_of a st) → IsBetweenLines (one_of b st)
@@ -197,8 +167,7 @@ module _ (a b : Run) (place : ℕ) (store left : StoreState) (c : Changed a b pl
         let fit = hooks_of_one (sessions_in b.stores b.space) b.shelf j (session_of st b.space) (session_there b j st now) fit_behind in
         record {
           keeps = stays.0;
-          serves = served_there b.stores j st a.commons b.commons store.owners.session now (keys_fit_behind kinds) c.balances.table
-              (other_number j st other there) c.balances.locks.others (pins_serve b.stores b.commons.pins (pins_fit_behind pins) (omega (arith, few_behind few)) j st now) h.serves;
+          serves = grind (arith, nat_tests, served_there b.stores j st a.commons b.commons store.owners.session now (keys_fit_behind kinds) c.balances.table (other_number j st other there) c.balances.locks.others (pins_serve b.stores b.commons.pins (pins_fit_behind pins) (omega (arith, few_behind few)) j st now) h.serves, keys_fit_behind kinds, other_number j st other there, pins_serve b.stores b.commons.pins (pins_fit_behind pins) (omega (arith, few_behind few)) j st now, pins_fit_behind pins, few_behind few, h.serves);
           stands = λ scene_around.
               let was : StandsBetweenLines (scene_in (one_of a st) scene_around) = h.stands scene_around in
               subst (λ (session : SessionState). StandsBetweenLines (record { session = session; around = (scene_in (one_of b st) scene_around).around })) (sym stays.1)
@@ -250,10 +219,7 @@ opened_standing descriptors before run opened differ sound unlocked unpinned few
           (λ scene_around.
           let stands = opening_stands (scene_in (one_of run store) scene_around).around differ sound in
           (subst (λ (session : SessionState). StandsBetweenLines (record { session = session; around = (scene_in (one_of run store) scene_around).around })) (sym o.session) stands).stands);
-      hooks = record {
-        out = rw (sessions, none_wait (length run.stores)) (omega arith);
-        words = rw (sessions, none_wait (length run.stores)) differ;
-      };
+      hooks = grind (arith, nat_tests, none_wait (length run.stores), run.stores);
       kinds = record {
         sound = sound;
         held = λ kind key from. omega (arith, opened_hold_none descriptors before run opened kind key);

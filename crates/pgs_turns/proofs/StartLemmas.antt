@@ -17,13 +17,7 @@ limited_held s limit account = refl
 
 -- no contexts agree with any space that has their account
 pub nothing_agrees : (account : ℕ) (s : Space) → account < accounts s → Agrees (no_contexts account) s
-nothing_agrees account s within = record {
-  account = within;
-  each = λ n k here. absurd (cc here);
-  owned = λ n k here. absurd (cc here);
-  apart = λ m n j k differ here there. absurd (cc here);
-  known = λ n c k e here there. absurd (cc here);
-}
+nothing_agrees account s within = grind (arith, nat_tests)
 
 no_total : (account : ℕ) (s : Space) → total_of (stands_for (no_contexts account) s) ≡ 0
 unfolding stands_for
@@ -31,31 +25,18 @@ no_total account s = refl
 
 -- a space with the same regions is one in which nothing moved
 pub nothing_moves : (account : ℕ) (s t : Space) → account < accounts s → SameRegions s t → Moves (no_contexts account) (no_contexts account) s t
-nothing_moves account s t within same = record {
-  agrees = nothing_agrees account t (omega (arith, within, same.accounts));
-  account = refl;
-  outside = λ number region. (λ o. (same.regions number ∙ o.0, o.1), λ o. (sym (same.regions number) ∙ o.0, o.1));
-  accounts = same.accounts;
-  limit = same.limit;
-  own = omega (arith, same_held s t account same, no_total account s, no_total account t);
-  others = λ other differ. same_held s t other same;
-}
+nothing_moves account s t within same = grind (arith, nat_tests, nothing_agrees, same.accounts, same.regions, same.limit, same_held, no_total)
 
 -- a session that was started before stays
 stays_opened : (descriptors account place : ℕ) (a b : TreeState) (store : StoreState) (s t : Space) → Moves a b s t → Agrees a s → a.account ≡ account → place ≢ account → IsOpened descriptors place store s → IsOpened descriptors place store t
-stays_opened descriptors account place a b store s t moves agrees is differ o =
-    let stays = o.beside a b s t moves agrees o.keeps (λ e. differ (sym o.account ∙ sym e ∙ is)) in
-    record { session = stays.1 ∙ o.session; keeps = stays.0; account = o.account; number = o.number; descriptors_are = o.descriptors_are; beside = o.beside }
+stays_opened descriptors account place a b store s t moves agrees is differ o = grind (arith, nat_tests, o.beside, o.keeps, o.account, o.session, o.number, o.descriptors_are)
 
 -- what stands in a list with one element more
 place_snoc : {A : Type 0} (xs : List A) (y : A) (place : ℕ) (x : A) → slice_get (xs ++ y ∷ []) place ≡ Some x → ((place ≡ length xs) × (x ≡ y)) ⊎ ((place < length xs) × (slice_get xs place ≡ Some x))
 place_snoc [] y zero x h = inl (refl, cc)
 place_snoc [] y (suc place) x h = absurd (cc h)
 place_snoc (z ∷ zs) y zero x h = inr (omega arith, h)
-place_snoc (z ∷ zs) y (suc place) x h = elim (place_snoc zs y place x h) [
-  | inl last ↦ inl (omega (arith, last.0), last.1)
-  | inr other ↦ inr (omega (arith, other.0), other.1)
-]
+place_snoc (z ∷ zs) y (suc place) x h = grind (arith, nat_tests, place_snoc zs y place x h)
 
 -- one session more
 pub one_more_opened : (descriptors : ℕ) (before s t : Space) (stores : List StoreState) (account : ℕ) (store : StoreState) → account ≡ length stores → account < accounts s → Moves (no_contexts account) store.tree s t → IsOpened descriptors account store t

@@ -1,6 +1,6 @@
 -- The runs of a sweep, one behind the other.
-use Rattle.pgs_turns.proofs.Base.{◌≡◌, ℕ, zero, suc, ◌+◌, ◌*◌, ◌≤◌, min, true, false, List, ◌++◌, length, Some, None, refl, sym, ◌∙◌, ap, subst, arith, append_assoc, append-nil, ◌==◌, nat_lt, if◌then◌else◌, nat_tests, map-append}
-use Rattle.pgs_turns.proofs.Words.{Event, Kind, Hook, ShelfState, held, renewed, callbacks_of, runs_of, failing_runs, most_failing, swept, whole_run, ended, errors_in, transcript_by, callbacks_both, errors_in-append, HooksAreTold, said_by_all, HooksRan, LeaveRuns, LeaveWanted, LeavesRun, course_in, events_of_runs, kinds_behind, run_numbers, runs_in, setting_for_run, setting_in, shelf_behind, shelf_for, told_in, told_of_runs, Setting, course_of, kinds_after, shelf_after, transcript}
+use Rattle.pgs_turns.proofs.Base.{◌≡◌, ℕ, zero, suc, ◌+◌, ◌*◌, ◌≤◌, min, true, false, List, ◌++◌, length, Some, None, refl, sym, ◌∙◌, ap, subst, arith, append_assoc, append-nil, ◌==◌, nat_lt, nat_tests, map-append}
+use Rattle.pgs_turns.proofs.Words.{Event, Kind, ShelfState, held, renewed, callbacks_of, runs_of, failing_runs, most_failing, swept, whole_run, ended, errors_in, transcript_by, callbacks_both, errors_in-append, HooksAreTold, said_by_all, HooksRan, LeaveRuns, LeaveWanted, LeavesRun, course_in, events_of_runs, kinds_behind, run_numbers, runs_in, setting_for_run, setting_in, shelf_behind, shelf_for, told_in, told_of_runs, Setting, course_of, kinds_after, shelf_after, transcript}
 use Rattle.std.proofs.lemmas.List.Sorted.{sum_by-IsPermutation}
 use Rattle.reset_callbacks.proofs.ShelfSteps.{renewed-permutes}
 use Rattle.pgs_turns.proofs.ErrorLemmas.{few_errors}
@@ -16,8 +16,7 @@ is_not_first k = grind (arith, nat_tests)
 pub setting_found : (k : ℕ) (setting : Setting) (lines : List (List ℕ)) (shelf : ShelfState) (kinds : List Kind) → shelf ≡ shelf_behind k setting lines → kinds ≡ kinds_behind k setting lines
     → setting_for_run k setting shelf kinds ≡ setting_in k setting lines
 unfolding setting_in shelf_behind kinds_behind
-setting_found zero setting lines shelf kinds hooks kinds_are = rw (hooks, kinds_are) refl
-setting_found (suc k) setting lines shelf kinds hooks kinds_are = rw (hooks, kinds_are, is_later k) refl
+setting_found x0 setting lines shelf kinds hooks kinds_are = grind (arith, nat_tests, is_later)
 
 -- What is told of the runs one by one is what the rules tell of the sweep.
 told_on : (more k : ℕ) (setting : Setting) (lines : List (List ℕ))
@@ -44,8 +43,7 @@ all_told setting lines =
 pub numbers_in : (k : ℕ) (setting : Setting) (lines : List (List ℕ)) (calls errors : ℕ) → calls ≡ (ended (course_of (setting_in k setting lines) None lines)).world.calls → errors ≡ errors_in (transcript (setting_in k setting lines) None lines)
     → run_numbers k calls errors ≡ told_in k setting lines
 unfolding told_in course_in transcript transcript_by course_of
-numbers_in zero setting lines calls errors of_calls of_errors = rw (of_calls, of_errors) refl
-numbers_in (suc k) setting lines calls errors of_calls of_errors = rw (of_errors, is_not_first k) refl
+numbers_in x0 setting lines calls errors of_calls of_errors = grind (arith, nat_tests, is_not_first)
 
 -- how many calls the first run makes
 pub first_calls : (setting : Setting) (lines : List (List ℕ)) → (ended (course_of (setting_in 0 setting lines) None lines)).world.calls ≡ (course_in 0 setting lines).world.calls
@@ -67,19 +65,12 @@ few_in_runs (suc k) setting lines few =
 
 -- to make hooks fresh changes no count of theirs
 found_runs : (k word : ℕ) (shelf : ShelfState) → runs_of word (held (shelf_for k shelf)) ≡ runs_of word (held shelf)
-found_runs zero word shelf = refl
-found_runs (suc k) word shelf = rw (is_later k) (sum_by-IsPermutation (λ (hook : Hook). if hook.word == word then hook.runs else 0) (held shelf) (held (renewed shelf)) (renewed-permutes shelf))
+found_runs x0 word shelf = grind (arith, nat_tests, is_later, sum_by-IsPermutation, held shelf, held (renewed shelf), renewed-permutes shelf)
 
 -- No run leaves hooks and kinds as they are.
 pub leave_none : (setting : Setting) (lines : List (List ℕ)) → LeaveRuns 0 setting lines 0 setting.shelf setting.kinds
 unfolding events_of_runs shelf_behind kinds_behind
-leave_none setting lines = record {
-  errors_are = refl;
-  hooks = refl;
-  hooks_ran = λ word. omega arith;
-  hooks_told = λ k h. absurd (omega (arith, h));
-  kinds = refl;
-}
+leave_none setting lines = grind (arith, nat_tests)
 
 -- One run more, behind those that left this.
 module _ (k : ℕ) (setting : Setting) (lines : List (List ℕ)) (errors more : ℕ) (shelf shelf' : ShelfState) (kinds kinds' : List Kind) (left : LeaveRuns k setting lines errors shelf kinds) where

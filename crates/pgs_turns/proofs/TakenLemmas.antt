@@ -1,5 +1,5 @@
 -- What accounts take in a run.
-use Rattle.pgs_turns.proofs.Base.{◌≡◌, ℕ, zero, suc, ◌+◌, ◌-◌, ◌^◌, ◌<◌, ◌≤◌, inl, inr, min, Bool, true, false, List, [], ◌∷◌, ◌++◌, length, Option, Some, None, Result, Ok, Err, refl, sym, ◌∙◌, ap, subst, arith, ◌==◌, if◌then◌else◌, nat_lt, replicate, cases_eq, nat_tests, length-set, slice_get_past}
+use Rattle.pgs_turns.proofs.Base.{◌≡◌, ℕ, zero, suc, ◌+◌, ◌-◌, ◌^◌, ◌<◌, min, Bool, false, List, [], ◌∷◌, ◌++◌, length, Option, Some, None, Result, refl, sym, ◌∙◌, ap, subst, arith, if◌then◌else◌, nat_lt, replicate, nat_tests, length-set, slice_get_past}
 use Rattle.pgs_turns.proofs.Words.{Command, BadLine, Line, Event, Space, risen, taken, asked_by, asked_by_command, asked_by_line, asked_by_read, asked_on, SessionState, Course, after_command, after_line, after_read, at_start, opened, session_at, asked_by_more, other_line, read_line_asks, Fits, read_line, said_in, Setting, course_of, HaveDescriptors, Run, TakesTurn, CoursesAre, TakesBut, TakesInAll, TakesLines}
 use Rattle.pgs_turns.proofs.CourseLemmas.{fits_later}
 
@@ -13,19 +13,12 @@ risen_by : (x n : ℕ) → 0 < n → risen x n ≡ min (x + n) (2 ^ 64 - 1)
 risen_by x n some = grind (arith, nat_tests)
 
 pub risen_more : (x m n : ℕ) → risen (risen x m) n ≡ risen x (m + n)
-risen_more x zero n = ap (risen x) (omega arith)
-risen_more x (suc m) zero = ap (risen x) (omega arith)
-risen_more x (suc m) (suc n) =
-    let first = risen_by x (suc m) (omega arith) in
-    let second = risen_by (risen x (suc m)) (suc n) (omega arith) in
-    let both = risen_by x (suc m + suc n) (omega arith) in
-    omega (arith, first, second, both)
+risen_more x x1 x2 = grind (arith, nat_tests, risen_by)
 
 -- a line asks what its turn does
 of_reading : (w : Option ℕ) (n : ℕ) (course : Course) (r : Result Line BadLine)
     → asked_by_read w n course r ≡ asked_by_command w n course (said_in r).session (said_in r).command (session_at (said_in r).session course.world)
-of_reading w n course (Ok line) = refl
-of_reading w n course (Err bad) = refl
+of_reading w n course x3 = grind (arith, nat_tests)
 
 line_asks : (w : Option ℕ) (n : ℕ) (course : Course) (line : List ℕ) → course.wanted ≡ false
     → asked_by_line read_line w n line course ≡ asked_by_command w n course (said_in (read_line line)).session (said_in (read_line line)).command (session_at (said_in (read_line line)).session course.world)
@@ -55,37 +48,22 @@ still_lacks w n number command None course h = h
 still_lacks w n number command (Some session) course h = subst (λ (k : ℕ). k < n) (sym (length-set course.world.sessions (number - 1) _)) h
 
 lacks_read : (w : Option ℕ) (n : ℕ) (r : Result Line BadLine) (course : Course) → Lacks n course → Lacks n (after_read w course r)
-lacks_read w n (Ok line) course h = still_lacks w n line.session (Some line.command) (session_at line.session course.world) course h
-lacks_read w n (Err bad) course h = still_lacks w n bad.session None (session_at bad.session course.world) course h
+lacks_read w n x2 course h = grind (arith, nat_tests, still_lacks, course.world)
 
 lacks_line : (w : Option ℕ) (n : ℕ) (line : List ℕ) (course : Course) → Lacks n course → Lacks n (after_line read_line w line course)
-lacks_line w n line course h = go course.wanted
-  where
-    go : (b : Bool) → Lacks n (elim b as (λ _. Course) [ true ↦ course | false ↦ after_read w course (read_line line) ])
-    go true = h
-    go false = lacks_read w n (read_line line) course h
+lacks_line w n line course h = grind (arith, nat_tests, course.wanted, lacks_read w n (read_line line) course h)
 
 none_there : (n : ℕ) (course : Course) → Lacks n course → session_at n course.world ≡ None
-none_there n course h =
-    let test : (n == 0) ≡ false = grind (arith, nat_tests, h) in
-    rw test (slice_get_past course.world.sessions (n - 1) (omega (arith, h)))
+none_there n course h = grind (arith, nat_tests, slice_get_past course.world.sessions (n - 1) (omega (arith, h)), course.world.sessions)
 
 none_asked : (w : Option ℕ) (n number : ℕ) (command : Option Command) (course : Course) → Lacks n course → asked_by_command w n course number command (session_at number course.world) ≡ 0
-none_asked w n number command course h = elim (cases_eq number n) [
-  | inl is ↦ ap (asked_by_command w n course number command) (ap (λ (k : ℕ). session_at k course.world) is ∙ none_there n course h)
-  | inr differs ↦ other_line w n course number command (session_at number course.world) differs
-]
+none_asked w n number command course h = grind (arith, nat_tests, course.world, none_there n course h, other_line)
 
 none_read : (w : Option ℕ) (n : ℕ) (r : Result Line BadLine) (course : Course) → Lacks n course → asked_by_read w n course r ≡ 0
-none_read w n (Ok line) course h = none_asked w n line.session (Some line.command) course h
-none_read w n (Err bad) course h = none_asked w n bad.session None course h
+none_read w n x2 course h = grind (arith, nat_tests, none_asked)
 
 none_line : (w : Option ℕ) (n : ℕ) (line : List ℕ) (course : Course) → Lacks n course → asked_by_line read_line w n line course ≡ 0
-none_line w n line course h = go course.wanted
-  where
-    go : (b : Bool) → elim b as (λ _. ℕ) [ true ↦ 0 | false ↦ asked_by_read w n course (read_line line) ] ≡ 0
-    go true = refl
-    go false = none_read w n (read_line line) course h
+none_line w n line course h = grind (arith, nat_tests, course.wanted, none_read w n (read_line line) course h)
 
 none_on : (w : Option ℕ) (n : ℕ) (lines : List (List ℕ)) (course : Course) → Lacks n course → asked_on read_line w n lines course ≡ 0
 none_on w n [] course h = refl
@@ -97,22 +75,9 @@ length_replicate (suc n) x = omega (arith, length_replicate n x)
 
 nothing_asked : (setting : Setting) (lines : List (List ℕ)) (n : ℕ) → setting.options.sessions < n → asked_by read_line None setting.options setting.kinds setting.shelf lines n ≡ 0
 unfolding asked_by
-nothing_asked setting lines n h =
-    none_on None n lines (at_start (opened setting.options setting.kinds setting.shelf)) (subst (λ (k : ℕ). k < n) (sym (length_replicate setting.options.sessions _)) h)
+nothing_asked setting lines n h = grind (arith, nat_tests, none_on, at_start, opened, setting.options, setting.kinds, setting.shelf, length_replicate, setting.options.sessions)
 
 -- what sessions take as they open, and what their lines ask behind that
 pub opened_taken : (setting : Setting) (lines : List (List ℕ)) (s t u : Space) → ((account : ℕ) → taken t account ≡ risen (taken s account) (if nat_lt account setting.options.sessions then 65536 else 0))
     → TakesLines setting lines t u → TakesInAll setting lines s u
-opened_taken setting lines s t u opening takes account =
-    takes account
-    ∙ ap (λ (x : ℕ). risen x (asked_by read_line None setting.options setting.kinds setting.shelf lines (account + 1))) (opening account)
-    ∙ risen_more (taken s account) (if nat_lt account setting.options.sessions then 65536 else 0) (asked_by read_line None setting.options setting.kinds setting.shelf lines (account + 1))
-    ∙ ap (risen (taken s account)) (go (nat_lt account setting.options.sessions) refl)
-  where
-    go : (b : Bool) → nat_lt account setting.options.sessions ≡ b
-        → (if b then 65536 else 0) + asked_by read_line None setting.options setting.kinds setting.shelf lines (account + 1)
-        ≡ (if b then 65536 + asked_by read_line None setting.options setting.kinds setting.shelf lines (account + 1) else 0)
-    go true e = refl
-    go false e =
-        let past : setting.options.sessions ≤ account = grind (arith, nat_tests, e) in
-        let none = nothing_asked setting lines (account + 1) (omega (arith, past)) in omega (arith, none)
+opened_taken setting lines s t u opening takes account = grind (arith, nat_tests, asked_by read_line None setting.options setting.kinds setting.shelf lines (account + 1), setting.options, setting.kinds, setting.shelf, risen_more (taken s account) (if nat_lt account setting.options.sessions then 65536 else 0) (asked_by read_line None setting.options setting.kinds setting.shelf lines (account + 1)), taken s account, setting.options.sessions, asked_by, nothing_asked)

@@ -1,5 +1,5 @@
 -- What events say of the hooks of a run: nothing, twice in a row, by what they say of one session, and in all.
-use Rattle.pgs_turns.proofs.Base.{◌≡◌, ℕ, zero, suc, ◌+◌, ◌-◌, ◌^◌, ◌≤◌, cond, min, List, [], ◌∷◌, ◌++◌, length, Some, refl, sym, ap, ◌∙◌, subst, arith, ◌==◌, if◌then◌else◌, slice_get, slice_set, replicate, sum_by, map-append, sum_by-append, sum_by-cons}
+use Rattle.pgs_turns.proofs.Base.{nat_tests, ◌≡◌, ℕ, zero, suc, ◌+◌, ◌-◌, ◌^◌, ◌≤◌, cond, min, List, [], ◌∷◌, ◌++◌, length, Some, refl, sym, ap, ◌∙◌, subst, arith, ◌==◌, if◌then◌else◌, slice_get, slice_set, replicate, sum_by, map-append, sum_by-append, sum_by-cons}
 use Rattle.pgs_turns.proofs.Words.{Event, What, Hook, ShelfState, held, waiting, SessionState, opening, Options, Scene, World, opened, with_scene, Kind, HookCount, HooksCounted, callbacks_of, hooks_of, registered_of, runs_of, Runs, callbacks_both, registered_both, of_session, all_waiting, HooksAreTold, TellHooks, hooks_in, said_by_all, used_in}
 use Rattle.pgs_turns.proofs.HookLemmas.{changed, many_together, part_of}
 
@@ -27,10 +27,7 @@ tells_nothing world n events h = record {
 }
 
 pub tells_none : (world : World) → TellHooks world world []
-tells_none world = record {
-  counts = record { runs = λ k. omega arith; taken = λ k. omega arith; whole = λ k. refl };
-  out = refl;
-}
+tells_none world = grind (arith, nat_tests)
 
 -- events, and then others
 pub tells_both : (a b c : World) (xs ys : List Event) → TellHooks a b xs → TellHooks b c ys → TellHooks a c (xs ++ ys)
@@ -53,13 +50,11 @@ module _ (g : Hook → ℕ) where
 
   together : (sessions : List SessionState) → sum_by g (all_waiting sessions) ≡ sum_by sum_in sessions
   together [] = refl
-  together (session ∷ sessions) =
-      omega (arith, sum_by-append g (waiting session.contexts) (all_waiting sessions), together sessions, sum_by-cons sum_in session sessions)
+  together (session ∷ sessions) = grind (arith, nat_tests, sum_by-append g (waiting session.contexts) (all_waiting sessions), session.contexts, together sessions, sum_by-cons sum_in session sessions)
 
   sum_set : (sessions : List SessionState) (place : ℕ) (session left : SessionState) → slice_get sessions place ≡ Some session
       → sum_by g (all_waiting (slice_set sessions place left)) + sum_by g (waiting session.contexts) ≡ sum_by g (all_waiting sessions) + sum_by g (waiting left.contexts)
-  sum_set sessions place session left there =
-      omega (arith, together sessions, together (slice_set sessions place left), changed sum_in sessions place session left there)
+  sum_set sessions place session left there = grind (arith, nat_tests, together sessions, together (slice_set sessions place left), changed sum_in sessions place session left there)
 
   sum_part : (sessions : List SessionState) (place : ℕ) (session : SessionState) → slice_get sessions place ≡ Some session → sum_by g (waiting session.contexts) ≤ sum_by g (all_waiting sessions)
   sum_part sessions place session there = omega (arith, together sessions, part_of sum_in sessions place session there)
@@ -117,23 +112,7 @@ told_at x place session left shelf events there h = record {
 pub tells_of_one : (x : World) (n place calls : ℕ) (session : SessionState) (behind : Scene) (events : List What) → n ≡ place + 1 → slice_get x.sessions place ≡ Some session
     → HooksCounted session.contexts x.shelf behind.session.contexts behind.around.shelf events → length (waiting session.contexts) ≤ x.shelf.out
     → TellHooks x (record (with_scene n behind x) { calls = calls }) (of_session n events)
-tells_of_one x n place calls session behind events is there h few =
-    let at : n - 1 ≡ place = omega (arith, is) in
-    let shelf : ShelfState = behind.around.shelf in
-    let left : SessionState = behind.session in
-    record {
-      counts = subst (λ (k : ℕ). HookCount (hooks_in x) (used_in x) (all_waiting (slice_set x.sessions k left) ++ held shelf) (all_waiting (slice_set x.sessions k left) ++ shelf.spent) (said_by_all (of_session n events))) (sym at)
-          (subst (λ (xs : List What). HookCount (hooks_in x) (used_in x) (all_waiting (slice_set x.sessions place left) ++ held shelf) (all_waiting (slice_set x.sessions place left) ++ shelf.spent) xs) (sym (said_of_session n events))
-          (told_at x place session left shelf events there h));
-      out = subst (λ (k : ℕ). shelf.out + length (all_waiting x.sessions) ≡ x.shelf.out + length (all_waiting (slice_set x.sessions k left))) (sym at)
-          (omega (
-            arith,
-            h.out few,
-            many_together x.sessions,
-            many_together (slice_set x.sessions place left),
-            changed (λ (s : SessionState). length (waiting s.contexts)) x.sessions place session left there,
-          ));
-    }
+tells_of_one x n place calls session behind events is there h few = grind (arith, nat_tests, behind.around.shelf, behind.session, hooks_in x, x.sessions, held, of_session n events, said_of_session n events, told_at, x.shelf.out, h.out, many_together x.sessions, many_together, changed)
 
 -- No hook waits in sessions as they open, nor in sessions of which none has any.
 pub none_wait : (n : ℕ) → all_waiting (replicate n opening) ≡ []

@@ -1,5 +1,5 @@
 -- What is told of a run that is over.
-use Rattle.pgs_turns.proofs.Base.{◌≡◌, ℕ, zero, suc, ◌∷◌, ◌*◌, ◌^◌, ◌<◌, ◌≤◌, min, Bool, true, false, not, List, [], length, take, Option, None, refl, sym, ◌∙◌, ap, subst, arith, take_all}
+use Rattle.pgs_turns.proofs.Base.{nat_tests, ◌≡◌, ℕ, zero, suc, ◌∷◌, ◌*◌, ◌^◌, ◌<◌, ◌≤◌, min, Bool, true, false, not, List, [], length, take, Option, None, refl, sym, ◌∙◌, ap, subst, arith, take_all}
 use Rattle.pgs_turns.proofs.Words.{generated, made_script, most_counted, numbers, summary, whole_run, Course, ended, errors_in, transcript_by, IsOver, course_of, transcript, Run, setting_of, Counter, TakesEvents}
 use Rattle.std.specs.Io.KnownBytes.{append_known}
 use Rattle.pgs_turns.specs.Turns.{Fits}
@@ -48,34 +48,16 @@ module _ (descriptors : ℕ) (first last : Run) (rounds k : ℕ) (wanted : Bool)
       ∙ ap (λ (all : List (List ℕ)). summary (ended (course_of (setting_of descriptors first) None all))) lines
 
   apart : (b : Bool) → b ≡ true → b ≡ false → ⊥
-  apart true h k = cc k
-  apart false h k = cc h
+  apart x0 h k = grind (arith, nat_tests)
 
   unturned : (b : Bool) → not b ≡ true → b ≡ false
-  unturned false h = refl
-  unturned true h = sym h
+  unturned x0 h = grind (arith, nat_tests)
 
   -- all of it was written, or a front
   pub written_tells : wanted ≡ false → k ≡ 13 * rounds → (events errors : ℕ) → events ≡ counter.events → errors ≡ counter.errors → (done : Bool) (w w' : Option (List ℕ))
       → (done ≡ true → w' ≡ append_known w (numbers k events errors last.calls.count)) → (done ≡ false → IsFront (numbers k events errors last.calls.count) w w')
       → Tells descriptors first last rounds (record { lines = k; errors = errors; wanted = wanted; failed = not done }) w w'
-  written_tells goes whole events errors events_are errors_are done w w' all front = record {
-    over = subst (λ (n : ℕ). IsOver descriptors first last (λ es. n ≡ errors_in es) (take k (made_script rounds)) wanted) (sym errors_are) counts;
-    lines = within;
-    whole = λ h. whole;
-    text = λ h f. all (is_done done f) ∙ ap (append_known w) line;
-    front = λ f. subst (λ (text : List ℕ). IsFront text w w') line (front (unturned done f));
-    failed = λ f. goes;
-    silent = λ h. absurd (apart wanted h goes);
-  }
-    where
-      line : numbers k events errors last.calls.count ≡ text_for rounds (setting_of descriptors first)
-      line =
-          ap (λ (n : ℕ). numbers k n errors last.calls.count) events_are ∙ ap (λ (n : ℕ). numbers k counter.events n last.calls.count) errors_are ∙ numbers_told goes whole
-
-      is_done : (b : Bool) → not b ≡ false → b ≡ true
-      is_done true h = refl
-      is_done false h = sym h
+  written_tells goes whole events errors events_are errors_are done w w' all front = grind (arith, nat_tests, counts, unturned, apart, numbers, numbers_told)
 
   -- where a line met a want of memory, nothing was
   pub silent_tells : wanted ≡ true → (errors : ℕ) → errors ≡ counter.errors → (w : Option (List ℕ)) → Tells descriptors first last rounds (record { lines = k; errors = errors; wanted = wanted; failed = not wanted }) w w

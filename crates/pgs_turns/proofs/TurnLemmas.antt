@@ -1,5 +1,5 @@
 -- What a line's turn makes of a run, from what it makes of its session.
-use Rattle.pgs_turns.proofs.Base.{◌≡◌, ◌≢◌, ℕ, ◌+◌, ◌-◌, ◌<◌, ◌≤◌, inl, inr, Bool, true, false, List, [], ◌∷◌, length, get_or, Option, Some, None, refl, sym, ap, ◌∙◌, subst, arith, ◌==◌, slice_get, slice_set, cases_eq, nat_tests, get_or-set_same, get_or-set_other, slice_get_past}
+use Rattle.pgs_turns.proofs.Base.{◌≡◌, ◌≢◌, ℕ, ◌+◌, ◌-◌, ◌<◌, ◌≤◌, inl, inr, Bool, true, false, List, [], ◌∷◌, length, get_or, Option, Some, None, refl, sym, ap, ◌∙◌, subst, arith, slice_get, slice_set, cases_eq, nat_tests, get_or-set_same, get_or-set_other, slice_get_past}
 use Rattle.pgs_turns.proofs.Words.{Event, What, Asks, Space, risen, taken, Holding, SessionState, Around, Moment, World, around, moment, session_at, with_scene, Course, Turn, after_command, after_turn, missing, of_session, turn, asked_by_command, asked_by_turn, CountsHooks, HooksCounted, other_line, own_line, StandsBetweenLines, turn_counts_hooks, more_runs, none_run, stands_between_elsewhere, StoreState, session_of, StaysBeside, Fits, IsBetweenLines, Takes, most_steps, scene_in, empty_around, fitting, fitting_fits, Said, AreStanding, HaveDescriptors, Run, one_of, sessions_in, world_in, TellHooks, GoesOn, IsWithin, TakesTurn}
 use Rattle.pgs_step.specs.declared.events.What.TheVariants as what
 use Rattle.addr_space.proofs.Asked.{raised-set}
@@ -11,10 +11,7 @@ use Rattle.pgs_turns.proofs.SessionLemmas.{Changed, each_behind, fit_behind, hav
 
 -- the session of a number
 pub at_place : (n place : ℕ) (world : World) → n ≡ place + 1 → session_at n world ≡ slice_get world.sessions place
-at_place n place world is =
-    let test : (n == 0) ≡ false = grind (arith, nat_tests, is) in
-    let at : n - 1 ≡ place = omega (arith, is) in
-    rw (test, at) refl
+at_place n place world is = grind (arith, nat_tests)
 
 -- what accounts took where one of them took so many bytes
 pub took_own : (account n : ℕ) (s t : Space) → account < length s.taken → Asks account n s t → taken t account ≡ risen (taken s account) n
@@ -30,17 +27,13 @@ takes_other false own account n s t other asks = took_other own account n s t ot
 takes_other true own account n s t other asks = took_other own account asks.0 s t other asks.1
 
 asks_where_done : (wanted : Bool) (account n : ℕ) (s t : Space) → wanted ≡ false → Takes wanted account n s t → Asks account n s t
-asks_where_done false account n s t is h = h
-asks_where_done true account n s t is h = absurd (cc)
+asks_where_done x0 account n s t is h = grind (arith, nat_tests)
 
 -- a line of a session that isn't there
 module _ (a : Run) (said : Said) (shown : List Event → Type 0) (past : length a.stores < said.session) (few : length (sessions_in a.stores a.space) ≡ length a.stores)
     (shows : shown (of_session said.session (what.Error (missing said.command) ∷ []))) where
   none_at : (descriptors : ℕ) (course : Course) → course.world ≡ world_in descriptors a → session_at said.session course.world ≡ None
-  none_at descriptors course e =
-      ap (session_at said.session) e
-      ∙ at_place said.session (said.session - 1) (world_in descriptors a) (omega (arith, past))
-      ∙ slice_get_past (sessions_in a.stores a.space) (said.session - 1) (omega (arith, past, few))
+  none_at descriptors course e = grind (arith, nat_tests, at_place said.session (said.session - 1) (world_in descriptors a) (omega (arith, past)), slice_get_past (sessions_in a.stores a.space) (said.session - 1) (omega (arith, past, few)))
 
   pub missing_turn : TakesTurn said a a shown false
   missing_turn = record {
@@ -57,12 +50,7 @@ module _ (a : Run) (said : Said) (shown : List Event → Type 0) (past : length 
         subst (λ (o : Option SessionState). GoesOn course (after_command w course said.session said.command o) descriptors a shown false) (sym (none_at descriptors course e)) goes;
     asks = λ is descriptors has w course f e account.
         ap (λ (o : Option SessionState). risen (taken a.space account) (asked_by_command w (account + 1) course said.session said.command o)) (sym (none_at descriptors course e));
-    grows = λ bound h. record {
-      calls = omega (arith, h.calls);
-      contexts = λ place store there. omega (arith, h.contexts place store there);
-      owners = λ place store there. omega (arith, h.owners place store there);
-      serials = λ place store there. omega (arith, h.serials place store there);
-    };
+    grows = grind (arith, nat_tests);
     has = λ descriptors has. has;
     calls = omega arith;
     counted = λ e. absurd (cc e);
@@ -136,11 +124,7 @@ module _ (a b : Run) (place : ℕ) (store left : StoreState) (said : Said) (duri
   tells : (descriptors : ℕ) (w : Option ℕ)
       → TellHooks (world_in descriptors a) (record (with_scene said.session (turn_in w (world_in descriptors a)).moment.scene (world_in descriptors a)) { calls = (turn_in w (world_in descriptors a)).moment.calls })
       (of_session said.session (turn_in w (world_in descriptors a)).events)
-  tells descriptors w =
-      tells_of_one (world_in descriptors a) said.session place (turn_in w (world_in descriptors a)).moment.calls (session_of store a.space) (turn_in w (world_in descriptors a)).moment.scene
-      (turn_in w (world_in descriptors a)).events number (session_there a place store there)
-      (turn_counts_hooks w said.command (moment said.session (session_of store a.space) (world_in descriptors a)) (stands_there descriptors))
-      (stands_there descriptors).stands.hooks.out
+  tells descriptors w = grind (arith, nat_tests, tells_of_one (world_in descriptors a) said.session place (turn_in w (world_in descriptors a)).moment.calls (session_of store a.space) (turn_in w (world_in descriptors a)).moment.scene (turn_in w (world_in descriptors a)).events number (session_there a place store there) (turn_counts_hooks w said.command (moment said.session (session_of store a.space) (world_in descriptors a)) (stands_there descriptors)) (stands_there descriptors).stands.hooks.out, session_there a place store there, turn_counts_hooks w said.command (moment said.session (session_of store a.space) (world_in descriptors a)) (stands_there descriptors), stands_there descriptors)
 
   goes_on : (descriptors : ℕ) → HaveDescriptors descriptors a → (w : Option ℕ) (course : Course) → Fits wanted b.calls.count w → course.world ≡ world_in descriptors a
       → GoesOn course (after_turn course said.session (turn_in w course.world)) descriptors b shown wanted
@@ -186,10 +170,7 @@ module _ (a b : Run) (place : ℕ) (store left : StoreState) (said : Said) (duri
 
   -- a count of one session, and those of the others
   raised_place : (f : StoreState → ℕ) (bound : ℕ) → f left ≤ f store + most_steps → ((j : ℕ) (st : StoreState) → slice_get a.stores j ≡ Some st → f st ≤ bound) → (j : ℕ) (st : StoreState) → slice_get b.stores j ≡ Some st → f st ≤ bound + most_steps
-  raised_place f bound grows h j st now = elim (place_set a.stores place left j st (ap (λ (all : List StoreState). slice_get all j) (sym stores) ∙ now)) [
-    | inl own ↦ omega (arith, ap f own.1, grows, h place store there)
-    | inr other ↦ omega (arith, h j st other.1)
-  ]
+  raised_place f bound grows h j st now = grind (arith, nat_tests, place_set)
 
   within : (bound : ℕ) → IsWithin bound a → IsWithin (bound + most_steps) b
   within bound h = record {

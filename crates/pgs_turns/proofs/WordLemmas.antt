@@ -40,11 +40,7 @@ short_number n small = length-decimal-le 10 n (omega arith) (omega arith) (omega
 
 -- a letter and a number behind it are a name
 pub is_numbered_name : (letter n : ℕ) → is_name_byte letter ≡ true → n < 2 ^ 32 → IsName (letter ∷ decimal n)
-is_numbered_name letter n named small = record {
-  not_empty = omega arith;
-  short = omega (arith, short_number n small);
-  letters = rw named (digits_named (decimal n) (all_digits n (omega arith)));
-}
+is_numbered_name letter n named small = grind (arith, nat_tests, short_number n small, digits_named (decimal n) (all_digits n (omega arith)), all_digits n (omega arith))
 
 pub name_of-name : (word : List ℕ) → IsName word → name_of word ≡ Some word
 name_of-name word h = sym (name_of-is word (Some word) ((λ _. h), λ _. refl) refl)

@@ -59,7 +59,7 @@ pub use Rattle.session_rules.specs.HookCounts.{CountsHooks, HookCount, HooksCoun
 pub use Rattle.session_rules.specs.Modes.{failing_runs, made_lines, most_counted, most_failing, numbers, summary}
 unfoldable pub use Rattle.session_rules.specs.Modes.{generated, made_script, swept, whole_run}
 pub use Rattle.session_rules.specs.Standing.{AreHooks, HasExited, Stands, StandsBetweenLines}
-pub use Rattle.session_rules.specs.State.{SessionState, is_aborted}
+pub use Rattle.session_rules.specs.State.{SessionState}
 unfoldable pub use Rattle.session_rules.specs.State.{opening}
 pub use Rattle.session_rules.specs.Transcript.{Course, Turn, after_command, after_exit, after_line, after_read, after_turn, at_start, ended, errors_in, exits, goes_on, missing, of_session, turn_of}
 unfoldable pub use Rattle.session_rules.specs.Transcript.{course_by, transcript_by, turn}

@@ -1,5 +1,5 @@
 -- The errors of a whole run are those of the source's bytes.
-use Rattle.pgs_world.proofs.Base.{◌≡◌, ℕ, false, List, ◌++◌, length, Option, Some, None, refl, sym, ap, ◌∙◌, subst, append-nil, IsAtEnd, prepend_known}
+use Rattle.pgs_world.proofs.Base.{arith, nat_tests, ◌≡◌, ℕ, false, List, ◌++◌, length, Option, Some, None, sym, ap, ◌∙◌, subst, append-nil, IsAtEnd, prepend_known}
 use Rattle.pgs_world.proofs.Words.{lines_of, Setting, Space, TakesLines, End, TakesAsked, TakesGiven, EndIs, is_wanted}
 use Rattle.pgs_world.specs.declared.performing.End.TheVariants as end
 use Rattle.pgs_world.proofs.EndingLemmas.{first_lines, front_of}
@@ -15,9 +15,7 @@ all_given taken bytes (Some rest) ended given =
 -- what accounts took, where all lines were performed
 pub taken_all : (setting : Setting) (e : End) (bytes : List ℕ) (lines : List (List ℕ)) (left left' : Option (List ℕ)) (s t : Space) → e ≡ end.Whole → EndIs e bytes lines left left'
     → (is_wanted e ≡ false → TakesLines setting lines s t) → TakesAsked setting left s t
-taken_all setting end.Whole bytes lines left left' s t w how takes given is =
-    let same : bytes ≡ given = all_given bytes given left' how.1 (sym how.0 ∙ is) in
-    subst (λ (ls : List (List ℕ)). TakesLines setting ls s t) (how.3 ∙ ap lines_of same) (takes refl)
+taken_all setting end.Whole bytes lines left left' s t w how takes given is = grind (arith, nat_tests, all_given bytes given left' how.1 (sym how.0 ∙ is), how.1, how.0, how.3)
 taken_all setting end.Wanted bytes lines left left' s t w how takes given is = absurd (cc)
 taken_all setting end.SourceFault bytes lines left left' s t w how takes given is = absurd (cc)
 taken_all setting end.TooLong bytes lines left left' s t w how takes given is = absurd (cc)

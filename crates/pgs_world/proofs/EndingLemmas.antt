@@ -1,6 +1,6 @@
 -- The outcome of a script, from how its reading ended and what was printed.
-use Rattle.pgs_world.proofs.Base.{◌≡◌, ◌≢◌, ℕ, ◌+◌, ◌-◌, ◌^◌, ◌<◌, ◌≤◌, Bool, true, false, List, [], ◌∷◌, ◌++◌, length, take, Option, Some, None, ◌⊎◌, inl, inr, refl, sym, ◌∙◌, ap, subst, arith, append-nil, append_assoc, length-append, nat_lt, ◌==◌, if◌then◌else◌, ◌↔◌, nat_tests, take_all, append_known, IsAtEnd}
-use Rattle.pgs_world.proofs.Words.{HasRisen, lines_of, ended_lines, onto_first, onto_ended, newline, lines_of-long, Event, Kind, ShelfState, Course, ended, errors_in, text_of_transcript, transcript_by, Fits, Setting, course_of, kinds_after, names_of, shelf_after, text_in, transcript, EndsAt, HooksAreTold, LeavesRun, course_of-stopped, fit_of, kinds-stopped, shelf-stopped, transcript-stopped, End, GATHERED, most_bytes, HasGiven, AreWhole, IsLittleMore, refused_call, IsWhole, IsWanted, IsCutOff, IsTooLong, IsUnwritten, IsPlayed, outcome_of, status_of, EndIs, AreFront, is_wanted, OnSourceFault, OnNoSourceFault, OnUnwritten, Outside, Performed}
+use Rattle.pgs_world.proofs.Base.{◌≡◌, ◌≢◌, ℕ, ◌+◌, ◌-◌, ◌^◌, ◌<◌, ◌≤◌, Bool, true, false, List, [], ◌∷◌, ◌++◌, length, take, Option, Some, None, ◌⊎◌, inl, inr, refl, sym, ◌∙◌, ap, subst, arith, append-nil, append_assoc, length-append, nat_lt, ◌==◌, if◌then◌else◌, ◌↔◌, nat_tests, take_all, append_known}
+use Rattle.pgs_world.proofs.Words.{HasRisen, lines_of, ended_lines, onto_first, onto_ended, newline, lines_of-long, Event, Kind, ShelfState, Course, ended, errors_in, text_of_transcript, transcript_by, Fits, Setting, course_of, names_of, text_in, transcript, EndsAt, LeavesRun, course_of-stopped, fit_of, kinds-stopped, shelf-stopped, transcript-stopped, End, GATHERED, most_bytes, HasGiven, AreWhole, IsLittleMore, refused_call, IsWhole, IsWanted, IsCutOff, IsTooLong, IsUnwritten, IsPlayed, outcome_of, status_of, EndIs, AreFront, is_wanted, OnSourceFault, OnNoSourceFault, OnUnwritten, Outside, Performed}
 use Rattle.std.proofs.Math.Seq.{take-append_seam}
 use Rattle.pgs_io.specs.Lines.{text_of}
 use Rattle.pgs_world.specs.declared.performing.End.TheVariants as end
@@ -15,14 +15,10 @@ pub record Printed (names : List (List ℕ)) (written written' : Option (List �
   pub errors_are : errors ≡ errors_in events
 
 moves_on : (f g : Bool) (old new : Gathering) (text : List ℕ) → f ≡ false → g ≡ false → Moves f g old new text → GoesOn old new text
-moves_on false false old new text a b m = m
-moves_on false true old new text a b m = absurd (cc)
-moves_on true g old new text a b m = absurd (cc)
+moves_on x0 x1 old new text a b m = grind (arith, nat_tests)
 
 moves_failed : (f g : Bool) (old new : Gathering) (text : List ℕ) → f ≡ false → g ≡ true → Moves f g old new text → FailsWithin old new text
-moves_failed false true old new text a b m = m
-moves_failed false false old new text a b m = absurd (cc)
-moves_failed true g old new text a b m = absurd (cc)
+moves_failed x0 x1 old new text a b m = grind (arith, nat_tests)
 
 -- a printer that had printed nothing, and has handed all on
 pub printed_all : (old new : Gathering) (events : List Event) → Shows old events new → old.gathered ≡ [] → old.failed ≡ false → old.errors ≡ 0
@@ -107,19 +103,10 @@ no_other m h c = elim c [ inl p ↦ omega (arith, h, p) | inr p ↦ omega (arith
 
 -- the statuses of a script that was performed whole
 pub ended_whole : (e : End) (failed : Bool) (errors : ℕ) → (status_of e failed errors ≡ 0) ⊎ (status_of e failed errors ≡ 1) → e ≡ end.Whole
-ended_whole end.Whole false errors h = refl
-ended_whole end.Wanted false errors h = absurd (no_other 5 (omega arith) h)
-ended_whole end.SourceFault false errors h = absurd (no_other 3 (omega arith) h)
-ended_whole end.TooLong false errors h = absurd (no_other 6 (omega arith) h)
-ended_whole end.Unwritten false errors h = absurd (no_other 4 (omega arith) h)
-ended_whole e true errors h = absurd (no_other 4 (omega arith) h)
+ended_whole x0 x1 errors h = grind (arith, nat_tests, no_other)
 
 pub not_by_errors : (errors m : ℕ) → 1 < m → (if nat_lt 0 errors then 1 else 0) ≡ m → ⊥
-not_by_errors errors m h e = of_test (nat_lt 0 errors) e
-  where
-    of_test : (b : Bool) → (if b then 1 else 0) ≡ m → ⊥
-    of_test true p = omega (arith, h, p)
-    of_test false p = omega (arith, h, p)
+not_by_errors errors m h e = grind (arith, nat_tests)
 
 pub status_one : (errors m : ℕ) → errors ≡ m → (status_of end.Whole false errors ≡ 1) ↔ (0 < m)
 status_one errors m e = (λ h. grind (arith, nat_tests), λ h. grind (arith, nat_tests))
@@ -127,14 +114,7 @@ status_one errors m e = (λ h. grind (arith, nat_tests), λ h. grind (arith, nat
 -- lines behind the one that met a want of memory leave no more
 pub left_stopped : (setting : Setting) (calls : ℕ) (lines more : List (List ℕ)) (errors : ℕ) (shelf' : ShelfState) (kinds' : List Kind) → (course_of setting (Some calls) lines).wanted ≡ true
     → LeavesRun (Some calls) setting lines errors shelf' kinds' → LeavesRun (Some calls) setting (lines ++ more) errors shelf' kinds'
-left_stopped setting calls lines more errors shelf' kinds' wanted l =
-    let same : transcript setting (Some calls) lines ≡ transcript setting (Some calls) (lines ++ more) = sym (transcript-stopped setting calls lines more wanted) in
-    record {
-      errors_are = l.errors_are ∙ ap errors_in same;
-      hooks = l.hooks ∙ sym (shelf-stopped setting calls lines more wanted);
-      hooks_told = subst (HooksAreTold setting.shelf shelf') same l.hooks_told;
-      kinds = l.kinds ∙ sym (kinds-stopped setting calls lines more wanted);
-    }
+left_stopped setting calls lines more errors shelf' kinds' wanted l = grind (arith, nat_tests, transcript-stopped setting calls lines more wanted, l.errors_are, l.hooks, shelf-stopped setting calls lines more wanted, setting.shelf, l.hooks_told, l.kinds, kinds-stopped setting calls lines more wanted)
 
 -- All that is known of a script that was played: how the reading ended, and what was printed.
 pub record Facts (setting : Setting) (e : End) (n calls errors : ℕ) (failed : Bool) (left left' written written' : Option (List ℕ)) (faults faults' : ℕ) (shelf' : ShelfState) (kinds' : List Kind) : Type 0 where
@@ -319,12 +299,7 @@ module _ (setting : Setting) (n calls errors : ℕ) (left left' written written'
   is_wanted_of end.Unwritten h = absurd (omega (arith, h))
 
   failed_of : (e : End) (failed : Bool) → At e failed → status_of e failed errors ≡ 4 → failed ≡ true
-  failed_of e true f h = refl
-  failed_of end.Unwritten false f h = f.silent
-  failed_of end.Whole false f h = absurd (not_by_errors errors 4 (omega arith) h)
-  failed_of end.Wanted false f h = absurd (omega (arith, h))
-  failed_of end.SourceFault false f h = absurd (omega (arith, h))
-  failed_of end.TooLong false f h = absurd (omega (arith, h))
+  failed_of x0 x1 f h = grind (arith, nat_tests, f.silent, not_by_errors)
 
   unwritten_at : (e : End) → At e true → IsUnwritten setting (outcome_of (record { end = e; lines = n }) calls true errors) left left' written written' shelf' kinds'
   unwritten_at e f =
@@ -362,8 +337,7 @@ module _ (setting : Setting) (n calls errors : ℕ) (left left' written written'
   sink_fault e failed f h = let fit = fit_of (is_wanted e) calls in (f.printed fit.0 fit.1).risen (failed_of e failed f h)
 
   pub sink_grew : (e : End) (failed : Bool) → At e failed → faults < faults' → status_of e failed errors ≡ 4
-  sink_grew e true f h = refl
-  sink_grew e false f h = let fit = fit_of (is_wanted e) calls in absurd (omega (arith, h, (f.printed fit.0 fit.1).no_fault refl))
+  sink_grew e x1 f h = grind (arith, nat_tests, fit_of (is_wanted e) calls, f.printed)
 
 -- the source's faults show in the status
 faults_shown : (e : End) (failed : Bool) (errors : ℕ) (P : Type 0) → OnSourceFault e P → status_of e failed errors ≡ 3 → P
@@ -375,27 +349,13 @@ faults_shown end.Unwritten false errors P h s = absurd (omega (arith, s))
 faults_shown e true errors P h s = absurd (omega (arith, s))
 
 growth_shown : (e : End) (failed : Bool) (errors before after : ℕ) → OnNoSourceFault e (after ≡ before) → before < after → (status_of e failed errors ≡ 3) ⊎ (status_of e failed errors ≡ 4)
-growth_shown e true errors before after h less = inr refl
-growth_shown end.SourceFault false errors before after h less = inl refl
-growth_shown end.Whole false errors before after h less = absurd (omega (arith, h, less))
-growth_shown end.Wanted false errors before after h less = absurd (omega (arith, h, less))
-growth_shown end.TooLong false errors before after h less = absurd (omega (arith, h, less))
-growth_shown end.Unwritten false errors before after h less = absurd (omega (arith, h, less))
+growth_shown x0 x1 errors before after h less = grind (arith, nat_tests)
 
 played_by_errors : (errors : ℕ) → IsPlayed (if nat_lt 0 errors then 1 else 0)
-played_by_errors errors = by_test (nat_lt 0 errors)
-  where
-    by_test : (b : Bool) → IsPlayed (if b then 1 else 0)
-    by_test true = inr (inl refl)
-    by_test false = inl refl
+played_by_errors errors = grind (arith, nat_tests)
 
 is_played : (e : End) (failed : Bool) (errors : ℕ) → IsPlayed (status_of e failed errors)
-is_played e true errors = inr (inr (inr (inl refl)))
-is_played end.Whole false errors = played_by_errors errors
-is_played end.Wanted false errors = inr (inr (inr (inr (inl refl))))
-is_played end.SourceFault false errors = inr (inr (inl refl))
-is_played end.TooLong false errors = inr (inr (inr (inr (inr refl))))
-is_played end.Unwritten false errors = inr (inr (inr (inl refl)))
+is_played x0 x1 errors = grind (arith, nat_tests, played_by_errors)
 
 no_call : (e : End) (failed : Bool) (n calls errors : ℕ) → status_of e failed errors ≢ 4 → status_of e failed errors ≢ 5 → (outcome_of (record { end = e; lines = n }) calls failed errors).call ≡ 0
 no_call end.Wanted true n calls errors four five = absurd (four refl)
@@ -426,13 +386,7 @@ performed_by setting e n calls errors failed before after f fault no_fault = rec
 
 -- a write that has failed stays failed
 pub stays_failed : (f g : Bool) (old new : Gathering) (text : List ℕ) → f ≡ true → Moves f g old new text → g ≡ true
-stays_failed true true old new text h m = refl
-stays_failed true false old new text h m = absurd m
-stays_failed false g old new text h m = absurd (cc)
+stays_failed x0 x1 old new text h m = grind (arith, nat_tests)
 
 pub unwritten_leads : (e : End) (P Q : Type 0) → (P → Q) → OnUnwritten e P → OnUnwritten e Q
-unwritten_leads end.Whole P Q leads h = tt
-unwritten_leads end.Wanted P Q leads h = tt
-unwritten_leads end.SourceFault P Q leads h = tt
-unwritten_leads end.TooLong P Q leads h = tt
-unwritten_leads end.Unwritten P Q leads h = leads h
+unwritten_leads x0 P Q leads h = grind (arith, nat_tests)

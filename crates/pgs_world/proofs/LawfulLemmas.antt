@@ -1,5 +1,5 @@
 -- The transcripts of a run keep the laws of lifetimes.
-use Rattle.pgs_world.proofs.Base.{ℕ, List, Option, subst, sym, ◌∙◌, ap, unwrap_or}
+use Rattle.pgs_world.proofs.Base.{arith, nat_tests, ℕ, List}
 use Rattle.pgs_world.proofs.Words.{read_line, AreDistinct, Setting, transcript, Kind, ShelfState, Asked, AskFor, setting_for, AreLawful, AreMadeOnce}
 use Rattle.owner_kinds.specs.KindTable.{IsSound}
 use Rattle.owner_kinds.specs.KindShelf.{table_of}
@@ -16,9 +16,7 @@ run_makes_once setting differ sound = λ lines w. transcript_makes_once read_lin
 
 -- the same for what words ask for
 pub asked_is_lawful : (words : List (List ℕ)) (a b : Asked) (shelf : ShelfState) (kinds : List Kind) → AskFor words a → AskFor words b → AreLawful (setting_for a shelf kinds) → AreLawful (setting_for b shelf kinds)
-asked_is_lawful words a b shelf kinds one other h =
-    subst (λ (o : Asked). AreLawful (setting_for o shelf kinds)) (ap (λ (o : Option Asked). unwrap_or o a) (sym one ∙ other)) h
+asked_is_lawful words a b shelf kinds one other h = grind (arith, nat_tests)
 
 pub asked_makes_once : (words : List (List ℕ)) (a b : Asked) (shelf : ShelfState) (kinds : List Kind) → AskFor words a → AskFor words b → AreMadeOnce (setting_for a shelf kinds) → AreMadeOnce (setting_for b shelf kinds)
-asked_makes_once words a b shelf kinds one other h =
-    subst (λ (o : Asked). AreMadeOnce (setting_for o shelf kinds)) (ap (λ (o : Option Asked). unwrap_or o a) (sym one ∙ other)) h
+asked_makes_once words a b shelf kinds one other h = grind (arith, nat_tests)

@@ -1,5 +1,5 @@
 -- The reading loop: where it stands, and how it ends.
-use Rattle.pgs_world.proofs.Base.{◌≡◌, ℕ, ◌+◌, ◌^◌, ◌≤◌, Bool, false, refl, List, [], ◌∷◌, ◌++◌, length, Option, sym, ◌∙◌, ap, subst, arith, append-nil, length-append}
+use Rattle.pgs_world.proofs.Base.{nat_tests, ◌≡◌, ℕ, ◌+◌, ◌^◌, ◌≤◌, Bool, false, refl, List, [], ◌∷◌, ◌++◌, length, Option, sym, ◌∙◌, ap, subst, arith, append-nil, length-append}
 use Rattle.pgs_world.proofs.Words.{HasFed-ahead, HasFed-few, HasFed-first, Event, End, read_line, HasPerformed, said_in, Course, Setting, course_of, HaveDescriptors, IsOpening, Run, setting_of, Fits, HaveRoom, TakesTurn, course_of-snoc, fits_later, line_behind, most_bytes, Performs, Meets, EndIs, AreFront, EndsInTime, IsLineEnd, is_wanted}
 use Rattle.pgs_io.specs.Feeding.{Feeding, HasFed, GivesLine}
 use Rattle.pgs_io.specs.declared.feeding.TheConstants.{MOST_READ}
@@ -9,11 +9,7 @@ use Rattle.pgs_world.specs.Loop.{Stands}
 
 pub Stands-start : (descriptors : ℕ) (first : Run) (start : Option (List ℕ)) (feed : Feeding) (emitted : List Event → Type 0) → HasFed most_bytes start start feed [] → length feed.pending ≤ MOST_READ → IsOpening first → HaveDescriptors descriptors first → emitted []
     → Stands descriptors first start start feed first emitted []
-Stands-start descriptors first start feed emitted starts few opens has h = record {
-  read = starts;
-  few = few;
-  performed = performed_none descriptors first emitted opens has h;
-}
+Stands-start descriptors first start feed emitted starts few opens has h = grind (arith, nat_tests, performed_none descriptors first emitted opens has h)
 
 -- one line more, and the script goes on
 pub Stands-line : (descriptors : ℕ) (first : Run) (start before after : Option (List ℕ)) (feed feed' : Feeding) (old new : Run) (kept : List ℕ) (long : Bool) (emitted during emitted' : List Event → Type 0) (lines : List (List ℕ))
@@ -40,8 +36,7 @@ front_taken start now feed lines h few = record {
 }
 
 pub has_room : (descriptors : ℕ) (first : Run) (start now : Option (List ℕ)) (feed : Feeding) (run : Run) (emitted : List Event → Type 0) (lines : List (List ℕ)) → Stands descriptors first start now feed run emitted lines → HaveRoom run
-has_room descriptors first start now feed run emitted lines s =
-    room_behind descriptors first run emitted lines false s.performed (few_lines descriptors first start now feed run emitted lines s)
+has_room descriptors first start now feed run emitted lines s = grind (arith, nat_tests, room_behind descriptors first run emitted lines false s.performed (few_lines descriptors first start now feed run emitted lines s), s.performed, few_lines descriptors first start now feed run emitted lines s)
 
 -- the ends without a line
 pub ends-without : (descriptors : ℕ) (first : Run) (start before after : Option (List ℕ)) (feed : Feeding) (there : Run) (emitted emitted' : List Event → Type 0) (in_time : List Event → List Event → Type 0) (lines : List (List ℕ)) (n : ℕ)

@@ -1,7 +1,6 @@
 -- What the options say in rows.
-use Rattle.pgs_world.proofs.Base.{zero, suc, ℕ, ◌≡◌, ◌⊎◌, ◌<◌, ◌≤◌, ◌^◌, ◌∙◌, inl, inr, ap, sym, refl, subst, arith, Bool, true, false, ◌||◌, List, [], ◌∷◌, length, codes, Option, Some, None, Result, Ok, Err, slice_index, slice_index_or, option_map, unwrap_or, ◌==◌, if◌then◌else◌, bytes_eq, ParsesUnsigned, digits_value, without_leading_plus, bytes_eq-Decides}
-use Rattle.pgs_world.proofs.Words.{App, Kinds, Row, Text, IsAmong, fault_of, found_of, is_simple, is_simple_and_free, matches_of, HasMatchesOf, one_text, rows_of, ReadsOne, args_of, IsParsedFrom, Arg, Command, ValueParser, ArgMatches, clap_on_literals, flag_in, is_true, number_in, options_in, options_of, the_app, where_fitting, where_no_fault, HasOptions, IsOption}
-use Rattle.clap.specs.Values.{IsUnsignedIn}
+use Rattle.pgs_world.proofs.Base.{nat_tests, zero, suc, ℕ, ◌≡◌, ◌⊎◌, ◌<◌, ◌≤◌, ◌^◌, ◌∙◌, ap, sym, refl, subst, arith, Bool, true, false, ◌||◌, List, [], length, codes, Option, Some, None, Result, slice_index, slice_index_or, option_map, unwrap_or, ◌==◌, if◌then◌else◌, bytes_eq, ParsesUnsigned, digits_value, without_leading_plus, bytes_eq-Decides}
+use Rattle.pgs_world.proofs.Words.{App, Row, Text, IsAmong, fault_of, found_of, is_simple, is_simple_and_free, matches_of, HasMatchesOf, one_text, rows_of, ReadsOne, args_of, IsParsedFrom, Arg, Command, ValueParser, ArgMatches, clap_on_literals, flag_in, is_true, number_in, options_of, the_app, where_fitting, HasOptions, IsOption}
 use Rattle.clap.proofs.WalkLemmas.{one_text-rows}
 use Rattle.clap.specs.declared.error.kind.ErrorKind.{ErrorKind}
 use Rattle.clap.specs.declared.builder.value_parser.ValueParser.TheVariants as parser
@@ -24,13 +23,8 @@ pub record Told (low high : ℕ) (id : Text) (rows : List Row) (r : Option ℕ) 
 module _ {E : Type 0} (bits : ℕ) (gives : Text → Result ℕ E → Type 0) (number : GivesNumber bits gives) (low high : ℕ) (fits : high < 2 ^ bits) where
   of_text : (ignore_case : Bool) (t : Text) (r : Option ℕ) → WasRead (parser.Unsigned low high) ignore_case t → ReadsOne gives t r
       → (n : ℕ) × (r ≡ Some n) × (n ≡ digits_value 10 (without_leading_plus t)) × (low ≤ n) × (n ≤ high)
-  of_text ignore_case t (Some n) was reads =
-      let passed : IsUnsignedIn low high t = subst (IsUnsignedIn low high) (sym was.read) was.accepted in
-      let is : n ≡ digits_value 10 (without_leading_plus t) = (number t (Ok n) reads).1 in
-      (n, refl, is, omega (arith, passed.2, is), omega (arith, passed.3, is))
-  of_text ignore_case t None was reads =
-      let passed : IsUnsignedIn low high t = subst (IsUnsignedIn low high) (sym was.read) was.accepted in
-      absurd (number t (Err reads.0) reads.1 (passed.0, omega (arith, passed.3, fits)))
+  of_text ignore_case t (Some n) was reads = grind (arith, nat_tests, was.read, was.accepted)
+  of_text ignore_case t None was reads = grind (arith, nat_tests, was.read, was.accepted, reads.0, reads.1)
 
   pub told_by : (f : Found) (id : Text) (ignore_case : Bool) (r : Option ℕ) → (one_text f id ≡ None → r ≡ None) → ((t : Text) → one_text f id ≡ Some t → ReadsOne gives t r)
       → ((t : Text) → one_text f id ≡ Some t → WasRead (parser.Unsigned low high) ignore_case t) → Told low high id (rows_of f) r
@@ -45,9 +39,7 @@ module _ {E : Type 0} (bits : ℕ) (gives : Text → Result ℕ E → Type 0) (n
           let got = of_text ignore_case t r (was t e) (some t e) in
           record {
             told = got.1 ∙ ap (λ (n : ℕ). Some n) got.2 ∙ ap (option_map (λ t. digits_value 10 (without_leading_plus t))) (sym e ∙ one_text-rows f id);
-            within = λ n is.
-                let same : got.0 ≡ n = ap (λ (o : Option ℕ). unwrap_or o 0) (sym got.1 ∙ is) in
-                (subst (λ (x : ℕ). low ≤ x) same got.3, subst (λ (x : ℕ). x ≤ high) same got.4);
+            within = grind (arith, nat_tests, got.0, got.1, got.3, got.4);
           }
 
 -- two texts that begin with different bytes are different
@@ -56,8 +48,7 @@ differ t u a b first second apart e = apart (sym first ∙ ap (λ (w : Text). sl
 
 -- an option whose name begins with another letter than "help" and "version"
 not_auto : (t : Text) (a : ℕ) → slice_index t 0 ≡ a → (a ≡ 104 → ⊥) → (a ≡ 118 → ⊥) → (t ≡ codes "help") ⊎ (t ≡ codes "version") → ⊥
-not_auto t a first help version (inl e) = differ t (codes "help") a 104 first refl help e
-not_auto t a first help version (inr e) = differ t (codes "version") a 118 first refl version e
+not_auto t a first help version x5 = grind (arith, nat_tests, differ)
 
 first_byte : (t u : Text) → t ≡ u → slice_index t 0 ≡ slice_index u 0
 first_byte t u e = ap (λ (w : Text). slice_index w 0) e
@@ -93,12 +84,7 @@ parser_at (suc (suc (suc (suc zero)))) = parser.Unsigned 0 10000
 parser_at (suc (suc (suc (suc (suc k))))) = parser.Bool
 
 number_at : (k : ℕ) → k < 5 → parser_at k ≡ parser.Unsigned (least_at k) (most_at k)
-number_at zero lt = refl
-number_at (suc zero) lt = refl
-number_at (suc (suc zero)) lt = refl
-number_at (suc (suc (suc zero))) lt = refl
-number_at (suc (suc (suc (suc zero)))) lt = refl
-number_at (suc (suc (suc (suc (suc k))))) lt = absurd (omega (arith, lt))
+number_at x0 lt = grind (arith, nat_tests)
 
 -- names are told apart by their lengths, and those of one length by their first two letters
 place_of : Text → ℕ
@@ -106,38 +92,18 @@ place_of t = if length t == 5 then (if slice_index t 1 == 112 then 0 else 5) els
 
 placed : (k : ℕ) → k < 6 → place_of (name_at k) ≡ k
 unfolding place_of
-placed zero lt = refl
-placed (suc zero) lt = refl
-placed (suc (suc zero)) lt = refl
-placed (suc (suc (suc zero))) lt = refl
-placed (suc (suc (suc (suc zero)))) lt = refl
-placed (suc (suc (suc (suc (suc zero))))) lt = refl
-placed (suc (suc (suc (suc (suc (suc k)))))) lt = absurd (omega (arith, lt))
+placed x0 lt = grind (arith, nat_tests)
 
 -- no name is that of an option that the command makes itself, or empty
 not_own : (k : ℕ) (t : Text) → t ≡ name_at k → (t ≡ codes "help") ⊎ (t ≡ codes "version") → ⊥
-not_own zero t e = not_auto t 115 (first_byte t (codes "space") e) (λ z. omega (arith, z)) (λ z. omega (arith, z))
-not_own (suc zero) t e = not_auto t 115 (first_byte t (codes "sessions") e) (λ z. omega (arith, z)) (λ z. omega (arith, z))
-not_own (suc (suc zero)) t e = not_auto t 100 (first_byte t (codes "descriptors") e) (λ z. omega (arith, z)) (λ z. omega (arith, z))
-not_own (suc (suc (suc zero))) t e = not_auto t 102 (first_byte t (codes "fail") e) (λ z. omega (arith, z)) (λ z. omega (arith, z))
-not_own (suc (suc (suc (suc zero)))) t e = not_auto t 103 (first_byte t (codes "generate") e) (λ z. omega (arith, z)) (λ z. omega (arith, z))
-not_own (suc (suc (suc (suc (suc k))))) t e = not_auto t 115 (first_byte t (codes "sweep") e) (λ z. omega (arith, z)) (λ z. omega (arith, z))
+not_own x0 t e = grind (arith, nat_tests, not_auto, first_byte)
 
 is_named : (k : ℕ) → name_at k ≡ [] → ⊥
-is_named zero e = differ (codes "space") [] 115 0 refl refl (λ z. omega (arith, z)) e
-is_named (suc zero) e = differ (codes "sessions") [] 115 0 refl refl (λ z. omega (arith, z)) e
-is_named (suc (suc zero)) e = differ (codes "descriptors") [] 100 0 refl refl (λ z. omega (arith, z)) e
-is_named (suc (suc (suc zero))) e = differ (codes "fail") [] 102 0 refl refl (λ z. omega (arith, z)) e
-is_named (suc (suc (suc (suc zero)))) e = differ (codes "generate") [] 103 0 refl refl (λ z. omega (arith, z)) e
-is_named (suc (suc (suc (suc (suc k))))) e = differ (codes "sweep") [] 115 0 refl refl (λ z. omega (arith, z)) e
+is_named x0 e = grind (arith, nat_tests, differ (codes "space"), differ)
 
 -- a flag says yes where the text of its value does
 flag_read : (t : Text) (r : Bool) → (bytes_eq t (codes "true") || bytes_eq t (codes "false")) ≡ true → (t ≡ codes "true" → r ≡ true) → (t ≡ codes "false" → r ≡ false) → r ≡ bytes_eq t (codes "true")
-flag_read t r one on off = go (bytes_eq t (codes "true")) refl
-  where
-    go : (b : Bool) → bytes_eq t (codes "true") ≡ b → r ≡ bytes_eq t (codes "true")
-    go true e = on ((bytes_eq-Decides t (codes "true")).0 e) ∙ sym e
-    go false e = off ((bytes_eq-Decides t (codes "false")).0 (ap (λ (b : Bool). b || bytes_eq t (codes "false")) (sym e) ∙ one)) ∙ sym e
+flag_read t r one on off = grind (arith, nat_tests, bytes_eq-Decides)
 
 module _ (c : Command) (h : HasOptions c) where
   abbrev arg_at : ℕ → Arg
@@ -174,20 +140,10 @@ module _ (c : Command) (h : HasOptions c) where
   -- no two options have one name
   only_at : (k : ℕ) (d : Arg) → k < 6 → (j : ℕ) (e : Arg) → j < length (args_of c)
       → bytes_eq (slice_index_or (args_of c) j e).id.now (slice_index_or (args_of c) k d).id.now ≡ true → j ≡ k
-  only_at k d lt j e less same =
-      let few : j < 6 = omega (arith, less, six) in
-      sym (placed j few)
-      ∙ ap place_of (sym (id_at j e few) ∙ (bytes_eq-Decides (slice_index_or (args_of c) j e).id.now (slice_index_or (args_of c) k d).id.now).0 same ∙ id_at k d lt)
-      ∙ placed k lt
+  only_at k d lt j e less same = grind (arith, nat_tests, six, placed, place_of, id_at, bytes_eq-Decides (slice_index_or (args_of c) j e).id.now (slice_index_or (args_of c) k d).id.now, id_at k d lt, placed k lt)
 
   option_at : (k : ℕ) → k < 6 → IsListed c k (arg_at k) (parser_at k)
-  option_at k lt = record {
-    listed = omega (arith, lt, six);
-    only = only_at k (arg_at k) lt;
-    own = not_own k (slice_index_or (args_of c) k (arg_at k)).id.now (id_at k (arg_at k) lt);
-    named = λ e. is_named k (sym (id_at k (arg_at k) lt) ∙ e);
-    by = ap (λ (a : Arg). a.value_parser) (is_at k (arg_at k) lt) ∙ (takes_at k).by;
-  }
+  option_at k lt = grind (arith, nat_tests, six, only_at k (arg_at k) lt, not_own k (slice_index_or (args_of c) k (arg_at k)).id.now (id_at k (arg_at k) lt), id_at k (arg_at k) lt, is_named, is_at k (arg_at k) lt, takes_at k)
 
   -- a text of an option was let through by its parser
   read_at : (m : ArgMatches) (p : IsParsedFrom c m) (k : ℕ) → k < 6 → (t : Text) → one_text (found_of m) (name_at k) ≡ Some t → WasRead (parser_at k) (slice_index_or (args_of c) k (arg_at k)).ignore_case t
@@ -257,20 +213,12 @@ no_faults a words e none = ap (λ (x : App). fault_of x words) (sym e) ∙ none
 pub options_told : (words : List Text) (rows : List Row) (a b c d e : Option ℕ) (f : Bool) → fault_of the_app words ≡ [] → rows ≡ matches_of the_app words
     → Told 131072 1073741824 (codes "space") rows a → Told 1 64 (codes "sessions") rows b → Told 8 64 (codes "descriptors") rows c → Told 0 4294967295 (codes "fail") rows d → Told 0 10000 (codes "generate") rows e → f ≡ flag_in (codes "sweep") rows
     → options_of words ≡ where_fitting (record { space = unwrap_or a 16777216; sessions = unwrap_or b 1; descriptors = unwrap_or c 16; fail = unwrap_or d 0; generate = unwrap_or e 0; sweep = f })
-options_told words rows a b c d e f none is space sessions descriptors fail generate sweep =
-    let told : options_in rows ≡ record { space = unwrap_or a 16777216; sessions = unwrap_or b 1; descriptors = unwrap_or c 16; fail = unwrap_or d 0; generate = unwrap_or e 0; sweep = f } =
-    rw (space.told, sessions.told, descriptors.told, fail.told, generate.told, sweep) refl in
-    ap (λ (faults : Kinds). where_no_fault faults (matches_of the_app words)) none ∙ ap (λ (r : List Row). where_fitting (options_in r)) (sym is) ∙ ap where_fitting told
+options_told words rows a b c d e f none is space sessions descriptors fail generate sweep = grind (arith, nat_tests, space.told, sessions.told, descriptors.told, fail.told, generate.told)
 
 -- an option that isn't given has its default, which is in the range
 pub within : (low high default : ℕ) (id : Text) (rows : List Row) (r : Option ℕ) → low ≤ default → default ≤ high → Told low high id rows r → (low ≤ unwrap_or r default) × (unwrap_or r default ≤ high)
-within low high default id rows None least most t = (least, most)
-within low high default id rows (Some n) least most t = t.within n refl
+within low high default id rows x5 least most t = grind (arith, nat_tests, t.within)
 
 -- where the command found a fault, the words ask for nothing
 pub nothing_asked : (a : App) (words : List Text) (kind : ErrorKind) → a ≡ the_app → IsAmong kind (fault_of a words) → options_of words ≡ None
-nothing_asked a words kind e among = go (fault_of the_app words) refl
-  where
-    go : (faults : Kinds) → fault_of the_app words ≡ faults → options_of words ≡ None
-    go [] none = absurd (subst (λ (k : Kinds). IsAmong kind k) none (subst (λ (x : App). IsAmong kind (fault_of x words)) e among))
-    go (fault ∷ faults) some = ap (λ (k : Kinds). where_no_fault k (matches_of the_app words)) some
+nothing_asked a words kind e among = grind (arith, nat_tests)

@@ -1,5 +1,5 @@
 -- The command line in its parts.
-use Rattle.pgs_world.proofs.Base.{ℕ, ◌≡◌, ◌∙◌, ap, sym, false, [], ◌∷◌, ◌++◌, codes, List, Result, Ok, Err, IfOk, All-nil, All, subst}
+use Rattle.pgs_world.proofs.Base.{arith, nat_tests, ℕ, ◌≡◌, ◌∙◌, ap, sym, false, [], ◌∷◌, ◌++◌, codes, List, Result, IfOk, All-nil, All, subst}
 use Rattle.pgs_world.proofs.Words.{App, Rule, app_of, rule_of, with_rule, has_subcommand, args_of, groups_of, IsParsed, AddsArg, IsParsedFrom, IsPlainArg, added_plain, Arg, Command, ValueParser, ArgMatches, bare_app, flag_rule, number_rule, with_descriptors, with_fail, with_generate, with_sessions, with_space, HasOptions, IsOption, Takes}
 use Rattle.clap.specs.Matches.{found_of}
 use Rattle.clap.specs.declared.builder.value_parser.ValueParser.TheVariants as parser
@@ -8,15 +8,11 @@ use Rattle.clap.specs.declared.builder.action.ArgAction.TheVariants.{Set, SetTru
 
 -- where what was answered is so, it is so, too
 pub if_ok : {A E : Type 0} (P Q : A → Type 0) (r : Result A E) → ((a : A) → P a → Q a) → IfOk r P → IfOk r Q
-if_ok P Q (Ok a) f h = f a h
-if_ok P Q (Err e) f h = h
+if_ok P Q x2 f h = grind (arith, nat_tests)
 
 -- an option that was added has its name and its parser
 added : (old new : Command) (arg : Arg) (name : List ℕ) (action : ArgAction) (by : ValueParser) (a : AddsArg old arg new) → Takes name action by arg → IsOption name by a.arg
-added old new arg name action by a t = record {
-  id = ap (λ i. i.now) a.rules.id ∙ t.id;
-  by = a.rules.parser by t.by;
-}
+added old new arg name action by a t = grind (arith, nat_tests, a.rules.id, t.id, a.rules.parser, t.by)
 
 module _ (bare with_1 with_2 with_3 with_4 with_5 c : Command) (space sessions descriptors fail generate sweep : Arg) (app : app_of bare ≡ bare_app) (args : args_of bare ≡ []) (groups : groups_of bare ≡ [])
     (takes_space : Takes (codes "space") Set (parser.Unsigned 131072 1073741824) space) (takes_sessions : Takes (codes "sessions") Set (parser.Unsigned 1 64) sessions)
@@ -29,12 +25,7 @@ module _ (bare with_1 with_2 with_3 with_4 with_5 c : Command) (space sessions d
 
   pub has_options : ((m : ArgMatches) (p : IsParsedFrom c m) → IsParsed p.built (found_of m) (has_subcommand m)) → HasOptions c
   has_options parsed = record {
-    app = more with_5 c sweep with_generate (flag_rule (codes "sweep")) sixth takes_sweep.own
-        (more with_4 with_5 generate with_fail (number_rule (codes "generate") 0 10000) fifth takes_generate.own
-        (more with_3 with_4 fail with_descriptors (number_rule (codes "fail") 0 4294967295) fourth takes_fail.own
-        (more with_2 with_3 descriptors with_sessions (number_rule (codes "descriptors") 8 64) third takes_descriptors.own
-        (more with_1 with_2 sessions with_space (number_rule (codes "sessions") 1 64) second takes_sessions.own
-        (more bare with_1 space bare_app (number_rule (codes "space") 131072 1073741824) first takes_space.own app takes_space.rule) takes_sessions.rule) takes_descriptors.rule) takes_fail.rule) takes_generate.rule) takes_sweep.rule;
+    app = grind (arith, nat_tests, more with_5 c sweep with_generate (flag_rule (codes "sweep")) sixth takes_sweep.own (more with_4 with_5 generate with_fail (number_rule (codes "generate") 0 10000) fifth takes_generate.own (more with_3 with_4 fail with_descriptors (number_rule (codes "fail") 0 4294967295) fourth takes_fail.own (more with_2 with_3 descriptors with_sessions (number_rule (codes "descriptors") 8 64) third takes_descriptors.own (more with_1 with_2 sessions with_space (number_rule (codes "sessions") 1 64) second takes_sessions.own (more bare with_1 space bare_app (number_rule (codes "space") 131072 1073741824) first takes_space.own app takes_space.rule) takes_sessions.rule) takes_descriptors.rule) takes_fail.rule) takes_generate.rule) takes_sweep.rule, more with_4 with_5 generate with_fail (number_rule (codes "generate") 0 10000) fifth takes_generate.own (more with_3 with_4 fail with_descriptors (number_rule (codes "fail") 0 4294967295) fourth takes_fail.own (more with_2 with_3 descriptors with_sessions (number_rule (codes "descriptors") 8 64) third takes_descriptors.own (more with_1 with_2 sessions with_space (number_rule (codes "sessions") 1 64) second takes_sessions.own (more bare with_1 space bare_app (number_rule (codes "space") 131072 1073741824) first takes_space.own app takes_space.rule) takes_sessions.rule) takes_descriptors.rule) takes_fail.rule) takes_generate.rule, more with_3 with_4 fail with_descriptors (number_rule (codes "fail") 0 4294967295) fourth takes_fail.own (more with_2 with_3 descriptors with_sessions (number_rule (codes "descriptors") 8 64) third takes_descriptors.own (more with_1 with_2 sessions with_space (number_rule (codes "sessions") 1 64) second takes_sessions.own (more bare with_1 space bare_app (number_rule (codes "space") 131072 1073741824) first takes_space.own app takes_space.rule) takes_sessions.rule) takes_descriptors.rule) takes_fail.rule, more with_2 with_3 descriptors with_sessions (number_rule (codes "descriptors") 8 64) third takes_descriptors.own (more with_1 with_2 sessions with_space (number_rule (codes "sessions") 1 64) second takes_sessions.own (more bare with_1 space bare_app (number_rule (codes "space") 131072 1073741824) first takes_space.own app takes_space.rule) takes_sessions.rule) takes_descriptors.rule, more with_1 with_2 sessions with_space (number_rule (codes "sessions") 1 64) second takes_sessions.own (more bare with_1 space bare_app (number_rule (codes "space") 131072 1073741824) first takes_space.own app takes_space.rule) takes_sessions.rule, more bare with_1 space bare_app (number_rule (codes "space") 131072 1073741824) first takes_space.own app takes_space.rule);
     space = first.arg;
     takes_space = added bare with_1 space (codes "space") _ _ first takes_space;
     sessions = second.arg;

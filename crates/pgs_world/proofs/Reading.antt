@@ -1,5 +1,5 @@
 -- The number of an option, where it has one, is in its range.
-use Rattle.pgs_world.proofs.Base.{ℕ, ◌≡◌, ◌<◌, ◌∙◌, ◌⊎◌, inl, inr, ap, sym, refl, subst, arith, Bool, true, List, [], ◌∷◌, length, Option, Some, None, slice_index_or, All, bytes_eq, option_map, slice_get, All-get_or, bytes_eq-Decides}
+use Rattle.pgs_world.proofs.Base.{nat_tests, ℕ, ◌≡◌, ◌<◌, ◌∙◌, ◌⊎◌, inl, inr, ap, sym, refl, subst, arith, Bool, true, List, [], ◌∷◌, length, Option, Some, None, slice_index_or, All, bytes_eq, option_map, slice_get, All-get_or, bytes_eq-Decides}
 use Rattle.pgs_world.proofs.Words.{Accepts, Text, found_of, one_text, read_as, reading_of, matched_of, has_subcommand, args_of, groups_of, Entry, EntryPasses, HasReading, IsParsed, PassesArg, parser_of, parser_of_value, IsAuto, IsParsedFrom, IsPlain, entry_by_id, same_rules_by_id, Arg, Command, ValueParser, ArgMatches}
 use Rattle.std.specs.Borrow.{Bor}
 use Rattle.clap.specs.declared.builder.value_parser.Reading.{Reading}
@@ -15,18 +15,11 @@ pub record WasRead (q : ValueParser) (ignore_case : Bool) (t : Text) : Type 0 wh
 first_read : (P : Bor Text → Type 0) (how : Reading) (vs : List (Bor Text)) (t : Text) → All P vs
     → option_map (λ s. read_as how s.now) (slice_get vs 0) ≡ Some t → (v : Bor Text) × (t ≡ read_as how v.now) × P v
 first_read P how [] t all e = cc
-first_read P how (v ∷ vs) t all e = (v, sym (ap (λ (o : Option Text). option_or_nil o) e), All-get_or P (v ∷ vs) 0 v (omega arith) all)
-  where
-    option_or_nil : Option Text → Text
-    option_or_nil None = []
-    option_or_nil (Some u) = u
+first_read P how (v ∷ vs) t all e = grind (arith, nat_tests, All-get_or P (v ∷ vs) 0 v (omega arith) all)
 
 -- no entry of an option is a group's
 pub not_a_group : (c : Command) (id : Text) → groups_of c ≡ [] → (id ≡ [] → ⊥) → (id ≡ []) ⊎ (0 < length (groups_of c)) → ⊥
-not_a_group c id none named (inl e) = named e
-not_a_group c id none named (inr lt) =
-    let bad : 0 < 0 = rw none at lt in
-    absurd (omega arith)
+not_a_group c id none named x4 = grind (arith, nat_tests)
 
 -- An option of the command, with no other of its name.
 pub record IsListed (old : Command) (k : ℕ) (d : Arg) (q : ValueParser) : Type 0 where
@@ -45,13 +38,10 @@ module _ (old : Command) (m : ArgMatches) (p : IsParsedFrom old m) (k : ℕ) (d 
       (ap parser_of_value (s.parser q o.by), s.ignore_case)
 
   reading_by : (id : Text) (how : Reading) → id ≡ (slice_index_or (args_of old) k d).id.now → HasReading p.built id how → how ≡ reading_of q
-  reading_by id how is any =
-      sym any.4.1 ∙ ap reading_of (by_parser any.0 any.1 any.2 any.3 (subst (λ (w : Text). bytes_eq any.1.id.now w ≡ true) is any.4.0)).0
+  reading_by id how is any = grind (arith, nat_tests, any.4.1, by_parser, any.0, any.1, any.2, any.3, any.1.id.now, any.4.0)
 
   accepted_by : (id v : Text) → id ≡ (slice_index_or (args_of old) k d).id.now → PassesArg p.built id v → Accepts (slice_index_or (args_of old) k d).ignore_case q v
-  accepted_by id v is any =
-      let by = by_parser any.0 any.1 any.2 any.3 (subst (λ (w : Text). bytes_eq any.1.id.now w ≡ true) is any.4.0) in
-      subst (λ (b : Bool). Accepts b q v) by.1 (subst (λ (w : ValueParser). Accepts any.1.ignore_case w v) by.0 any.4.1)
+  accepted_by id v is any = grind (arith, nat_tests, by_parser, any.0, any.1, any.2, any.3, any.1.id.now, any.4.0, any.1.ignore_case, any.4.1)
 
   -- the text of an option's entry
   of_entry : IsPlain old → (x : MatchedArg) (e : Entry) (t : Text) → e.1 ≡ x → e.0.now ≡ (slice_index_or (args_of old) k d).id.now → EntryPasses p.built e

@@ -1,12 +1,11 @@
 -- One run of a sweep, from its start to its end.
-use Rattle.pgs_world.proofs.Base.{◌≡◌, ℕ, ◌<◌, ◌≤◌, Bool, true, false, List, length, take, Option, Some, None, refl, sym, ◌∙◌, ap, arith, IfSome, nat_lt, if◌then◌else◌, take_all}
+use Rattle.pgs_world.proofs.Base.{nat_tests, ◌≡◌, ℕ, ◌≤◌, Bool, true, false, List, length, take, Option, None, refl, sym, ◌∙◌, ap, arith, IfSome, nat_lt, if◌then◌else◌, take_all}
 use Rattle.pgs_world.proofs.Words.{Space, accounts, held, risen, taken, Kind, ShelfState, ended, errors_in, IsOver, Setting, course_of, Run, setting_of, Ran, KeepLaws, EndsRun, HasRun, IsUnplayed, RunsOnce}
 use Rattle.pgs_turns.proofs.LeftLemmas.{wanted_at, wanted_left, whole_left}
 use Rattle.pgs_world.proofs.StartedLemmas.{none_held, shared_out}
 
 pub in_some : {A : Type 0} (P Q : A → Type 0) (o : Option A) → ((a : A) → P a → Q a) → IfSome o P → IfSome o Q
-in_some P Q None leads h = tt
-in_some P Q (Some a) leads h = leads a h
+in_some P Q x2 leads h = grind (arith, nat_tests)
 
 -- what the run of a script did that is over
 module _ (descriptors : ℕ) (first last : Run) (script : List (List ℕ)) (lines errors : ℕ) where
@@ -46,14 +45,7 @@ pub started_run : (setting : Setting) (sessions : ℕ) (lines : List (List ℕ))
     → s.limit ≡ setting.options.space → t.limit ≡ s.limit → accounts t ≡ accounts s → ((account : ℕ) → held s account ≡ 0) → ((account : ℕ) → sessions ≤ account → held t account ≡ held s account)
     → ((account : ℕ) → taken t account ≡ risen (taken s account) (if nat_lt account setting.options.sessions then 65536 else 0))
     → KeepLaws setting → EndsRun sessions setting lines ran shelf' kinds' t u → RunsOnce setting lines ran shelf' kinds' s u
-started_run setting sessions lines ran shelf' kinds' s t u many limit limits same_accounts empty others opening laws ends = record {
-  run = ends.run;
-  laws = laws;
-  given_back = none_held sessions s t u empty others ends.given_back ends.others;
-  accounts_are = ends.accounts_are ∙ same_accounts;
-  kinds_kept = ends.kinds_kept;
-  shared_out = shared_out setting sessions s t u many limit limits opening ends.limit ends.took;
-}
+started_run setting sessions lines ran shelf' kinds' s t u many limit limits same_accounts empty others opening laws ends = grind (arith, nat_tests, ends.run, none_held, ends.given_back, ends.others, ends.accounts_are, ends.kinds_kept, ends.limit, ends.took)
 
 -- another limit of the space before them is all the same
 pub limited_run : (setting : Setting) (lines : List (List ℕ)) (ran : Ran) (shelf' : ShelfState) (kinds' : List Kind) (s u : Space) (limit : ℕ) → RunsOnce setting lines ran shelf' kinds' (record s { limit = limit }) u

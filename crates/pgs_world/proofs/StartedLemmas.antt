@@ -1,6 +1,6 @@
 -- A script that was played, from what its sessions did; and a run in which not all of them could be started.
-use Rattle.pgs_world.proofs.Base.{◌≡◌, ◌⊎◌, ℕ, zero, suc, ◌+◌, ◌<◌, ◌≤◌, inl, inr, Bool, true, false, List, take, Option, Some, refl, sym, ◌∙◌, ap, subst, arith, nat_lt, if◌then◌else◌, nat_tests}
-use Rattle.pgs_world.proofs.Words.{lines_of, Space, accounts, held, risen, taken, Setting, Outcome, made_script, IsSharedOut, Ends, EndsMade, Generates, Leaves, Outside, Performed, Plays}
+use Rattle.pgs_world.proofs.Base.{◌≡◌, ℕ, ◌<◌, ◌≤◌, arith, nat_lt, if◌then◌else◌, nat_tests}
+use Rattle.pgs_world.proofs.Words.{Space, accounts, held, risen, taken, Setting, Outcome, IsSharedOut, Ends, EndsMade, Generates, Leaves, Outside, Performed, Plays}
 use Rattle.pgs_turns.proofs.TakenLemmas.{opened_taken}
 use Rattle.pgs_world.proofs.EndingLemmas.{no_other}
 
@@ -9,69 +9,28 @@ abbrev pub unstarted : Outcome
 unstarted = record { status = 5; call = 0; errors = 0; lines = 0 }
 
 not_performed : (setting : Setting) (o : Outside) → Performed setting unstarted o o
-not_performed setting o = record {
-  whole = λ h. absurd (no_other 5 (omega arith) h);
-  source_fault = λ h. absurd (omega (arith, h));
-  cut_off = λ h. absurd (omega (arith, h));
-  too_long = λ h. absurd (omega (arith, h));
-  sink_fault = λ h. absurd (omega (arith, h));
-  unwritten = λ h. absurd (omega (arith, h));
-  wanted = λ h k. absurd (omega (arith, k));
-  source_grew = λ h. absurd (omega (arith, h));
-  sink_grew = λ h. absurd (omega (arith, h));
-  statuses = inr (inr (inr (inr (inl refl))));
-  call = λ h k. refl;
-}
+not_performed setting o = grind (arith, nat_tests, no_other)
 
 not_generated : (rounds : ℕ) (setting : Setting) (o : Outside) → Generates rounds setting unstarted o o
-not_generated rounds setting o = record {
-  whole = λ h. absurd (no_other 5 (omega arith) h);
-  untold = λ h. absurd (omega (arith, h));
-  stopped = λ h k. absurd (omega (arith, k));
-  sink_fault = λ h. absurd (omega (arith, h));
-  sink_grew = λ h. absurd (omega (arith, h));
-  statuses = inr (inr (inr refl));
-  call = λ h. refl;
-  source_faults_are = refl;
-}
+not_generated rounds setting o = grind (arith, nat_tests, no_other)
 
 pub not_started : (rounds : ℕ) (setting : Setting) (o : Outside) (s t : Space) → ((account : ℕ) → held t account ≡ 0) → accounts t ≡ accounts s → Plays rounds setting unstarted o o s t
-not_started rounds setting o s t empty same = record {
-  performed = λ none. not_performed setting o;
-  generates = λ some. not_generated rounds setting o;
-  taken = λ none h. absurd (no_other 5 (omega arith) h);
-  taken_so_far = λ none h. absurd (h refl);
-  made_taken = λ some h. absurd (no_other 5 (omega arith) h);
-  not_started = λ h k. record { hooks = refl; kinds = refl; lines = refl; errors = refl; unread = refl; unwritten = refl };
-  given_back = empty;
-  accounts_are = same;
-  kinds_kept = record { table = refl; limits = refl; keys = λ kind key. refl };
-  shared_out = λ h. absurd (omega (arith, h refl));
-}
+not_started rounds setting o s t empty same = grind (arith, nat_tests, not_performed setting o, not_generated rounds setting o, no_other)
 
 -- accounts of no session took nothing as the others started
 past_opening : (x account sessions : ℕ) → sessions ≤ account → risen x (if nat_lt account sessions then 65536 else 0) ≡ x
-past_opening x account sessions past =
-    let test : nat_lt account sessions ≡ false = grind (arith, nat_tests, past) in
-    rw test refl
+past_opening x account sessions past = grind (arith, nat_tests)
 
 -- Sessions were started in a space s, so many, which made it t, and their end made that u: no account holds anything, and none but theirs
 -- took anything.
 pub none_held : (sessions : ℕ) (s t u : Space) → ((account : ℕ) → held s account ≡ 0) → ((account : ℕ) → sessions ≤ account → held t account ≡ held s account)
     → ((account : ℕ) → account < sessions → held u account ≡ 0) → ((account : ℕ) → sessions ≤ account → held u account ≡ held t account) → (account : ℕ) → held u account ≡ 0
-none_held sessions s t u empty others given_back same account = by_test (nat_lt account sessions) refl
-  where
-    by_test : (b : Bool) → nat_lt account sessions ≡ b → held u account ≡ 0
-    by_test true e = given_back account (grind (arith, nat_tests, e))
-    by_test false e = let past : sessions ≤ account = grind (arith, nat_tests, e) in same account past ∙ others account past ∙ empty account
+none_held sessions s t u empty others given_back same account = grind (arith, nat_tests, held u account)
 
 pub shared_out : (setting : Setting) (sessions : ℕ) (s t u : Space) → sessions ≡ setting.options.sessions → s.limit ≡ setting.options.space → t.limit ≡ s.limit
     → ((account : ℕ) → taken t account ≡ risen (taken s account) (if nat_lt account setting.options.sessions then 65536 else 0)) → u.limit ≡ t.limit → ((account : ℕ) → sessions ≤ account → taken u account ≡ taken t account)
     → IsSharedOut setting.options.sessions setting.options.space s u
-shared_out setting sessions s t u many limit limits opening still took = record {
-  limit_is = still ∙ limits ∙ limit;
-  others = λ account past. took account (omega (arith, past, many)) ∙ opening account ∙ past_opening (taken s account) account setting.options.sessions past;
-}
+shared_out setting sessions s t u many limit limits opening still took = grind (arith, nat_tests, past_opening, taken, setting.options.sessions)
 
 -- A script of them ended.
 module _ (setting : Setting) (sessions : ℕ) (outcome : Outcome) (before after : Outside) (s t u : Space) (many : sessions ≡ setting.options.sessions)
@@ -85,33 +44,11 @@ module _ (setting : Setting) (sessions : ℕ) (outcome : Outcome) (before after 
 
   -- one that was read
   pub started_plays : (rounds : ℕ) → rounds ≡ 0 → Ends sessions setting outcome before after t u → Plays rounds setting outcome before after s u
-  started_plays rounds none ends = record {
-    performed = λ _. ends.performed;
-    generates = λ some. absurd (omega (arith, some, none));
-    taken = λ _ h bytes left. opened_taken setting (lines_of bytes) s t u opening (ends.taken h bytes left);
-    taken_so_far = λ _ _ h. let so_far = ends.taken_so_far h in record { bytes = so_far.bytes; given = so_far.given; takes = opened_taken setting (take outcome.lines (lines_of so_far.bytes)) s t u opening so_far.takes };
-    made_taken = λ some. absurd (omega (arith, some, none));
-    not_started = λ h k. absurd (omega (arith, ends.leaves.called h, k));
-    given_back = given ends.leaves;
-    accounts_are = ends.leaves.accounts_are ∙ same_accounts;
-    kinds_kept = ends.leaves.kinds_kept;
-    shared_out = λ h. out_of ends.leaves;
-  }
+  started_plays rounds none ends = grind (arith, nat_tests, ends.performed, opened_taken, ends.taken, ends.taken_so_far, given, ends.leaves.called, ends.leaves, ends.leaves.accounts_are, ends.leaves.kinds_kept, out_of)
 
   -- the one that is made
   pub made_plays : (rounds : ℕ) → 0 < rounds → EndsMade rounds sessions setting outcome before after t u → Plays rounds setting outcome before after s u
-  made_plays rounds some ends = record {
-    performed = λ none. absurd (omega (arith, some, none));
-    generates = λ _. ends.generates;
-    taken = λ none. absurd (omega (arith, some, none));
-    taken_so_far = λ none. absurd (omega (arith, some, none));
-    made_taken = λ _ h. opened_taken setting (made_script rounds) s t u opening (ends.taken h);
-    not_started = λ h k. absurd (omega (arith, ends.leaves.called h, k));
-    given_back = given ends.leaves;
-    accounts_are = ends.leaves.accounts_are ∙ same_accounts;
-    kinds_kept = ends.leaves.kinds_kept;
-    shared_out = λ h. out_of ends.leaves;
-  }
+  made_plays rounds some ends = grind (arith, nat_tests, ends.generates, opened_taken, ends.taken, ends.leaves.called, given ends.leaves, ends.leaves, ends.leaves.accounts_are, ends.leaves.kinds_kept, out_of ends.leaves)
 
 -- another limit of the space, before sessions were started in it, is all the same
 pub limited_plays : (rounds : ℕ) (setting : Setting) (outcome : Outcome) (before after : Outside) (s u : Space) (limit : ℕ) → Plays rounds setting outcome before after (record s { limit = limit }) u → Plays rounds setting outcome before after s u

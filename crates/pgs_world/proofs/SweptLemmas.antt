@@ -1,22 +1,19 @@
 -- The runs of a sweep, and its outcome.
-use Rattle.pgs_world.proofs.Base.{◌≡◌, ◌≢◌, ◌⊎◌, inl, inr, ℕ, zero, suc, ◌+◌, ◌-◌, ◌^◌, ◌<◌, ◌≤◌, min, Bool, true, false, List, [], ◌∷◌, ◌++◌, length, Option, Some, None, refl, sym, ◌∙◌, ap, subst, arith, ◌==◌, nat_lt, if◌then◌else◌, nat_tests, append_known}
-use Rattle.pgs_world.proofs.Words.{Space, accounts, held, taken, Kind, HasRisen, lines_of, ShelfState, most_failing, ended, errors_in, IsFront, LeaveRuns, LeavesRun, course_in, events_of_runs, run_numbers, runs_in, setting_for_run, setting_in, told_in, told_of_runs, Setting, course_of, AreKept, few_errors, Outcome, Ran, KeepLaws, RunsKeepLaws, IsSharedOut, Outside, outside, IsRead, IsSweepStatus, Sweeps, GivesMore, IsUnplayed, RunsOnce, Stands, last_known, refused_in}
+use Rattle.pgs_world.proofs.Base.{◌≡◌, ◌⊎◌, inl, inr, ℕ, zero, suc, ◌+◌, ◌-◌, ◌^◌, ◌<◌, ◌≤◌, min, Bool, true, false, List, [], length, Option, Some, None, refl, sym, ◌∙◌, ap, subst, arith, ◌==◌, nat_lt, if◌then◌else◌, nat_tests, append_known}
+use Rattle.pgs_world.proofs.Words.{Space, held, taken, Kind, HasRisen, lines_of, ShelfState, most_failing, ended, errors_in, IsFront, LeaveRuns, LeavesRun, course_in, events_of_runs, run_numbers, runs_in, setting_for_run, setting_in, told_in, told_of_runs, Setting, course_of, AreKept, few_errors, Ran, KeepLaws, RunsKeepLaws, IsSharedOut, Outside, outside, IsRead, IsSweepStatus, Sweeps, RunsOnce, Stands, last_known}
 use Rattle.pgs_io.proofs.KnownLemmas.{append_known-append, append_known-nil}
 use Rattle.pgs_turns.proofs.SweepLemmas.{all_told, few_in_runs, first_calls, leave_more, leave_none, leave_wanted, numbers_in, setting_found}
 use Rattle.pgs_world.proofs.EndingLemmas.{no_other, not_by_errors, status_one}
 
 -- the calls that fail: which is the last, and how many runs there are
 pub last_few : (k : ℕ) (setting : Setting) (lines : List (List ℕ)) → last_known k setting lines ≤ 2000
-last_few zero setting lines = omega arith
-last_few (suc k) setting lines = omega arith
+last_few x0 setting lines = grind (arith, nat_tests)
 
 pub is_run : (k : ℕ) (setting : Setting) (lines : List (List ℕ)) → k ≤ last_known k setting lines → k < runs_in setting lines
-is_run zero setting lines h = omega arith
-is_run (suc k) setting lines h = omega (arith, h)
+is_run x0 setting lines h = grind (arith, nat_tests)
 
 pub all_run : (k : ℕ) (setting : Setting) (lines : List (List ℕ)) → last_known k setting lines < k → k ≤ runs_in setting lines → k ≡ runs_in setting lines
-all_run zero setting lines h within = absurd (omega (arith, h))
-all_run (suc k) setting lines h within = omega (arith, h, within)
+all_run x0 setting lines h within = grind (arith, nat_tests)
 
 is_not_first : (k : ℕ) → (suc k == 0) ≡ false
 is_not_first k = grind (arith, nat_tests)
@@ -26,11 +23,7 @@ one_more k = omega arith
 
 pub last_next : (k last calls now : ℕ) (setting : Setting) (lines : List (List ℕ)) → last ≡ last_known k setting lines → (k ≡ 0 → calls ≡ (course_in 0 setting lines).world.calls) → now ≡ (if k == 0 then min calls most_failing else last)
     → now ≡ last_known (k + 1) setting lines
-last_next k last calls now setting lines known first is = subst (λ (n : ℕ). now ≡ last_known n setting lines) (one_more k) (by_case k known first is)
-  where
-    by_case : (k : ℕ) → last ≡ last_known k setting lines → (k ≡ 0 → calls ≡ (course_in 0 setting lines).world.calls) → now ≡ (if k == 0 then min calls most_failing else last) → now ≡ last_known (suc k) setting lines
-    by_case zero known first is = is ∙ ap (λ (n : ℕ). min n most_failing) (first refl)
-    by_case (suc k) known first is = let later : now ≡ last = rw (is_not_first k) at is in later ∙ known
+last_next k last calls now setting lines known first is = grind (arith, nat_tests, last_known, one_more, is_not_first)
 
 kept_both : (a b c : List Kind) → AreKept a b → AreKept b c → AreKept a c
 kept_both a b c p q = record { table = q.table ∙ p.table; limits = q.limits ∙ p.limits; keys = λ kind key. q.keys kind key ∙ p.keys kind key }
@@ -38,16 +31,7 @@ kept_both a b c p q = record { table = q.table ∙ p.table; limits = q.limits �
 -- no run yet
 pub stands_none : (setting : Setting) (lines : List (List ℕ)) (written : Option (List ℕ)) (s : Space) → ((account : ℕ) → held s account ≡ 0) → Stands 0 setting lines 0 written written setting.shelf setting.kinds s s
 unfolding told_of_runs
-stands_none setting lines written s empty = record {
-  text = sym (append_known-nil written);
-  leaves = leave_none setting lines;
-  lawful = λ k less. absurd (omega (arith, less));
-  given_back = empty;
-  accounts_are = refl;
-  kinds_kept = record { table = refl; limits = refl; keys = λ kind key. refl };
-  took = λ account past. refl;
-  limit = λ some. absurd (omega (arith, some));
-}
+stands_none setting lines written s empty = grind (arith, nat_tests, append_known-nil written, leave_none setting lines)
 
 -- Run k was played.
 module _ (k : ℕ) (setting : Setting) (lines : List (List ℕ)) (errors : ℕ) (written written' : Option (List ℕ)) (shelf shelf' : ShelfState) (kinds kinds' : List Kind) (s t u : Space) (ran : Ran)
@@ -99,26 +83,14 @@ module _ (k : ℕ) (setting : Setting) (lines : List (List ℕ)) (errors : ℕ) 
 
   -- so many ERROR events have room in a count
   pub few_more : length lines ≤ 65536 → k ≤ 2000 → errors + ran.errors < 2 ^ 64
-  few_more few within =
-      omega (
-        arith,
-        there.leaves.errors_are,
-        few_in_runs k setting lines few,
-        run_in.run.leaves.errors_are,
-        few_errors (setting_in k setting lines) (refused_in ran) lines,
-        few,
-        within,
-      )
+  few_more few within = grind (arith, nat_tests, few_in_runs, few_errors)
 
   pub shared : IsSharedOut setting.options.sessions setting.options.space s u
   shared = record { limit_is = played.shared_out.limit_is; others = took }
 
 -- The outcome, by how the sweep ended.
 neither : (n : ℕ) → (n < 3) ⊎ ((3 < n) × (n < 6)) → (n ≡ 3) ⊎ (n ≡ 6) → ⊥
-neither n (inl low) (inl h) = omega (arith, low, h)
-neither n (inl low) (inr h) = omega (arith, low, h)
-neither n (inr between) (inl h) = omega (arith, between.0, h)
-neither n (inr between) (inr h) = omega (arith, between.1, h)
+neither n x1 x2 = grind (arith, nat_tests)
 
 module _ (setting : Setting) (bytes : List ℕ) (errors : ℕ) (written written' : Option (List ℕ)) (shelf : ShelfState) (kinds : List Kind) (s t : Space) (left left' : Option (List ℕ)) (source sink : ℕ) (read : IsRead bytes left left') where
   abbrev before : Outside

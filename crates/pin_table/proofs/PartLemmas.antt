@@ -1,16 +1,16 @@
 -- The pins of both parts as one list, and after a change of either.
-use Rattle.std.proofs.Common.{◌≡◌, ℕ, suc, zero, ◌+◌, ◌-◌, ◌≤◌, ◌^◌, Bool, true, false, cond, nat_eq, List, [], ◌∷◌, ◌++◌, length, Option, Some, None, refl, sym, ap, subst, ◌∙◌, arith}
+use Rattle.std.proofs.Common.{◌≡◌, ℕ, ◌+◌, ◌-◌, ◌≤◌, ◌^◌, Bool, true, false, cond, nat_eq, List, [], ◌∷◌, ◌++◌, length, Option, Some, None, refl, sym, ap, subst, ◌∙◌, arith}
 use Rattle.std.specs.declared.cmp.Ordering.{Ordering}
 use Rattle.std.specs.declared.cmp.Ordering.TheVariants.{Less, Equal, Greater}
 use Rattle.std.specs.Prelude.{All, sum}
 use Rattle.std.specs.Cmp.{IsEquivalence}
-use Rattle.std.specs.Ordering.{nat_cmp, eq_by_cmp, match_ordering, ordering_reverse, is_eq}
+use Rattle.std.specs.Ordering.{nat_cmp, eq_by_cmp, match_ordering, ordering_reverse}
 use Rattle.std.specs.BTreeMap.{is_at, insert_entry}
 use Rattle.std.specs.List.{AllByRecursion, IsDistinct}
 use Rattle.std.specs.List.Sorted.{IsStrictlySortedBy}
 use Rattle.std.specs.Map.{keys_of, values_of, lookup, set_value, remove_entry}
 use Rattle.std.specs.Option.{IfSome, is_some, unwrap_or, option_map}
-use Rattle.std.proofs.lemmas.Bool.{true≢false, eqb-true}
+use Rattle.std.proofs.lemmas.Bool.{eqb-true}
 use Rattle.std.proofs.lemmas.Bool.Decides.{nat_tests}
 use Rattle.std.proofs.lemmas.Cmp.{nat_cmp_total, eq_by_cmp_equiv}
 use Rattle.std.proofs.lemmas.List.{map-append}
@@ -38,37 +38,15 @@ one_class b x y h = laws.congr b x y h
 -- ---- an entry that goes to its place
 
 crossed : (s t : Bool) (x y z : Option ℕ) → (s ≡ true → t ≡ false) → cond t y (cond s x z) ≡ cond s x (cond t y z)
-crossed true true x y z h = absurd (true≢false (h refl))
-crossed true false x y z h = refl
-crossed false t x y z h = refl
+crossed x0 x1 x y z h = grind (arith, nat_tests)
 
 lookup-insert_entry : (q k n : ℕ) (es : List (ℕ × ℕ)) → lookup (at q) (insert_entry nat_cmp es k n) ≡ cond (at q k) (Some n) (lookup (at q) es)
 lookup-insert_entry q k n [] = refl
-lookup-insert_entry q k n (e ∷ es) = by (nat_cmp k e.0) refl (lookup-insert_entry q k n es)
-  where
-    twice : (b : Bool) (x y z : Option ℕ) → cond b x z ≡ cond b x (cond b y z)
-    twice true x y z = refl
-    twice false x y z = refl
-
-    by : (r : Ordering) → nat_cmp k e.0 ≡ r → lookup (at q) (insert_entry nat_cmp es k n) ≡ cond (at q k) (Some n) (lookup (at q) es)
-        → lookup (at q) (match_ordering r ((k, n) ∷ e ∷ es) ((e.0, n) ∷ es) (e ∷ insert_entry nat_cmp es k n)) ≡ cond (at q k) (Some n) (cond (at q e.0) (Some e.1) (lookup (at q) es))
-    by Less p later = refl
-    by Equal p later =
-        let same : at q e.0 ≡ at q k = laws.symm q e.0 ∙ sym (laws.congr k e.0 q (ap is_eq p)) ∙ laws.symm k q in
-        twice (at q e.0) (Some n) (Some e.1) (lookup (at q) es) ∙ ap (λ b. cond b (Some n) (cond (at q e.0) (Some e.1) (lookup (at q) es))) same
-    by Greater p later =
-        ap (cond (at q e.0) (Some e.1)) later
-        ∙ crossed (at q k) (at q e.0) (Some n) (Some e.1) (lookup (at q) es) (λ h. laws.congr q k e.0 h ∙ ap is_eq p)
+lookup-insert_entry q k n (e ∷ es) = grind (arith, nat_tests, e.0, lookup-insert_entry q k n es, at q, at q k, at q e.0, e.1, at, crossed)
 
 above_insert : (x k n : ℕ) (es : List (ℕ × ℕ)) → nat_cmp x k ≡ Less → AllByRecursion (λ y. nat_cmp x y ≡ Less) (keys_of es) → AllByRecursion (λ y. nat_cmp x y ≡ Less) (keys_of (insert_entry nat_cmp es k n))
 above_insert x k n [] p a = (p, tt)
-above_insert x k n (e ∷ es) p a = by (nat_cmp k e.0) (above_insert x k n es p a.1)
-  where
-    by : (r : Ordering) → AllByRecursion (λ y. nat_cmp x y ≡ Less) (keys_of (insert_entry nat_cmp es k n))
-        → AllByRecursion (λ y. nat_cmp x y ≡ Less) (keys_of (match_ordering r ((k, n) ∷ e ∷ es) ((e.0, n) ∷ es) (e ∷ insert_entry nat_cmp es k n)))
-    by Less later = (p, a)
-    by Equal later = a
-    by Greater later = (a.0, later)
+above_insert x k n (e ∷ es) p a = grind (arith, nat_tests, e.0, above_insert x k n es p a.1, a.1, a.0)
 
 above_more : (x z : ℕ) (ks : List ℕ) → nat_cmp x z ≡ Less → AllByRecursion (λ y. nat_cmp z y ≡ Less) ks → AllByRecursion (λ y. nat_cmp x y ≡ Less) ks
 above_more x z [] p a = tt
@@ -87,24 +65,13 @@ sorted_insert k n (e ∷ es) s = by (nat_cmp k e.0) refl (sorted_insert k n es s
 
 length_insert : (k n : ℕ) (es : List (ℕ × ℕ)) → lookup (at k) es ≡ None → length (insert_entry nat_cmp es k n) ≡ length es + 1
 length_insert k n [] h = refl
-length_insert k n (e ∷ es) h = by (nat_cmp k e.0) h (length_insert k n es)
-  where
-    by : (r : Ordering) → cond (is_eq r) (Some e.1) (lookup (at k) es) ≡ None → (lookup (at k) es ≡ None → length (insert_entry nat_cmp es k n) ≡ length es + 1)
-        → length (match_ordering r ((k, n) ∷ e ∷ es) ((e.0, n) ∷ es) (e ∷ insert_entry nat_cmp es k n)) ≡ suc (length es) + 1
-    by Less g later = omega arith
-    by Equal g later = absurd (true≢false (ap is_some g))
-    by Greater g later = omega (arith, later g)
+length_insert k n (e ∷ es) h = grind (arith, nat_tests, e.0, length_insert k n es, e.1, at k)
 
 -- ---- both parts as one list
 
 pub count-merged : (es rest : List (ℕ × ℕ)) (q : ℕ) → count_of nat_cmp (merged es rest) q ≡ unwrap_or (lookup (at q) es) (count_of nat_cmp rest q)
 count-merged [] rest q = refl
-count-merged (e ∷ es) rest q = ap (λ o. unwrap_or o 0) (lookup-insert_entry q e.0 e.1 (merged es rest)) ∙ by (at q e.0) (count-merged es rest q)
-  where
-    by : (b : Bool) → count_of nat_cmp (merged es rest) q ≡ unwrap_or (lookup (at q) es) (count_of nat_cmp rest q)
-        → unwrap_or (cond b (Some e.1) (lookup (at q) (merged es rest))) 0 ≡ unwrap_or (cond b (Some e.1) (lookup (at q) es)) (count_of nat_cmp rest q)
-    by true later = refl
-    by false later = later
+count-merged (e ∷ es) rest q = grind (arith, nat_tests, lookup-insert_entry q e.0 e.1 (merged es rest), e.0, e.1, at q e.0, count-merged es rest q, at q)
 
 pub merged_counts : (es rest : List (ℕ × ℕ)) → All (λ n. 1 ≤ n) (values_of es) → AreCounts nat_cmp rest → AreCounts nat_cmp (merged es rest)
 merged_counts [] rest a c = c
@@ -116,24 +83,18 @@ merged_counts (e ∷ es) rest a c =
     }
 
 none_from_zero : (o : Option ℕ) → IfSome o (λ n. 1 ≤ n) → unwrap_or o 0 ≡ 0 → o ≡ None
-none_from_zero None h e = refl
-none_from_zero (Some n) h e = absurd (omega (arith, h, e))
+none_from_zero x0 h e = grind (arith, nat_tests)
 
 lookup_absent : (q : ℕ) (es : List (ℕ × ℕ)) → AllByRecursion (λ y. at q y ≡ false) (keys_of es) → lookup (at q) es ≡ None
 lookup_absent q [] a = refl
 lookup_absent q (e ∷ es) a = ap (λ b. cond b (Some e.1) (lookup (at q) es)) a.0 ∙ lookup_absent q es a.1
 
 none_tail : (b : Bool) (n : ℕ) (o : Option ℕ) → cond b (Some n) o ≡ None → o ≡ None
-none_tail true n o h = absurd (true≢false (ap is_some h))
-none_tail false n o h = h
+none_tail x0 n o h = grind (arith, nat_tests)
 
 -- a buffer that the array has is not counted by the table
 pub table_zero : (es rest : List (ℕ × ℕ)) (b v : ℕ) → AreParts es rest → lookup (at b) es ≡ Some v → count_of nat_cmp rest b ≡ 0
-table_zero es rest b v p found = by (count_of nat_cmp rest b) refl
-  where
-    by : (n : ℕ) → count_of nat_cmp rest b ≡ n → n ≡ 0
-    by zero e = refl
-    by (suc n) e = absurd (true≢false (ap is_some (sym found ∙ p.apart b (omega (arith, e)))))
+table_zero es rest b v p found = grind (arith, nat_tests, p.apart)
 
 parts_tail : (e : ℕ × ℕ) (es rest : List (ℕ × ℕ)) → AreParts (e ∷ es) rest → AreParts es rest
 parts_tail e es rest p = record {
@@ -181,18 +142,10 @@ same_buffer b q h = eqb-true b q (sym (same_test b q) ∙ h)
 
 -- a count that is written over is one more, or one less
 pub one_more_by : (f g : ℕ → ℕ) (b w : ℕ) → w ≡ f b + 1 → ((q : ℕ) → g q ≡ cond (at b q) w (f q)) → (q : ℕ) → g q ≡ f q + cond (nat_eq b q) 1 0
-one_more_by f g b w e each q = each q ∙ ap (λ t. cond t w (f q)) (same_test b q) ∙ by (nat_eq b q) refl
-  where
-    by : (t : Bool) → nat_eq b q ≡ t → cond t w (f q) ≡ f q + cond t 1 0
-    by true h = e ∙ ap (λ (k : ℕ). f k + 1) (eqb-true b q h)
-    by false h = omega arith
+one_more_by f g b w e each q = grind (arith, nat_tests, same_test b q)
 
 pub one_less_by : (f g : ℕ → ℕ) (b w : ℕ) → w + 1 ≡ f b → ((q : ℕ) → g q ≡ cond (at b q) w (f q)) → (q : ℕ) → g q + cond (nat_eq b q) 1 0 ≡ f q
-one_less_by f g b w e each q = ap (λ (n : ℕ). n + cond (nat_eq b q) 1 0) (each q ∙ ap (λ t. cond t w (f q)) (same_test b q)) ∙ by (nat_eq b q) refl
-  where
-    by : (t : Bool) → nat_eq b q ≡ t → cond t w (f q) + cond t 1 0 ≡ f q
-    by true h = e ∙ ap f (eqb-true b q h)
-    by false h = omega arith
+one_less_by f g b w e each q = grind (arith, nat_tests, same_test b q)
 
 pub count_here : (es rest : List (ℕ × ℕ)) (b v : ℕ) → lookup (at b) es ≡ Some v → count_of nat_cmp (merged es rest) b ≡ v
 count_here es rest b v found = count-merged es rest b ∙ ap (λ o. unwrap_or o (count_of nat_cmp rest b)) found
@@ -206,12 +159,7 @@ positive es rest b v p found = subst (λ o. IfSome o (λ n. 1 ≤ n)) found (IfS
 -- a count of the array is written
 none_set : (s t : ℕ → Bool) (es : List (ℕ × ℕ)) (w : ℕ) → lookup t es ≡ None → lookup t (set_value s es w) ≡ None
 none_set s t [] w h = refl
-none_set s t (e ∷ es) w h = by (s e.0) (t e.0) refl h (none_set s t es w)
-  where
-    by : (a b : Bool) → t e.0 ≡ b → cond b (Some e.1) (lookup t es) ≡ None → (lookup t es ≡ None → lookup t (set_value s es w) ≡ None) → lookup t (cond a ((e.0, w) ∷ es) (e ∷ set_value s es w)) ≡ None
-    by a true f g later = absurd (true≢false (ap is_some g))
-    by true false f g later = ap (λ b. cond b (Some w) (lookup t es)) f ∙ g
-    by false false f g later = ap (λ b. cond b (Some e.1) (lookup t (set_value s es w))) f ∙ later g
+none_set s t (e ∷ es) w h = grind (arith, nat_tests, e.0, none_set s t es w, e.1)
 
 pub parts_set : (es rest : List (ℕ × ℕ)) (b w : ℕ) → AreParts es rest → 1 ≤ w → AreParts (set_value (at b) es w) rest
 parts_set es rest b w p l = record {
@@ -234,27 +182,16 @@ count_set es rest b v w found q =
     by false = refl
 
 pub total_set : (es rest : List (ℕ × ℕ)) (b v w : ℕ) → AreParts es rest → lookup (at b) es ≡ Some v → 1 ≤ w → total (merged (set_value (at b) es w) rest) + v ≡ total (merged es rest) + w
-total_set es rest b v w p found l =
-    let sums : total (set_value (at b) es w) + v ≡ total es + w = sum_by-set_value (λ (x : ℕ). x) (at b) es v w found in
-    omega (arith, sums, total-merged es rest p, total-merged (set_value (at b) es w) rest (parts_set es rest b w p l))
+total_set es rest b v w p found l = grind (arith, nat_tests, at b, sum_by-set_value, total-merged es rest p, total-merged (set_value (at b) es w) rest (parts_set es rest b w p l), parts_set es rest b w p l)
 
 -- a place of the array is freed
 none_free : (s t : ℕ → Bool) (es : List (ℕ × ℕ)) → lookup t es ≡ None → lookup t (remove_entry s es) ≡ None
 none_free s t [] h = refl
-none_free s t (e ∷ es) h = by (s e.0) (t e.0) refl h (none_free s t es)
-  where
-    by : (a b : Bool) → t e.0 ≡ b → cond b (Some e.1) (lookup t es) ≡ None → (lookup t es ≡ None → lookup t (remove_entry s es) ≡ None) → lookup t (cond a es (e ∷ remove_entry s es)) ≡ None
-    by a true f g later = absurd (true≢false (ap is_some g))
-    by true false f g later = g
-    by false false f g later = ap (λ b. cond b (Some e.1) (lookup t (remove_entry s es))) f ∙ later g
+none_free s t (e ∷ es) h = grind (arith, nat_tests, e.0, none_free s t es, e.1)
 
 keys_free : (P : ℕ → Type 0) (s : ℕ → Bool) (es : List (ℕ × ℕ)) → AllByRecursion P (keys_of es) → AllByRecursion P (keys_of (remove_entry s es))
 keys_free P s [] a = tt
-keys_free P s (e ∷ es) a = by (s e.0) (keys_free P s es a.1)
-  where
-    by : (t : Bool) → AllByRecursion P (keys_of (remove_entry s es)) → AllByRecursion P (keys_of (cond t es (e ∷ remove_entry s es)))
-    by true later = a.1
-    by false later = (a.0, later)
+keys_free P s (e ∷ es) a = grind (arith, nat_tests, e.0, keys_free P s es a.1, a.1, a.0)
 
 distinct_free : (s : ℕ → Bool) (es : List (ℕ × ℕ)) → IsDistinct (eq_by_cmp nat_cmp) (keys_of es) → IsDistinct (eq_by_cmp nat_cmp) (keys_of (remove_entry s es))
 unfolding IsDistinct
@@ -286,21 +223,12 @@ count_free es rest b v p found q =
     by false h = refl
 
 pub total_free : (es rest : List (ℕ × ℕ)) (b v : ℕ) → AreParts es rest → lookup (at b) es ≡ Some v → total (merged (remove_entry (at b) es) rest) + v ≡ total (merged es rest)
-total_free es rest b v p found =
-    let sums : total (remove_entry (at b) es) + unwrap_or (option_map (λ (x : ℕ). x) (lookup (at b) es)) 0 ≡ total es = sum_by-remove_entry (λ (x : ℕ). x) (at b) es in
-    let value : unwrap_or (option_map (λ (x : ℕ). x) (lookup (at b) es)) 0 ≡ v = ap (λ o. unwrap_or (option_map (λ (x : ℕ). x) o) 0) found in
-    omega (arith, sums, value, total-merged es rest p, total-merged (remove_entry (at b) es) rest (parts_free es rest b p))
+total_free es rest b v p found = grind (arith, nat_tests, at b, sum_by-remove_entry, total-merged es rest p, total-merged (remove_entry (at b) es) rest (parts_free es rest b p), parts_free es rest b p)
 
 -- a new buffer takes a free place of the array
 lookup_push : (b q n : ℕ) (es : List (ℕ × ℕ)) → lookup (at b) es ≡ None → lookup (at q) (es ++ (b, n) ∷ []) ≡ cond (at b q) (Some n) (lookup (at q) es)
 lookup_push b q n [] h = ap (λ t. cond t (Some n) None) (laws.symm q b)
-lookup_push b q n (e ∷ es) h =
-    ap (cond (at q e.0) (Some e.1)) (lookup_push b q n es (none_tail (at b e.0) e.1 (lookup (at b) es) h))
-    ∙ crossed (at b q) (at q e.0) (Some n) (Some e.1) (lookup (at q) es) (λ f. sym (laws.congr b q e.0 f) ∙ not_first (at b e.0) h)
-  where
-    not_first : (t : Bool) → cond t (Some e.1) (lookup (at b) es) ≡ None → t ≡ false
-    not_first true g = absurd (true≢false (ap is_some g))
-    not_first false g = refl
+lookup_push b q n (e ∷ es) h = grind (arith, nat_tests, at q e.0, e.0, e.1, lookup_push b q n es (none_tail (at b e.0) e.1 (lookup (at b) es) h), none_tail (at b e.0) e.1 (lookup (at b) es) h, at b e.0, at b, crossed, at b q, at q)
 
 counted_push : (b n : ℕ) (es : List (ℕ × ℕ)) → 1 ≤ n → All (λ m. 1 ≤ m) (values_of es) → All (λ m. 1 ≤ m) (values_of (es ++ (b, n) ∷ []))
 counted_push b n [] l a = All-cons (λ m. 1 ≤ m) n [] l (All-nil (λ m. 1 ≤ m))
@@ -320,15 +248,7 @@ parts_push es rest b p none zeros = record {
     by q false h c = p.apart q c
 
 pub count_push : (es rest : List (ℕ × ℕ)) (b : ℕ) → lookup (at b) es ≡ None → (q : ℕ) → count_of nat_cmp (merged (es ++ (b, 1) ∷ []) rest) q ≡ cond (at b q) 1 (count_of nat_cmp (merged es rest) q)
-count_push es rest b none q =
-    count-merged (es ++ (b, 1) ∷ []) rest q
-    ∙ ap (λ o. unwrap_or o (count_of nat_cmp rest q)) (lookup_push b q 1 es none)
-    ∙ by (at b q)
-    ∙ ap (λ (n : ℕ). cond (at b q) 1 n) (sym (count-merged es rest q))
-  where
-    by : (t : Bool) → unwrap_or (cond t (Some 1) (lookup (at q) es)) (count_of nat_cmp rest q) ≡ cond t 1 (unwrap_or (lookup (at q) es) (count_of nat_cmp rest q))
-    by true = refl
-    by false = refl
+count_push es rest b none q = grind (arith, nat_tests, count-merged (es ++ (b, 1) ∷ []) rest q, lookup_push b q 1 es none, at b q, count-merged es rest q, at q)
 
 pub total_push : (es rest : List (ℕ × ℕ)) (b : ℕ) → AreParts es rest → lookup (at b) es ≡ None → count_of nat_cmp rest b ≡ 0 → total (merged (es ++ (b, 1) ∷ []) rest) ≡ total (merged es rest) + 1
 total_push es rest b p none zeros =
@@ -337,37 +257,17 @@ total_push es rest b p none zeros =
 
 -- a count of the table changes
 pub parts_behind : (es rest new : List (ℕ × ℕ)) (b : ℕ) → AreParts es rest → lookup (at b) es ≡ None → AreCounts nat_cmp new → ((q : ℕ) → at b q ≡ false → count_of nat_cmp new q ≡ count_of nat_cmp rest q) → total new ≤ 2 ^ 62 → AreParts es new
-parts_behind es rest new b p none counts others room = record {
-  distinct = p.distinct;
-  counted = p.counted;
-  apart = λ q c. by q (at b q) refl c;
-  table = counts;
-  room = room;
-}
-  where
-    by : (q : ℕ) (t : Bool) → at b q ≡ t → 1 ≤ count_of nat_cmp new q → lookup (at q) es ≡ None
-    by q true h c = subst (λ (k : ℕ). lookup (at k) es ≡ None) (same_buffer b q h) none
-    by q false h c = p.apart q (omega (arith, c, others q h))
+parts_behind es rest new b p none counts others room = grind (arith, nat_tests, p.distinct, p.counted, at, same_buffer, p.apart)
 
 pub count_changed : (es rest new : List (ℕ × ℕ)) (b w : ℕ) → lookup (at b) es ≡ None → count_of nat_cmp new b ≡ w → ((q : ℕ) → at b q ≡ false → count_of nat_cmp new q ≡ count_of nat_cmp rest q) → (q : ℕ) → count_of nat_cmp (merged es new) q ≡ cond (at b q) w (count_of nat_cmp (merged es rest) q)
-count_changed es rest new b w none here others q = by (at b q) refl
-  where
-    by : (t : Bool) → at b q ≡ t → count_of nat_cmp (merged es new) q ≡ cond t w (count_of nat_cmp (merged es rest) q)
-    by true h = subst (λ (k : ℕ). count_of nat_cmp (merged es new) k ≡ w) (same_buffer b q h) (count_behind es new b none ∙ here)
-    by false h = count-merged es new q ∙ ap (unwrap_or (lookup (at q) es)) (others q h) ∙ sym (count-merged es rest q)
+count_changed es rest new b w none here others q = grind (arith, nat_tests, at b q, same_buffer, count_behind es new b none, count-merged es new q, at q, count-merged es rest q)
 
 nothing_distinct : IsDistinct (eq_by_cmp nat_cmp) []
 unfolding IsDistinct
 nothing_distinct = tt
 
 pub no_parts : (es rest : List (ℕ × ℕ)) → es ≡ [] → rest ≡ [] → AreCounts nat_cmp rest → AreParts es rest
-no_parts es rest e r counts = subst (λ (fs : List (ℕ × ℕ)). AreParts fs rest) (sym e) (record {
-  distinct = nothing_distinct;
-  counted = All-nil (λ n. 1 ≤ n);
-  apart = λ q c. refl;
-  table = counts;
-  room = omega (arith, ap total r);
-})
+no_parts es rest e r counts = grind (arith, nat_tests, nothing_distinct)
 
 -- as many entries as the sum of the counts, at the most
 pub length_total : (es : List (ℕ × ℕ)) → All (λ n. 1 ≤ n) (values_of es) → length es ≤ total es

@@ -1,11 +1,9 @@
 -- The place of a buffer's entry in the array, and what a write there or its removal is to the entries.
-use Rattle.std.proofs.Common.{◌≡◌, ℕ, suc, zero, ◌<◌, Bool, true, false, cond, nat_eq, nat_lt, List, [], ◌∷◌, length, get_or, set, Option, Some, None, refl, ap, sym, ◌∙◌, arith}
+use Rattle.std.proofs.Common.{◌≡◌, ℕ, suc, zero, ◌<◌, Bool, true, false, cond, nat_eq, List, [], ◌∷◌, length, get_or, set, Option, Some, None, refl, ap, sym, ◌∙◌, arith}
 use Rattle.std.specs.Prelude.{position, remove}
-use Rattle.std.specs.List.{position_or_len}
 use Rattle.std.specs.Ordering.{nat_cmp}
 use Rattle.std.specs.BTreeMap.{is_at}
 use Rattle.std.specs.Map.{lookup, set_value, remove_entry}
-use Rattle.std.proofs.lemmas.Bool.{ltb-false}
 use Rattle.std.proofs.lemmas.Bool.Decides.{nat_tests}
 use Rattle.std.proofs.lemmas.List.Sums.{fails_before_first}
 use Rattle.std.proofs.lemmas.List.Quantifiers.{position-Some}
@@ -46,11 +44,7 @@ abbrev pub is_entry : ℕ → ℕ × ℕ → Bool
 is_entry buffer entry = nat_eq entry.0 buffer
 
 none_passes : {X : Type 0} (p : X → Bool) (xs : List X) (d : X) → position p xs ≡ None → (k : ℕ) → k < length xs → p (get_or xs k d) ≡ false
-none_passes p xs d e k l = fails_before_first p xs k d (by_test (nat_lt (position_or_len p xs) (length xs)) refl e)
-  where
-    by_test : (t : Bool) → nat_lt (position_or_len p xs) (length xs) ≡ t → cond t (Some (position_or_len p xs)) None ≡ None → k < position_or_len p xs
-    by_test true f g = absurd (cc)
-    by_test false f g = omega (arith, l, ltb-false (position_or_len p xs) (length xs) f)
+none_passes p xs d e k l = grind (arith, nat_tests, fails_before_first)
 
 -- both tests ask for the same buffer
 one_test : (buffer k : ℕ) → nat_eq k buffer ≡ is_at (nat_cmp buffer) k

@@ -5,7 +5,6 @@ use Rattle.std.specs.Map.{keys_of, lookup, set_value, remove_entry}
 use Rattle.std.specs.Option.{IsSome, is_some}
 use Rattle.std.specs.Prelude.{Result, Ok, Err, OnOk, IsOk}
 use Rattle.std.specs.Cmp.{nat_eq_equiv}
-use Rattle.std.proofs.lemmas.Bool.{true≢false}
 use Rattle.std.proofs.lemmas.List.{map-append}
 use Rattle.std.proofs.lemmas.Map.{keys-set_value, lookup-set_value, lookup-remove_entry}
 use Rattle.std.proofs.lemmas.Map.Entries.{length-keys_of}
@@ -14,6 +13,8 @@ use Rattle.std.proofs.lemmas.Map.Made.{is_some-lookup, length-from_same_keys}
 use Rattle.plan_store.specs.declared.plan.Plan.{Plan}
 use Rattle.plan_store.specs.Kept.{IsKept}
 use Rattle.plan_store.proofs.PlanLemmas.{distinct-removed}
+use Rattle.std.proofs.lemmas.Bool.Decides.{nat_tests}
+use Rattle.std.proofs.Common.{arith}
 
 -- no plan is kept
 pub kept_none : (found plans : List (ℕ × Plan)) → found ≡ [] → plans ≡ [] → IsKept found plans
@@ -21,22 +22,12 @@ unfolding IsDistinct
 kept_none found plans none nothing = rw (none, nothing) (record { different = tt; same = λ q. refl })
 
 crossed : {X : Type 0} (s t : Bool) (x y z : X) → (s ≡ true → t ≡ false) → cond t y (cond s x z) ≡ cond s x (cond t y z)
-crossed true true x y z h = absurd (true≢false (h refl))
-crossed true false x y z h = refl
-crossed false t x y z h = refl
+crossed x0 x1 x y z h = grind (arith, nat_tests)
 
 -- a new plan behind the others is found by its number
 lookup-push : (n q : ℕ) (plan : Plan) (es : List (ℕ × Plan)) → lookup (nat_eq n) es ≡ None → lookup (nat_eq q) (es ++ (n, plan) ∷ []) ≡ cond (nat_eq n q) (Some plan) (lookup (nat_eq q) es)
 lookup-push n q plan [] fresh = ap (λ b. cond b (Some plan) None) (nat_eq_equiv.symm q n)
-lookup-push n q plan (e ∷ es) fresh = by (nat_eq n e.0) refl fresh (lookup-push n q plan es)
-  where
-    by : (b : Bool) → nat_eq n e.0 ≡ b → cond b (Some e.1) (lookup (nat_eq n) es) ≡ None
-        → (lookup (nat_eq n) es ≡ None → lookup (nat_eq q) (es ++ (n, plan) ∷ []) ≡ cond (nat_eq n q) (Some plan) (lookup (nat_eq q) es))
-        → cond (nat_eq q e.0) (Some e.1) (lookup (nat_eq q) (es ++ (n, plan) ∷ [])) ≡ cond (nat_eq n q) (Some plan) (cond (nat_eq q e.0) (Some e.1) (lookup (nat_eq q) es))
-    by true at none later = absurd (true≢false (ap is_some none))
-    by false at none later =
-        ap (cond (nat_eq q e.0) (Some e.1)) (later none)
-        ∙ crossed (nat_eq n q) (nat_eq q e.0) (Some plan) (Some e.1) (lookup (nat_eq q) es) (λ here. sym (nat_eq_equiv.congr n q e.0 here) ∙ at)
+lookup-push n q plan (e ∷ es) fresh = grind (arith, nat_tests, e.0, lookup-push n q plan es, e.1, crossed)
 
 -- a plan was made
 pub kept_made : (found found' plans : List (ℕ × Plan)) (n : ℕ) (plan : Plan) → IsKept found plans → lookup (nat_eq n) plans ≡ None → ((q : ℕ) → lookup (nat_eq q) found' ≡ cond (nat_eq n q) (Some plan) (lookup (nat_eq q) found)) → IsKept found' (plans ++ (n, plan) ∷ [])

@@ -1,5 +1,5 @@
 -- How many references to each plan are held, and how many plans stand.
-use Rattle.std.proofs.Common.{◌≡◌, ℕ, ◌+◌, Bool, true, false, cond, nat_eq, List, [], ◌∷◌, ◌++◌, length, Option, Some, None, refl, sym, ap, ◌∙◌, arith}
+use Rattle.std.proofs.Common.{◌≡◌, ℕ, ◌+◌, Bool, true, cond, nat_eq, List, [], ◌∷◌, ◌++◌, length, Option, Some, None, sym, ap, ◌∙◌, arith}
 use Rattle.std.specs.List.{IsDistinct, list_any}
 use Rattle.std.specs.Map.{keys_of, lookup, set_value, remove_entry}
 use Rattle.std.specs.Option.{is_some, option_map_or}
@@ -10,6 +10,7 @@ use Rattle.std.proofs.lemmas.Map.{lookup-remove_entry, lookup-set_value}
 use Rattle.std.proofs.lemmas.Map.Made.{is_some-lookup, length-from_keys}
 use Rattle.std.proofs.lemmas.Map.Entries.{length-keys_of}
 use Rattle.plan_store.specs.declared.plan.Plan.{Plan}
+use Rattle.std.proofs.lemmas.Bool.Decides.{nat_tests}
 
 -- the references of a plan, if there is one
 abbrev refs : Option Plan → ℕ
@@ -19,12 +20,10 @@ abbrev pub told : ℕ → List (ℕ × Plan) → ℕ
 told q es = refs (lookup (nat_eq q) es)
 
 by_key : (b : Bool) (found : Option Plan) (other : Plan) → refs (cond b (Some other) found) ≡ cond b other.references (refs found)
-by_key true found other = refl
-by_key false found other = refl
+by_key x0 found other = grind (arith, nat_tests)
 
 by_none : (b : Bool) (found : Option Plan) → refs (cond b None found) ≡ cond b 0 (refs found)
-by_none true found = refl
-by_none false found = refl
+by_none x0 found = grind (arith, nat_tests)
 
 told_set : (n q : ℕ) (es : List (ℕ × Plan)) (kept other : Plan) → lookup (nat_eq n) es ≡ Some kept → told q (set_value (nat_eq n) es other) ≡ cond (nat_eq n q) other.references (told q es)
 told_set n q es kept other read = ap refs (lookup-set_value nat_eq_equiv (nat_eq n) (nat_eq_equiv.congr n) q other es (ap is_some read)) ∙ by_key (nat_eq n q) (lookup (nat_eq q) es) other
@@ -36,16 +35,13 @@ told_here : (n q : ℕ) (es : List (ℕ × Plan)) (kept : Plan) → lookup (nat_
 told_here n q es kept read same = ap (λ (k : ℕ). told k es) (sym (eqb-true n q same)) ∙ ap refs read
 
 more : (t : Bool) (now old kept other : ℕ) → now ≡ cond t other old → (t ≡ true → old ≡ kept) → other ≡ kept + 1 → now ≡ old + cond t 1 0
-more true now old kept other e f g = omega (arith, e, f refl, g)
-more false now old kept other e f g = omega (arith, e)
+more x0 now old kept other e f g = grind (arith, nat_tests)
 
 less : (t : Bool) (now old kept other : ℕ) → now ≡ cond t other old → (t ≡ true → old ≡ kept) → other + 1 ≡ kept → now + cond t 1 0 ≡ old
-less true now old kept other e f g = omega (arith, e, f refl, g)
-less false now old kept other e f g = omega (arith, e)
+less x0 now old kept other e f g = grind (arith, nat_tests)
 
 same : (t : Bool) (now old kept other : ℕ) → now ≡ cond t other old → (t ≡ true → old ≡ kept) → other ≡ kept → now ≡ old
-same true now old kept other e f g = omega (arith, e, f refl, g)
-same false now old kept other e f g = omega (arith, e)
+same x0 now old kept other e f g = grind (arith, nat_tests)
 
 -- the references to each plan, where those to one have changed
 pub refers_more : (n q : ℕ) (es : List (ℕ × Plan)) (kept other : Plan) → lookup (nat_eq n) es ≡ Some kept → other.references ≡ kept.references + 1 → told q (set_value (nat_eq n) es other) ≡ told q es + cond (nat_eq n q) 1 0
@@ -66,16 +62,8 @@ gone_alike n q es kept different read e = same (nat_eq n q) _ (told q es) kept.r
 
 -- the references to each plan, where a plan was made to which none is held
 pub made_alike : (n q : ℕ) (es : List (ℕ × Plan)) (made : Plan) → made.references ≡ 0 → told q (es ++ (n, made) ∷ []) ≡ told q es
-made_alike n q [] made e = by_test (nat_eq q n)
-  where
-    by_test : (b : Bool) → refs (cond b (Some made) None) ≡ 0
-    by_test true = e
-    by_test false = refl
-made_alike n q (x ∷ es) made e = by_test (made_alike n q es made e) (nat_eq q x.0)
-  where
-    by_test : told q (es ++ (n, made) ∷ []) ≡ told q es → (b : Bool) → refs (cond b (Some x.1) (lookup (nat_eq q) (es ++ (n, made) ∷ []))) ≡ refs (cond b (Some x.1) (lookup (nat_eq q) es))
-    by_test ih true = refl
-    by_test ih false = ih
+made_alike n q [] made e = grind (arith, nat_tests)
+made_alike n q (x ∷ es) made e = grind (arith, nat_tests, made_alike n q es made e, x.0, told, x.1)
 
 -- as many plans stand as any list of their numbers has different ones
 pub length_different : (es : List (ℕ × Plan)) (numbers : List ℕ) → IsDistinct nat_eq (keys_of es) → ((q : ℕ) → list_any (nat_eq q) numbers ≡ is_some (lookup (nat_eq q) es)) → length es ≡ distinct_count nat_eq numbers

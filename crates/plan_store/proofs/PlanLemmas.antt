@@ -1,6 +1,5 @@
 -- What is true of the plans of a session stays so through each change.
-use Prim.Native.Nat.{zero, suc}
-use Rattle.std.proofs.Common.{◌≡◌, ℕ, ◌+◌, ◌<◌, ◌≤◌, Bool, true, false, cond, nat_eq, List, [], ◌∷◌, ◌++◌, length, get_or, Option, Some, None, refl, sym, ap, ◌∙◌, subst, arith}
+use Rattle.std.proofs.Common.{◌≡◌, ℕ, ◌+◌, ◌<◌, ◌≤◌, Bool, true, false, cond, nat_eq, List, [], ◌∷◌, ◌++◌, length, get_or, Option, Some, None, sym, ap, ◌∙◌, subst, arith}
 use Rattle.std.specs.List.{All, IsDistinct, AllByRecursion, list_any}
 use Rattle.std.specs.Map.{keys_of, values_of, lookup, set_value, remove_entry}
 use Rattle.std.specs.Option.{IfSome, is_some, unwrap_or, option_map}
@@ -14,15 +13,14 @@ use Rattle.std.proofs.lemmas.Map.Made.{is_some-lookup}
 use Rattle.std.proofs.lemmas.Map.Views.{All-map-remove_entry, All-values-set_value}
 use Rattle.plan_store.specs.declared.plan.Plan.{Plan}
 use Rattle.plan_store.specs.Plans.{Plans, plan_of, references, IsHeld, ArePlans}
+use Rattle.std.proofs.lemmas.Bool.Decides.{nat_tests}
 
 none_of : {X : Type 0} (o : Option X) → is_some o ≡ false → o ≡ None
-none_of None h = refl
-none_of (Some x) h = absurd (cc)
+none_of x0 h = grind (arith, nat_tests)
 
 -- what follows of a value follows of it where there is one
 still : (P Q : ℕ → Type 0) (o : Option ℕ) → ((q : ℕ) → P q → Q q) → IfSome o P → IfSome o Q
-still P Q None f h = tt
-still P Q (Some q) f h = f q h
+still P Q x2 f h = grind (arith, nat_tests)
 
 module _ {K X : Type 0} (test : K → Bool) where
   all-removed : (P : K → Type 0) (es : List (K × X)) → AllByRecursion P (keys_of es) → AllByRecursion P (keys_of (remove_entry test es))
@@ -43,20 +41,17 @@ module _ {K X : Type 0} (test : K → Bool) where
 
   -- where no key passes, none does after a change that keeps the keys
   none-same_keys : (es fs : List (K × X)) → keys_of es ≡ keys_of fs → lookup test es ≡ None → lookup test fs ≡ None
-  none-same_keys es fs same none =
-      none_of (lookup test fs) (is_some-lookup test fs ∙ ap (list_any test) (sym same) ∙ sym (is_some-lookup test es) ∙ ap is_some none)
+  none-same_keys es fs same none = grind (arith, nat_tests, none_of (lookup test fs) (is_some-lookup test fs ∙ ap (list_any test) (sym same) ∙ sym (is_some-lookup test es) ∙ ap is_some none))
 
 nothing : (k : ℕ) (d : Plan) → k < length {A = Plan} [] → IsHeld (get_or [] k d)
 nothing k d below = absurd (omega arith)
 
 -- what holds of an element holds of each of the list of it alone
 only : (P : Plan → Type 0) (x : Plan) → P x → All P (x ∷ [])
-only P x h zero d below = h
-only P x h (suc k) d below = absurd (omega arith)
+only P x h x3 d below = grind (arith, nat_tests)
 
 cond_none : {X : Type 0} (b : Bool) (o : Option X) → o ≡ None → cond b None o ≡ None
-cond_none true o none = refl
-cond_none false o none = none
+cond_none x0 o none = grind (arith, nat_tests)
 
 -- no plan stands
 pub are-none : ArePlans (record { standing = []; reserved = None })

@@ -1,6 +1,6 @@
 -- A portal that is fetched from stands behind each step of a turn.
-use Rattle.portal_commands.proofs.Base.{◌≡◌, ℕ, Bool, true, false, List, [], ◌∷◌, Option, Some, None, IsSome, IfSome, find, refl, sym, ◌∙◌, ap, subst, inl, arith, append-nil, option_and_then, option_map}
-use Rattle.portal_commands.proofs.Words.{Asks, Moves, TreeState, has, Scan, ScanStep, rest, taken, Error, What, Item, OwnerId, coming, Portal, is_of, forgotten, items_of, owners_of, balances_more, balances_none, serves_still, LevelState, OpenPortal, buffer_pin, depth, Around, Moment, Scene, Ended, changes, context_cleared_alone, in_order, nothing, portal_becomes, say, where_there, unfailing, Element, Check, InRow, OfPortal, Text, does, does_all, then_done, memory_in, owner_in, portal_named, at_portal, scan_part, scanned, given_back, item_released, IsFetched, IsWorking, Stands, fallible_part, Named, active_portal, named_changed, named_in, scan_portal, Beside, becomes_fetched, beside_turns, check_beside, nothing_beside, owner_named, part_beside, portal_enlarges, portal_takes, row_allocates, then_beside, Acted, BothAlone, ContextsAlone, IsSilent, Keeps, PortalsAlone, Refused, StoreState, levels_of, portal_state, portals_of, session_of, at_calls, wants, IsOwnerOf, IsBetweenSteps, Now, Performed, scene_in, Calls, numbers, there_keeps, moves_nothing, performed_end, performed_none, same_scene_in, fails, keeps_rises, empty_around, fitting, fitting_fits, grown, Follows, IsAt, IsFetching, IsPage, cost_of, part_of, scan_named}
+use Rattle.portal_commands.proofs.Base.{nat_tests, ◌≡◌, ℕ, Bool, true, false, List, [], ◌∷◌, Option, Some, None, IsSome, IfSome, find, refl, sym, ◌∙◌, ap, subst, inl, arith, append-nil, option_and_then, option_map}
+use Rattle.portal_commands.proofs.Words.{Asks, Moves, TreeState, has, Scan, ScanStep, rest, taken, Error, What, Item, OwnerId, coming, Portal, is_of, forgotten, items_of, owners_of, balances_more, balances_none, serves_still, LevelState, OpenPortal, buffer_pin, depth, Around, Moment, Scene, Ended, changes, context_cleared_alone, in_order, nothing, portal_becomes, say, where_there, unfailing, Element, Check, InRow, OfPortal, Text, does, does_all, then_done, memory_in, owner_in, portal_named, at_portal, scan_part, scanned, given_back, item_released, IsFetched, IsWorking, Stands, fallible_part, Named, active_portal, named_changed, named_in, scan_portal, Beside, becomes_fetched, beside_turns, check_beside, nothing_beside, owner_named, part_beside, portal_enlarges, portal_takes, row_allocates, then_beside, Acted, BothAlone, ContextsAlone, IsSilent, Keeps, PortalsAlone, Refused, StoreState, levels_of, session_of, at_calls, wants, IsOwnerOf, IsBetweenSteps, Now, Performed, scene_in, Calls, numbers, moves_nothing, performed_end, performed_none, same_scene_in, fails, keeps_rises, empty_around, fitting, fitting_fits, grown, Follows, IsAt, IsFetching, IsPage, cost_of, part_of, scan_named}
 use Rattle.portal_store.specs.Portals as list
 use Rattle.portal_commands.proofs.Listed.{keeps_alone, named_as}
 use Rattle.portal_commands.proofs.Places.{at_same}
@@ -27,12 +27,7 @@ found name scan None e = absurd (cc e)
 found name scan (Some p) e = (p, refl, cc e)
 
 pub runs_beside : (name : Text) (scan : Scan) (levels : List LevelState) (s z : Scene) → Runs name scan levels s → Beside s z → Runs name scan levels z
-runs_beside name scan levels s z h b = record {
-  stands = b.works.stands;
-  are = b.works.levels ∙ h.are;
-  fetched = let t = beside_turns name s z b in t.fetched h.fetched;
-  is = ap (λ (ps : List OpenPortal). option_map (λ (p : OpenPortal). p.scan) (portal_named name ps)) b.portals ∙ h.is;
-}
+runs_beside name scan levels s z h b = grind (arith, nat_tests, b.works.stands, b.works.levels, h.are, beside_turns name s z b, h.fetched, b.portals, h.is)
 
 -- its scan takes a step
 pub runs_step : (name : Text) (scan : Scan) (levels : List LevelState) (s : Scene) (st : ScanStep) → IsWorking levels → Runs name scan levels s → Runs name (taken st scan) levels (portal_becomes name (λ old. record old { scan = taken st old.scan }) s).scene
@@ -127,9 +122,6 @@ part_is name st s p e n = grind arith
 same_part : (st : ScanStep) (p : OpenPortal) (c : Scan) (s : Scene) → scan_part st (record p { scan = c }) s ≡ scan_part st p s
 same_part st p c s = grind arith
 
-part_keeps : (st : ScanStep) (p : OpenPortal) (s : Scene) → numbers (scan_part st p s).scene ≡ numbers s
-part_keeps st p s = grind arith
-
 -- and leaves the portals as they are
 part_besides : (name : Text) (scan : Scan) (levels : List LevelState) (st : ScanStep) (s : Scene) → IsWorking levels → Runs name scan levels s → Beside s (part_of name st s).scene
 part_besides name scan levels st s active h =
@@ -163,8 +155,7 @@ unfolding does
 does_scan name st w m = refl
 
 scan_keeps : (name : Text) (st : ScanStep) (s : Scene) → numbers (at_portal name (scanned st) s).scene ≡ numbers s
-scan_keeps name st s =
-    there_keeps (portal_named name s.session.portals) (scanned st) s (λ p. part_keeps st p (portal_becomes p.name (λ old. record old { scan = taken st old.scan }) s).scene)
+scan_keeps name st s = grind (arith, nat_tests, taken)
 
 -- the scan has taken a step, and what that does by itself was done
 module _ (name : Text) (scan : Scan) (st : ScanStep) (a c : Now) (store : StoreState) (P : List What → Type 0) (h : IsFetching name scan a)
@@ -252,24 +243,13 @@ fetched_owner name scan a owner h is = owner_named None (at_calls (scene_in a) 0
 
 -- the portal as the store has it
 store_found : (name : Text) (scan : Scan) (a : Now) → IsFetching name scan a → (p : Portal) × (list.portal_named name a.store.portals ≡ Some p) × (p.scan ≡ scan)
-store_found name scan a h =
-    let q = found name scan (portal_named name (portals_of a.store.portals)) h.is in
-    go (list.portal_named name a.store.portals) refl q.0 (named_as name a.store.portals ∙ q.1) q.2
-  where
-    go : (o : Option Portal) → list.portal_named name a.store.portals ≡ o → (q : OpenPortal) → option_map portal_state o ≡ Some q → q.scan ≡ scan → (p : Portal) × (list.portal_named name a.store.portals ≡ Some p) × (p.scan ≡ scan)
-    go None e q z is = absurd (cc z)
-    go (Some p) e q z is =
-        let same : portal_state p ≡ q = cc z in
-        (p, e, ap (λ (r : OpenPortal). r.scan) same ∙ is)
+store_found name scan a h = grind (arith, nat_tests, found, a.store.portals, h.is, named_as name a.store.portals)
 
 pub there_scan : (name : Text) (scan : Scan) (a : Now) → IsFetching name scan a → IsSome (list.portal_named name a.store.portals)
 there_scan name scan a h = let p = store_found name scan a h in subst IsSome (sym p.1) refl
 
 pub step_named : (name : Text) (begins : Bool) (scan : Scan) (a : Now) (s : ScanStep) → IsFetching name scan a → IfSome (list.portal_named name a.store.portals) (λ p. coming begins p.scan ≡ s ∷ rest s (taken s p.scan)) → coming begins scan ≡ s ∷ rest s (taken s scan)
-step_named name begins scan a s h step =
-    let p = store_found name scan a h in
-    let at : coming begins p.0.scan ≡ s ∷ rest s (taken s p.0.scan) = subst (λ (o : Option Portal). IfSome o (λ q. coming begins q.scan ≡ s ∷ rest s (taken s q.scan))) p.1 step in
-    subst (λ (c : Scan). coming begins c ≡ s ∷ rest s (taken s c)) p.2 at
+step_named name begins scan a s h step = grind (arith, nat_tests, store_found name scan a h, rest, taken)
 
 -- nothing happened
 pub follows_nothing : (act : Scene → Ended) (a : Now) (P : List What → Type 0) → ((around : Around) → act (scene_in a around) ≡ nothing (scene_in a around)) → Keeps a.store a.space → P [] → Follows act a a P
@@ -393,5 +373,4 @@ other_part name st s r u w = grind arith
 -- a step that was served has no bad row
 pub served_good : (name : Text) (s : ScanStep) (k : ℕ) (a b : Now) (P : List What → Type 0) → Performed k (fallible_part name s) a b P None → is_bad_step s ≡ false
 unfolding does does_all
-served_good name (ScanStep.Bad row) k a b P h = let z : Some (Error.BadRow row) ≡ None = h.answers.answer empty_around None tt in absurd (cc z)
-served_good name other k a b P h = refl
+served_good name x1 k a b P h = grind (arith, nat_tests, h.answers.answer empty_around None tt)

@@ -1,6 +1,6 @@
 -- The steps by which a portal is made.
-use Rattle.portal_commands.proofs.Base.{◌≡◌, ◌↔◌, ℕ, ◌≤◌, true, List, [], ◌∷◌, length, Option, Some, None, Result, Ok, Err, refl, sym, ◌∙◌, ap, arith, codes, option_and_then, option_map_or}
-use Rattle.portal_commands.proofs.Words.{first_size, CtxKind, LimitReached, Portal, PortalError, Around, Moment, Scene, in_order, portal_becomes, where_there, PortalContext, RowContext, Text, Element, fallible, does, portal_named, context_made, limit, portal_made, portals_of, session_of, Now, scene_in, IsNew, Call, Rises, limit_free, limit_reached}
+use Rattle.portal_commands.proofs.Base.{nat_tests, ◌≡◌, ◌↔◌, ℕ, ◌≤◌, List, [], ◌∷◌, length, Option, Some, None, Result, Ok, Err, refl, ◌∙◌, ap, arith, codes, option_and_then}
+use Rattle.portal_commands.proofs.Words.{CtxKind, LimitReached, Portal, PortalError, Around, Moment, in_order, PortalContext, RowContext, Text, Element, fallible, does, portal_named, limit, portal_made, portals_of, session_of, Now, scene_in, IsNew, Call, limit_free, limit_reached}
 
 pub does_make_portal : (name : Text) (object rows : ℕ) (bad : Option ℕ) (w : Option ℕ) (m : Moment)
     → does w (Element.MakePortal name object rows bad) m ≡ fallible w m (limit 1024 (length m.scene.session.portals)) (portal_made name object rows bad)
@@ -29,28 +29,14 @@ portals_are a around = as_many a.store.portals
 
 module _ (a : Now) (r : Result (Unit {0}) PortalError) (much : (r ≡ Err PortalError.TooMany) ↔ (length a.store.portals ≡ 1024)) where
   pub few_portals : (u : Unit {0}) → r ≡ Ok u → length a.store.portals ≤ 1024 → (around : Around) → limit 1024 (length (scene_in a around).session.portals) ≡ None
-  few_portals u ok most around =
-      let never : length a.store.portals ≡ 1024 → ⊥ = λ all. let z : Ok u ≡ Err PortalError.TooMany = sym ok ∙ much.1 all in cc z in
-      ap (limit 1024) (portals_are a around) ∙ limit_free 1024 (length a.store.portals) (omega (arith, most, never))
+  few_portals u ok most around = grind (arith, nat_tests, portals_are a around, limit_free)
 
   pub many_portals : r ≡ Err PortalError.TooMany → (around : Around) → limit 1024 (length (scene_in a around).session.portals) ≡ Some LimitReached
   many_portals full around = ap (limit 1024) (portals_are a around) ∙ limit_reached 1024 (length a.store.portals) (omega (arith, much.0 full))
 
 -- the context of a portal, and that of one row
 pub portal_is_new : (name : Text) (a : Now) → IsNew (PortalContext name) (codes "PortalContext") CtxKind.Small a
-portal_is_new name a = record {
-  refused = λ s. refl;
-  rises = λ s. record { contexts = omega arith; owners = omega arith; serials = omega arith; descriptors = refl };
-  asks = λ around. refl;
-}
+portal_is_new name a = grind (arith, nat_tests)
 
 pub row_is_new : (name : Text) (a : Now) (c : ℕ) → option_and_then (λ p. p.context) (portal_named name (session_of a.store a.space).portals) ≡ Some c → IsNew (RowContext name) (codes "ExprContext") CtxKind.Small a
-row_is_new name a c is = record {
-  refused = λ s. refl;
-  rises = λ s. go s (option_and_then (λ p. p.context) (portal_named name s.session.portals));
-  asks = λ around. ap (λ (o : Option ℕ). option_map_or (λ parent. first_size CtxKind.Small) o 0) is;
-}
-  where
-    go : (s : Scene) (o : Option ℕ) → Rises 1 s (where_there o (λ parent. in_order (context_made parent (codes "ExprContext") true CtxKind.Small ∷ portal_becomes name (λ p. record p { expr = Some s.session.next_context }) ∷ [])) s).scene
-    go s None = record { contexts = omega arith; owners = omega arith; serials = omega arith; descriptors = refl }
-    go s (Some n) = record { contexts = omega arith; owners = omega arith; serials = omega arith; descriptors = refl }
+row_is_new name a c is = grind (arith, nat_tests, in_order)

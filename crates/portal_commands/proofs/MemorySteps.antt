@@ -1,5 +1,5 @@
 -- The steps by which memory without a name is taken in a context of a portal.
-use Rattle.portal_commands.proofs.Base.{◌≡◌, ◌≢◌, ◌⊎◌, ℕ, ◌+◌, ◌≤◌, ◌==◌, true, false, List, [], ◌∷◌, Option, Some, None, refl, sym, ◌∙◌, ap, subst, inl, arith, option_map, option_map_or}
+use Rattle.portal_commands.proofs.Base.{nat_tests, ◌≡◌, ◌≢◌, ◌⊎◌, ℕ, ◌+◌, ◌≤◌, ◌==◌, true, false, List, [], ◌∷◌, Option, Some, None, refl, sym, ◌∙◌, ap, subst, inl, arith, option_map, option_map_or}
 use Rattle.portal_commands.proofs.Words.{Asks, Space, TreeError, alloc_refusal, Error, Injected, NoMemory, What, Around, Moment, Scene, Ended, where_there, MemoryRole, Element, fallible, tree_error, does, memory_in, alloc_refused, memory_taken, contexts_in, left_in, session_of, Acted, ContextsAlone, IsSilent, Keeps, Refused, CommonState, ShelfState, balances_none, Now, Performed, scene_in, performed_made, performed_step, same_scene_in, Rises, count_behind, grown, lent, still_injected, still_keeps, still_moves, still_refused, step_tree}
 use Rattle.context_rules.specs.Chunks as chunks
 
@@ -15,18 +15,10 @@ module _ (role : MemoryRole) (bytes : ℕ) where
   does_alloc w m = refl
 
   raises : (s : Scene) → (takes s).scene.session.next_context ≤ s.session.next_context + 1
-  raises s = go (memory_in role s.session)
-    where
-      go : (o : Option ℕ) → (where_there o (memory_taken None bytes false) s).scene.session.next_context ≤ s.session.next_context + 1
-      go None = omega arith
-      go (Some n) = omega arith
+  raises s = grind (arith, nat_tests, s.session, s.session.next_context)
 
   rises : (s : Scene) → Rises 1 s (takes s).scene
-  rises s = go (memory_in role s.session)
-    where
-      go : (o : Option ℕ) → Rises 1 s (where_there o (memory_taken None bytes false) s).scene
-      go None = record { contexts = omega arith; owners = omega arith; serials = omega arith; descriptors = refl }
-      go (Some n) = record { contexts = omega arith; owners = omega arith; serials = omega arith; descriptors = refl }
+  rises s = grind (arith, nat_tests, s.session)
 
   module _ (a b : Now) (P : List What → Type 0) (counted : b.calls ≡ record a.calls { count = a.calls.count + 1 }) where
     pub memory_injected : b.space ≡ a.space → Keeps a.store a.space → lent b ≡ lent a → P [] → b.store ≡ a.store → (e : Error) → (e ≡ Injected (a.calls.count + 1)) × ((a.calls.count + 1 == a.calls.fail) ≡ true)

@@ -1,5 +1,5 @@
 -- The commands on portals.
-use Rattle.portal_commands.proofs.Base.{◌≡◌, ℕ, ◌+◌, ◌*◌, ◌≤◌, List, [], ◌∷◌, ◌++◌, Option, Some, None, is_some, refl, sym, ◌∙◌, ap, subst, arith, Bool, false, true, is_none, not, Bor, option_copied, option_map, option_map_or}
+use Rattle.portal_commands.proofs.Base.{nat_tests, ◌≡◌, ℕ, ◌+◌, ◌*◌, ◌≤◌, List, [], ◌∷◌, ◌++◌, Option, Some, None, is_some, refl, sym, ◌∙◌, ap, subst, arith, false, true, is_none, Bor, option_copied, option_map, option_map_or}
 use Rattle.portal_commands.proofs.Words.{Asks, Moves, PortalCommand, Error, What, Portal, PortalState, OpenPortal, depth, Around, Moment, portal_becomes, say, unfailing, failure, has_failed, unless, does, Element, Check, Text, portal_named, at_portal, portal_ended, elements, fetch_steps, portal_row, portal_steps, Acted, Keeps, portal_state, portals_of, session_of, Grows, Now, Performed, most_work, scene_in, fails, passes, grows_nothing, moves_nothing, performed_both, performed_end, performed_more, balances_none, silent_then, scan_named}
 use Rattle.portal_store.specs.Portals as list
 use Rattle.portal_commands.proofs.Listed.{named_as}
@@ -23,26 +23,21 @@ module _ (name : Text) (a : Now) where
   is_missing none around = ap (λ (o : Option OpenPortal). unless (is_some o) Error.NoSuchPortal) (named None none around)
 
   pub may_be_fetched : (p : Portal) → list.portal_named name a.store.portals ≡ Some p → has_failed p.state ≡ false → (around : Around) → failure (Check.HasNotFailed name) (scene_in a around) ≡ None
-  may_be_fetched p is well around =
-      ap (λ (o : Option OpenPortal). unless (option_map_or (λ q. not (has_failed q.state)) o true) Error.PortalFailed) (named (Some p) is around) ∙ ap (λ (b : Bool). unless (not b) Error.PortalFailed) well
+  may_be_fetched p is well around = grind (arith, nat_tests, named (Some p) is around)
 
   pub has_gone_bad : (p : Portal) → list.portal_named name a.store.portals ≡ Some p → has_failed p.state ≡ true → (around : Around) → failure (Check.HasNotFailed name) (scene_in a around) ≡ Some Error.PortalFailed
-  has_gone_bad p is bad around =
-      ap (λ (o : Option OpenPortal). unless (option_map_or (λ q. not (has_failed q.state)) o true) Error.PortalFailed) (named (Some p) is around) ∙ ap (λ (b : Bool). unless (not b) Error.PortalFailed) bad
+  has_gone_bad p is bad around = grind (arith, nat_tests, named (Some p) is around)
 
 -- what an option is, by whether it is there
 pub some_of : {A : Type 0} (o : Option A) → is_some o ≡ true → (x : A) × (o ≡ Some x)
-some_of None e = absurd (cc e)
-some_of (Some x) e = (x, refl)
+some_of x0 e = grind (arith, nat_tests)
 
 pub none_of : {A : Type 0} (o : Option A) → is_some o ≡ false → o ≡ None
-none_of None e = refl
-none_of (Some x) e = absurd (cc e)
+none_of x0 e = grind (arith, nat_tests)
 
 -- a reference is there where what it points to is
 pub copied_some : {A : Type 0} (o : Option (Bor A)) → is_some (option_copied o) ≡ is_some o
-copied_some None = refl
-copied_some (Some x) = refl
+copied_some x0 = grind (arith, nat_tests)
 
 pub not_failed : (s : PortalState) → (s ≡ PortalState.Failed → ⊥) → has_failed s ≡ false
 not_failed s h = grind arith

@@ -1,6 +1,6 @@
 -- The steps by which a portal is made lead from a session that stands to one that stands, and the portal is so far made.
-use Rattle.portal_commands.proofs.Base.{◌≡◌, ◌≢◌, ℕ, Bool, true, false, Option, Some, None, List, [], ◌∷◌, IsSome, length, refl, sym, ap, ◌∙◌, subst, inl, arith, codes, is_some, option_and_then, option_map, eq-eqb}
-use Rattle.portal_commands.proofs.Words.{Space, has, size, table_of, KindTable, CtxId, KindId, OwnerId, Mode, CtxKind, new_scan, Error, What, is_text-same, Portal, PortalState, IsReference, owners_of, LevelState, OpenPortal, SessionState, first_of, level_owner, owner_of, Around, Moment, Scene, in_order, portal_becomes, where_there, Element, InPortal, OfPortal, PortalContext, RowContext, Text, does, does_all, portal_named, context_made, new_context_made, new_owner_made, portal_made, IsItem, IsWorking, Stands, NoOne, ThePlans, keeper_of, takes, is_there, context_portal, made_portal, named_changed, named_in, owner_portal, row_portal, Beside, owner_named, portal_allocates, portal_enlarges, portal_locks, portal_takes, below_limit, Leads, fallible_leads, leads_nowhere, leads_on, no_value_of, StoreState, levels_of, portal_state, portals_of, session_of, IsOwnerOf, at_calls, IsBetweenSteps, Now, Performed, scene_in, empty_around, known_behind, stands_behind, IsMaking, IsOnItsWay}
+use Rattle.portal_commands.proofs.Base.{nat_tests, ◌≡◌, ◌≢◌, ℕ, Bool, true, false, Option, Some, None, List, [], ◌∷◌, IsSome, length, refl, sym, ap, ◌∙◌, subst, inl, arith, codes, is_some, option_and_then}
+use Rattle.portal_commands.proofs.Words.{Space, has, size, table_of, KindTable, KindId, OwnerId, Mode, CtxKind, new_scan, Error, What, is_text-same, Portal, PortalState, IsReference, owners_of, LevelState, OpenPortal, SessionState, level_owner, Around, Moment, Scene, in_order, portal_becomes, where_there, Element, InPortal, OfPortal, PortalContext, RowContext, Text, does, does_all, portal_named, context_made, new_context_made, new_owner_made, portal_made, IsItem, IsWorking, Stands, NoOne, keeper_of, takes, is_there, context_portal, made_portal, named_changed, named_in, owner_portal, row_portal, Beside, owner_named, portal_allocates, portal_enlarges, portal_locks, portal_takes, below_limit, Leads, fallible_leads, leads_nowhere, leads_on, no_value_of, StoreState, levels_of, portals_of, session_of, IsOwnerOf, at_calls, IsBetweenSteps, Now, Performed, scene_in, empty_around, known_behind, stands_behind, IsMaking, IsOnItsWay}
 use Rattle.portal_store.specs.Portals as list
 use Rattle.portal_commands.proofs.Listed.{named_as}
 
@@ -54,11 +54,7 @@ module _ (w : Option ℕ) (name : Text) (levels : List LevelState) (active : IsW
       })
 
   level_owned : (m : Moment) → m.scene.session.levels ≡ levels → (lo : ℕ) × (level_owner m.scene.session ≡ Some lo)
-  level_owned m are = go m.scene.session.levels (working m.scene are)
-    where
-      go : (ls : List LevelState) → IsWorking ls → (lo : ℕ) × (owner_of (first_of ls) ≡ Some lo)
-      go [] a = absurd a
-      go (level ∷ ls) a = is_there level.owner a.made.owner
+  level_owned m are = grind (arith, nat_tests, m.scene.session.levels, working m.scene are, m.scene, is_there)
 
   pub owner_leads : (m : Moment) → Goes name levels true false false m.scene → Leads (Goes name levels true true false) (does w (Element.MakeOwner (OfPortal name)) m)
   unfolding does
@@ -66,8 +62,7 @@ module _ (w : Option ℕ) (name : Text) (levels : List LevelState) (active : IsW
       let lo = level_owned m k.are in
       fallible_leads (Goes name levels true true false) w m _ (new_owner_made (OfPortal name)) k.stands (λ z q. q.stands)
       (λ room. record {
-        stands = owner_portal m.scene k.stands (working m.scene k.are) name k.way.portal (named_in name k.way.portal m.scene.session.portals k.way.named) lo.0 lo.1
-            (no_value_of k.way.portal.owner k.way.owner) k.way.created (below_limit 65536 (size m.scene.session.owners) room);
+        stands = grind (arith, nat_tests, owner_portal m.scene k.stands (working m.scene k.are) name k.way.portal (named_in name k.way.portal m.scene.session.portals k.way.named) lo.0 lo.1 (no_value_of k.way.portal.owner k.way.owner) k.way.created (below_limit 65536 (size m.scene.session.owners) room), m.scene, k.stands, working m.scene k.are, k.are, k.way.portal, named_in name k.way.portal m.scene.session.portals k.way.named, m.scene.session.portals, k.way.named, lo.0, lo.1, no_value_of k.way.portal.owner k.way.owner, k.way.portal.owner, k.way.owner, k.way.created, below_limit 65536 (size m.scene.session.owners) room, m.scene.session.owners);
         are = k.are;
         way = record {
           portal = record k.way.portal { owner = Some m.scene.session.next_owner };
@@ -81,21 +76,7 @@ module _ (w : Option ℕ) (name : Text) (levels : List LevelState) (active : IsW
 
   -- an element that leaves the portals as they are
   pub beside_leads : (c o r : Bool) (x : Element) (m : Moment) → Goes name levels c o r m.scene → Beside m.scene (does w x m).moment.scene → Leads (Goes name levels c o r) (does w x m)
-  beside_leads c o r x m k b = record {
-    stands = b.works.stands;
-    passed = λ _. record {
-      stands = b.works.stands;
-      are = b.works.levels ∙ k.are;
-      way = record {
-        portal = k.way.portal;
-        named = ap (portal_named name) b.portals ∙ k.way.named;
-        context = k.way.context;
-        owner = k.way.owner;
-        row = k.way.row;
-        created = k.way.created ∙ sym (ap length b.works.levels);
-      };
-    };
-  }
+  beside_leads c o r x m k b = grind (arith, nat_tests, b.works.stands, b.works.levels, k.are, k.way.portal, b.portals, k.way.named, k.way.context, k.way.owner, k.way.row, k.way.created)
 
   pub row_leads : (o : Bool) (m : Moment) → Goes name levels true o false m.scene → Leads (Goes name levels true o true) (does w (Element.MakeContext (RowContext name)) m)
   unfolding does
@@ -123,9 +104,7 @@ module _ (w : Option ℕ) (name : Text) (levels : List LevelState) (active : IsW
 
 -- a reference is no plan's, and an item of a known kind
 no_plan : (kind : KindId) → keeper_of kind ≡ NoOne → kind.0 ≢ 5
-no_plan kind unkept e =
-    let z : ThePlans ≡ NoOne = rw (eq-eqb kind.0 5 e) at unkept in
-    cc z
+no_plan kind unkept e = grind (arith, nat_tests, kind.0)
 
 reference_item : (kinds : KindTable) (kind : KindId) (key serial : ℕ) → IsReference kind → IsItem kinds (record { kind = kind; key = key; serial = serial })
 reference_item kinds kind key serial is = record { kind = inl (record { from = omega (arith, is.from); to = omega (arith, is.to) }); buffer = λ e. absurd (omega (arith, e, is.from)) }
@@ -144,8 +123,7 @@ module _ (name : Text) (c o r : Bool) (k : ℕ) (es : List Element) (a b : Now) 
   pub making_behind : (levels : List LevelState) → IsWorking levels → IsBetweenSteps a
       → ((around : Around) (w : Option ℕ) → Leads (Goes name levels c o r) (does_all w es (at_calls (scene_in a) a.calls.count a.calls.fail around)))
       → e ≡ None → IsMaking name c o r b
-  making_behind levels active between leads none =
-      making_of name c o r b levels (stands_behind k es a b P e (Goes name levels c o r) done leads between.serves) active (known_behind k es a b P e (Goes name levels c o r) done leads none empty_around)
+  making_behind levels active between leads none = grind (arith, nat_tests, making_of name c o r b levels (stands_behind k es a b P e (Goes name levels c o r) done leads between.serves) active (known_behind k es a b P e (Goes name levels c o r) done leads none empty_around), stands_behind k es a b P e (Goes name levels c o r) done leads between.serves, between.serves, known_behind k es a b P e (Goes name levels c o r) done leads none empty_around)
 
   pub making_on : (c1 o1 r1 : Bool) → IsMaking name c1 o1 r1 a
       → ((w : Option ℕ) (m : Moment) → Goes name (levels_of a.store.levels) c1 o1 r1 m.scene → Leads (Goes name (levels_of a.store.levels) c o r) (does_all w es m)) → e ≡ None → IsMaking name c o r b
@@ -209,31 +187,16 @@ module _ (name : Text) (a b : Now) (P : List What → Type 0) (e : Option Error)
 -- whose owner and whose context are there
 named_part : (store : StoreState) (s : Space) (name : Text) (c o r : Bool) → IsOnItsWay name c o r (session_of store s) → (p : Portal) × (list.portal_named name store.portals ≡ Some p) × (is_some p.context ≡ c) × (is_some p.owner ≡ o)
 unfolding session_of
-named_part store s name c o r way = go (list.portal_named name store.portals) refl (named_as name store.portals ∙ way.named)
-  where
-    seen : {A : Type 0} (f : A → ℕ) (i : Option A) → is_some (option_map f i) ≡ is_some i
-    seen f None = refl
-    seen f (Some i) = refl
-
-    go : (f : Option Portal) → list.portal_named name store.portals ≡ f → option_map portal_state f ≡ Some way.portal → (p : Portal) × (list.portal_named name store.portals ≡ Some p) × (is_some p.context ≡ c) × (is_some p.owner ≡ o)
-    go None e z = absurd (cc z)
-    go (Some p) e z =
-        let same : portal_state p ≡ way.portal = cc z in
-        (p, e, sym (seen (λ (id : CtxId). id.number) p.context) ∙ ap (λ (q : OpenPortal). is_some q.context) same ∙ way.context, sym (seen (λ (id : OwnerId). id.number) p.owner) ∙ ap (λ (q : OpenPortal). is_some q.owner) same ∙ way.owner)
+named_part store s name c o r way = grind (arith, nat_tests, store.portals, named_as name store.portals, way.named, way.portal, way.context, way.owner)
 
 is_some_of : {A : Type 0} (o : Option A) → is_some o ≡ true → IsSome o
-is_some_of None e = absurd (cc e)
-is_some_of (Some x) e = refl
+is_some_of x0 e = grind (arith, nat_tests)
 
 pub has_owner : (store : StoreState) (s : Space) (name : Text) (c r : Bool) → IsOnItsWay name c true r (session_of store s) → IsSome (option_and_then (λ p. p.owner) (list.portal_named name store.portals))
-has_owner store s name c r way =
-    let p = named_part store s name c true r way in
-    subst (λ (f : Option Portal). IsSome (option_and_then (λ q. q.owner) f)) (sym p.1) (is_some_of p.0.owner p.3)
+has_owner store s name c r way = grind (arith, nat_tests, named_part store s name c true r way, is_some_of)
 
 pub has_context : (store : StoreState) (s : Space) (name : Text) (o r : Bool) → IsOnItsWay name true o r (session_of store s) → IsSome (option_and_then (λ p. p.context) (list.portal_named name store.portals))
-has_context store s name o r way =
-    let p = named_part store s name true o r way in
-    subst (λ (f : Option Portal). IsSome (option_and_then (λ q. q.context) f)) (sym p.1) (is_some_of p.0.context p.2)
+has_context store s name o r way = grind (arith, nat_tests, named_part store s name true o r way, is_some_of)
 
 pub has_name : (store : StoreState) (s : Space) (name : Text) (c o r : Bool) → IsOnItsWay name c o r (session_of store s) → IsSome (list.portal_named name store.portals)
 has_name store s name c o r way = let p = named_part store s name c o r way in subst IsSome (sym p.1) (is_some_of (Some p.0) refl)

@@ -1,25 +1,17 @@
 -- The elements of a turn: what they do is what they do outside of one, and where one is refused the portal has failed.
-use Rattle.portal_commands.proofs.Base.{◌≡◌, ℕ, false, List, [], ◌∷◌, ◌++◌, map, Option, Some, None, refl, sym, ◌∙◌, ap, subst, arith, flat_map, map-append}
-use Rattle.portal_commands.proofs.Words.{Moves, TreeState, Error, What, Scan, ScanStep, turn, PortalState, Around, Moment, Scene, portal_becomes, asked, asked_all, then_asked, Done, does, does_all, done_behind, failing_turn, then_done, Element, Text, turn_steps, ResourceState, balances_more, Acted, IsSilent, PortalsAlone, StoreState, Fits, at_calls, wants, Now, Performed, Takes, scene_in, step_elements}
+use Rattle.portal_commands.proofs.Base.{nat_tests, ◌≡◌, ℕ, false, List, [], ◌∷◌, map, Option, Some, None, refl, sym, ◌∙◌, ap, subst, arith, flat_map}
+use Rattle.portal_commands.proofs.Words.{Moves, TreeState, Error, What, Scan, ScanStep, turn, PortalState, Around, Moment, Scene, portal_becomes, asked, asked_all, then_asked, Done, does, does_all, done_behind, failing_turn, then_done, Element, Text, turn_steps, balances_more, Acted, IsSilent, PortalsAlone, StoreState, Fits, at_calls, wants, Now, Performed, Takes, scene_in, step_elements}
 use Rattle.portal_commands.proofs.Listed.{keeps_alone}
 
 behind_failing : (name : Text) (events : List What) (d : Done) (r : Option Error) → done_behind events (failing_turn name d r) ≡ failing_turn name (done_behind events d) r
-behind_failing name events d None = refl
-behind_failing name events d (Some e) = refl
+behind_failing name events d x3 = grind (arith, nat_tests)
 
 refusal_failing : (name : Text) (d : Done) (r : Option Error) → (failing_turn name d r).refusal ≡ d.refusal
-refusal_failing name d None = refl
-refusal_failing name d (Some e) = refl
+refusal_failing name d x2 = grind (arith, nat_tests)
 
 one_more : (name : Text) (F G : Moment → Done) → ((m : Moment) → G m ≡ failing_turn name (F m) (F m).refusal) → (d : Done) (r : Option Error) → d.refusal ≡ r
     → then_done (failing_turn name d r) (failing_turn name d r).refusal G ≡ failing_turn name (then_done d r F) (then_done d r F).refusal
-one_more name F G all d None is =
-    ap (λ (o : Option Error). then_done d o G) is
-    ∙ ap (done_behind d.events) (all d.moment)
-    ∙ behind_failing name d.events (F d.moment) (F d.moment).refusal
-one_more name F G all d (Some e) is =
-    ap (λ (o : Option Error). then_done (failing_turn name d (Some e)) o G) is
-    ∙ ap (failing_turn name d) (sym is)
+one_more name F G all d x5 is = grind (arith, nat_tests, d.events, d.moment, behind_failing name d.events (F d.moment) (F d.moment).refusal)
 
 pub turned_all : (w : Option ℕ) (name : Text) (xs : List Element) (m : Moment) → does_all w (map (Element.InTurn name) xs) m ≡ failing_turn name (does_all w xs m) (does_all w xs m).refusal
 unfolding does does_all
@@ -30,17 +22,12 @@ turned_as : (w : Option ℕ) (name : Text) (xs : List Element) (m : Moment) (r :
 turned_as w name xs m r e = turned_all w name xs m ∙ ap (failing_turn name (does_all w xs m)) e
 
 asked_more : (name : Text) (A B : Moment → ℕ) → ((m : Moment) → B m ≡ A m) → (d : Done) (r : Option Error) → d.refusal ≡ r → then_asked (failing_turn name d r) (failing_turn name d r).refusal B ≡ then_asked d r A
-asked_more name A B all d None is = ap (λ (o : Option Error). then_asked d o B) is ∙ all d.moment
-asked_more name A B all d (Some e) is = ap (λ (o : Option Error). then_asked (failing_turn name d (Some e)) o B) is
+asked_more name A B all d x5 is = grind (arith, nat_tests, d.moment)
 
 pub turned_asked : (w : Option ℕ) (name : Text) (xs : List Element) (m : Moment) → asked_all w (map (Element.InTurn name) xs) m ≡ asked_all w xs m
 unfolding does asked asked_all
 turned_asked w name [] m = refl
-turned_asked w name (x ∷ xs) m =
-    let one : asked w (Element.InTurn name x) m ≡ asked w x m = rw (refusal_failing name (does w x m) (does w x m).refusal) refl in
-    let rest : then_asked (failing_turn name (does w x m) (does w x m).refusal) (failing_turn name (does w x m) (does w x m).refusal).refusal (asked_all w (map (Element.InTurn name) xs)) ≡ then_asked (does w x m) (does w x m).refusal (asked_all w xs) =
-    asked_more name (asked_all w xs) (asked_all w (map (Element.InTurn name) xs)) (turned_asked w name xs) (does w x m) (does w x m).refusal refl in
-    omega (arith, one, rest)
+turned_asked w name (x ∷ xs) m = grind (arith, nat_tests, asked, refusal_failing name (does w x m) (does w x m).refusal, asked_more name (asked_all w xs) (asked_all w (map (Element.InTurn name) xs)) (turned_asked w name xs) (does w x m) (does w x m).refusal refl, turned_asked w name xs)
 
 -- a turn of which nothing was refused
 pub turn_done : (name : Text) (k : ℕ) (xs : List Element) (a b : Now) (P : List What → Type 0) → Performed k xs a b P None → Performed k (map (Element.InTurn name) xs) a b P None
@@ -84,13 +71,7 @@ turn_failed name k xs a b st P e x acted alone = record {
   taken = λ around w f.
       subst (λ (n : ℕ). Takes (wants (Some e)) a.store.tree.account n a.space b.space) (sym (turned_asked w name xs (at_calls (scene_in a) a.calls.count a.calls.fail around))) (x.taken around w f);
   balances = balances_more _ _ _ _ _ _ x.balances acted.balances;
-  grows = record {
-    contexts = rw alone.tree x.grows.contexts;
-    owners = rw alone.owners x.grows.owners;
-    serials = rw alone.owners x.grows.serials;
-    calls = x.grows.calls;
-    descriptors = ap (λ (r : ResourceState). r.descriptors) alone.owners ∙ x.grows.descriptors;
-  };
+  grows = grind (arith, nat_tests, alone.tree, x.grows.contexts, alone.owners, x.grows.owners, x.grows.serials, x.grows.calls, x.grows.descriptors);
 }
   where
     same : (around : Around) (w : Option ℕ) → Fits (wants (Some e)) b.calls.count w
@@ -100,9 +81,7 @@ turn_failed name k xs a b st P e x acted alone = record {
 -- the elements of steps, each in its turn
 pub turn_is : (name : Text) (ss : List ScanStep) → flat_map (λ s. map (Element.InTurn name) (step_elements name s)) ss ≡ map (Element.InTurn name) (flat_map (step_elements name) ss)
 turn_is name [] = refl
-turn_is name (s ∷ ss) =
-    ap (λ (zs : List Element). map (Element.InTurn name) (step_elements name s) ++ zs) (turn_is name ss)
-    ∙ sym (map-append (Element.InTurn name) (step_elements name s) (flat_map (step_elements name) ss))
+turn_is name (s ∷ ss) = grind (arith, nat_tests, turn_is name ss)
 
 pub turn_as : (name : Text) (scan : Scan) (k : ℕ) (a b : Now) (P : List What → Type 0) (r : Option Error) → Performed k (map (Element.InTurn name) (flat_map (step_elements name) (turn scan))) a b P r → Performed k (turn_steps name scan) a b P r
 turn_as name scan k a b P r h = subst (λ (es : List Element). Performed k es a b P r) (sym (turn_is name (turn scan))) h

@@ -1,5 +1,5 @@
 -- The steps of a turn as a list: which pages they pin, how many calls they make, which step is the last.
-use Rattle.portal_commands.proofs.Base.{◌≡◌, ◌≢◌, ℕ, ◌+◌, ◌<◌, ◌≤◌, ◌==◌, Bool, true, false, List, [], ◌∷◌, ◌++◌, Option, Some, None, refl, sym, ◌∙◌, ap, subst, arith, fold, if◌then◌else◌, flat_map, append-nil, flat_map-append, fold-append}
+use Rattle.portal_commands.proofs.Base.{nat_tests, ◌≡◌, ◌≢◌, ℕ, ◌+◌, ◌<◌, ◌≤◌, ◌==◌, Bool, true, false, List, [], ◌∷◌, ◌++◌, Option, refl, ◌∙◌, ap, subst, arith, fold, if◌then◌else◌, flat_map, append-nil, flat_map-append, fold-append}
 use Rattle.portal_commands.proofs.Words.{Scan, Stage, ScanStep, is_bad, is_tenth, left, page_of, page_steps, rest, row_step, row_steps, taken, turn, unpinned, coming, Element, Text, IsPage, cost_of, step_elements}
 use Rattle.exec_core.specs.Turn.{left_in}
 
@@ -8,35 +8,14 @@ abbrev pub ArePages : List ScanStep → Type 0
 ArePages [] = Unit {0}
 ArePages (s ∷ ss) = IsPage s × ArePages ss
 
-both_pages : (xs ys : List ScanStep) → ArePages xs → ArePages ys → ArePages (xs ++ ys)
-both_pages [] ys a b = b
-both_pages (x ∷ xs) ys a b = (a.0, both_pages xs ys a.1 b)
-
-unpinned_pages : (page : Option ℕ) → ArePages (unpinned page)
-unpinned_pages None = tt
-unpinned_pages (Some page) = (tt, tt)
-
 page_is : (scan : Scan) → page_of scan < 1024
 page_is scan = omega arith
-
-page_pages : (b : Bool) (scan : Scan) → ArePages (if b then unpinned scan.page ++ (ScanStep.Pin (page_of scan) ∷ []) else [])
-page_pages true scan = both_pages (unpinned scan.page) (ScanStep.Pin (page_of scan) ∷ []) (unpinned_pages scan.page) (page_is scan, tt)
-page_pages false scan = tt
-
-row_pages : (b : Bool) (scan : Scan) → ArePages (if b then ScanStep.Bad scan.at ∷ [] else ScanStep.Alloc ∷ (row_step scan ∷ []))
-row_pages true scan = (tt, tt)
-row_pages false scan = (tt, (tt, tt))
-
-turn_pages : (b : Bool) (scan : Scan) → ArePages (if b then unpinned scan.page ++ (ScanStep.End ∷ []) else ScanStep.Reset ∷ (page_steps scan ++ row_steps scan))
-turn_pages true scan = both_pages (unpinned scan.page) (ScanStep.End ∷ []) (unpinned_pages scan.page) (tt, tt)
-turn_pages false scan = (tt, both_pages (page_steps scan) (row_steps scan) (page_pages (is_tenth scan) scan) (row_pages (is_bad scan) scan))
 
 left_pages : (in_turn : Stage) (scan : Scan) → ArePages (left_in in_turn scan)
 left_pages in_turn scan = grind arith
 
 coming_pages : (begins : Bool) (scan : Scan) → ArePages (coming begins scan)
-coming_pages true scan = turn_pages (scan.at == scan.rows) scan
-coming_pages false scan = left_pages scan.stage scan
+coming_pages x0 scan = grind (arith, nat_tests, scan.at, scan.rows, left_pages, scan.stage)
 
 pub next_page : (begins : Bool) (scan : Scan) (s : ScanStep) (ss : List ScanStep) → coming begins scan ≡ s ∷ ss → IsPage s
 next_page begins scan s ss e = let p : ArePages (s ∷ ss) = subst ArePages e (coming_pages begins scan) in p.0
@@ -51,20 +30,16 @@ costs_both [] ys = omega arith
 costs_both (x ∷ xs) ys = omega (arith, costs_both xs ys)
 
 unpinned_costs : (page : Option ℕ) → costs (unpinned page) ≡ 0
-unpinned_costs None = refl
-unpinned_costs (Some page) = refl
+unpinned_costs x0 = grind (arith, nat_tests)
 
 page_costs : (b : Bool) (scan : Scan) → costs (if b then unpinned scan.page ++ (ScanStep.Pin (page_of scan) ∷ []) else []) ≤ 2
-page_costs true scan = omega (arith, costs_both (unpinned scan.page) (ScanStep.Pin (page_of scan) ∷ []), unpinned_costs scan.page)
-page_costs false scan = omega arith
+page_costs x0 scan = grind (arith, nat_tests, costs_both (unpinned scan.page) (ScanStep.Pin (page_of scan) ∷ []), scan.page, unpinned_costs scan.page)
 
 row_costs : (b : Bool) (scan : Scan) → costs (if b then ScanStep.Bad scan.at ∷ [] else ScanStep.Alloc ∷ (row_step scan ∷ [])) ≤ 1
-row_costs true scan = omega arith
-row_costs false scan = omega arith
+row_costs x0 scan = grind (arith, nat_tests)
 
 turn_costs_by : (b : Bool) (scan : Scan) → costs (if b then unpinned scan.page ++ (ScanStep.End ∷ []) else ScanStep.Reset ∷ (page_steps scan ++ row_steps scan)) ≤ 3
-turn_costs_by true scan = omega (arith, costs_both (unpinned scan.page) (ScanStep.End ∷ []), unpinned_costs scan.page)
-turn_costs_by false scan = omega (arith, costs_both (page_steps scan) (row_steps scan), page_costs (is_tenth scan) scan, row_costs (is_bad scan) scan)
+turn_costs_by x0 scan = grind (arith, nat_tests, costs_both (unpinned scan.page) (ScanStep.End ∷ []), scan.page, unpinned_costs scan.page, costs_both (page_steps scan) (row_steps scan), page_costs (is_tenth scan) scan, row_costs (is_bad scan) scan)
 
 pub turn_costs : (scan : Scan) → costs (turn scan) ≤ 3
 turn_costs scan = turn_costs_by (scan.at == scan.rows) scan
@@ -99,13 +74,11 @@ last_both [] ys n = refl
 last_both (x ∷ xs) ys n = last_both xs ys (closing x)
 
 row_last : (b : Bool) (scan : Scan) (n : ℕ) → last_closing (if b then ScanStep.Bad scan.at ∷ [] else ScanStep.Alloc ∷ (row_step scan ∷ [])) n ≢ 2
-row_last true scan n = λ e. omega (arith, e)
-row_last false scan n = λ e. omega (arith, e)
+row_last x0 scan n = grind (arith, nat_tests)
 
 turn_last : (b : Bool) (scan : Scan) (s : ScanStep) (n : ℕ) → last_closing (if b then unpinned scan.page ++ (ScanStep.End ∷ []) else ScanStep.Reset ∷ (page_steps scan ++ row_steps scan)) n ≡ closing s
     → (closing s ≡ 1 → b ≡ false) × (closing s ≡ 2 → b ≡ true)
-turn_last true scan s n e = (λ o. absurd (omega (arith, o, e, last_is (unpinned scan.page) ScanStep.End n)), λ _. refl)
-turn_last false scan s n e = (λ _. refl, λ t. absurd (row_last (is_bad scan) scan (last_closing (page_steps scan) 0) (sym (last_both (page_steps scan) (row_steps scan) 0) ∙ e ∙ t)))
+turn_last x0 scan s n e = grind (arith, nat_tests, last_is (unpinned scan.page) ScanStep.End n, scan.page, row_last, last_both (page_steps scan) (row_steps scan) 0)
 
 -- a turn whose last step gives a row isn't behind the last row, and one whose last step ends the scan is
 pub gives_row : (scan : Scan) (xs : List ScanStep) (s : ScanStep) → turn scan ≡ xs ++ (s ∷ []) → closing s ≡ 1 → (scan.at == scan.rows) ≡ false

@@ -1,5 +1,5 @@
 -- The loops of a turn and of a fetch: what is done and what remains is what is to be done in all.
-use Rattle.portal_commands.proofs.Base.{◌≡◌, ◌≢◌, ℕ, suc, ◌+◌, ◌-◌, ◌*◌, ◌<◌, ◌≤◌, ◌==◌, Bool, true, false, List, [], ◌∷◌, ◌++◌, Option, Some, None, length, refl, sym, ◌∙◌, ap, subst, arith, not, flat_map, option_map_or, append_assoc, flat_map-append}
+use Rattle.portal_commands.proofs.Base.{nat_tests, ◌≡◌, ◌≢◌, ℕ, suc, ◌+◌, ◌-◌, ◌*◌, ◌<◌, ◌≤◌, ◌==◌, Bool, true, false, List, [], ◌∷◌, ◌++◌, Option, Some, None, length, refl, sym, ◌∙◌, ap, subst, arith, not, flat_map, option_map_or, append_assoc, flat_map-append}
 use Rattle.portal_commands.proofs.Words.{Scan, ScanStep, left, rest, taken, turn, Error, What, coming, OpenPortal, Element, Text, portal_named, after_turn, fallible_part, fetch_steps, turn_steps, StoreState, portals_of, HasRoom, Now, Performed, less_room, room_left, performed_both, performed_more, performed_none, performed_stop, IsFetching, cost_of, step_elements}
 use Rattle.portal_commands.proofs.FetchSteps.{found}
 use Rattle.portal_commands.proofs.TurnLists.{after, after_more, closing, costs, costs_both, elements_more, gives_end, gives_row, is_bad_step, rest_last, rest_left, turn_costs}
@@ -21,9 +21,7 @@ abbrev pub steps_left : Bool → Text → StoreState → ℕ
 steps_left begins name store = option_map_or (λ (p : OpenPortal). length (coming begins p.scan)) (portal_named name (portals_of store.portals)) 0
 
 pub left_is : (begins : Bool) (name : Text) (scan : Scan) (n : Now) → IsFetching name scan n → steps_left begins name n.store ≡ length (coming begins scan)
-left_is begins name scan n h =
-    let p = found name scan (portal_named name (portals_of n.store.portals)) h.is in
-    ap (λ (o : Option OpenPortal). option_map_or (λ (q : OpenPortal). length (coming begins q.scan)) o 0) p.1 ∙ ap (λ (c : Scan). length (coming begins c)) p.2
+left_is begins name scan n h = grind (arith, nat_tests, found name scan (portal_named name (portals_of n.store.portals)) h.is, n.store.portals, h.is)
 
 module _ (name : Text) (first : Scan) (begins : Bool) (a b c : Now) (P Q : List What → Type 0) (t : IsTurning name first begins a b P) (s : ScanStep) (is : coming begins t.scan ≡ s ∷ rest s (taken s t.scan))
     (scans : Performed 0 (Element.Scans name s ∷ []) b c Q None) where
@@ -59,8 +57,7 @@ module _ (name : Text) (first : Scan) (begins : Bool) (a b c : Now) (P Q : List 
       done = t.done ++ (s ∷ []);
       scan = taken s t.scan;
       fetching = fetching;
-      performed = subst (λ (n : ℕ). Performed n (flat_map (step_elements name) (t.done ++ (s ∷ []))) a d T None) (omega (arith, costs_both t.done (s ∷ [])))
-          (subst (λ (o : Option Error). Performed (costs t.done + cost_of s) (flat_map (step_elements name) (t.done ++ (s ∷ []))) a d T o) passed stepped);
+      performed = grind (arith, nat_tests, costs_both t.done (s ∷ []), stepped);
       all = append_assoc t.done (s ∷ []) (left (taken s t.scan)) ∙ ap (λ (ss : List ScanStep). t.done ++ (s ∷ ss)) (sym (rest_left s (taken s t.scan) unclosed good)) ∙ whole;
       behind = after_more t.done s first ∙ ap (taken s) t.behind;
     }
@@ -76,8 +73,7 @@ module _ (name : Text) (first : Scan) (begins : Bool) (a b c : Now) (P Q : List 
         (subst (λ (o : Option Error). Performed (costs t.done + cost_of s) (flat_map (step_elements name) (t.done ++ (s ∷ []))) a d T o) passed stepped))
 
     pub ended_scan : closing s ≢ 0 → IsFetching name (taken s t.scan) d → IsFetching name (after_turn first) d
-    ended_scan closed fetching =
-        subst (λ (z : Scan). IsFetching name z d) (sym (ap (λ (ss : List ScanStep). after ss first) (last closed) ∙ after_more t.done s first ∙ ap (taken s) t.behind)) fetching
+    ended_scan closed fetching = grind (arith, nat_tests, after, last closed, after_more t.done s first, taken s)
 
     pub ended_row : closing s ≡ 1 → true ≡ not (first.at == first.rows)
     ended_row e = ap not (sym (gives_row first t.done s (last (λ z. omega (arith, z, e))) e))
@@ -87,8 +83,7 @@ module _ (name : Text) (first : Scan) (begins : Bool) (a b c : Now) (P Q : List 
 
   -- fewer steps remain
   pub fewer_left : closing s ≡ 0 → is_bad_step s ≡ false → (d : Now) → IsFetching name (taken s t.scan) d → steps_left false name d.store < steps_left begins name b.store
-  fewer_left unclosed good d fetching =
-      omega (arith, left_is false name (taken s t.scan) d fetching, left_is begins name t.scan b t.fetching, ap length is, ap length (rest_left s (taken s t.scan) unclosed good))
+  fewer_left unclosed good d fetching = grind (arith, nat_tests, left_is false name (taken s t.scan) d fetching, taken s t.scan, left_is begins name t.scan b t.fetching, rest_left s (taken s t.scan) unclosed good)
 
 -- a fetch that is under way
 pub record IsRunning (name : Text) (count rows : ℕ) (first : Scan) (a b : Now) (Said : List What → Type 0) : Type 0 where
@@ -100,23 +95,14 @@ pub record IsRunning (name : Text) (count rows : ℕ) (first : Scan) (a b : Now)
   pub within : rows ≤ count
 
 pub running_start : (name : Text) (count : ℕ) (first : Scan) (a : Now) (P : List What → Type 0) → IsFetching name first a → P [] → IsRunning name count 0 first a a P
-running_start name count first a P h silent = record {
-  done = [];
-  scan = first;
-  fetching = h;
-  performed = performed_none a P h.between.keeps silent;
-  all = ap (λ (n : ℕ). fetch_steps name n first 0) (omega arith);
-  within = omega arith;
-}
+running_start name count first a P h silent = grind (arith, nat_tests, performed_none a P h.between.keeps silent, h.between.keeps)
 
 by_row : (name : Text) (n rows : ℕ) (scan : Scan) (b : Bool) → (scan.at == scan.rows) ≡ b
     → fetch_steps name (suc n) scan rows ≡ turn_steps name scan ++ (elim b as (λ _. List Element) [ true ↦ Element.Says (What.Fetched name rows) ∷ [] | false ↦ fetch_steps name n (after_turn scan) (rows + 1) ])
-by_row name n rows scan b e =
-    ap (λ (c : Bool). turn_steps name scan ++ (elim c as (λ _. List Element) [ true ↦ Element.Says (What.Fetched name rows) ∷ [] | false ↦ fetch_steps name n (after_turn scan) (rows + 1) ])) e
+by_row name n rows scan b e = grind (arith, nat_tests)
 
 negated : (b c : Bool) → c ≡ not b → b ≡ not c
-negated true c e = ap not (sym e)
-negated false c e = ap not (sym e)
+negated x0 c e = grind (arith, nat_tests)
 
 module _ (name : Text) (count rows : ℕ) (first : Scan) (a b c : Now) (P Q R : List What → Type 0) (t : IsRunning name count rows first a b P) (more : rows < count) (joins : (us vs : List What) → P us → Q vs → R (us ++ vs)) where
   less : count - rows ≡ suc (count - (rows + 1))
@@ -165,8 +151,4 @@ module _ (name : Text) (count rows : ℕ) (first : Scan) (a b c : Now) (P Q R : 
 -- all rows that were asked for were given
 pub running_done : (name : Text) (count rows : ℕ) (first : Scan) (a b : Now) (P : List What → Type 0) → IsRunning name count rows first a b P → count ≤ rows
     → (done : List Element) × (fetch_steps name count first 0 ≡ done ++ (Element.Says (What.Fetched name rows) ∷ [])) × Performed (3 * count) done a b P None
-running_done name count rows first a b P t enough = (
-  t.done,
-  let none : count - rows ≡ 0 = omega (arith, enough) in sym t.all ∙ ap (λ (n : ℕ). t.done ++ fetch_steps name n t.scan rows) none,
-  performed_more (3 * rows) (3 * count) t.done a b P None (omega (arith, t.within)) t.performed,
-)
+running_done name count rows first a b P t enough = grind (arith, nat_tests, t.done, t.all, t.scan, performed_more (3 * rows) (3 * count) t.done a b P None (omega (arith, t.within)) t.performed, t.within, t.performed)

@@ -1,12 +1,10 @@
 -- The words and lemmas of the crates below, and the definitions of specs/, that these proofs take.
 pub use Rattle.addr_space.specs.Space.{Asks, Space, held}
-pub use Rattle.any_ctx.specs.Kinds.{first_size}
 pub use Rattle.any_ctx.specs.declared.any.CtxKind.{CtxKind}
 pub use Rattle.context_report.specs.Lines.{no_total}
 pub use Rattle.context_rules.specs.Refusals.{alloc_refusal}
-pub use Rattle.context_rules.specs.Reports.{summed}
 pub use Rattle.context_rules.specs.declared.errors.TreeError.{TreeError}
-pub use Rattle.context_tree.specs.State.{Agrees, Moves, TreeState, stands_for}
+pub use Rattle.context_tree.specs.State.{Moves, TreeState}
 pub use Rattle.exec_core.specs.Turn.{is_bad, is_tenth, left, new_scan, page_of, page_steps, rest, row_step, row_steps, taken, turn, unpinned}
 pub use Rattle.exec_core.specs.declared.scan.Scan.{Scan}
 pub use Rattle.exec_core.specs.declared.scan.Stage.{Stage}
@@ -22,7 +20,6 @@ pub use Rattle.pgs_command.specs.declared.commands.PortalCommand.{PortalCommand}
 pub use Rattle.pgs_step.specs.declared.errors.Error.{Error}
 pub use Rattle.pgs_step.specs.declared.errors.Error.TheVariants.{Injected, LimitReached, NoMemory}
 pub use Rattle.pgs_step.specs.declared.events.What.{What}
-pub use Rattle.pgs_step.specs.declared.ids.CtxId.{CtxId}
 pub use Rattle.pgs_step.specs.declared.ids.Item.{Item}
 pub use Rattle.pgs_step.specs.declared.ids.KindId.{KindId}
 pub use Rattle.pgs_step.specs.declared.ids.OwnerId.{OwnerId}
@@ -42,7 +39,7 @@ pub use Rattle.session_commands.proofs.Chains.{less_room, room_left, silent_stop
 pub use Rattle.session_commands.proofs.Commands.{as_row, fails, passes}
 pub use Rattle.session_commands.proofs.HeldItems.{missing_item, no_room_for, take, taken_in_room}
 pub use Rattle.session_commands.proofs.Making.{IsNew, context_done, context_not_made, does_make_context, few_owners, make_owner, many_owners}
-pub use Rattle.session_commands.proofs.Numbering.{keeps_rises, numbers, there_keeps}
+pub use Rattle.session_commands.proofs.Numbering.{keeps_rises, numbers}
 pub use Rattle.session_commands.proofs.Performing.{grows_nothing, moves_nothing, performed_both, performed_end, performed_made, performed_more, performed_none, performed_said, performed_step, performed_stop, same_scene_in}
 pub use Rattle.session_commands.proofs.Pinning.{enlarge, owner_unbegun}
 pub use Rattle.session_commands.proofs.Refusing.{handed}
@@ -55,7 +52,7 @@ pub use Rattle.session_commands.specs.declared.calls.Calls.{Calls}
 pub use Rattle.session_owners.proofs.Balances.{balances_more, balances_none, serves_still}
 pub use Rattle.session_owners.specs.Commons.{CommonState}
 pub use Rattle.session_owners.specs.Counted.{IsReference}
-pub use Rattle.session_owners.specs.ResourceState.{ResourceState, items_of, owners_of}
+pub use Rattle.session_owners.specs.ResourceState.{items_of, owners_of}
 pub use Rattle.session_rules.proofs.LevelsKept.{is_there}
 pub use Rattle.session_rules.proofs.PortalWorks.{Beside, becomes_fetched, beside_turns, check_beside, nothing_beside, owner_named, part_beside, portal_allocates, portal_enlarges, portal_locks, portal_takes, row_allocates, then_beside}
 pub use Rattle.session_rules.proofs.PortalsStand.{Named, active_portal, context_portal, made_portal, named_changed, named_in, owner_portal, row_portal, scan_portal}
@@ -73,9 +70,9 @@ pub use Rattle.session_rules.specs.Lookup.{memory_in, owner_in, portal_changed, 
 pub use Rattle.session_rules.specs.Making.{context_made, limit, new_context_made, new_context_refused, new_owner_made, portal_made}
 pub use Rattle.session_rules.specs.Parts.{at_portal, scan_part, scanned}
 pub use Rattle.session_rules.specs.Portals.{portal_ended}
-pub use Rattle.session_rules.specs.Releases.{NoOne, ThePlans, given_back, item_released, keeper_of}
+pub use Rattle.session_rules.specs.Releases.{NoOne, given_back, item_released, keeper_of}
 pub use Rattle.session_rules.specs.Standing.{IsFetched, IsItem, IsWorking, Stands}
-pub use Rattle.session_rules.specs.State.{LevelState, OpenPortal, SessionState, buffer_pin, depth, first_of, level_owner, owner_of}
+pub use Rattle.session_rules.specs.State.{LevelState, OpenPortal, SessionState, buffer_pin, depth, level_owner}
 pub use Rattle.session_rules.specs.Taking.{alloc_refused, item_taken, memory_taken}
 pub use Rattle.session_rules.specs.Works.{after_turn, elements, fallible_part, fetch_steps, portal_row, portal_steps, takes, turn_steps}
 pub use Rattle.session_rules.specs.World.{Around, Moment, Scene}

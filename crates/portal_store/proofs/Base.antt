@@ -14,4 +14,4 @@ pub use Rattle.std.proofs.lemmas.Option.{slice_get_past, slice_get_read}
 pub use Rattle.std.specs.Cmp.Lexicographic.{other_text, same_text}
 pub use Rattle.std.specs.HashMap.{get}
 pub use Rattle.std.specs.List.{position_or_len}
-pub use Rattle.std.specs.Prelude.{IfSome, IsSome, OnSome, if◌then◌else◌, is_some, nat_lt, not, option_and_then, ◌-◌, ◌==◌}
+pub use Rattle.std.specs.Prelude.{IfSome, IsSome, OnSome, if◌then◌else◌, is_some, nat_lt, not, option_and_then, ◌-◌}

@@ -1,6 +1,6 @@
 -- The portal of a name, by its place in the list.
-use Rattle.portal_store.proofs.Base.{◌≡◌, ◌≢◌, ℕ, zero, suc, ◌<◌, ◌≤◌, Bool, true, false, List, [], ◌∷◌, length, map, slice_get, slice_index_or, slice_set, remove, Option, Some, None, position, AllPairs, All, refl, sym, ap, subst, ◌∙◌, arith, same_text, other_text, ◌-◌, ◌==◌, if◌then◌else◌, nat_lt, is_some, IsSome, IfSome, option_and_then, position_or_len, nat_tests, length-map, map-append, take-map, drop-map, length-remove, find_at, slice_get_past, slice_get_read, All-cons, All-nil, AllPairs-cons, position-Some, all_pairs_remove}
-use Rattle.portal_store.proofs.Words.{Portal, Failed, to_parent, is_outer, kept_owner, sub_aborted, moved_owner, has_name, place_named, portal_named, changed, without, names, IsPortals}
+use Rattle.portal_store.proofs.Base.{◌≡◌, ◌≢◌, ℕ, zero, suc, ◌<◌, ◌≤◌, Bool, true, false, List, [], ◌∷◌, length, map, slice_get, slice_index_or, slice_set, remove, Option, Some, None, position, AllPairs, All, refl, sym, ap, subst, ◌∙◌, arith, same_text, other_text, ◌-◌, if◌then◌else◌, is_some, IsSome, IfSome, option_and_then, position_or_len, nat_tests, length-map, map-append, take-map, drop-map, length-remove, find_at, slice_get_past, slice_get_read, All-cons, All-nil, AllPairs-cons, position-Some, all_pairs_remove}
+use Rattle.portal_store.proofs.Words.{Portal, to_parent, sub_aborted, moved_owner, has_name, place_named, portal_named, changed, without, names, IsPortals}
 
 -- i is the place of the first portal of this name, x
 pub record IsPlaceOf (name : List ℕ) (portals : List Portal) (i : ℕ) (x : Portal) : Type 0 where
@@ -10,10 +10,7 @@ pub record IsPlaceOf (name : List ℕ) (portals : List Portal) (i : ℕ) (x : Po
   pub first : (k : ℕ) → k < i → has_name name (slice_index_or portals k x) ≡ false
 
 pub place_of : (name : List ℕ) (portals view : List Portal) (i : ℕ) (x : Portal) → portals ≡ view → position (has_name name) view ≡ Some i → x ≡ slice_index_or portals i x → IsPlaceOf name portals i x
-place_of name portals view i x same at_view here =
-    let found : position (has_name name) portals ≡ Some i = ap (position (has_name name)) same ∙ at_view in
-    let told : (i < length portals) × (has_name name (slice_index_or portals i x) ≡ true) × ((k : ℕ) → k < i → has_name name (slice_index_or portals k x) ≡ false) = position-Some (has_name name) portals i x found in
-    record { within = told.0; here = here; named = ap (has_name name) here ∙ told.1; first = told.2 }
+place_of name portals view i x same at_view here = grind (arith, nat_tests, has_name, position-Some)
 
 behind : (name : List ℕ) (p : Portal) (portals : List Portal) (i : ℕ) (x : Portal) → IsPlaceOf name (p ∷ portals) (suc i) x → IsPlaceOf name portals i x
 behind name p portals i x place = record { within = omega (arith, place.within); here = place.here; named = place.named; first = λ k before. place.first (suc k) (omega arith) }
@@ -61,14 +58,7 @@ module _ (portals view : List Portal) (i : ℕ) (x : Portal) (same : portals ≡
 
 -- the place of a name is that of a portal, which is the one of the name
 placed : (name : List ℕ) (portals : List Portal) (i : ℕ) → place_named name portals ≡ Some i → (position_or_len (has_name name) portals ≡ i) × (i < length portals)
-placed name portals i at = (elim (nat_lt (position_or_len (has_name name) portals) (length portals)) as (λ b. nat_lt (position_or_len (has_name name) portals) (length portals) ≡ b → (position_or_len (has_name name) portals ≡ i) × (i < length portals)) [
-  | true ↦ λ found.
-      let is : Some (position_or_len (has_name name) portals) ≡ Some i = rw found at at in
-      let same : position_or_len (has_name name) portals ≡ i = cc is in
-      let below : position_or_len (has_name name) portals < length portals = grind (arith, nat_tests) in
-      (same, subst (λ n. n < length portals) same below)
-  | false ↦ λ missed. let none : None ≡ Some i = rw missed at at in absurd (cc none)
-]) refl
+placed name portals i at = grind (arith, nat_tests, has_name name)
 
 pub place_within : (name : List ℕ) (portals : List Portal) (i : ℕ) → place_named name portals ≡ Some i → i < length portals
 place_within name portals i at = (placed name portals i at).1
@@ -78,10 +68,7 @@ named_by_place name portals i at = find_at (has_name name) portals ∙ ap (slice
 
 -- a name without a place is no portal's
 pub named_nowhere : (name : List ℕ) (portals : List Portal) → position (has_name name) portals ≡ None → portal_named name portals ≡ None
-named_nowhere name portals none = (elim (nat_lt (position_or_len (has_name name) portals) (length portals)) as (λ b. nat_lt (position_or_len (has_name name) portals) (length portals) ≡ b → portal_named name portals ≡ None) [
-  | true ↦ λ found. let some : Some (position_or_len (has_name name) portals) ≡ None = rw found at none in absurd (cc)
-  | false ↦ λ missed. let past : length portals ≤ position_or_len (has_name name) portals = grind (arith, nat_tests) in find_at (has_name name) portals ∙ slice_get_past portals (position_or_len (has_name name) portals) past
-]) refl
+named_nowhere name portals none = grind (arith, nat_tests, has_name name, find_at (has_name name) portals, slice_get_past)
 
 -- a portal's name has no place only where it isn't live
 pub not_nowhere : (name : List ℕ) (portals : List Portal) → IsSome (portal_named name portals) → position (has_name name) portals ≡ None → ⊥
@@ -102,8 +89,7 @@ IsPortals_renamed old new same portals = record {
 }
 
 not_some : {A : Type 0} (o : Option A) → is_some o ≡ false → o ≡ None
-not_some None untrue = refl
-not_some (Some x) untrue = absurd (cc)
+not_some x0 untrue = grind (arith, nat_tests)
 
 differs : (name : List ℕ) (portals : List Portal) → portal_named name portals ≡ None → All (λ b. name ≢ b) (names portals)
 differs name [] none = All-nil _
@@ -114,10 +100,7 @@ differs name (p ∷ portals) none = (elim (has_name name p) as (λ b. has_name n
 
 -- one portal more, in front
 pub IsPortals_cons : (p : Portal) (portals : List Portal) → portal_named p.name portals ≡ None → length portals ≤ 1023 → IsPortals portals → IsPortals (p ∷ portals)
-IsPortals_cons p portals none room whole = record {
-  at_most = omega arith;
-  distinct = AllPairs-cons (λ (a b : List ℕ). a ≢ b) p.name (names portals) (differs p.name portals none) whole.distinct;
-}
+IsPortals_cons p portals none room whole = grind (arith, nat_tests, AllPairs-cons, p.name, differs p.name portals none, whole.distinct)
 
 names_remove : (portals : List Portal) (i : ℕ) → names (remove portals i) ≡ remove (names portals) i
 names_remove portals i = simp (map-append, take-map, drop-map)
@@ -131,12 +114,7 @@ IsPortals_remove portals i within whole = record {
 
 -- the abort of a subtransaction leaves a portal's name
 pub sub_aborted_name : (level : ℕ) (portal : Portal) → (sub_aborted level portal).name ≡ portal.name
-sub_aborted_name level portal = by_cases (portal.created == level) (is_outer level portal)
-  where
-    by_cases : (own outer : Bool) → (if own then record portal { state = Failed; owner = None; expr = None } else if outer then record portal { active = level - 1; owner = kept_owner portal.state portal.owner } else portal).name ≡ portal.name
-    by_cases true outer = refl
-    by_cases false true = refl
-    by_cases false false = refl
+sub_aborted_name level portal = grind (arith, nat_tests, portal.created, portal.state, portal.owner, portal.name)
 
 pub names_to_parent : (level : ℕ) (portals : List Portal) → names (map (to_parent level) portals) ≡ names portals
 names_to_parent level [] = refl
@@ -144,22 +122,15 @@ names_to_parent level (p ∷ portals) = ap (λ ns. p.name ∷ ns) (names_to_pare
 
 -- the portals behind `create`
 pub IsPortals_created : (portals new : List Portal) (p : Portal) (done : Bool) → new ≡ (if done then p ∷ portals else portals) → is_some (portal_named p.name portals) ≡ false → length portals ≢ 1024 → IsPortals portals → IsPortals new
-IsPortals_created portals new p true is_new free room whole = rw is_new (IsPortals_cons p portals (not_some (portal_named p.name portals) free) (omega (arith, whole.at_most)) whole)
-IsPortals_created portals new p false is_new free room whole = rw is_new whole
+IsPortals_created portals new p x3 is_new free room whole = grind (arith, nat_tests, IsPortals_cons p portals (not_some (portal_named p.name portals) free) (omega (arith, whole.at_most)) whole, not_some (portal_named p.name portals) free, p.name, whole.at_most)
 
 -- the portal of a place, behind the abort of a subtransaction
 pub aborted_at : (level i : ℕ) (portals view : List Portal) (x y : Portal) → portals ≡ view → i < length view → x ≡ slice_index_or portals i x → y ≡ sub_aborted level x → IfSome (slice_get view i) (λ portal. slice_set portals i y ≡ slice_set view i (sub_aborted level portal))
-aborted_at level i portals view x y same within here is_new =
-    let found : slice_get view i ≡ Some x = slice_get_read view (length view) i x refl within (here ∙ ap (λ ps. slice_index_or ps i x) same) in
-    rw found (ap (λ z. slice_set portals i z) is_new ∙ ap (λ ps. slice_set ps i (sub_aborted level x)) same)
+aborted_at level i portals view x y same within here is_new = grind (arith, nat_tests, slice_get_read)
 
 -- the same behind its commit
 pub passed_at : (level i : ℕ) (portals view : List Portal) (x y : Portal) → portals ≡ view → i < length view → x ≡ slice_index_or portals i x → y ≡ to_parent level x → IfSome (slice_get view i) (λ portal. slice_set portals i y ≡ slice_set view i (to_parent level portal))
-passed_at level i portals view x y same within here is_new =
-    let found : slice_get view i ≡ Some x = slice_get_read view (length view) i x refl within (here ∙ ap (λ ps. slice_index_or ps i x) same) in
-    rw found (ap (λ z. slice_set portals i z) is_new ∙ ap (λ ps. slice_set ps i (to_parent level x)) same)
+passed_at level i portals view x y same within here is_new = grind (arith, nat_tests, slice_get_read)
 
 pub moved_at : (level i : ℕ) (portals view : List Portal) (x : Portal) → portals ≡ view → i < length view → x ≡ slice_index_or portals i x → moved_owner level x ≡ option_and_then (moved_owner level) (slice_get view i)
-moved_at level i portals view x same within here =
-    let found : slice_get view i ≡ Some x = slice_get_read view (length view) i x refl within (here ∙ ap (λ ps. slice_index_or ps i x) same) in
-    rw found refl
+moved_at level i portals view x same within here = grind (arith, nat_tests, slice_get_read)

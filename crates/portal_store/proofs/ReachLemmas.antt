@@ -1,5 +1,5 @@
 -- How deep portals reach, as they come, change and go.
-use Rattle.portal_store.proofs.Base.{inl, inr, ◌≡◌, ℕ, zero, suc, ◌<◌, ◌≤◌, ◌+◌, List, ◌∷◌, length, map, drop, slice_index_or, slice_set, remove, All, sym, subst, ◌∙◌, arith, cases_eq, cases_lt, get_or-drop, get_or-map, get_or-set_other, get_or-set_same, get_or_default, get_or_read, length-drop, length-map, length-set, get_or-remove_above, get_or-remove_below, length-remove}
+use Rattle.portal_store.proofs.Base.{nat_tests, inl, inr, ◌≡◌, ℕ, zero, suc, ◌<◌, ◌≤◌, ◌+◌, List, ◌∷◌, length, map, drop, slice_index_or, slice_set, remove, All, sym, subst, ◌∙◌, arith, cases_eq, cases_lt, get_or-drop, get_or-map, get_or-set_other, get_or-set_same, get_or_default, get_or_read, length-drop, length-map, length-set, get_or-remove_above, get_or-remove_below, length-remove}
 use Rattle.portal_store.proofs.Words.{Portal, lowered, to_parent, FallFrom, IsAtMost, IsRaised, IsReach}
 
 lower : (m n : ℕ) (p q : Portal) → m ≤ n → q.created ≤ p.created → q.active ≤ p.active → IsAtMost m p → IsAtMost n q
@@ -7,13 +7,7 @@ lower m n p q less created active most = record { created = omega (arith, less, 
 
 -- one portal more, in front
 within_entered : (p : Portal) (n : ℕ) (portals : List Portal) (levels : List ℕ) → IsAtMost n p → slice_index_or levels 0 0 ≤ n → IsReach portals levels → (i j : ℕ) (d : Portal) (e : ℕ) → i ≤ j → j < length (p ∷ portals) → IsAtMost (slice_index_or (n ∷ levels) i e) (slice_index_or (p ∷ portals) j d)
-within_entered p n portals levels own first reach zero zero d e order there = own
-within_entered p n portals levels own first reach zero (suc j) d e order there =
-    let inside : j < length portals = omega (arith, there) in
-    let here : slice_index_or levels 0 e ≡ slice_index_or levels 0 0 = get_or_default levels 0 e 0 (omega (arith, reach.long, inside)) in
-    lower (slice_index_or levels 0 e) n (slice_index_or portals j d) (slice_index_or portals j d) (omega (arith, here, first)) (omega arith) (omega arith) (reach.within 0 j d e (omega arith) inside)
-within_entered p n portals levels own first reach (suc i) zero d e order there = absurd (omega (arith, order))
-within_entered p n portals levels own first reach (suc i) (suc j) d e order there = reach.within i j d e (omega (arith, order)) (omega (arith, there))
+within_entered p n portals levels own first reach x7 x8 d e order there = grind (arith, nat_tests, reach.long, lower, reach.within)
 
 falls_entered : (n : ℕ) (levels : List ℕ) → slice_index_or levels 0 0 ≤ n → FallFrom 0 levels → FallFrom 0 (n ∷ levels)
 falls_entered n levels first falls zero zero e from order there = omega arith
@@ -26,11 +20,7 @@ falls_entered n levels first falls (suc i) zero e from order there = absurd (ome
 falls_entered n levels first falls (suc i) (suc j) e from order there = falls i j e (omega arith) (omega (arith, order)) (omega (arith, there))
 
 pub IsReach_entered : (p : Portal) (n : ℕ) (portals : List Portal) (levels : List ℕ) → p.created ≤ n → p.active ≤ n → slice_index_or levels 0 0 ≤ n → IsReach portals levels → IsReach (p ∷ portals) (n ∷ levels)
-IsReach_entered p n portals levels created active first reach = record {
-  long = omega (arith, reach.long);
-  within = within_entered p n portals levels (record { created = created; active = active }) first reach;
-  falls = falls_entered n levels first reach.falls;
-}
+IsReach_entered p n portals levels created active first reach = grind (arith, nat_tests, reach.long, within_entered, falls_entered, reach.falls)
 
 -- a portal that reaches no deeper than before takes a place
 pub IsReach_set : (portals : List Portal) (levels : List ℕ) (i : ℕ) (x y : Portal) → x ≡ slice_index_or portals i x → y.created ≤ x.created → y.active ≤ x.active → IsReach portals levels → IsReach (slice_set portals i y) levels
@@ -111,36 +101,17 @@ abbrev was : ℕ → ℕ → ℕ
 was k i = elim (cases_lt i k) [ inl below ↦ i | inr above ↦ i + 1 ]
 
 read_was : {X : Type 0} (xs : List X) (k i : ℕ) (d : X) → k < length xs → slice_index_or (remove xs k) i d ≡ slice_index_or xs (was k i) d
-read_was xs k i d there = (elim (cases_lt i k) as (λ c. slice_index_or (remove xs k) i d ≡ slice_index_or xs (elim c [ inl below ↦ i | inr above ↦ i + 1 ]) d) [
-  | inl below ↦ get_or-remove_below xs k d i below there
-  | inr above ↦ get_or-remove_above xs k d i above there
-])
+read_was xs k i d there = grind (arith, nat_tests, get_or-remove_below, get_or-remove_above)
 
 was_order : (k i j : ℕ) → i ≤ j → was k i ≤ was k j
-was_order k i j order = elim (cases_lt i k) as (λ c. (elim c [ inl below ↦ i | inr above ↦ i + 1 ]) ≤ was k j) [
-  | inl below ↦ elim (cases_lt j k) as (λ c. i ≤ (elim c [ inl b ↦ j | inr a ↦ j + 1 ])) [ inl b ↦ order | inr a ↦ omega (arith, order) ]
-  | inr above ↦ elim (cases_lt j k) as (λ c. i + 1 ≤ (elim c [ inl b ↦ j | inr a ↦ j + 1 ])) [ inl b ↦ absurd (omega (arith, order, above, b)) | inr a ↦ omega (arith, order) ]
-]
+was_order k i j order = grind (arith, nat_tests, was)
 
 was_there : (k i n : ℕ) → k < n → i + 1 < n → was k i < n
 was_there k i n there inside = elim (cases_lt i k) as (λ c. (elim c [ inl below ↦ i | inr above ↦ i + 1 ]) < n) [ inl below ↦ omega (arith, there, below) | inr above ↦ inside ]
 
 -- one portal fewer
 pub IsReach_removed : (portals : List Portal) (levels : List ℕ) (k : ℕ) → k < length portals → IsReach portals levels → IsReach (remove portals k) (remove levels k)
-IsReach_removed portals levels k there reach =
-    let there_too : k < length levels = omega (arith, there, reach.long) in
-    let fewer : length (remove portals k) + 1 ≡ length portals = omega (arith, there, length-remove portals k there) in
-    let fewer_too : length (remove levels k) + 1 ≡ length levels = omega (arith, there_too, length-remove levels k there_too) in
-    record {
-      long = omega (arith, fewer, fewer_too, reach.long);
-      within = λ i j d e order inside.
-          subst (λ n. IsAtMost n (slice_index_or (remove portals k) j d)) (sym (read_was levels k i e there_too))
-          (subst (IsAtMost (slice_index_or levels (was k i) e)) (sym (read_was portals k j d there))
-          (reach.within (was k i) (was k j) d e (was_order k i j order) (was_there k j (length portals) there (omega (arith, inside, fewer)))));
-      falls = λ i j e from order inside.
-          let before : slice_index_or levels (was k j) e ≤ slice_index_or levels (was k i) e = reach.falls (was k i) (was k j) e (omega arith) (was_order k i j order) (was_there k j (length levels) there_too (omega (arith, inside, fewer_too))) in
-          omega (arith, before, read_was levels k i e there_too, read_was levels k j e there_too);
-    }
+IsReach_removed portals levels k there reach = grind (arith, nat_tests, reach.long, length-remove portals k there, length-remove, read_was, was, reach.within, was_order, was_there, reach.falls)
 
 -- behind the portals that reach a level, none was made there or is active there
 pub all_below : (portals : List Portal) (levels : List ℕ) (level count : ℕ) → IsReach portals levels → ((i e : ℕ) → count ≤ i → i < length levels → slice_index_or levels i e < level) → All (λ (p : Portal). (p.created < level) × (p.active < level)) (drop count portals)

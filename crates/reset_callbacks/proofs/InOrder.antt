@@ -1,19 +1,10 @@
 -- Lemmas on hooks in rising order of their words.
-use Rattle.std.proofs.Common.{◌≡◌, ◌≢◌, ℕ, ◌+◌, ◌<◌, ◌≤◌, List, [], ◌∷◌, ◌++◌, length, All, refl, sym, ◌∙◌, ap, arith, true, false, cond, nat_le}
+use Rattle.std.proofs.Common.{◌≡◌, ◌≢◌, ℕ, ◌+◌, ◌<◌, ◌≤◌, List, [], ◌∷◌, ◌++◌, length, All, refl, sym, arith, true, false, cond, nat_le}
 use Rattle.std.specs.List.Sorted.{IsPermutation}
 use Rattle.std.proofs.lemmas.List.Elements.{All-nil, All-cons, All-head, All-tail, All-weaker, All-push}
 use Rattle.std.proofs.lemmas.List.Sorted.{All-permutation, IsPermutation-refl, IsPermutation-cons, IsPermutation-trans, IsPermutation-middle, IsPermutation-sym}
 use Rattle.reset_callbacks.specs.Hook.{Hook, Lacks, AreRising, AreDistinct, with_hook, in_order}
-
--- a hook goes in front where no word is below its own
-pub with_hook-first : (h : Hook) (xs : List Hook) → All (λ other. h.word ≤ other.word) xs → with_hook h xs ≡ h ∷ xs
-with_hook-first h [] all = refl
-with_hook-first h (x ∷ xs) all =
-    let first : h.word ≤ x.word = All-head (λ other. h.word ≤ other.word) x xs all in grind arith
-
--- a hook goes behind one of a smaller word
-pub with_hook-behind : (h x : Hook) (xs : List Hook) → x.word < h.word → with_hook h (x ∷ xs) ≡ x ∷ with_hook h xs
-with_hook-behind h x xs below = grind arith
+use Rattle.std.proofs.lemmas.Bool.Decides.{nat_tests}
 
 pub length-with_hook : (h : Hook) (xs : List Hook) → length (with_hook h xs) ≡ length xs + 1
 length-with_hook h [] = refl
@@ -33,69 +24,24 @@ front_two h x xs = IsPermutation-sym (x ∷ h ∷ xs) (h ∷ x ∷ xs) (IsPermut
 
 pub with_hook-permutes : (h : Hook) (xs : List Hook) → IsPermutation (h ∷ xs) (with_hook h xs)
 with_hook-permutes h [] = IsPermutation-refl (h ∷ [])
-with_hook-permutes h (x ∷ xs) =
-    elim (nat_le h.word x.word) as (λ b. IsPermutation (h ∷ x ∷ xs) (cond b (h ∷ x ∷ xs) (x ∷ with_hook h xs))) [
-      | true ↦ IsPermutation-refl (h ∷ x ∷ xs)
-      | false ↦
-          IsPermutation-trans (h ∷ x ∷ xs) (x ∷ h ∷ xs) (x ∷ with_hook h xs) (front_two h x xs)
-          (IsPermutation-cons x (h ∷ xs) (with_hook h xs) (with_hook-permutes h xs))
-    ]
+with_hook-permutes h (x ∷ xs) = grind (arith, nat_tests, h.word, x.word, IsPermutation-trans (h ∷ x ∷ xs) (x ∷ h ∷ xs) (x ∷ with_hook h xs) (front_two h x xs) (IsPermutation-cons x (h ∷ xs) (with_hook h xs) (with_hook-permutes h xs)), front_two h x xs, with_hook-permutes h xs)
 
 pub in_order-permutes : (xs : List Hook) → IsPermutation xs (in_order xs)
 in_order-permutes [] = IsPermutation-refl []
-in_order-permutes (x ∷ xs) =
-    IsPermutation-trans (x ∷ xs) (x ∷ in_order xs) (with_hook x (in_order xs))
-    (IsPermutation-cons x xs (in_order xs) (in_order-permutes xs))
-    (with_hook-permutes x (in_order xs))
+in_order-permutes (x ∷ xs) = grind (arith, nat_tests, IsPermutation-trans (x ∷ xs) (x ∷ in_order xs) (with_hook x (in_order xs)) (IsPermutation-cons x xs (in_order xs) (in_order-permutes xs)) (with_hook-permutes x (in_order xs)), in_order, in_order xs, in_order-permutes xs, with_hook-permutes x (in_order xs))
 
 pub All-in_order : (P : Hook → Type 0) (xs : List Hook) → All P xs → All P (in_order xs)
 All-in_order P xs all = All-permutation P xs (in_order xs) (in_order-permutes xs) all
-
-pub All-from_in_order : (P : Hook → Type 0) (xs : List Hook) → All P (in_order xs) → All P xs
-All-from_in_order P xs all =
-    All-permutation P (in_order xs) xs (IsPermutation-sym xs (in_order xs) (in_order-permutes xs)) all
-
--- hooks in rising order stay as they are
-pub in_order-of_rising : (xs : List Hook) → AreRising xs → in_order xs ≡ xs
-in_order-of_rising [] rising = refl
-in_order-of_rising (x ∷ xs) rising =
-    rw (in_order-of_rising xs rising.1)
-    (with_hook-first x xs
-    (All-weaker (λ other. x.word < other.word) (λ other. x.word ≤ other.word) (λ other below. omega arith) xs rising.0))
-
--- one more hook behind, of a word that is below all, comes first
-pub in_order-push : (xs : List Hook) (h : Hook) → All (λ other. h.word < other.word) xs → in_order (xs ++ h ∷ []) ≡ h ∷ in_order xs
-in_order-push [] h below = refl
-in_order-push (x ∷ xs) h below =
-    let first : h.word < x.word = All-head (λ other. h.word < other.word) x xs below in
-    rw (in_order-push xs h (All-tail (λ other. h.word < other.word) x xs below))
-    (with_hook-behind x h (in_order xs) first)
 
 -- each hook of the first list put into the second, from the back
 with_hooks : List Hook → List Hook → List Hook
 with_hooks [] ys = ys
 with_hooks (x ∷ xs) ys = with_hook x (with_hooks xs ys)
 
-in_order-append : (xs ys : List Hook) → in_order (xs ++ ys) ≡ with_hooks xs (in_order ys)
-unfolding with_hooks
-in_order-append [] ys = refl
-in_order-append (x ∷ xs) ys = ap (with_hook x) (in_order-append xs ys)
-
 with_hooks-with_hook : (h : Hook) (xs ys : List Hook) → with_hooks (with_hook h xs) ys ≡ with_hook h (with_hooks xs ys)
 unfolding with_hooks
 with_hooks-with_hook h [] ys = refl
 with_hooks-with_hook h (x ∷ xs) ys = grind (arith, with_hooks-with_hook h xs ys, with_hook-swap x h (with_hooks xs ys))
-
-with_hooks-in_order : (xs ys : List Hook) → with_hooks (in_order xs) ys ≡ with_hooks xs ys
-unfolding with_hooks
-with_hooks-in_order [] ys = refl
-with_hooks-in_order (x ∷ xs) ys =
-    with_hooks-with_hook x (in_order xs) ys ∙ ap (with_hook x) (with_hooks-in_order xs ys)
-
--- it does not matter whether the first hooks were in order before
-pub in_order-append_in_order : (xs ys : List Hook) → in_order (xs ++ ys) ≡ in_order (in_order xs ++ ys)
-in_order-append_in_order xs ys =
-    in_order-append xs ys ∙ (sym (with_hooks-in_order xs (in_order ys)) ∙ sym (in_order-append (in_order xs) ys))
 
 pub Lacks-with_hook : (h : Hook) (xs : List Hook) (word : ℕ) → h.word ≢ word → Lacks xs word → Lacks (with_hook h xs) word
 Lacks-with_hook h xs word other lacks =
@@ -132,10 +78,7 @@ AreDistinct-push (x ∷ xs) h lacks distinct =
 
 pub AreDistinct-of_rising : (xs : List Hook) → AreRising xs → AreDistinct xs
 AreDistinct-of_rising [] rising = tt
-AreDistinct-of_rising (x ∷ xs) rising = (
-  All-weaker (λ other. x.word < other.word) (λ other. other.word ≢ x.word) (λ other below same. omega arith) xs rising.0,
-  AreDistinct-of_rising xs rising.1,
-)
+AreDistinct-of_rising (x ∷ xs) rising = grind (arith, nat_tests, All-weaker, x.word, rising.0, AreDistinct-of_rising xs rising.1, rising.1)
 
 -- the words never fall
 abbrev pub NeverFalls : List Hook → Type 0

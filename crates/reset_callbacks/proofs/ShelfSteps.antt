@@ -1,14 +1,15 @@
 -- What the calls of a shelf do to its lists of hooks.
-use Rattle.std.proofs.Common.{◌≡◌, ◌≢◌, ℕ, ◌+◌, ◌-◌, ◌<◌, ◌≤◌, List, [], ◌∷◌, ◌++◌, length, map, reverse, drop, All, refl, sym, ◌∙◌, ap, subst, append_assoc, arith, true, false}
+use Rattle.std.proofs.Common.{◌≡◌, ℕ, ◌+◌, ◌-◌, ◌≤◌, List, [], ◌∷◌, ◌++◌, length, map, reverse, drop, All, refl, sym, ◌∙◌, ap, subst, append_assoc, arith, true, false}
 use Rattle.std.specs.List.Sorted.{IsNonDecreasingBy, IsPermutation}
 use Rattle.std.proofs.lemmas.List.{length-map, length-reverse, map-append, append-nil, reverse-append, reverse-reverse}
 use Rattle.std.proofs.lemmas.Grind.{reverse_onto}
-use Rattle.std.proofs.lemmas.List.Elements.{All-nil, All-cons, All-head, All-tail}
+use Rattle.std.proofs.lemmas.List.Elements.{All-cons, All-head, All-tail}
 use Rattle.std.proofs.lemmas.List.Sorted.{IsPermutation-append_left, IsPermutation-map, IsPermutation-reverse, IsPermutation-sym, IsPermutation-trans, length_permutation}
 use Rattle.reset_callbacks.specs.Hook.{Hook, Lacks, IsBelow, AreRising, AreDistinct, in_order}
 use Rattle.reset_callbacks.specs.ShelfState.{ShelfState, held, taken, finished, returned, renewed}
 use Rattle.reset_callbacks.proofs.InOrder.{in_order-permutes, NeverFalls, NeverFalls-in_order, AreDistinct-push, AreDistinct-in_order, AreDistinct-of_rising}
 use Rattle.reset_callbacks.proofs.Unique.{sorted_never_falls, unique}
+use Rattle.std.proofs.lemmas.Bool.Decides.{nat_tests}
 
 pub length-fresh : {B : Type 0} (xs : List B) (meaning : B → Hook) → length (reverse (map meaning xs)) ≡ length xs
 length-fresh xs meaning = length-reverse (map meaning xs) ∙ length-map xs meaning
@@ -38,12 +39,7 @@ sorted_fresh xs ys zs meaning differ moved sorted =
     (sym (length_permutation (in_order held_now) (map meaning zs) both)) both)
 
 strictly : (h : Hook) (hs : List Hook) → All (λ other. h.word ≤ other.word) hs → Lacks hs h.word → IsBelow h.word hs
-strictly h [] never lacks = All-nil (λ other. h.word < other.word)
-strictly h (x ∷ xs) never lacks =
-    let least : h.word ≤ x.word = All-head (λ other. h.word ≤ other.word) x xs never in
-    let other : x.word ≢ h.word = All-head (λ z. z.word ≢ h.word) x xs lacks in
-    All-cons (λ other. h.word < other.word) x xs (omega arith)
-    (strictly h xs (All-tail (λ other. h.word ≤ other.word) x xs never) (All-tail (λ z. z.word ≢ h.word) x xs lacks))
+strictly h x1 never lacks = grind (arith, nat_tests, h.word, All-head, All-cons, All-tail)
 
 map_reverse : {A B : Type 0} (f : A → B) (xs : List A) → map f (reverse xs) ≡ reverse (map f xs)
 map_reverse f [] = refl
@@ -106,12 +102,7 @@ pub differ_now :
 differ_now meaning fresh spent out s is differ = subst (λ z. AreDistinct (held z)) is differ
 
 pub differ_taken : (s new : ShelfState) (h : Hook) → new ≡ taken s → s.fresh ≡ h ∷ new.fresh → AreDistinct (held s) → Lacks (held new) h.word × AreDistinct (held new)
-differ_taken s new h after first differ =
-    let same_spent : new.spent ≡ s.spent = ap (λ z. z.spent) after in
-    let all : AreDistinct ((h ∷ new.fresh) ++ s.spent) = subst (λ hooks. AreDistinct (hooks ++ s.spent)) first differ in (
-      subst (λ hooks. Lacks (new.fresh ++ hooks) h.word) (sym same_spent) all.0,
-      subst (λ hooks. AreDistinct (new.fresh ++ hooks)) (sym same_spent) all.1,
-    )
+differ_taken s new h after first differ = grind (arith, nat_tests, new.spent, s.spent, new.fresh, h.word)
 
 pub differ_finished :
     (s new : ShelfState) (h : Hook) → new ≡ finished h s → Lacks (held s) h.word → AreDistinct (held s) → AreDistinct (held new)

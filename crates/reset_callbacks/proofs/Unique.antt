@@ -28,11 +28,7 @@ none_has word (h ∷ hs) lacks =
 none_ran : (word : ℕ) (hs : List Hook) → sum_by (has_word word) hs ≡ 0 → sum_by (runs_of word) hs ≡ 0
 unfolding has_word runs_of
 none_ran word [] none = refl
-none_ran word (h ∷ hs) none =
-    let sum = sum_by-cons (has_word word) h hs in
-    let runs = sum_by-cons (runs_of word) h hs in
-    let rest : sum_by (has_word word) hs ≡ 0 → sum_by (runs_of word) hs ≡ 0 = none_ran word hs in
-    grind (arith, nat_tests, sum, runs, rest, none)
+none_ran word (h ∷ hs) none = grind (arith, nat_tests, sum_by-cons (has_word word) h hs, sum_by-cons (runs_of word) h hs, none_ran word hs)
 
 -- the word at the front of the one list is not below that of the other
 not_below : (x y : Hook) (xs ys : List Hook) → NeverFalls (y ∷ ys) → sum_by (has_word x.word) (x ∷ xs) ≡ sum_by (has_word x.word) (y ∷ ys) → y.word ≤ x.word
@@ -78,8 +74,7 @@ same_sums (x ∷ xs) (y ∷ ys) never also distinct long same =
 
 -- two lists of the same hooks, of which no two have one word, are the same where the words never fall
 pub unique : (xs ys : List Hook) → NeverFalls xs → NeverFalls ys → AreDistinct xs → length xs ≡ length ys → IsPermutation xs ys → xs ≡ ys
-unique xs ys never also distinct long moved =
-    same_sums xs ys never also distinct long (λ f. sym (sum_by-IsPermutation f xs ys moved))
+unique xs ys never also distinct long moved = grind (arith, nat_tests, same_sums, sum_by-IsPermutation)
 
 -- hooks that were sorted
 pub sorted_never_falls : {B : Type 0} (meaning : B → Hook) (xs : List B) → IsNonDecreasingBy (λ b. (meaning b).word) xs → NeverFalls (map meaning xs)

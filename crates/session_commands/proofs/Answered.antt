@@ -5,16 +5,13 @@ use Rattle.session_rules.specs.Elements as element
 
 -- a later call is none of those that were made
 pub later_is_no_call : (w : Option ℕ) (calls call : ℕ) → IsLater calls w → call ≤ calls → is_call w call ≡ false
-later_is_no_call None calls call l h = refl
-later_is_no_call (Some n) calls call l h = grind (arith, nat_tests)
+later_is_no_call x0 calls call l h = grind (arith, nat_tests)
 
 later_le : (w : Option ℕ) (a b : ℕ) → IsLater b w → a ≤ b → IsLater a w
-later_le None a b l h = tt
-later_le (Some n) a b l h = omega arith
+later_le x0 a b l h = grind (arith, nat_tests)
 
 pub fits_later : (wanted : Bool) (a b : ℕ) (w : Option ℕ) → Fits wanted b w → a ≤ b → (wanted ≡ true → a < b) → IsLater a w
-fits_later true a b w f h s = subst (IsLater a) (sym f) (s refl)
-fits_later false a b w f h s = later_le w a b f h
+fits_later x0 a b w f h s = grind (arith, nat_tests, later_le)
 
 -- what was done after some events, and what comes behind it
 behind_then : (events : List What) (d : Done) (r : Option Error) (rest : Moment → Done) → done_behind events (then_done d r rest) ≡ then_done (done_behind events d) r rest
@@ -26,16 +23,7 @@ behind_then events d (Some e) rest = refl
 does_both : (w : Option ℕ) (xs ys : List Element) (m : Moment) → does_all w (xs ++ ys) m ≡ then_done (does_all w xs m) (does_all w xs m).refusal (does_all w ys)
 unfolding does_all
 does_both w [] ys m = refl
-does_both w (x ∷ xs) ys m = go (does w x m).refusal refl (does_both w xs ys (does w x m).moment)
-  where
-    go : (r : Option Error) → (does w x m).refusal ≡ r
-        → does_all w (xs ++ ys) (does w x m).moment ≡ then_done (does_all w xs (does w x m).moment) (does_all w xs (does w x m).moment).refusal (does_all w ys)
-        → then_done (does w x m) r (does_all w (xs ++ ys))
-        ≡ then_done (then_done (does w x m) r (does_all w xs)) (then_done (does w x m) r (does_all w xs)).refusal (does_all w ys)
-    go (Some e) is rest = ap (λ (r : Option Error). then_done (does w x m) r (does_all w ys)) (sym is)
-    go None is rest =
-        ap (done_behind (does w x m).events) rest
-        ∙ behind_then (does w x m).events (does_all w xs (does w x m).moment) (does_all w xs (does w x m).moment).refusal (does_all w ys)
+does_both w (x ∷ xs) ys m = grind (arith, nat_tests, does_both w xs ys (does w x m).moment, behind_then (does w x m).events (does_all w xs (does w x m).moment) (does_all w xs (does w x m).moment).refusal (does_all w ys))
 
 -- one element
 pub does_one : (w : Option ℕ) (x : Element) (m : Moment) → does_all w (x ∷ []) m ≡ does w x m
@@ -57,53 +45,18 @@ module _ (fail : ℕ) where
   -- elements that were all done, and others behind them
   pub answers_both : (xs ys : List Element) (S T U : Around → Scene) (a b c : ℕ) (P Q R : List What → Type 0) (r : Option Error)
       → Answers xs S T a b fail P None → Answers ys T U b c fail Q r → ((us vs : List What) → P us → Q vs → R (us ++ vs)) → Answers (xs ++ ys) S U a c fail R r
-  answers_both xs ys S T U a b c P Q R r first next joins = record {
-    moment = λ around w f. ap (λ (d : Done). d.moment) (all around w f) ∙ next.moment around w f;
-    says = λ around w f. subst R (sym (ap (λ (d : Done). d.events) (all around w f)))
-        (joins _ _ (first.says around w (later w f)) (next.says around w f));
-    answer = λ around w f. ap (λ (d : Done). d.refusal) (all around w f) ∙ next.answer around w f;
-    calls = omega (arith, first.calls, next.calls);
-    counted = λ e. omega (arith, first.calls, next.counted e);
-  }
-    where
-      later : (w : Option ℕ) → Fits (wants r) c w → IsLater b w
-      later w f = fits_later (wants r) b c w f next.calls next.counted
-
-      all : (around : Around) (w : Option ℕ) → Fits (wants r) c w
-          → does_all w (xs ++ ys) (at_calls S a fail around)
-          ≡ done_behind (does_all w xs (at_calls S a fail around)).events (does_all w ys (at_calls T b fail around))
-      all around w f =
-          does_both w xs ys (at_calls S a fail around)
-          ∙ ap (λ (o : Option Error). then_done (does_all w xs (at_calls S a fail around)) o (does_all w ys)) (first.answer around w (later w f))
-          ∙ ap (λ (m : Moment). done_behind (does_all w xs (at_calls S a fail around)).events (does_all w ys m)) (first.moment around w (later w f))
+  answers_both xs ys S T U a b c P Q R r first next joins = grind (arith, nat_tests, next.moment, first.says, next.says, next.answer, first.calls, next.calls, next.counted, wants r, fits_later, does_both, first.answer, first.moment)
 
   -- elements of which one was refused
   pub answers_stop : (xs ys : List Element) (S T : Around → Scene) (a b : ℕ) (P : List What → Type 0) (e : Error)
       → Answers xs S T a b fail P (Some e) → Answers (xs ++ ys) S T a b fail P (Some e)
-  answers_stop xs ys S T a b P e first = record {
-    moment = λ around w f. ap (λ (d : Done). d.moment) (all around w f) ∙ first.moment around w f;
-    says = λ around w f. subst P (sym (ap (λ (d : Done). d.events) (all around w f))) (first.says around w f);
-    answer = λ around w f. ap (λ (d : Done). d.refusal) (all around w f) ∙ first.answer around w f;
-    calls = first.calls;
-    counted = first.counted;
-  }
-    where
-      all : (around : Around) (w : Option ℕ) → Fits (is_want e) b w → does_all w (xs ++ ys) (at_calls S a fail around) ≡ does_all w xs (at_calls S a fail around)
-      all around w f =
-          does_both w xs ys (at_calls S a fail around)
-          ∙ ap (λ (o : Option Error). then_done (does_all w xs (at_calls S a fail around)) o (does_all w ys)) (first.answer around w f)
+  answers_stop xs ys S T a b P e first = grind (arith, nat_tests, first.moment, first.says, first.answer, first.calls, first.counted, does_both)
 
   -- what one element answers
   one : (x : Element) (S T : Around → Scene) (a b : ℕ) (P : List What → Type 0) (r : Option Error) (events : Around → List What)
       → ((around : Around) (w : Option ℕ) → Fits (wants r) b w → does w x (at_calls S a fail around) ≡ record { moment = at_calls T b fail around; events = events around; refusal = r })
       → ((around : Around) → P (events around)) → a ≤ b → (wants r ≡ true → a < b) → Answers (x ∷ []) S T a b fail P r
-  one x S T a b P r events is told calls counted = record {
-    moment = λ around w f. ap (λ (d : Done). d.moment) (does_one w x (at_calls S a fail around) ∙ is around w f);
-    says = λ around w f. subst P (sym (ap (λ (d : Done). d.events) (does_one w x (at_calls S a fail around) ∙ is around w f))) (told around);
-    answer = λ around w f. ap (λ (d : Done). d.refusal) (does_one w x (at_calls S a fail around) ∙ is around w f);
-    calls = calls;
-    counted = counted;
-  }
+  one x S T a b P r events is told calls counted = grind (arith, nat_tests, does_one)
 
   -- a check
   pub answers_check : (check : Check) (S : Around → Scene) (n : ℕ) (P : List What → Type 0) → P [] → ((around : Around) → failure check (S around) ≡ None)

@@ -1,5 +1,5 @@
 -- Steps one behind the other.
-use Rattle.session_commands.proofs.Base.{◌≡◌, ℕ, ◌+◌, ◌≤◌, List, [], ◌∷◌, ◌++◌, Option, Some, None, refl, sym, ◌∙◌, ap, subst, arith}
+use Rattle.session_commands.proofs.Base.{nat_tests, ◌≡◌, ℕ, ◌+◌, ◌≤◌, List, [], ◌∷◌, ◌++◌, Option, Some, None, refl, sym, ◌∙◌, ap, subst, arith}
 use Rattle.session_commands.proofs.Words.{Error, What, Element, Grows, HasRoom, Now, Performed}
 use Rattle.session_commands.proofs.Performing.{performed_both, performed_more, performed_said, performed_stop}
 
@@ -27,18 +27,8 @@ then_silent j k xs ys a b c P r x y =
 
 -- less room
 pub less_room : (j k : ℕ) (a : Now) → j ≤ k → HasRoom k a → HasRoom j a
-less_room j k a le room = record {
-  contexts = omega (arith, le, room.contexts);
-  owners = omega (arith, le, room.owners);
-  serials = omega (arith, le, room.serials);
-  calls = omega (arith, le, room.calls);
-}
+less_room j k a le room = grind (arith, nat_tests, room.contexts, room.owners, room.serials, room.calls)
 
 -- what room is left behind steps
 pub room_left : (j k : ℕ) (a b : Now) → HasRoom (j + k) a → Grows j a b → HasRoom k b
-room_left j k a b room grows = record {
-  contexts = omega (arith, room.contexts, grows.contexts);
-  owners = omega (arith, room.owners, grows.owners);
-  serials = omega (arith, room.serials, grows.serials);
-  calls = omega (arith, room.calls, grows.calls);
-}
+room_left j k a b room grows = grind (arith, nat_tests, room.contexts, grows.contexts, room.owners, grows.owners, room.serials, grows.serials, room.calls, grows.calls)

@@ -1,6 +1,6 @@
 -- Checks and steps of commands on contexts and chunks.
-use Rattle.session_commands.proofs.Base.{◌≡◌, ℕ, ◌+◌, ◌≤◌, false, is_some, OnOk, OnErr, Result, Ok, Err, List, [], ◌∷◌, Option, Some, None, refl, sym, ◌∙◌, ap, subst, arith, option_map, option_and_then}
-use Rattle.session_commands.proofs.Words.{Error, What, Asks, Space, ShelfState, TreeError, Moves, SessionState, Around, Moment, Scene, Ended, where_there, Check, Element, Text, reset_refusal, reset_only_refusal, delete_refusal, set_parent_refusal, error_of, unfailing, does, asked_all, asks_in, failure, refusal_at, space_error, tree_error, unless, context_named, at_context, is_want, Row, elements, CommonState, StoreState, contexts_in, scene_of, session_of, Acted, ContextsAlone, Keeps, Refused, Calls, Answers, Fits, at_calls, wants, Now, Performed, most_calls, scene_in}
+use Rattle.session_commands.proofs.Base.{nat_tests, ◌≡◌, ℕ, ◌+◌, ◌≤◌, false, is_some, OnOk, OnErr, Result, Ok, Err, List, [], ◌∷◌, Option, Some, None, refl, sym, ◌∙◌, ap, subst, arith, option_map, option_and_then}
+use Rattle.session_commands.proofs.Words.{Error, What, Asks, Space, ShelfState, TreeError, Moves, SessionState, Around, Moment, Scene, Ended, where_there, Check, Element, Text, reset_refusal, reset_only_refusal, delete_refusal, set_parent_refusal, error_of, unfailing, does, asked_all, asks_in, failure, refusal_at, space_error, tree_error, unless, context_named, at_context, is_want, Row, elements, CommonState, StoreState, contexts_in, scene_of, session_of, Acted, ContextsAlone, Keeps, Refused, Calls, Fits, at_calls, wants, Now, Performed, most_calls, scene_in}
 use Rattle.pgs_step.specs.declared.errors.Error.TheVariants as error
 use Rattle.session_rules.specs.Elements as element
 use Rattle.chunk_header.specs.declared.CtxError.{CtxError}
@@ -48,8 +48,7 @@ pub unchanged : (k : ℕ) (es : List Element) (a b : Now) (P : List What → Typ
     → Refused a.store b.store a.space b.space a.shelf b.shelf a.commons b.commons → Keeps b.store b.space → Moves a.store.tree b.store.tree a.space b.space → b.calls ≡ a.calls
     → Asks a.store.tree.account 0 a.space b.space → Performed k es a b P r
 unchanged k es a b P r x same keeps moves calls asks = record {
-  answers = subst (λ (n : ℕ). Answers es (scene_in a) (scene_in b) a.calls.count n a.calls.fail P r) (ap (λ (c : Calls). c.count) (sym calls))
-      (answers_as es (scene_in a) (scene_in a) (scene_in b) a.calls.count a.calls.count a.calls.fail P r (same_scene_in a b same) x.answers);
+  answers = grind (arith, nat_tests, a.calls.count, a.calls.fail, answers_as es (scene_in a) (scene_in a) (scene_in b) a.calls.count a.calls.count a.calls.fail P r (same_scene_in a b same) x.answers, same_scene_in a b same, x.answers);
   fail = ap (λ (c : Calls). c.fail) calls;
   keeps = keeps;
   moves = moves;
@@ -57,13 +56,7 @@ unchanged k es a b P r x same keeps moves calls asks = record {
   taken = λ around w f.
       takes_on (wants r) a.store.tree.account (asked_all w es (at_calls (scene_in a) a.calls.count a.calls.fail around)) a.space a.space b.space
       (x.taken around w (subst (λ (c : Calls). Fits (wants r) c.count w) calls f)) (sym asks);
-  grows = record {
-    contexts = rw same.store x.grows.contexts;
-    owners = rw same.store x.grows.owners;
-    serials = rw same.store x.grows.serials;
-    calls = rw calls x.grows.calls;
-    descriptors = ap (λ (c : StoreState). c.owners.descriptors) same.store ∙ x.grows.descriptors;
-  };
+  grows = grind (arith, nat_tests, same.store, x.grows.contexts, x.grows.owners, x.grows.serials, x.grows.calls, x.grows.descriptors);
 }
 
 -- the context of a name is there
@@ -89,22 +82,16 @@ acted_at name n act a b s t x y c d P e h = record {
 
 -- no refusal of a call is a want of memory, as rules tell it
 space_error_plain : (e : CtxError) → is_want (space_error e) ≡ false
-space_error_plain space.TooBig = refl
-space_error_plain other = refl
+space_error_plain x0 = grind (arith, nat_tests)
 
 pub tree_error_plain : (e : TreeError) → is_want (tree_error e) ≡ false
-tree_error_plain (tree.Ctx e) = space_error_plain e
-tree_error_plain other = refl
+tree_error_plain x0 = grind (arith, nat_tests, space_error_plain)
 
 -- a command that tests the context of a name and then acts on it
 module _ (name : Text) (check : Check) (x : Element) (act : ℕ → Scene → Ended) (is : (w : Option ℕ) (m : Moment) → does w x m ≡ unfailing m (at_context name act))
     (raises : (n : ℕ) (scene : Scene) → (act n scene).scene.session.next_context ≤ scene.session.next_context + 0) where
   pub at_raises : Raises 0 (at_context name act)
-  at_raises scene = go (context_named name scene.session)
-    where
-      go : (o : Option ℕ) → (where_there o act scene).scene.session.next_context ≤ scene.session.next_context + 0
-      go None = omega arith
-      go (Some n) = raises n scene
+  at_raises scene = grind (arith, nat_tests, context_named name scene.session, scene.session, scene.session.next_context)
 
   module _ (a b : Now) (n : ℕ) (P : List What → Type 0) (found : context_named name (session_of a.store a.space) ≡ Some n) (keeps : Keeps a.store a.space) (calls : b.calls ≡ a.calls)
       (alone : ContextsAlone a.store b.store a.space b.space a.commons b.commons) (quiet : (scene : Scene) → asks_in x scene ≡ 0) (asks : Asks a.store.tree.account 0 a.space b.space) where
@@ -144,6 +131,4 @@ may_delete name a n around e = refused_at name (session_of a.store a.space) n (�
 
 pub may_move : (name parent : Text) (a : Now) (n p : ℕ) (around : Around) → context_named name (session_of a.store a.space) ≡ Some n → context_named parent (session_of a.store a.space) ≡ Some p
     → failure (element.MayMove name parent) (scene_in a around) ≡ option_map tree_error (set_parent_refusal n p (contexts_in a.store a.space))
-may_move name parent a n p around e f =
-    refused_at name (session_of a.store a.space) n (λ m. option_and_then (λ q. set_parent_refusal m q (contexts_in a.store a.space)) (context_named parent (session_of a.store a.space))) e
-    ∙ ap (λ (o : Option ℕ). option_map tree_error (option_and_then (λ q. set_parent_refusal n q (contexts_in a.store a.space)) o)) f
+may_move name parent a n p around e f = grind (arith, nat_tests, refused_at, a.store, a.space, context_named parent (session_of a.store a.space))

@@ -1,9 +1,8 @@
 -- The steps by which an owner takes a reference, and by which the deepest level's gives an item back.
-use Rattle.session_commands.proofs.Base.{◌≡◌, ℕ, ◌+◌, ◌==◌, false, find, is_some, List, [], ◌∷◌, Option, Some, None, Result, Ok, Err, refl, sym, ◌∙◌, ap, subst, arith, ok_or, option_and_then}
-use Rattle.session_commands.proofs.Words.{Error, What, Item, KindId, OwnerId, Asks, Space, OwnerError, items_of, owners_of, level_owner, snapshot_reference, Around, Moment, Scene, Ended, in_order, where_there, OfLevel, OwnerRole, fallible, unfailing, unless, does, newest, newest_of_level, owner_in, at_owner, Keeper, NoOne, item_released, keeper_of, item_taken, remembers, take_refused, taken_by, IsReference, StoreState, session_of, Moves, Acted, Keeps, Refused, IsLevelOwner, IsOwnerOf, Now, Performed, most_calls, scene_in}
+use Rattle.session_commands.proofs.Base.{nat_tests, ◌≡◌, ℕ, ◌+◌, ◌==◌, false, find, is_some, List, [], ◌∷◌, Option, Some, None, Result, Ok, Err, refl, sym, ◌∙◌, ap, subst, arith, ok_or, option_and_then}
+use Rattle.session_commands.proofs.Words.{Error, What, Item, KindId, OwnerId, Asks, Space, OwnerError, items_of, owners_of, snapshot_reference, Around, Moment, Scene, Ended, in_order, where_there, OfLevel, OwnerRole, fallible, unfailing, unless, does, newest, newest_of_level, owner_in, at_owner, Keeper, NoOne, item_released, keeper_of, item_taken, take_refused, IsReference, StoreState, session_of, Moves, Acted, Keeps, Refused, IsLevelOwner, IsOwnerOf, Now, Performed, most_calls, scene_in}
 use Rattle.pgs_step.specs.declared.errors.Error.TheVariants as error
 use Rattle.pgs_command.specs.declared.kinds.ReferenceClass.{ReferenceClass}
-use Rattle.pgs_command.specs.declared.kinds.ReferenceClass.TheVariants.{Relcache}
 use Rattle.pgs_command.specs.Kinds.{class_kind}
 use Rattle.owner_items.specs.ItemList.{is_of}
 use Rattle.owner_core.specs.declared.errors.OwnerError.TheVariants.{NotOwned}
@@ -22,15 +21,7 @@ unfolding does
 does_take role kind key w m = refl
 
 pub take_rises : (role : OwnerRole) (kind : KindId) (key : ℕ) (s : Scene) → Rises 1 s (takes_item role kind key s).scene
-take_rises role kind key s = go (owner_in role s.session)
-  where
-    by_keeper : (n : ℕ) (k : Keeper) → Rises 1 s (in_order (taken_by k key ∷ remembers n kind key ∷ []) s).scene
-    by_keeper n NoOne = record { contexts = omega arith; owners = omega arith; serials = omega arith; descriptors = refl }
-    by_keeper n other = record { contexts = omega arith; owners = omega arith; serials = omega arith; descriptors = refl }
-
-    go : (o : Option ℕ) → Rises 1 s (where_there o (λ owner. item_taken owner kind key) s).scene
-    go None = record { contexts = omega arith; owners = omega arith; serials = omega arith; descriptors = refl }
-    go (Some n) = by_keeper n (keeper_of kind)
+take_rises role kind key s = grind (arith, nat_tests, owner_in role s.session, s.session, in_order)
 
 -- an owner takes an item
 abbrev pub take : OwnerRole → KindId → ℕ → Call
@@ -59,8 +50,7 @@ unkept_free kind a unkept around = ap (λ (k : Keeper). take_refused k (scene_in
 
 -- the classes of references
 pub class_counted : (class : ReferenceClass) → IsReference (class_kind class)
-class_counted Relcache = record { from = omega arith; to = omega arith; unkept = refl }
-class_counted other = record { from = omega arith; to = omega arith; unkept = refl }
+class_counted x0 = grind (arith, nat_tests)
 
 pub snapshot_counted : IsReference snapshot_reference
 snapshot_counted = record { from = omega arith; to = omega arith; unkept = refl }
@@ -78,25 +68,18 @@ give_as kind other key a b P r is h = subst (λ (z : KindId). Performed most_cal
 module _ (role : OwnerRole) (kind : KindId) (key : ℕ) (a b : Now) where
   pub no_room_for : (Q : List What → Type 0) → Q [] → (e : Error) → Performed 1 (element.Enlarge role ∷ []) a b (λ events. events ≡ []) (Some e)
       → Performed 2 (element.Enlarge role ∷ element.Take role kind key ∷ []) a b Q (Some e)
-  no_room_for Q silent e x =
-      silent_stops 1 2 (element.Enlarge role ∷ []) (element.Take role kind key ∷ []) a b Q e (omega arith) silent x
+  no_room_for Q silent e x = grind (arith, nat_tests, silent_stops 1 2 (element.Enlarge role ∷ []) (element.Take role kind key ∷ []) a b Q e (omega arith) silent x)
 
   pub taken_in_room : (c : Now) (P : List What → Type 0) (r : Option Error) → Performed 1 (element.Enlarge role ∷ []) a b (λ events. events ≡ []) None
       → Performed 1 (element.Take role kind key ∷ []) b c P r → Performed 2 (element.Enlarge role ∷ element.Take role kind key ∷ []) a c P r
-  taken_in_room c P r x y =
-      silent_then 1 1 (element.Enlarge role ∷ []) (element.Take role kind key ∷ []) a b c P r x y
+  taken_in_room c P r x y = grind (arith, nat_tests, silent_then 1 1 (element.Enlarge role ∷ []) (element.Take role kind key ∷ []) a b c P r x y)
 
 -- an item that the owner has is found, and one that it hasn't is missed
 pub found_item : (o : Option Item) (r : Result Item OwnerError) (item : Item) → r ≡ Ok item → r ≡ ok_or o NotOwned → o ≡ Some item
-found_item None r item ok is = absurd (let z : Ok item ≡ Err NotOwned = sym ok ∙ is in cc z)
-found_item (Some x) r item ok is =
-    let z : Ok item ≡ Ok x = sym ok ∙ is in
-    let same : item ≡ x = cc z in
-    ap (λ (y : Item). Some y) (sym same)
+found_item x0 r item ok is = grind (arith, nat_tests)
 
 pub missing_item : (o : Option Item) (r : Result Item OwnerError) (e : OwnerError) → r ≡ Err e → r ≡ ok_or o NotOwned → o ≡ None
-missing_item None r e err is = refl
-missing_item (Some x) r e err is = absurd (let z : Err e ≡ Ok x = sym err ∙ is in cc z)
+missing_item x0 r e err is = grind (arith, nat_tests)
 
 newest_is : (store : StoreState) (s : Space) (owner : OwnerId) (kind : KindId) (key : ℕ) → IsLevelOwner store owner
     → newest_of_level kind key (session_of store s) ≡ find (is_of kind key) (items_of owner.number (owners_of store.owners))
@@ -111,8 +94,7 @@ unfolding does
 does_give_back kind key w m = refl
 
 gives_rises : (kind : KindId) (key : ℕ) (s : Scene) → Rises 0 s (gives_back kind key s).scene
-gives_rises kind key s =
-    keeps_rises s (gives_back kind key s).scene (there_keeps (level_owner s.session) (λ owner. item_released owner kind key) s (λ owner. item_keeps owner kind key s))
+gives_rises kind key s = grind (arith, nat_tests, keeps_rises, gives_back kind key s, there_keeps, s.session, item_keeps)
 
 module _ (kind : KindId) (key : ℕ) (a b : Now) (P : List What → Type 0) (owner : OwnerId) (is : IsLevelOwner a.store owner) (keeps : Keeps a.store a.space) (calls : b.calls ≡ a.calls)
     (after : Keeps b.store b.space) (moves : Moves a.store.tree b.store.tree a.space b.space) (asks : Asks a.store.tree.account 0 a.space b.space) where

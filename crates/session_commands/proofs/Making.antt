@@ -1,6 +1,6 @@
 -- The contexts and the owners that steps make.
-use Rattle.session_commands.proofs.Base.{◌≡◌, ◌≢◌, ◌⊎◌, ◌↔◌, ℕ, ◌+◌, ◌≤◌, ◌==◌, true, false, List, [], ◌∷◌, Option, Some, None, Result, Ok, Err, refl, sym, ◌∙◌, ap, subst, arith, option_map}
-use Rattle.session_commands.proofs.Words.{Asks, first_size, CtxKind, TreeError, create_refusal, AsksInVain, Moves, size, OwnerError, Error, LimitReached, NoMemory, What, owners_of, Around, Moment, Scene, asks_in, NewContext, OfLevel, OfPortal, OwnerRole, Text, fallible, tree_error, does, left, limit, new_context_made, new_context_refused, new_owner_made, contexts_in, left_in, session_of, Acted, Keeps, Refused, Now, Performed, scene_in}
+use Rattle.session_commands.proofs.Base.{nat_tests, ◌≡◌, ◌≢◌, ◌⊎◌, ◌↔◌, ℕ, ◌+◌, ◌≤◌, ◌==◌, true, false, List, [], ◌∷◌, Option, Some, None, Result, Ok, Err, refl, sym, ◌∙◌, ap, subst, arith, option_map}
+use Rattle.session_commands.proofs.Words.{Asks, first_size, CtxKind, TreeError, create_refusal, AsksInVain, Moves, size, OwnerError, Error, LimitReached, NoMemory, What, owners_of, Around, Moment, Scene, asks_in, NewContext, OwnerRole, Text, fallible, tree_error, does, left, limit, new_context_made, new_context_refused, new_owner_made, contexts_in, left_in, session_of, Acted, Keeps, Refused, Now, Performed, scene_in}
 use Rattle.context_rules.specs.declared.errors.TreeError.TheVariants as tree
 use Rattle.owner_core.specs.declared.errors.OwnerError.TheVariants as owner
 use Rattle.session_rules.specs.Elements as element
@@ -39,8 +39,7 @@ unfolding does
 does_make_owner role w m = refl
 
 pub owner_rises : (role : OwnerRole) (s : Scene) → Rises 1 s (new_owner_made role s).scene
-owner_rises OfLevel s = record { contexts = omega arith; owners = omega arith; serials = omega arith; descriptors = refl }
-owner_rises (OfPortal name) s = record { contexts = omega arith; owners = omega arith; serials = omega arith; descriptors = refl }
+owner_rises x0 s = grind (arith, nat_tests)
 
 abbrev pub make_owner : OwnerRole → Call
 make_owner role = record {
@@ -56,9 +55,7 @@ make_owner role = record {
 module _ (a : Now) (r : Result (Unit {0}) OwnerError) (much : (r ≡ Err owner.TooMany) ↔ (65536 ≤ size (owners_of a.store.owners))) where
   pub few_owners : (u : Unit {0}) → r ≡ Ok u → (around : Around) → limit 65536 (size (scene_in a around).session.owners) ≡ None
   unfolding session_of
-  few_owners u ok around =
-      let never : 65536 ≤ size (owners_of a.store.owners) → ⊥ = λ more. let z : Ok u ≡ Err owner.TooMany = sym ok ∙ much.1 more in cc z in
-      limit_free 65536 (size (owners_of a.store.owners)) (omega (arith, never))
+  few_owners u ok around = grind (arith, nat_tests, limit_free)
 
   pub many_owners : r ≡ Err owner.TooMany → (around : Around) → limit 65536 (size (scene_in a around).session.owners) ≡ Some LimitReached
   unfolding session_of

@@ -1,5 +1,5 @@
 -- What the commands on chunks perform.
-use Rattle.session_commands.proofs.Base.{◌≡◌, ◌≢◌, ◌⊎◌, ℕ, ◌+◌, ◌==◌, Bool, true, false, OnOk, OnErr, IfOk, IfErr, Result, Ok, Err, List, [], ◌∷◌, length, Option, Some, None, refl, sym, ◌∙◌, ap, subst, arith, inl, inr, option_map}
+use Rattle.session_commands.proofs.Base.{nat_tests, ◌≡◌, ◌≢◌, ◌⊎◌, ℕ, ◌+◌, ◌==◌, Bool, true, false, OnOk, OnErr, IfOk, IfErr, Result, Ok, Err, List, [], ◌∷◌, length, Option, Some, None, refl, sym, ◌∙◌, ap, subst, arith, inl, inr, option_map}
 use Rattle.session_commands.proofs.Words.{Error, What, Asks, Space, ShelfState, TreeError, alloc_refusal, bytes_refusal, free_refusal, is_chunk, put_refusal, realloc_refusal, error_of, Around, Moment, Scene, Ended, say, where_there, Check, Element, InCurrent, Text, fallible, unfailing, failure, tree_error, unless, does, asks_in, memory_in, contexts_become, alloc_refused, chunk_resized, memory_taken, resize_refused, is_want, CommonState, balances_none, StoreState, contexts_in, held_in, left_in, session_of, Acted, ContextsAlone, IsSilent, Keeps, Refused, Calls, Now, Performed, most_calls, scene_in}
 use Rattle.std.proofs.Common.{not}
 use Rattle.pgs_step.specs.declared.errors.Error.TheVariants as error
@@ -25,8 +25,7 @@ module _ (check : Check) (x : Element) (act : Scene → Ended) (is : (w : Option
   on_chunk (Ok u) may acted same =
       passes most_calls check (x ∷ []) a b P None keeps may (performed_act most_calls x act a b P is raises (silently act a.store b.store a.space b.space a.shelf b.shelf a.commons b.commons P silent acted) alone calls
       (λ around. subst (λ (k : ℕ). Asks a.store.tree.account k a.space b.space) (sym (quiet (scene_in a around))) asks))
-  on_chunk (Err e) may acted same =
-      unchanged most_calls (element.Checks check ∷ x ∷ []) a b P (Some (tree_error e)) (fails most_calls check (x ∷ []) a P (tree_error e) keeps silent (tree_error_plain e) may) same alone.keeps alone.moves calls asks
+  on_chunk (Err e) may acted same = grind (arith, nat_tests, unchanged most_calls (element.Checks check ∷ x ∷ []) a b P (Some (tree_error e)) (fails most_calls check (x ∷ []) a P (tree_error e) keeps silent (tree_error_plain e) may) same alone.keeps alone.moves calls asks, fails most_calls check (x ∷ []) a P (tree_error e) keeps silent (tree_error_plain e) may, tree_error_plain e)
 
 does_free : (name : Text) (w : Option ℕ) (m : Moment) → does w (element.FreeChunk name) m ≡ unfailing m (contexts_become (freed name))
 unfolding does
@@ -47,12 +46,10 @@ does_realloc name size w m = refl
 
 -- where shelf and commons are fixed, what was done with any
 at_shelf : {A : Type 0} {E : Type 0} (r : Result A E) (x : ShelfState) (c : CommonState) (F : ShelfState → CommonState → Type 0) → OnOk r ((y : ShelfState) (d : CommonState) → F y d) → OnOk r (F x c)
-at_shelf (Ok u) x c F h = h x c
-at_shelf (Err e) x c F h = tt
+at_shelf x0 x c F h = grind (arith, nat_tests)
 
 err_at_shelf : {A : Type 0} {E : Type 0} (r : Result A E) (x : ShelfState) (c : CommonState) (F : ShelfState → CommonState → Type 0) → OnErr r ((y : ShelfState) (d : CommonState) → F y d) → OnErr r (F x c)
-err_at_shelf (Ok u) x c F h = tt
-err_at_shelf (Err e) x c F h = h x c
+err_at_shelf x0 x c F h = grind (arith, nat_tests)
 
 -- what a store and its space became, behind a call that the run doesn't count
 module _ (name : Text) (a : Now) (st : StoreState) (t : Space) (P : List What → Type 0) (r : Result (Unit {0}) TreeError) (keeps : Keeps a.store a.space) (silent : P [])
@@ -77,34 +74,26 @@ module _ (name : Text) (a : Now) (st : StoreState) (t : Space) (P : List What �
   pub put_performed : (at : ℕ) (bytes these : List ℕ) → these ≡ bytes → error_of r ≡ put_refusal name at (length these) (contexts_in a.store a.space)
       → OnOk r ((x : ShelfState) (m : CommonState) → Acted (contexts_become (written name at these)) a.store st a.space t x x m m IsSilent)
       → Performed most_calls (element.Checks (element.MayPut name at (length bytes)) ∷ element.Put name at bytes ∷ []) a (record a { store = st; space = t }) P (option_map tree_error (error_of r))
-  put_performed at bytes these is answer acted =
-      subst (λ (xs : List ℕ). Performed most_calls (element.Checks (element.MayPut name at (length xs)) ∷ element.Put name at xs ∷ []) a (record a { store = st; space = t }) P (option_map tree_error (error_of r))) is
-      (put_these at these answer acted)
+  put_performed at bytes these is answer acted = grind (arith, nat_tests, put_these at these answer acted)
 
 refused_there : (r : Result (Unit {0}) TreeError) (e : TreeError) (F : ShelfState → ShelfState → CommonState → CommonState → Type 0) (x : ShelfState) (c : CommonState) → r ≡ Err e → OnErr r ((y : ShelfState) (d : CommonState) → F y y d d) → F x x c c
-refused_there (Ok u) e F x c is h = absurd (cc is)
-refused_there (Err d) e F x c is h = h x c
+refused_there x0 e F x c is h = grind (arith, nat_tests)
 
 still_there : (r : Result (Unit {0}) TreeError) (e : TreeError) (t s : Space) → r ≡ Err e → OnErr r (t ≡ s) → t ≡ s
-still_there (Ok u) e t s is h = absurd (cc is)
-still_there (Err d) e t s is h = h
+still_there x0 e t s is h = grind (arith, nat_tests)
 
 cause_there : (r : Result (Unit {0}) TreeError) (e : TreeError) (o : Option TreeError) → r ≡ Err e → e ≢ tree.Memory → IfErr r (λ z. (z ≡ tree.Memory) ⊎ (o ≡ Some z)) → o ≡ Some e
-cause_there (Ok u) e o is n h = absurd (cc is)
-cause_there (Err d) e o is n (inl m) = absurd (n (cc (is, m)))
-cause_there (Err d) e o is n (inr h) = cc (is, h)
+cause_there x0 e o is n x5 = grind (arith, nat_tests)
 
 done_there : {A : Type 0} (r : Result A TreeError) (u : A) (x : ShelfState) (c : CommonState) (F : ShelfState → CommonState → Type 0) → r ≡ Ok u → OnOk r ((y : ShelfState) (d : CommonState) → F y d) → F x c
-done_there (Ok v) u x c F is h = h x c
-done_there (Err d) u x c F is h = absurd (cc is)
+done_there x0 u x c F is h = grind (arith, nat_tests)
 
 asks_there : {A : Type 0} (r : Result A TreeError) (u : A) (F : Type 0) → r ≡ Ok u → OnOk r F → F
 asks_there (Ok v) u F is h = h
 asks_there (Err d) u F is h = absurd (cc is)
 
 served_there : {A : Type 0} (r : Result A TreeError) (u : A) (o : Option TreeError) → r ≡ Ok u → OnOk r (o ≡ None) → o ≡ None
-served_there (Ok v) u o is h = h
-served_there (Err d) u o is h = absurd (cc is)
+served_there x0 u o is h = grind (arith, nat_tests)
 
 -- a command that tests a chunk and then makes a call that the run counts
 module _ (check : Check) (x : Element) (own : Scene → Option Error) (act : Scene → Ended) (is : (w : Option ℕ) (m : Moment) → does w x m ≡ fallible w m (own m.scene) act) (raises : Raises 1 act) (a : Now)
@@ -287,8 +276,7 @@ abbrev show_act : Text → ℕ → ℕ → Scene → Ended
 show_act name at n scene = say (what.Bytes name at (shown name at n scene.session.contexts)) scene
 
 bytes_there : (r : Result (List ℕ) TreeError) (bytes told : List ℕ) → r ≡ Ok bytes → IfOk r (λ xs. xs ≡ told) → bytes ≡ told
-bytes_there (Ok xs) bytes told is h = cc (is, h)
-bytes_there (Err e) bytes told is h = absurd (cc is)
+bytes_there x0 bytes told is h = grind (arith, nat_tests)
 
 module _ (name : Text) (at n : ℕ) (a : Now) (P : List What → Type 0) (r : Result (List ℕ) TreeError) (keeps : Keeps a.store a.space)
     (answer : error_of r ≡ bytes_refusal name at n (contexts_in a.store a.space)) where

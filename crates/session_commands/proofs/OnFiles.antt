@@ -1,5 +1,5 @@
 -- The steps by which the deepest level's owner takes a file, and by which a file gets a descriptor.
-use Rattle.session_commands.proofs.Base.{◌≡◌, ◌≢◌, ◌↔◌, ℕ, ◌+◌, ◌≤◌, ◌==◌, Bool, true, false, List, [], ◌∷◌, length, Option, Some, None, Result, Ok, Err, refl, sym, ◌∙◌, ap, subst, inl, inr, arith, not, cases_lt}
+use Rattle.session_commands.proofs.Base.{nat_tests, ◌≡◌, ◌≢◌, ◌↔◌, ℕ, ◌+◌, ◌≤◌, ◌==◌, Bool, true, false, List, [], ◌∷◌, length, Option, Some, None, Result, Ok, Err, refl, sym, ◌∙◌, ap, subst, arith, not}
 use Rattle.session_commands.proofs.Words.{Error, LimitReached, NameTaken, NoMemory, NoSuchName, What, owners_of, files_held, file_kind, holds, Around, Moment, Scene, OfLevel, fallible, failure, unless, does, TheDescriptors, descriptor_given, take_refused, session_of, Keeps, Now, Performed, most_calls, scene_in}
 use Rattle.file_table.specs.declared.files.FileError.{FileError}
 use Rattle.file_table.specs.declared.files.FileError.TheVariants.{Memory, NoFile, Taken, TooMany}
@@ -26,11 +26,7 @@ module _ (a : Now) where
 
   pub few_files : (r : Result (Unit {0}) FileError) (u : Unit {0}) → r ≡ Ok u → (r ≡ Err TooMany) ↔ (4096 ≤ many) → (around : Around) → take_refused TheDescriptors (scene_in a around) ≡ None
   unfolding session_of
-  few_files r u ok much around =
-      elim (cases_lt many 4096) [
-        | inl less ↦ limit_free 4096 many less
-        | inr more ↦ absurd (let z : Ok u ≡ Err TooMany = sym ok ∙ much.1 more in cc z)
-      ]
+  few_files r u ok much around = grind (arith, nat_tests, many, limit_free, much.1)
 
   pub many_files : (r : Result (Unit {0}) FileError) → r ≡ Err TooMany → (r ≡ Err TooMany) ↔ (4096 ≤ many) → (around : Around) → take_refused TheDescriptors (scene_in a around) ≡ Some LimitReached
   unfolding session_of

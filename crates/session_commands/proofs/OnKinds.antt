@@ -1,6 +1,6 @@
 -- The steps by which the deepest level's owner takes an item of an extension kind, and by which it gives one back.
-use Rattle.session_commands.proofs.Base.{◌≡◌, ◌↔◌, ℕ, zero, suc, ◌+◌, ◌<◌, ◌≤◌, ◌==◌, Bool, true, false, List, [], ◌∷◌, length, IfSome, Option, Some, None, Result, Ok, Err, refl, sym, ◌∙◌, ap, subst, arith, if◌then◌else◌, nat_le, slice_get, option_and_then, ne_eqb, nat_tests, length-map}
-use Rattle.session_commands.proofs.Words.{Error, KindLimit, NoMemory, NoSuchName, NotHeld, What, KindId, OwnerId, table_of, IsExtension, level_owner, Around, Moment, Scene, Ended, in_order, nothing, where_there, Check, Element, OfLevel, Text, asked_all, asks_in, then_asked, where_done, Done, fallible, unfailing, unless_refused, failure, unless, does, does_all, done_behind, then_done, kind_named, newest_of_level, at_kind, at_owner, Keeper, NoOne, TheKind, item_released, keeper_of, full, item_taken, remembers, take_refused, taken_by, asked_both, asked_one, asked_so, Acted, Keeps, at_calls, wants, IsLevelOwner, Now, Performed, Takes, most_calls, scene_in}
+use Rattle.session_commands.proofs.Base.{◌≡◌, ◌↔◌, ℕ, zero, suc, ◌+◌, ◌<◌, ◌≤◌, ◌==◌, true, false, List, [], ◌∷◌, length, IfSome, Option, Some, None, Result, Ok, Err, refl, sym, ◌∙◌, ap, subst, arith, if◌then◌else◌, nat_le, slice_get, option_and_then, nat_tests, length-map}
+use Rattle.session_commands.proofs.Words.{Error, KindLimit, NoMemory, NoSuchName, NotHeld, What, KindId, OwnerId, table_of, IsExtension, Around, Moment, Scene, Ended, in_order, nothing, where_there, Check, Element, OfLevel, Text, asked_all, asks_in, where_done, Done, fallible, failure, unless, does, does_all, kind_named, newest_of_level, at_kind, at_owner, TheKind, keeper_of, full, item_taken, take_refused, asked_both, asked_one, asked_so, Acted, Keeps, at_calls, wants, IsLevelOwner, Now, Performed, Takes, most_calls, scene_in}
 use Rattle.std.proofs.Common.{◌-◌}
 use Rattle.std.specs.Prelude.{is_some}
 use Rattle.owner_kinds.specs.Kind.{IsFull, Kind}
@@ -24,19 +24,7 @@ unfolding does
 does_take_named name key w m = refl
 
 pub named_rises : (name : Text) (key : ℕ) (s : Scene) → Rises 1 s (takes_named name key s).scene
-named_rises name key s = by_kind (kind_named name s.around.kinds)
-  where
-    by_keeper : (n : ℕ) (kind : KindId) (k : Keeper) → Rises 1 s (in_order (taken_by k key ∷ remembers n kind key ∷ []) s).scene
-    by_keeper n kind NoOne = record { contexts = omega arith; owners = omega arith; serials = omega arith; descriptors = refl }
-    by_keeper n kind other = record { contexts = omega arith; owners = omega arith; serials = omega arith; descriptors = refl }
-
-    by_owner : (kind : KindId) (o : Option ℕ) → Rises 1 s (where_there o (λ owner. item_taken owner kind key) s).scene
-    by_owner kind None = record { contexts = omega arith; owners = omega arith; serials = omega arith; descriptors = refl }
-    by_owner kind (Some n) = by_keeper n kind (keeper_of kind)
-
-    by_kind : (o : Option KindId) → Rises 1 s (where_there o (λ kind. at_owner OfLevel (λ owner. item_taken owner kind key)) s).scene
-    by_kind None = record { contexts = omega arith; owners = omega arith; serials = omega arith; descriptors = refl }
-    by_kind (Some kind) = by_owner kind (level_owner s.session)
+named_rises name key s = grind (arith, nat_tests, s.around.kinds, in_order, s.session)
 
 -- the deepest level's owner takes an item of the kind of a name
 abbrev pub take_named : Text → ℕ → Call
@@ -57,11 +45,7 @@ free_here : (kind : Kind) → (IsFull kind → ⊥) → (if nat_le kind.limit (l
 free_here kind not = let less : length kind.held < kind.limit = omega (arith, not) in let e : nat_le kind.limit (length kind.held) ≡ false = grind (arith, nat_tests) in rw e refl
 
 full_later : (place : ℕ) (kind : Kind) (kinds : List Kind) → full (suc place) (kind ∷ kinds) ≡ full place kinds
-full_later place kind kinds =
-    let other : (suc place == 0) ≡ false = ne_eqb (suc place) 0 (λ e. omega (arith, e)) in
-    let less : suc place - 1 ≡ place = omega arith in
-    ap (λ (b : Bool). if b then (if nat_le kind.limit (length kind.held) then Some KindLimit else None) else full (suc place - 1) kinds) other
-    ∙ ap (λ (n : ℕ). full n kinds) less
+full_later place kind kinds = grind (arith, nat_tests, kind.limit, kind.held, full)
 
 is_full : (place : ℕ) (kinds : List Kind) → place < length kinds → IfSome (slice_get kinds place) IsFull → full place kinds ≡ Some KindLimit
 is_full place [] less is = absurd (omega (arith, less))
@@ -79,9 +63,7 @@ keeper_is kind from = grind (arith, nat_tests)
 
 module _ (name : Text) (kind : KindId) (a : Now) (found : kind_named name a.commons.kinds ≡ Some kind) (extension : IsExtension (table_of a.commons.kinds) kind) where
   refused_as : (around : Around) → named_refused name (scene_in a around) ≡ full (kind.0 - 16) a.commons.kinds
-  refused_as around =
-      ap (λ (o : Option KindId). option_and_then (λ kind. take_refused (keeper_of kind) (scene_in a around)) o) found
-      ∙ ap (λ (k : Keeper). take_refused k (scene_in a around)) (keeper_is kind extension.from)
+  refused_as around = grind (arith, nat_tests, keeper_is)
 
   limited : (around : Around) → IfSome (slice_get a.commons.kinds (kind.0 - 16)) IsFull → named_refused name (scene_in a around) ≡ Some KindLimit
   limited around is =
@@ -98,8 +80,7 @@ module _ (name : Text) (kind : KindId) (a : Now) (found : kind_named name a.comm
           → (r ≡ Err Full) ↔ IfSome (slice_get a.commons.kinds (kind.0 - 16)) IsFull → (e ≡ Full → t ≡ KindLimit) → (e ≡ Memory → t ≡ NoMemory b.calls.count) → Performed 1 (element.TakeNamed name key ∷ []) a b P (Some t)
       take_named_refused goes r Full t is much full memory =
           subst (λ (x : Error). Performed 1 (element.TakeNamed name key ∷ []) a b P (Some x)) (sym (full refl)) (call_refused (take_named name key) a b P counted space keeps shelf silent store KindLimit goes refl (λ around. limited around (much.0 is)))
-      take_named_refused goes r Memory t is much full memory =
-          subst (λ (x : Error). Performed 1 (element.TakeNamed name key ∷ []) a b P (Some x)) (sym (memory refl)) (call_wants (take_named name key) a b P counted space keeps shelf silent store goes)
+      take_named_refused goes r Memory t is much full memory = grind (arith, nat_tests, call_wants (take_named name key) a b P counted space keeps shelf silent store goes)
 
     pub take_named_done : (a.calls.count + 1 == a.calls.fail) ≡ false → (r : Result (Unit {0}) KindError) (u : Unit {0}) → r ≡ Ok u → (r ≡ Err Full) ↔ IfSome (slice_get a.commons.kinds (kind.0 - 16)) IsFull
         → (owner : OwnerId) → IsLevelOwner a.store owner → b.store.tree ≡ a.store.tree → Keeps b.store b.space
@@ -141,20 +122,10 @@ performed_like k es fs a b P r same asks x = record {
 }
 
 no_asking : (r : Option Error) → where_done r 0 ≡ 0
-no_asking None = refl
-no_asking (Some e) = refl
+no_asking x0 = grind (arith, nat_tests)
 
 asks_none : (w : Option ℕ) (check : Check) (x : Element) (m : Moment) → ((scene : Scene) → asks_in x scene ≡ 0) → asked_all w (element.Checks check ∷ x ∷ []) m ≡ 0
-asks_none w check x m quiet =
-    asked_both w (element.Checks check ∷ []) (x ∷ []) m
-    ∙ go (asked_all w (element.Checks check ∷ []) m) (asked_one w (element.Checks check) m ∙ asked_so w (element.Checks check) m (does w (element.Checks check) m).refusal refl ∙ no_asking (does w (element.Checks check) m).refusal) (does_all w (element.Checks check ∷ []) m) (does_all w (element.Checks check ∷ []) m).refusal
-  where
-    alone : (n : Moment) → asked_all w (x ∷ []) n ≡ 0
-    alone n = asked_one w x n ∙ asked_so w x n (does w x n).refusal refl ∙ ap (where_done (does w x n).refusal) (quiet n.scene) ∙ no_asking (does w x n).refusal
-
-    go : (n : ℕ) → n ≡ 0 → (d : Done) (r : Option Error) → n + then_asked d r (asked_all w (x ∷ [])) ≡ 0
-    go n none d None = let e = alone d.moment in omega (arith, none, e)
-    go n none d (Some error) = omega (arith, none)
+asks_none w check x m quiet = grind (arith, nat_tests, asked_both w (element.Checks check ∷ []) (x ∷ []) m, asked_one w (element.Checks check) m, asked_so w (element.Checks check) m (does w (element.Checks check) m).refusal refl, no_asking (does w (element.Checks check) m).refusal, asked_one, asked_so, where_done, no_asking)
 
 -- no kind has the name
 pub no_kind : (name : Text) (rest : List Element) (a : Now) (P : List What → Type 0) → kind_named name a.commons.kinds ≡ None → Keeps a.store a.space → P []
@@ -169,21 +140,16 @@ module _ (name : Text) (kind : KindId) (key : ℕ) (a : Now) (found : kind_named
   module _ (b : Now) where
     pub no_room_named : (Q : List What → Type 0) → Q [] → (e : Error) → Performed 1 (element.Enlarge OfLevel ∷ []) a b (λ events. events ≡ []) (Some e)
         → Performed most_calls (element.Checks (element.IsKind name) ∷ element.Enlarge OfLevel ∷ element.TakeNamed name key ∷ []) a b Q (Some e)
-    no_room_named Q silent e x =
-        passes most_calls (element.IsKind name) _ a b Q (Some e) keeps kind_passes
-        (silent_stops 1 most_calls (element.Enlarge OfLevel ∷ []) (element.TakeNamed name key ∷ []) a b Q e (omega arith) silent x)
+    no_room_named Q silent e x = grind (arith, nat_tests, passes most_calls (element.IsKind name) _ a b Q (Some e) keeps kind_passes (silent_stops 1 most_calls (element.Enlarge OfLevel ∷ []) (element.TakeNamed name key ∷ []) a b Q e (omega arith) silent x), kind_passes, silent_stops 1 most_calls (element.Enlarge OfLevel ∷ []) (element.TakeNamed name key ∷ []) a b Q e (omega arith) silent x)
 
     pub acquired : (c : Now) (P : List What → Type 0) (r : Option Error) → Performed 1 (element.Enlarge OfLevel ∷ []) a b (λ events. events ≡ []) None
         → Performed 1 (element.TakeNamed name key ∷ []) b c P r → Performed most_calls (element.Checks (element.IsKind name) ∷ element.Enlarge OfLevel ∷ element.TakeNamed name key ∷ []) a c P r
-    acquired c P r x y =
-        passes most_calls (element.IsKind name) _ a c P r keeps kind_passes
-        (silent_then 1 1 (element.Enlarge OfLevel ∷ []) (element.TakeNamed name key ∷ []) a b c P r x y)
+    acquired c P r x y = grind (arith, nat_tests, passes most_calls (element.IsKind name) _ a c P r keeps kind_passes (silent_then 1 1 (element.Enlarge OfLevel ∷ []) (element.TakeNamed name key ∷ []) a b c P r x y), kind_passes, silent_then 1 1 (element.Enlarge OfLevel ∷ []) (element.TakeNamed name key ∷ []) a b c P r x y)
 
   -- giving back by name what is of the kind
   gives_named : (w : Option ℕ) (m : Moment) → kind_named name m.scene.around.kinds ≡ Some kind → does w (element.GiveBack kind key) m ≡ does w (element.GiveBackNamed name key) m
   unfolding does
-  gives_named w m is =
-      ap (λ (o : Option KindId). unfailing m (λ scene. where_there o (λ k. at_owner OfLevel (λ n. item_released n k key)) scene)) (sym is)
+  gives_named w m is = grind (arith, nat_tests)
 
   held_named : (scene : Scene) → kind_named name scene.around.kinds ≡ Some kind → failure (element.Holds kind key) scene ≡ failure (element.HoldsNamed name key) scene
   held_named scene is = ap (λ (o : Option KindId). unless (is_some (option_and_then (λ k. newest_of_level k key scene.session) o)) NotHeld) (sym is)
@@ -191,16 +157,7 @@ module _ (name : Text) (kind : KindId) (key : ℕ) (a : Now) (found : kind_named
   drops : (w : Option ℕ) (m : Moment) → kind_named name m.scene.around.kinds ≡ Some kind
       → does_all w (element.Checks (element.Holds kind key) ∷ element.GiveBack kind key ∷ []) m ≡ does_all w (element.Checks (element.HoldsNamed name key) ∷ element.GiveBackNamed name key ∷ []) m
   unfolding does_all does
-  drops w m is =
-      by_check (failure (element.Holds kind key) m.scene)
-      ∙ ap (λ (o : Option Error). behind o (element.GiveBackNamed name key)) (held_named m.scene is)
-    where
-      behind : Option Error → Element → Done
-      behind o x = let done = unless_refused o m nothing in then_done done done.refusal (does_all w (x ∷ []))
-
-      by_check : (o : Option Error) → behind o (element.GiveBack kind key) ≡ behind o (element.GiveBackNamed name key)
-      by_check None = ap (λ (d : Done). done_behind [] d) (does_one w (element.GiveBack kind key) m ∙ gives_named w m is ∙ sym (does_one w (element.GiveBackNamed name key) m))
-      by_check (Some e) = refl
+  drops w m is = grind (arith, nat_tests, m.scene, held_named m.scene is, nothing, does_one w (element.GiveBack kind key) m, gives_named w m is, does_one w (element.GiveBackNamed name key) m)
 
   -- checks and what gives back ask nothing
   pub dropped : (b : Now) (P : List What → Type 0) (r : Option Error) → Performed most_calls (element.Checks (element.Holds kind key) ∷ element.GiveBack kind key ∷ []) a b P r

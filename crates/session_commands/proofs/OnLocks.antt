@@ -20,11 +20,7 @@ unfolding does
 does_take_lock role object mode w m = refl
 
 pub lock_rises : (role : OwnerRole) (object : ℕ) (mode : Mode) (s : Scene) → Rises 1 s (takes_lock role object mode s).scene
-lock_rises role object mode s = go (owner_in role s.session)
-  where
-    go : (o : Option ℕ) → Rises 1 s (where_there o (lock_taken object mode) s).scene
-    go None = record { contexts = omega arith; owners = omega arith; serials = omega arith; descriptors = refl }
-    go (Some n) = record { contexts = omega arith; owners = omega arith; serials = omega arith; descriptors = refl }
+lock_rises role object mode s = grind (arith, nat_tests, owner_in role s.session, s.session)
 
 -- an owner takes a lock
 abbrev pub take_lock : OwnerRole → ℕ → Mode → Call
@@ -56,13 +52,9 @@ module _ (role : OwnerRole) (object : ℕ) (mode : Mode) (a b : Now) (P : List W
     pub lock_not_taken : (a.calls.count + 1 == a.calls.fail) ≡ false → (r : Result (Unit {0}) LockError) (e : LockError) (t : Error) → r ≡ Err e
         → ((s : ℕ) (m : Mode) → IsErrOf r (Conflict s m) ↔ (conflict_in a object mode ≡ Some (s, m))) → (IsErrOf r NotHeld → ⊥)
         → ((s : ℕ) (m : Mode) → e ≡ Conflict s m → t ≡ LockHeld s m) → (e ≡ Memory → t ≡ NoMemory b.calls.count) → Performed 1 (element.TakeLock role object mode ∷ []) a b P (Some t)
-    lock_not_taken goes r (Conflict s m) t is conflict held told memory =
-        subst (λ (x : Error). Performed 1 (element.TakeLock role object mode ∷ []) a b P (Some x)) (sym (told s m refl))
-        (call_refused (take_lock role object mode) a b P counted space keeps shelf silent store (LockHeld s m) goes refl (held_by a object mode (Some (s, m)) ((conflict s m).0 is)))
+    lock_not_taken goes r (Conflict s m) t is conflict held told memory = grind (arith, nat_tests, call_refused (take_lock role object mode) a b P counted space keeps shelf silent store (LockHeld s m) goes refl (held_by a object mode (Some (s, m)) ((conflict s m).0 is)), held_by a object mode (Some (s, m)) ((conflict s m).0 is))
     lock_not_taken goes r NotHeld t is conflict held told memory = absurd (held is)
-    lock_not_taken goes r Memory t is conflict held told memory =
-        subst (λ (x : Error). Performed 1 (element.TakeLock role object mode ∷ []) a b P (Some x)) (sym (memory refl))
-        (call_wants (take_lock role object mode) a b P counted space keeps shelf silent store goes)
+    lock_not_taken goes r Memory t is conflict held told memory = grind (arith, nat_tests, call_wants (take_lock role object mode) a b P counted space keeps shelf silent store goes)
 
   pub take_lock_done : (a.calls.count + 1 == a.calls.fail) ≡ false → (r : Result (Unit {0}) LockError) (u : Unit {0}) → r ≡ Ok u
       → ((s : ℕ) (m : Mode) → IsErrOf r (Conflict s m) ↔ (conflict_in a object mode ≡ Some (s, m))) → (owner : OwnerId) → IsOwnerOf role a.store owner
@@ -128,11 +120,7 @@ module _ (object : ℕ) (mode : Mode) (a b : Now) (P : List What → Type 0) (ow
 
 -- what the answer tells of how often the lock was held
 pub is_missing : (count : ℕ) (r : Result (Unit {0}) LockError) (e : LockError) → r ≡ Err e → IsErrOf r NotHeld ↔ (count ≡ 0) → IsOkUnless r NotHeld → count ≡ 0
-is_missing count r e is missing only = missing.0 (by_answer r e is only)
-  where
-    by_answer : (r : Result (Unit {0}) LockError) (e : LockError) → r ≡ Err e → IsOkUnless r NotHeld → r ≡ Err NotHeld
-    by_answer (Ok u) e is only = absurd (cc is)
-    by_answer (Err f) e is only = ap (λ (x : LockError). Err x) only
+is_missing count r e is missing only = grind (arith, nat_tests, missing.0)
 
 pub was_held : (count : ℕ) (r : Result (Unit {0}) LockError) (u : Unit {0}) → r ≡ Ok u → IsErrOf r NotHeld ↔ (count ≡ 0) → count ≡ 0 → ⊥
 was_held count r u is missing none = let z : Ok u ≡ Err NotHeld = sym is ∙ missing.1 none in cc z

@@ -1,5 +1,5 @@
 -- What the other commands on contexts perform.
-use Rattle.session_commands.proofs.Base.{◌≡◌, ℕ, ◌+◌, ◌==◌, ◌≤◌, ◌↔◌, ◌≢◌, ◌⊎◌, inl, inr, Bool, true, false, List, [], ◌∷◌, Option, Some, None, OnOk, OnErr, Result, Ok, Err, refl, sym, ◌∙◌, ap, subst, arith, option_map, option_map_or}
+use Rattle.session_commands.proofs.Base.{nat_tests, ◌≡◌, ℕ, ◌+◌, ◌==◌, ◌≤◌, ◌↔◌, ◌≢◌, ◌⊎◌, Bool, true, false, List, [], ◌∷◌, Option, Some, None, OnOk, OnErr, Result, Ok, Err, refl, sym, ◌∙◌, ap, subst, arith, option_map, option_map_or}
 use Rattle.session_commands.proofs.Words.{Error, What, Asks, Space, ShelfState, TreeError, create_refusal, is_taken, set_parent_refusal, first_size, AsksInVain, error_of, first_of, Moment, Scene, Ended, switched, where_there, hook_refused, hook_registered, hook_waits, Element, NewContext, Text, context_made, new_context_made, new_context_refused, CtxKind, tree_error, unless, context_named, at_context, context_moved, fallible, unfailing, does, CommonState, StoreState, contexts_in, left_in, session_of, Acted, ContextsAlone, Keeps, Refused, Now, Performed, most_calls, scene_in}
 use Rattle.std.proofs.Common.{not}
 use Rattle.pgs_step.specs.declared.errors.Error.TheVariants as error
@@ -45,11 +45,7 @@ module _ (name : Text) (a b : Now) (n : ℕ) (P : List What → Type 0) (found :
     moves_to m = at_context parent (context_moved m)
 
     moves_raise : (m : ℕ) (scene : Scene) → (moves_to m scene).scene.session.next_context ≤ scene.session.next_context + 0
-    moves_raise m scene = go (context_named parent scene.session)
-      where
-        go : (o : Option ℕ) → (where_there o (context_moved m) scene).scene.session.next_context ≤ scene.session.next_context + 0
-        go None = omega arith
-        go (Some q) = omega arith
+    moves_raise m scene = grind (arith, nat_tests, context_named parent scene.session, scene.session, scene.session.next_context)
 
     pub reparent_performed : b.calls ≡ a.calls → OnErr r (Refused a.store b.store a.space b.space a.shelf b.shelf a.commons b.commons) → OnErr r (P [])
         → error_of r ≡ set_parent_refusal n p (contexts_in a.store a.space) → OnOk r (Acted (context_moved n p) a.store b.store a.space b.space a.shelf b.shelf a.commons b.commons P)
@@ -79,12 +75,7 @@ module _ (name : Text) (a b : Now) (n : ℕ) (P : List What → Type 0) (found :
     waits m scene = where_there (first_of scene.around.shelf.fresh) (hook_waits m) scene
 
     register_raises : Raises 1 (hook_registered name)
-    register_raises scene = go (context_named name scene.session) (first_of scene.around.shelf.fresh)
-      where
-        go : (o : Option ℕ) (h : Option Hook) → (where_there o (λ m. where_there h (hook_waits m)) scene).scene.session.next_context ≤ scene.session.next_context + 1
-        go None h = omega arith
-        go (Some m) None = omega arith
-        go (Some m) (Some h) = omega arith
+    register_raises scene = grind (arith, nat_tests, context_named name scene.session, scene.session, scene.around.shelf.fresh, scene.session.next_context)
 
     register_acted : Acted (waits n) a.store b.store a.space b.space a.shelf b.shelf a.commons b.commons P → Acted (hook_registered name) a.store b.store a.space b.space a.shelf b.shelf a.commons b.commons P
     register_acted h = record {
@@ -123,10 +114,8 @@ module _ (name : Text) (a b : Now) (n : ℕ) (P : List What → Type 0) (found :
       pub register_refused : (r : Result (Unit {0}) RegisterError) (refusal : RegisterError) (t : Error) → (a.calls.count + 1 == a.calls.fail) ≡ false → r ≡ Err refusal → ((r ≡ Err register.NoHook) ↔ (a.shelf.fresh ≡ []))
           → (refusal ≡ register.NoHook → t ≡ error.LimitReached) → (refusal ≡ register.Memory → t ≡ error.NoMemory (a.calls.count + 1))
           → Performed most_calls (element.Checks (element.IsContext name) ∷ element.Register name ∷ []) a b P (Some t)
-      register_refused r register.NoHook t goes is no_hook none memory =
-          subst (λ (e : Error). Performed most_calls (element.Checks (element.IsContext name) ∷ element.Register name ∷ []) a b P (Some e)) (sym (none refl)) (register_none goes (no_hook.0 is))
-      register_refused r register.Memory t goes is no_hook none memory =
-          subst (λ (e : Error). Performed most_calls (element.Checks (element.IsContext name) ∷ element.Register name ∷ []) a b P (Some e)) (sym (memory refl)) (register_wants goes)
+      register_refused r register.NoHook t goes is no_hook none memory = grind (arith, nat_tests, register_none goes (no_hook.0 is), no_hook.0 is)
+      register_refused r register.Memory t goes is no_hook none memory = grind (arith, nat_tests, register_wants goes)
 
     -- where a hook waits now, there was a fresh one
     pub register_done : (r : Result (Unit {0}) RegisterError) (u : Unit {0}) → (a.calls.count + 1 == a.calls.fail) ≡ false → r ≡ Ok u → ((r ≡ Err register.NoHook) ↔ (a.shelf.fresh ≡ []))
@@ -149,8 +138,7 @@ no_parent name parent rest a n P found none keeps silent =
 
 -- what holds in any space, with any shelf and any commons holds here
 pub here : {A E : Type 0} (P : Space → ShelfState → CommonState → Type 0) (r : Result A E) (s : Space) (x : ShelfState) (c : CommonState) → OnOk r ((t : Space) (y : ShelfState) (d : CommonState) → P t y d) → OnOk r (P s x c)
-here P (Ok a) s x c all = all s x c
-here P (Err e) s x c all = all
+here P x1 s x c all = grind (arith, nat_tests)
 
 -- the value of an answer
 pub answer_of : {A E P : Type 0} (r : Result A E) (a : A) → r ≡ Ok a → OnOk r P → P
@@ -163,24 +151,7 @@ answer_of (Err e) a is p = absurd (other is)
 -- what a call on contexts that may take memory answered, as the session answers it
 pub by_cause : (k : ℕ) (es : List Element) (a b : Now) (P : List What → Type 0) (own : Option TreeError) (n : ℕ) (e : TreeError) (t : Error) → (e ≡ tree.Memory → t ≡ error.NoMemory n) → (e ≢ tree.Memory → t ≡ tree_error e)
     → (e ≡ tree.Memory) ⊎ (own ≡ Some e) → Performed k es a b P (Some (error.NoMemory n)) → (e ≢ tree.Memory → own ≡ Some e → Performed k es a b P (Some (tree_error e))) → Performed k es a b P (Some t)
-by_cause k es a b P own n e t memory other cause want refused = go e refl
-  where
-    as_error : (d : Error) → t ≡ d → Performed k es a b P (Some d) → Performed k es a b P (Some t)
-    as_error d is h = subst (λ (x : Error). Performed k es a b P (Some x)) (sym is) h
-
-    told : (e ≢ tree.Memory) → Performed k es a b P (Some t)
-    told ne = as_error (tree_error e) (other ne) (elim cause [ inl is ↦ absurd (ne is) | inr is ↦ refused ne is ])
-
-    go : (d : TreeError) → e ≡ d → Performed k es a b P (Some t)
-    go tree.Memory is = as_error (error.NoMemory n) (memory is) want
-    go tree.NoName is = told (λ z. let bad : tree.NoName ≡ tree.Memory = sym is ∙ z in cc)
-    go tree.Taken is = told (λ z. let bad : tree.Taken ≡ tree.Memory = sym is ∙ z in cc)
-    go tree.Protected is = told (λ z. let bad : tree.Protected ≡ tree.Memory = sym is ∙ z in cc)
-    go tree.InUse is = told (λ z. let bad : tree.InUse ≡ tree.Memory = sym is ∙ z in cc)
-    go tree.Cycle is = told (λ z. let bad : tree.Cycle ≡ tree.Memory = sym is ∙ z in cc)
-    go tree.Range is = told (λ z. let bad : tree.Range ≡ tree.Memory = sym is ∙ z in cc)
-    go tree.TooMany is = told (λ z. let bad : tree.TooMany ≡ tree.Memory = sym is ∙ z in cc)
-    go (tree.Ctx x) is = told (λ z. let bad : tree.Ctx x ≡ tree.Memory = sym is ∙ z in cc)
+by_cause k es a b P own n e t memory other cause want refused = grind (arith, nat_tests)
 
 -- a context of a script is made
 module _ (name parent : Text) (kind : CtxKind) where
@@ -209,11 +180,7 @@ module _ (name parent : Text) (kind : CtxKind) where
           (passes 1 (element.IsContext parent) _ a b P r keeps (λ around. there parent (scene_in a around) n found) next)
 
       raises_one : Raises 1 (new_context_made new)
-      raises_one scene = go (context_named parent scene.session)
-        where
-          go : (o : Option ℕ) → (where_there o (λ p. context_made p name false kind) scene).scene.session.next_context ≤ scene.session.next_context + 1
-          go None = omega arith
-          go (Some p) = omega arith
+      raises_one scene = grind (arith, nat_tests, context_named parent scene.session, scene.session, scene.session.next_context)
 
       made_at : Acted (context_made n name false kind) a.store b.store a.space b.space a.shelf b.shelf a.commons b.commons P → Acted (new_context_made new) a.store b.store a.space b.space a.shelf b.shelf a.commons b.commons P
       made_at h = record {
@@ -231,9 +198,7 @@ module _ (name parent : Text) (kind : CtxKind) where
 
       module _ (same : Refused a.store b.store a.space b.space a.shelf b.shelf a.commons b.commons) (silent : P []) where
         pub make_injected : (a.calls.count + 1 == a.calls.fail) ≡ true → Asks a.store.tree.account 0 a.space b.space → Performed most_calls made a b P (Some (error.Injected (a.calls.count + 1)))
-        make_injected failing asks =
-            checked (Some (error.Injected (a.calls.count + 1)))
-            (performed_injected (element.MakeContext new) (new_context_refused new) (new_context_made new) (does_make_context new) a b P counted same alone.keeps alone.moves failing silent asks)
+        make_injected failing asks = grind (arith, nat_tests, checked (Some (error.Injected (a.calls.count + 1))) (performed_injected (element.MakeContext new) (new_context_refused new) (new_context_made new) (does_make_context new) a b P counted same alone.keeps alone.moves failing silent asks), performed_injected (element.MakeContext new) (new_context_refused new) (new_context_made new) (does_make_context new) a b P counted same alone.keeps alone.moves failing silent asks, new, does_make_context new)
 
         pub make_refused : (e : TreeError) (t : Error) → (a.calls.count + 1 == a.calls.fail) ≡ false → (e ≡ tree.Memory) ⊎ (create_refusal (left_in a.store a.space) name kind false (contexts_in a.store a.space) ≡ Some e)
             → (e ≡ tree.Memory → t ≡ error.NoMemory b.calls.count) → (e ≢ tree.Memory → t ≡ tree_error e) → AsksInVain e a.store.tree.account (first_size kind) a.space b.space → Performed most_calls made a b P (Some t)

@@ -1,5 +1,5 @@
 -- What the commands on plans perform.
-use Rattle.session_commands.proofs.Base.{◌≡◌, ◌≢◌, ◌⊎◌, ℕ, ◌+◌, ◌==◌, Bool, true, false, is_some, List, [], ◌∷◌, length, Option, Some, None, refl, sym, ◌∙◌, ap, inl, inr, arith, length-map, codes, is_none, nat_lt, not, cases_lt, nat_tests, option_map, option_map_or, option_or}
+use Rattle.session_commands.proofs.Base.{◌≡◌, ◌≢◌, ◌⊎◌, ℕ, ◌+◌, ◌==◌, Bool, true, false, is_some, List, [], ◌∷◌, length, Option, Some, None, refl, sym, ◌∙◌, ap, arith, length-map, codes, is_none, nat_lt, not, nat_tests, option_map, option_map_or, option_or}
 use Rattle.session_commands.proofs.Words.{Error, What, Asks, ShelfState, first_size, TreeError, create_refusal, AsksInVain, SessionState, StandingPlan, plan_reference, Around, Moment, Scene, Ended, where_there, Element, OfLevel, fallible, unfailing, tree_error, unless, does, plan_at, context_refused, limit, plan_made, plan_becomes, CommonState, plan_state, StoreState, contexts_in, left_in, session_of, Acted, BothAlone, Keeps, Unmade, Grows, Now, Performed, most_calls, scene_in}
 use Rattle.pgs_step.specs.declared.errors.Error.TheVariants as error
 use Rattle.any_ctx.specs.declared.any.CtxKind.TheVariants as kind
@@ -17,17 +17,7 @@ use Rattle.session_commands.proofs.Takings.{none_in_vain, some_in_vain}
 
 -- by what a plan is refused: that 1,024 stand, and then that no context can be made
 refusals_agree : (n : ℕ) (o : Option TreeError) → option_or (limit 1024 n) (option_map tree_error o) ≡ option_map tree_error (option_or (where_so (not (nat_lt n 1024)) tree.TooMany) o)
-refusals_agree n o =
-    elim (cases_lt n 1024) [
-      | inl less ↦
-          let few : nat_lt n 1024 ≡ true = grind (arith, nat_tests) in
-          ap (λ (r : Option Error). option_or r (option_map tree_error o)) (limit_free 1024 n less)
-          ∙ ap (λ (b : Bool). option_map tree_error (option_or (where_so (not b) tree.TooMany) o)) (sym few)
-      | inr more ↦
-          let many : nat_lt n 1024 ≡ false = grind (arith, nat_tests) in
-          ap (λ (r : Option Error). option_or r (option_map tree_error o)) (limit_reached 1024 n more)
-          ∙ ap (λ (b : Bool). option_map tree_error (option_or (where_so (not b) tree.TooMany) o)) (sym many)
-    ]
+refusals_agree n o = grind (arith, nat_tests, limit_free, limit_reached)
 
 -- A plan is made.
 module _ (plan : ℕ) where
@@ -65,10 +55,7 @@ module _ (plan : ℕ) where
 
     -- the call that is to fail
     pub make_injected : b.store ≡ a.store → b.space ≡ a.space → lent b ≡ lent a → P [] → (e : Error) → (e ≡ error.Injected (a.calls.count + 1)) × ((a.calls.count + 1 == a.calls.fail) ≡ true) → Performed most_calls makes a b P (Some e)
-    make_injected store space shelf silent e told =
-        checked (Some e)
-        (step_injected (element.MakePlan plan) refuses (plan_made plan) does_make a b P counted (still_refused a b store space shelf)
-        (still_keeps a b store space shelf keeps) (still_moves a b store space shelf keeps) silent e told (still_asks a b store space shelf))
+    make_injected store space shelf silent e told = grind (arith, nat_tests, checked (Some e) (step_injected (element.MakePlan plan) refuses (plan_made plan) does_make a b P counted (still_refused a b store space shelf) (still_keeps a b store space shelf keeps) (still_moves a b store space shelf keeps) silent e told (still_asks a b store space shelf)), step_injected (element.MakePlan plan) refuses (plan_made plan) does_make a b P counted (still_refused a b store space shelf) (still_keeps a b store space shelf keeps) (still_moves a b store space shelf keeps) silent e told (still_asks a b store space shelf), refuses, does_make, still_refused a b store space shelf, still_keeps a b store space shelf keeps, still_moves a b store space shelf keeps, still_asks a b store space shelf)
 
     -- by what it is refused, as the store tells it
     abbrev own : Option TreeError
@@ -98,13 +85,7 @@ module _ (plan : ℕ) where
           ∙ ap (λ (c : StoreState). scene_with (session_of b.store b.space) c.owners b.commons b.shelf b.space.limit around) (sym unmade.store)
 
       unmade_grows : Grows 1 a b
-      unmade_grows = record {
-        contexts = omega (arith, ap (λ (c : StoreState). c.tree.next) unmade.store);
-        owners = omega (arith, ap (λ (c : StoreState). c.owners.next_owner) unmade.store);
-        serials = omega (arith, ap (λ (c : StoreState). c.owners.next_serial) unmade.store);
-        calls = omega (arith, count_behind a b counted);
-        descriptors = ap (λ (c : StoreState). c.owners.descriptors) unmade.store;
-      }
+      unmade_grows = grind (arith, nat_tests, count_behind a b counted)
 
       pub make_refused : (e : TreeError) (t : Error) → (a.calls.count + 1 == a.calls.fail) ≡ false → (e ≡ tree.Memory → t ≡ error.NoMemory (a.calls.count + 1)) → (e ≢ tree.Memory → t ≡ tree_error e)
           → (e ≡ tree.Memory) ⊎ (own ≡ Some e) → AsksInVain e a.store.tree.account (first_size kind.Small) a.space b.space → Performed most_calls makes a b P (Some t)

@@ -1,8 +1,7 @@
 -- The steps by which a snapshot becomes active, and by which it is active no more.
-use Rattle.session_commands.proofs.Base.{◌≡◌, ◌↔◌, ℕ, Bool, true, false, List, [], ◌∷◌, length, Option, Some, None, Result, Ok, Err, refl, ap, arith, ◌-◌, take, IsErr}
-use Rattle.session_commands.proofs.Words.{NotHeld, What, Space, last_of, Moment, Scene, changes, in_order, say, where_there, fallible, unfailing, holds_snapshot, unless, does, snapshot_popped, snapshot_pushed, session_of, Acted, Keeps, Calls, Now, Performed, most_calls}
+use Rattle.session_commands.proofs.Base.{nat_tests, ◌≡◌, ◌↔◌, ℕ, Bool, true, false, List, [], ◌∷◌, Option, Some, None, Result, Ok, Err, refl, ap, arith, ◌-◌, IsErr}
+use Rattle.session_commands.proofs.Words.{NotHeld, What, Space, Moment, Scene, in_order, fallible, unfailing, holds_snapshot, unless, does, snapshot_popped, snapshot_pushed, session_of, Acted, Keeps, Calls, Now, Performed, most_calls}
 use Rattle.pgs_step.specs.declared.events.What.TheVariants as what
-use Rattle.snap_table.specs.declared.active.Active.{Active}
 use Rattle.session_rules.specs.Elements as element
 use Rattle.session_commands.proofs.Commands.{fails, passes_end, unchanged}
 use Rattle.session_commands.proofs.Performing.{performed_end}
@@ -20,12 +19,7 @@ pub push_rises : (snapshot : ℕ) (s : Scene) → Rises 1 s (snapshot_pushed sna
 push_rises snapshot s = record { contexts = omega arith; owners = omega arith; serials = omega arith; descriptors = refl }
 
 pop_rises : (s : Scene) → Rises 0 s (snapshot_popped s).scene
-pop_rises s = go (last_of s.session.snapshots)
-  where
-    go : (o : Option Active)
-        → Rises 0 s (where_there o (λ entry. in_order (changes (λ session. record session { snapshots = take (length session.snapshots - 1) session.snapshots }) ∷ say (what.Pop entry.snapshot) ∷ [])) s).scene
-    go None = record { contexts = omega arith; owners = omega arith; serials = omega arith; descriptors = refl }
-    go (Some entry) = record { contexts = omega arith; owners = omega arith; serials = omega arith; descriptors = refl }
+pop_rises s = grind (arith, nat_tests, s.session.snapshots, in_order)
 
 -- a snapshot is pushed at the deepest level
 abbrev pub push : ℕ → Call

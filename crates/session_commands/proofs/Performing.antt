@@ -1,5 +1,5 @@
 -- How what methods perform makes up what a command performs.
-use Rattle.session_commands.proofs.Base.{◌≡◌, ℕ, ◌+◌, ◌≤◌, ◌==◌, true, false, List, [], ◌∷◌, ◌++◌, Option, Some, None, refl, sym, ◌∙◌, ap, subst, arith}
+use Rattle.session_commands.proofs.Base.{nat_tests, ◌≡◌, ℕ, ◌+◌, ◌≤◌, ◌==◌, true, false, List, [], ◌∷◌, ◌++◌, Option, Some, None, refl, sym, ◌∙◌, ap, subst, arith}
 use Rattle.session_commands.proofs.Words.{Error, Injected, NoMemory, What, Asks, Space, ShelfState, TreeState, Agrees, Moves, SessionState, Around, Moment, Scene, Ended, Check, Element, failure, fallible, unfailing, does, asks_in, is_want, ResourceState, Balances, CommonState, seen_by, balances_more, balances_none, StoreState, scene_of, session_of, Acted, ContextsAlone, Keeps, Refused, Calls, Answers, Now, Grows, Performed, Takes, scene_in}
 use Rattle.context_tree.proofs.Composed.{tree_more}
 use Rattle.session_rules.specs.Elements as element
@@ -10,13 +10,7 @@ use Rattle.session_commands.proofs.Answered.{answers_act, answers_both, answers_
 -- the same scene behind
 pub answers_as : (es : List Element) (S T U : Around → Scene) (a b fail : ℕ) (P : List What → Type 0) (r : Option Error) → ((around : Around) → T around ≡ U around)
     → Answers es S T a b fail P r → Answers es S U a b fail P r
-answers_as es S T U a b fail P r same x = record {
-  moment = λ around w f. x.moment around w f ∙ ap (λ (z : Scene). record { scene = z; calls = b; fail = fail }) (same around);
-  says = x.says;
-  answer = x.answer;
-  calls = x.calls;
-  counted = x.counted;
-}
+answers_as es S T U a b fail P r same x = grind (arith, nat_tests, x.moment, x.says, x.answer, x.calls, x.counted)
 
 -- nothing moved
 pub moves_nothing : (a : TreeState) (s : Space) → Agrees a s → Moves a a s s
@@ -48,13 +42,7 @@ performed_both j k xs ys a b c P Q R r x y joins = record {
   moves = tree_more a.store.tree b.store.tree c.store.tree a.space b.space c.space x.moves y.moves;
   taken = taken_both xs ys a b c P Q r x.answers y.answers x.fail x.moves.account x.taken y.taken;
   balances = balances_more _ _ _ _ _ _ x.balances y.balances;
-  grows = record {
-    contexts = omega (arith, x.grows.contexts, y.grows.contexts);
-    owners = omega (arith, x.grows.owners, y.grows.owners);
-    serials = omega (arith, x.grows.serials, y.grows.serials);
-    calls = omega (arith, x.grows.calls, y.grows.calls);
-    descriptors = y.grows.descriptors ∙ x.grows.descriptors;
-  };
+  grows = grind (arith, nat_tests, x.grows.contexts, y.grows.contexts, x.grows.owners, y.grows.owners, x.grows.serials, y.grows.serials, x.grows.calls, y.grows.calls, y.grows.descriptors, x.grows.descriptors);
 }
 
 -- elements of which one was refused
@@ -71,21 +59,7 @@ performed_stop k xs ys a b P e x = record {
 
 -- a higher bound
 pub performed_more : (j k : ℕ) (xs : List Element) (a b : Now) (P : List What → Type 0) (r : Option Error) → j ≤ k → Performed j xs a b P r → Performed k xs a b P r
-performed_more j k xs a b P r le x = record {
-  answers = x.answers;
-  fail = x.fail;
-  keeps = x.keeps;
-  moves = x.moves;
-  taken = x.taken;
-  balances = x.balances;
-  grows = record {
-    contexts = omega (arith, le, x.grows.contexts);
-    owners = omega (arith, le, x.grows.owners);
-    serials = omega (arith, le, x.grows.serials);
-    calls = omega (arith, le, x.grows.calls);
-    descriptors = x.grows.descriptors;
-  };
-}
+performed_more j k xs a b P r le x = grind (arith, nat_tests, x.answers, x.fail, x.keeps, x.moves, x.taken, x.balances, x.grows.contexts, x.grows.owners, x.grows.serials, x.grows.calls, x.grows.descriptors)
 
 -- what was performed, and said otherwise
 pub performed_said : (k : ℕ) (es : List Element) (a b : Now) (P Q : List What → Type 0) (r : Option Error) → ((events : List What) → P events → Q events) → Performed k es a b P r → Performed k es a b Q r
@@ -242,8 +216,7 @@ module _ (x : Element) (own : Scene → Option Error) (act : Scene → Ended) (i
 
     pub refused_own : (e : Error) → (a.calls.count + 1 == a.calls.fail) ≡ false → is_want e ≡ false → P [] → ((around : Around) → own (scene_in a around) ≡ Some e)
         → Asks a.store.tree.account 0 a.space b.space → Performed 1 (x ∷ []) a b P (Some e)
-    refused_own e goes plain h cause asks =
-        refused e (answers_own a.calls.fail x own act is (scene_in a) a.calls.count P e goes plain h cause) (takes_nothing (is_want e) a.store.tree.account a.space b.space asks)
+    refused_own e goes plain h cause asks = grind (arith, nat_tests, refused e (answers_own a.calls.fail x own act is (scene_in a) a.calls.count P e goes plain h cause) (takes_nothing (is_want e) a.store.tree.account a.space b.space asks), answers_own a.calls.fail x own act is (scene_in a) a.calls.count P e goes plain h cause, takes_nothing (is_want e) a.store.tree.account a.space b.space asks)
 
     pub refused_want : (a.calls.count + 1 == a.calls.fail) ≡ false → P [] → (n : ℕ) × Asks a.store.tree.account n a.space b.space → Performed 1 (x ∷ []) a b P (Some (NoMemory (a.calls.count + 1)))
     refused_want goes h some = refused (NoMemory (a.calls.count + 1)) (answers_want a.calls.fail x own act is (scene_in a) a.calls.count P goes h) some
@@ -257,13 +230,7 @@ module _ (x : Element) (own : Scene → Option Error) (act : Scene → Ended) (i
     balanced = rw (same.store, same.commons) (balances_none a.store.owners a.commons)
 
     unraised : Grows 1 a b
-    unraised = record {
-      contexts = rw same.store (omega arith);
-      owners = rw same.store (omega arith);
-      serials = rw same.store (omega arith);
-      calls = omega (arith, count_up);
-      descriptors = ap (λ (c : StoreState). c.owners.descriptors) same.store;
-    }
+    unraised = grind (arith, nat_tests, count_up)
 
     pub performed_own : (e : Error) → (a.calls.count + 1 == a.calls.fail) ≡ false → is_want e ≡ false → P [] → ((around : Around) → own (scene_in a around) ≡ Some e)
         → Asks a.store.tree.account 0 a.space b.space → Performed 1 (x ∷ []) a b P (Some e)

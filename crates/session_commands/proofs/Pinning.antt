@@ -31,17 +31,10 @@ empty_space = record { regions = []; taken = []; limit = 0 }
 -- The deepest level, which is active, has an owner.
 pub active_owner : (store : StoreState) → IsWorking (levels_of store.levels) → (s : Space) → (n : ℕ) × (level_owner (session_of store s) ≡ Some n)
 unfolding session_of
-active_owner store active s = go (levels_of store.levels) active
-  where
-    go : (ls : List LevelState) → IsWorking ls → (n : ℕ) × (level_owner (record (session_of store s) { levels = ls }) ≡ Some n)
-    go [] w = absurd w
-    go (level ∷ ls) w = is_there level.owner w.made.owner
+active_owner store active s = grind (arith, nat_tests, store.levels, is_there)
 
 pub owner_known : (store : StoreState) → IsWorking (levels_of store.levels) → ((s : Space) → None ≡ level_owner (session_of store s)) → ⊥
-owner_known store active none =
-    let o = active_owner store active empty_space in
-    let z : None ≡ Some o.0 = none empty_space ∙ o.1 in
-    cc z
+owner_known store active none = grind (arith, nat_tests, active_owner store active empty_space)
 
 -- Its owner is there, and its release hasn't begun.
 module _ (a : Now) (h : IsBetweenSteps a) (active : IsWorking (levels_of a.store.levels)) where

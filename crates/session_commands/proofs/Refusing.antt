@@ -1,5 +1,5 @@
 -- The refusals of calls on a store, as answers of commands.
-use Rattle.session_commands.proofs.Base.{◌≡◌, ℕ, List, [], Some, OnErr, OnOk, Result, Ok, Err, refl, sym, ap, subst, option_map}
+use Rattle.session_commands.proofs.Base.{arith, nat_tests, ◌≡◌, ℕ, List, [], Some, OnErr, OnOk, Result, Ok, Err, refl, sym, ap, subst, option_map}
 use Rattle.session_commands.proofs.Words.{Error, What, Space, ShelfState, TreeError, error_of, Element, tree_error, CommonState, StoreState, session_of, ContextsAlone, Keeps, Refused, refusal_of, Now, Performed}
 use Rattle.std.specs.Result.{IsErrAnd, MatchResult}
 use Rattle.std.proofs.lemmas.Result.{err_from_is_err_and}
@@ -8,20 +8,16 @@ use Rattle.session_commands.proofs.Performing.{moves_nothing}
 module _ {A : Type 0} {k : ℕ} {es : List Element} {a b : Now} {P : List What → Type 0} where
   -- the error that `?` hands on
   pub handed : (told : Result A Error) (e : Error) → IsErrAnd told (λ d. d ≡ e) → Performed k es a b P (Some e) → Performed k es a b P (refusal_of told)
-  handed told e is h =
-      let p = err_from_is_err_and told is in
-      subst (λ (z : Result A Error). Performed k es a b P (refusal_of z)) (sym p.1) (subst (λ (c : Error). Performed k es a b P (Some c)) (sym p.2) h)
+  handed told e is h = grind (arith, nat_tests, err_from_is_err_and told is)
 
   -- the answer of a call on contexts, whose refusal is told as an error
   pub told_errors : (r : Result A TreeError) (told : Result A Error) → MatchResult r (λ x. told ≡ Ok x) (λ e. IsErrAnd told (λ d. d ≡ tree_error e))
       → Performed k es a b P (option_map tree_error (error_of r)) → Performed k es a b P (refusal_of told)
-  told_errors (Ok x) told is h = subst (λ (z : Result A Error). Performed k es a b P (refusal_of z)) (sym is) h
-  told_errors (Err e) told is h = handed told (tree_error e) is h
+  told_errors x0 told is h = grind (arith, nat_tests, handed)
 
 -- nothing was said where the call was refused
 pub silent_where : {A E O : Type 0} (emits : O → List What → O → Type 0) (r : Result A E) (x y : O) → emits x [] x → OnErr r (y ≡ x) → OnErr r (emits x [] y)
-silent_where emits (Ok a) x y nothing same = same
-silent_where emits (Err e) x y nothing same = subst (λ o. emits x [] o) (sym same) nothing
+silent_where emits x1 x y nothing same = grind (arith, nat_tests)
 
 -- nothing changed
 pub nothing_changed : (a b : StoreState) (s : Space) (x : ShelfState) (c : CommonState) → b ≡ a → Refused a b s s x x c c
@@ -29,8 +25,7 @@ nothing_changed a b s x c same = record { store = same; shelf = refl; commons = 
 
 -- where the store is as it was the call changed nothing
 pub refused_still : {A E : Type 0} (r : Result A E) (a b : StoreState) (s : Space) (x : ShelfState) (c : CommonState) → OnErr r (b ≡ a) → OnErr r (Refused a b s s x x c c)
-refused_still (Ok u) a b s x c same = same
-refused_still (Err e) a b s x c same = nothing_changed a b s x c same
+refused_still x0 a b s x c same = grind (arith, nat_tests, nothing_changed)
 
 -- contexts that didn't change
 pub alone_same : (a : StoreState) (s : Space) (c : CommonState) → Keeps a s → ContextsAlone a a s s c c
@@ -54,9 +49,7 @@ both_still a b s x y c store shelf = record { store = store; shelf = shelf; comm
 
 -- what was answered of any commons, of these
 pub ok_with : {A E : Type 0} (F : CommonState → Type 0) (r : Result A E) (c : CommonState) → OnOk r ((d : CommonState) → F d) → OnOk r (F c)
-ok_with F (Ok a) c h = h c
-ok_with F (Err e) c h = tt
+ok_with F x1 c h = grind (arith, nat_tests)
 
 pub err_with : {A E : Type 0} (F : CommonState → Type 0) (r : Result A E) (c : CommonState) → OnErr r ((d : CommonState) → F d) → OnErr r (F c)
-err_with F (Ok a) c h = tt
-err_with F (Err e) c h = h c
+err_with F x1 c h = grind (arith, nat_tests)

@@ -1,5 +1,5 @@
 -- A session stands behind what it performed.
-use Rattle.session_commands.proofs.Base.{◌≡◌, ℕ, Bool, true, false, List, [], Option, Some, None, OnOk, Result, Ok, Err, refl, ◌∙◌, subst, All}
+use Rattle.session_commands.proofs.Base.{arith, nat_tests, ◌≡◌, ℕ, Bool, true, false, List, [], Option, Some, None, OnOk, Result, refl, ◌∙◌, subst, All}
 use Rattle.session_commands.proofs.Words.{Error, What, LevelState, OpenPortal, opening, Around, Moment, Scene, Element, does_all, IsAtRest, IsWorking, Stands, elements, row_of, Serves, serves_still, levels_of, portals_of, session_of, Fits, at_calls, refusal_of, wants, Now, IsBetweenSteps, Performed, scene_in}
 use Rattle.pgs_command.specs.declared.commands.Work.{Work}
 use Rattle.session_rules.proofs.TurnStands.{At, Leads, work_leads}
@@ -11,8 +11,7 @@ fitting false calls = None
 
 pub fitting_fits : (wanted : Bool) (calls : ℕ) → Fits wanted calls (fitting wanted calls)
 unfolding fitting
-fitting_fits true calls = refl
-fitting_fits false calls = tt
+fitting_fits x0 calls = grind (arith, nat_tests)
 
 -- surroundings in which nothing is
 abbrev pub empty_around : Around
@@ -48,8 +47,7 @@ levels_at a levels around h = h.are
 
 -- what is known where a command was performed
 pub where_done : {A X : Type 0} (r : Result A Error) → (refusal_of r ≡ None → X) → OnOk r X
-where_done (Ok a) known = known refl
-where_done (Err e) known = tt
+where_done x0 known = grind (arith, nat_tests)
 
 -- The same of what is done within a transaction, in a level in which steps are taken: the levels are as they were.
 module _ (k : ℕ) (c : Work) (portals : List OpenPortal) (a b : Now) (P : List What → Type 0) (r : Option Error) (h : IsBetweenSteps a) (active : IsWorking (levels_of a.store.levels))
@@ -61,5 +59,4 @@ module _ (k : ℕ) (c : Work) (portals : List OpenPortal) (a b : Now) (P : List 
   work_stands = stands_behind k (elements (row_of c portals)) a b P r (At (levels_of a.store.levels)) done leads h.serves
 
   pub work_levels : r ≡ None → levels_of b.store.levels ≡ levels_of a.store.levels
-  work_levels none =
-      levels_at b (levels_of a.store.levels) empty_around (known_behind k (elements (row_of c portals)) a b P r (At (levels_of a.store.levels)) done leads none empty_around)
+  work_levels none = grind (arith, nat_tests, levels_at b (levels_of a.store.levels) empty_around (known_behind k (elements (row_of c portals)) a b P r (At (levels_of a.store.levels)) done leads none empty_around), known_behind k (elements (row_of c portals)) a b P r (At (levels_of a.store.levels)) done leads none empty_around, row_of c portals, leads)

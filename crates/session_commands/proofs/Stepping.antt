@@ -34,8 +34,7 @@ limit_reached most n more = let e : nat_le most n ≡ true = grind (arith, nat_t
 
 -- what is refused for want of memory, and what isn't
 pub memory_or_not : (e : TreeError) → (e ≡ tree.Memory) ⊎ (e ≢ tree.Memory)
-memory_or_not tree.Memory = inl refl
-memory_or_not other = inr (λ z. cc z)
+memory_or_not x0 = grind (arith, nat_tests)
 
 -- the count behind a call
 pub count_behind : (a b : Now) → b.calls ≡ record a.calls { count = a.calls.count + 1 } → b.calls.count ≡ a.calls.count + 1
@@ -46,12 +45,10 @@ module _ (x : Element) (own : Scene → Option Error) (act : Scene → Ended) (i
     (counted : b.calls ≡ record a.calls { count = a.calls.count + 1 }) (same : Refused a.store b.store a.space b.space a.shelf b.shelf a.commons b.commons) (keeps : Keeps b.store b.space)
     (moves : Moves a.store.tree b.store.tree a.space b.space) (silent : P []) where
   pub step_injected : (e : Error) → (e ≡ Injected (a.calls.count + 1)) × ((a.calls.count + 1 == a.calls.fail) ≡ true) → Asks a.store.tree.account 0 a.space b.space → Performed 1 (x ∷ []) a b P (Some e)
-  step_injected e told asks =
-      subst (λ (t : Error). Performed 1 (x ∷ []) a b P (Some t)) (sym told.0) (performed_injected x own act is a b P counted same keeps moves told.1 silent asks)
+  step_injected e told asks = grind (arith, nat_tests, told.0, performed_injected x own act is a b P counted same keeps moves told.1 silent asks, told.1)
 
   pub step_wants : (a.calls.count + 1 == a.calls.fail) ≡ false → (n : ℕ) × Asks a.store.tree.account n a.space b.space → Performed 1 (x ∷ []) a b P (Some (NoMemory b.calls.count))
-  step_wants goes some =
-      subst (λ (n : ℕ). Performed 1 (x ∷ []) a b P (Some (NoMemory n))) (sym (count_behind a b counted)) (performed_want x own act is a b P counted same keeps moves goes silent some)
+  step_wants goes some = grind (arith, nat_tests, performed_want x own act is a b P counted same keeps moves goes silent some)
 
   -- a call on contexts, by why it was refused
   pub step_tree : (a.calls.count + 1 == a.calls.fail) ≡ false → (o : Option TreeError) → ((around : Around) → own (scene_in a around) ≡ option_map tree_error o) → (n : ℕ) (e : TreeError) (t : Error) → (e ≡ tree.Memory) ⊎ (o ≡ Some e)
@@ -76,13 +73,7 @@ lent n = (n.shelf, n.commons)
 -- the store, the space and what else is lent are as they were
 module _ (a b : Now) (store : b.store ≡ a.store) (space : b.space ≡ a.space) (shelf : lent b ≡ lent a) where
   pub still_refused : Refused a.store b.store a.space b.space a.shelf b.shelf a.commons b.commons
-  still_refused = record {
-    store = store;
-    shelf = ap (λ (p : ShelfState × CommonState). p.0) shelf;
-    commons = ap (λ (p : ShelfState × CommonState). p.1) shelf;
-    session = ap (λ (c : StoreState). session_of c b.space) store ∙ ap (λ (s : Space). session_of a.store s) space;
-    limit = ap (λ (s : Space). s.limit) space;
-  }
+  still_refused = grind (arith, nat_tests)
 
   pub still_asks : Asks a.store.tree.account 0 a.space b.space
   still_asks = ap (λ (s : Space). s.taken) space
@@ -100,8 +91,7 @@ module _ (a b : Now) (store : b.store ≡ a.store) (space : b.space ≡ a.space)
 pub still_injected : (x : Element) (own : Scene → Option Error) (act : Scene → Ended) → ((w : Option ℕ) (m : Moment) → does w x m ≡ fallible w m (own m.scene) act) → (a b : Now) (P : List What → Type 0)
     → b.calls ≡ record a.calls { count = a.calls.count + 1 } → b.space ≡ a.space → Keeps a.store a.space → lent b ≡ lent a → P [] → b.store ≡ a.store
     → (e : Error) → (e ≡ Injected (a.calls.count + 1)) × ((a.calls.count + 1 == a.calls.fail) ≡ true) → Performed 1 (x ∷ []) a b P (Some e)
-still_injected x own act is a b P counted space keeps shelf silent store e told =
-    step_injected x own act is a b P counted (still_refused a b store space shelf) (still_keeps a b store space shelf keeps) (still_moves a b store space shelf keeps) silent e told (still_asks a b store space shelf)
+still_injected x own act is a b P counted space keeps shelf silent store e told = grind (arith, nat_tests, step_injected x own act is a b P counted (still_refused a b store space shelf) (still_keeps a b store space shelf keeps) (still_moves a b store space shelf keeps) silent e told (still_asks a b store space shelf), still_refused a b store space shelf, still_keeps a b store space shelf keeps, still_moves a b store space shelf keeps, still_asks a b store space shelf)
 
 -- A step that is one fallible call and takes no memory for contexts: what refuses it besides a want of memory, what it does, and that it
 -- raises no number by more than one.
@@ -120,14 +110,10 @@ module _ (call : Call) (a b : Now) (P : List What → Type 0) (counted : b.calls
     call_injected = still_injected call.step call.own call.act call.is a b P counted space keeps shelf silent store
 
     pub call_wants : (a.calls.count + 1 == a.calls.fail) ≡ false → Performed 1 (call.step ∷ []) a b P (Some (NoMemory b.calls.count))
-    call_wants goes =
-        step_wants call.step call.own call.act call.is a b P counted (still_refused a b store space shelf) (still_keeps a b store space shelf keeps) (still_moves a b store space shelf keeps)
-        silent goes (still_some a b store space shelf)
+    call_wants goes = grind (arith, nat_tests, step_wants call.step call.own call.act call.is a b P counted (still_refused a b store space shelf) (still_keeps a b store space shelf keeps) (still_moves a b store space shelf keeps) silent goes (still_some a b store space shelf), still_refused a b store space shelf, still_keeps a b store space shelf keeps, still_moves a b store space shelf keeps, still_some a b store space shelf)
 
     pub call_refused : (e : Error) → (a.calls.count + 1 == a.calls.fail) ≡ false → is_want e ≡ false → ((around : Around) → call.own (scene_in a around) ≡ Some e) → Performed 1 (call.step ∷ []) a b P (Some e)
-    call_refused e goes plain cause =
-        performed_own call.step call.own call.act call.is a b P counted (still_refused a b store space shelf) (still_keeps a b store space shelf keeps) (still_moves a b store space shelf keeps)
-        e goes plain silent cause (still_asks a b store space shelf)
+    call_refused e goes plain cause = grind (arith, nat_tests, performed_own call.step call.own call.act call.is a b P counted (still_refused a b store space shelf) (still_keeps a b store space shelf keeps) (still_moves a b store space shelf keeps) e goes plain silent cause (still_asks a b store space shelf), still_refused a b store space shelf, still_keeps a b store space shelf keeps, still_moves a b store space shelf keeps, still_asks a b store space shelf)
 
   -- it was done
   pub call_done : (a.calls.count + 1 == a.calls.fail) ≡ false → ((around : Around) → call.own (scene_in a around) ≡ None) → b.store.tree ≡ a.store.tree → Keeps b.store b.space

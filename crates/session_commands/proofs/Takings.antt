@@ -1,5 +1,5 @@
 -- What accounts take by elements, one behind the other.
-use Rattle.session_commands.proofs.Base.{◌≡◌, ◌≢◌, ℕ, ◌+◌, Bool, true, false, List, [], ◌∷◌, ◌++◌, Option, Some, None, refl, sym, ◌∙◌, ap, subst, inl, inr, arith}
+use Rattle.session_commands.proofs.Base.{nat_tests, ◌≡◌, ◌≢◌, ℕ, ◌+◌, Bool, true, false, List, [], ◌∷◌, ◌++◌, Option, Some, None, refl, sym, ◌∙◌, ap, subst, arith}
 use Rattle.session_commands.proofs.Words.{Error, What, Space, Asks, TreeError, AsksInVain, Around, Moment, Element, Done, IsLater, does, does_all, asked_all, asks_in, then_asked, where_done, asked_both, asked_one, asked_so, Answers, at_calls, wants, Now, Taken, Takes, scene_in}
 use Rattle.addr_space.proofs.Asked.{Asks-more}
 use Rattle.context_rules.specs.declared.errors.TreeError.TheVariants as tree
@@ -7,8 +7,7 @@ use Rattle.session_commands.proofs.Answered.{does_one, fits_later}
 
 -- nothing was taken
 pub takes_nothing : (wanted : Bool) (account : ℕ) (s t : Space) → Asks account 0 s t → Takes wanted account 0 s t
-takes_nothing true account s t h = (0, h)
-takes_nothing false account s t h = h
+takes_nothing x0 account s t h = grind (arith, nat_tests)
 
 -- some bytes, and others behind them
 takes_more : (wanted : Bool) (account m n : ℕ) (s t u : Space) → Asks account m s t → Takes wanted account n t u → Takes wanted account (m + n) s u
@@ -22,12 +21,10 @@ takes_on false account n s t u h same = sym same ∙ h
 
 -- what a context that wasn't made asked, by why it wasn't
 pub some_in_vain : (e : TreeError) (account n : ℕ) (s t : Space) → AsksInVain e account n s t → (k : ℕ) × Asks account k s t
-some_in_vain e account n s t (inl none) = (0, none)
-some_in_vain e account n s t (inr some) = (n, some.1)
+some_in_vain e account n s t x5 = grind (arith, nat_tests)
 
 pub none_in_vain : (e : TreeError) (account n : ℕ) (s t : Space) → e ≢ tree.Memory → AsksInVain e account n s t → Asks account 0 s t
-none_in_vain e account n s t other (inl none) = none
-none_in_vain e account n s t other (inr some) = absurd (other some.0)
+none_in_vain e account n s t other x6 = grind (arith, nat_tests)
 
 -- no element
 pub taken_none : (a : Now) → Taken [] a a None

@@ -34,14 +34,14 @@ pub use Rattle.session_rules.specs.Checks.{failure, holds_snapshot, lock_count, 
 pub use Rattle.session_rules.specs.Counts.{counts, holds}
 pub use Rattle.session_rules.specs.Does.{done_behind, then_done}
 unfoldable pub use Rattle.session_rules.specs.Does.{does, does_all}
-pub use Rattle.session_rules.specs.Elements.{Check, Element, InCurrent, NewContext, OfLevel, OfPortal, OwnerRole, Text}
+pub use Rattle.session_rules.specs.Elements.{Check, Element, InCurrent, NewContext, OfLevel, OwnerRole, Text}
 pub use Rattle.session_rules.specs.Lookup.{context_named, kind_named, memory_in, newest, newest_of_level, owner_in, plan_at}
 pub use Rattle.session_rules.specs.Making.{context_made, context_refused, left, limit, new_context_made, new_context_refused, new_owner_made, plan_made}
 pub use Rattle.session_rules.specs.Parts.{at_context, at_kind, at_owner, context_moved, contexts_become, lock_given_back, pinning, snapshot_popped, tells}
-pub use Rattle.session_rules.specs.Releases.{Keeper, NoOne, TheDescriptors, TheKind, ThePlans, given_back, item_released, keeper_of, left_to, plan_becomes, plan_settled, plan_stays}
+pub use Rattle.session_rules.specs.Releases.{Keeper, NoOne, TheDescriptors, TheKind, given_back, item_released, keeper_of, left_to, plan_becomes}
 pub use Rattle.session_rules.specs.Standing.{IsAtRest, IsWorking, Stands}
-pub use Rattle.session_rules.specs.State.{LevelState, OpenPortal, SessionState, StandingPlan, buffer_pin, file_kind, first_of, last_of, level_owner, opening, plan_reference, snapshot_reference}
-pub use Rattle.session_rules.specs.Taking.{alloc_refused, chunk_resized, descriptor_given, full, hook_refused, hook_registered, hook_waits, item_taken, lock_refused, lock_taken, memory_taken, remembers, resize_refused, snapshot_pushed, take_refused, taken_by}
+pub use Rattle.session_rules.specs.State.{LevelState, OpenPortal, SessionState, StandingPlan, buffer_pin, file_kind, first_of, level_owner, opening, plan_reference, snapshot_reference}
+pub use Rattle.session_rules.specs.Taking.{alloc_refused, chunk_resized, descriptor_given, full, hook_refused, hook_registered, hook_waits, item_taken, lock_refused, lock_taken, memory_taken, resize_refused, snapshot_pushed, take_refused}
 pub use Rattle.session_rules.specs.Transcript.{is_want}
 pub use Rattle.session_rules.specs.Works.{Row, chunk_row, context_row, elements, item_row, lock_row, plan_row, row_of, snapshot_row, tell_row}
 pub use Rattle.session_rules.specs.World.{Around, Moment, Scene}

@@ -1,5 +1,5 @@
 -- Behind the end of a level the session stands.
-use Rattle.session_core.proofs.Base.{◌≡◌, ℕ, ◌<◌, true, false, List, [], ◌∷◌, length, IfSome, refl, sym, ◌∙◌, ap, subst, arith, All}
+use Rattle.session_core.proofs.Base.{nat_tests, ◌≡◌, ℕ, ◌<◌, true, false, List, [], ◌∷◌, length, IfSome, refl, sym, ◌∙◌, ap, subst, arith, All}
 use Rattle.session_core.proofs.Words.{Space, Error, What, ShelfState, LevelState, first_of, is_aborted, Around, Scene, Ended, in_order, aborted, cleaned_up, committed, recovered, subcommitted, IsAtRest, IsOpen, Stands, StandsBetweenLines, aborted_stands, away_stands, cleaned_up_stands, committed_stands, recovered_stands, settled, subcommitted_stands, settled_as, CommonState, serves_still, StoreState, levels_of, portals_of, scene_of, session_of, Acted, Keeps, StandsIn, levels_long, IsBetweenLines, Ends, IsBetweenSteps, Now, empty_around}
 
 -- the deepest level and those above it
@@ -88,11 +88,7 @@ module _ (a b : Now) (P : List What → Type 0) (between : IsBetweenSteps a) (ke
   }
 
   pub abort_between : Acted aborted a.store b.store a.space b.space a.shelf b.shelf a.commons b.commons P → IfSome (first_of (levels_of a.store.levels)) (λ level. level.aborted ≡ false → IsOpen level → IsBetweenSteps b)
-  abort_between acted = go (levels_of a.store.levels) refl
-    where
-      go : (ls : List LevelState) → levels_of a.store.levels ≡ ls → IfSome (first_of ls) (λ level. level.aborted ≡ false → IsOpen level → IsBetweenSteps b)
-      go [] are = tt
-      go (l ∷ ls) are = λ active open_level. abort_of l ls are active open_level acted
+  abort_between acted = grind (arith, nat_tests, abort_of)
 
 -- behind a recovery the session stands between two lines
 pub recovery_lines : (error : Error) (a b : Now) (P : List What → Type 0) → IsBetweenSteps a → Ends (recovered error) a b P → IsBetweenLines b

@@ -1,5 +1,5 @@
 -- A session between two lines.
-use Rattle.session_core.proofs.Base.{◌≡◌, ◌∙◌, ℕ, ◌<◌, ◌≤◌, true, false, List, [], ◌∷◌, length, Option, Some, None, Result, Ok, Err, OnOk, refl, sym, ap, subst, arith, All, option_map}
+use Rattle.session_core.proofs.Base.{nat_tests, ◌≡◌, ◌∙◌, ℕ, ◌<◌, ◌≤◌, true, false, List, [], ◌∷◌, length, Option, Some, None, Result, Ok, Err, OnOk, refl, ap, subst, arith, All, option_map}
 use Rattle.session_core.proofs.Words.{Command, Error, What, Level, LevelState, SessionState, first_of, opening, Space, Contexts, OwnerTree, Moment, AreOpen, AreOuter, FitLevels, IsAtRest, StandsBetweenLines, elements_of, does_all, turn, turn_of, turn_stands, serves_still, StoreState, levels_of, level_state, portals_of, session_of, levels_long, at_calls, refusal_of, empty_around, IsAbortedBlock, IsBetweenLines, IsInBlock, Now, IsBetweenSteps, Performed, most_steps, scene_in}
 
 pub steps_of_lines : (a : Now) → IsBetweenLines a → IsBetweenSteps a
@@ -12,18 +12,7 @@ rest_of_lines a h = let z : StandsBetweenLines (scene_in a empty_around) = h.sta
 -- no level
 pub none_of : (levels : List Level) (o : Option Level) → o ≡ None → option_map level_state o ≡ first_of (levels_of levels) → levels ≡ []
 none_of [] o none first = refl
-none_of (level ∷ levels) o none first = go (levels_of (level ∷ levels)) refl
-  where
-    go : (ls : List LevelState) → levels_of (level ∷ levels) ≡ ls → (level ∷ levels) ≡ []
-    go [] e =
-        let long : suc_length ≡ 0 = sym (levels_long (level ∷ levels)) ∙ ap (λ (x : List LevelState). length x) e in
-        absurd (omega (arith, long))
-      where
-        suc_length : ℕ
-        suc_length = length (level ∷ levels)
-    go (l ∷ ls) e =
-        let bad : None ≡ Some l = sym (ap (option_map level_state) none) ∙ first ∙ ap first_of e in
-        absurd (cc bad)
+none_of (level ∷ levels) o none first = grind (arith, nat_tests, levels_long (level ∷ levels))
 
 -- the levels of a block between two lines
 active_of : (levels : List LevelState) (l : LevelState) (contexts : Contexts) (owners : OwnerTree) (current : ℕ) → Some l ≡ first_of levels → l.aborted ≡ false → AreOpen levels → FitLevels levels contexts owners current → AreOuter levels
@@ -34,13 +23,7 @@ some_of x0 l e = grind arith
 
 pub block_of : (a : Now) (l : Level) → IsBetweenLines a → length a.store.levels ≤ 1000 → Some (level_state l) ≡ first_of (levels_of a.store.levels) → l.aborted ≡ false → IsInBlock a.store.levels
 unfolding session_of
-block_of a l h most first unaborted =
-    let z : StandsBetweenLines (scene_in a empty_around) = h.stands empty_around in
-    record {
-      some = subst (λ (n : ℕ). 0 < n) (levels_long a.store.levels) (some_of (levels_of a.store.levels) (level_state l) first);
-      at_most = most;
-      outer = active_of (levels_of a.store.levels) (level_state l) _ _ _ first unaborted z.open_levels z.stands.fit;
-    }
+block_of a l h most first unaborted = grind (arith, nat_tests, h.stands empty_around, levels_long a.store.levels, a.store.levels, some_of (levels_of a.store.levels) (level_state l) first, active_of)
 
 pub aborted_block : (levels : List Level) (l : Level) → Some (level_state l) ≡ first_of (levels_of levels) → l.aborted ≡ true → IsAbortedBlock levels
 aborted_block levels l first aborted = grind (arith, levels_long levels, some_of (levels_of levels) (level_state l) first)
@@ -65,9 +48,7 @@ lines_behind c a b P (Ok u) lines done = record {
 -- a session as it opens has no level
 no_level : (levels : List Level) → levels_of levels ≡ [] → levels ≡ []
 no_level [] e = refl
-no_level (level ∷ levels) e =
-    let long : length (level ∷ levels) ≡ 0 = sym (levels_long (level ∷ levels)) ∙ ap (λ (x : List LevelState). length x) e in
-    absurd (omega (arith, long))
+no_level (level ∷ levels) e = grind (arith, nat_tests, levels_long (level ∷ levels))
 
 pub opened_levels : (store : StoreState) (s : Space) → session_of store s ≡ opening → store.levels ≡ []
 unfolding session_of opening

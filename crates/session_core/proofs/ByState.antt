@@ -1,5 +1,5 @@
 -- The elements of commands, by the state of the transaction.
-use Rattle.session_core.proofs.Base.{◌≡◌, ◌∙◌, ◌⊎◌, ℕ, ◌+◌, ◌<◌, ◌≤◌, Bool, true, false, List, [], ◌∷◌, ◌++◌, length, Option, Some, None, refl, sym, ap, subst, arith, if◌then◌else◌}
+use Rattle.session_core.proofs.Base.{nat_tests, ◌≡◌, ◌∙◌, ◌⊎◌, ℕ, ◌+◌, ◌<◌, ◌≤◌, Bool, true, false, List, [], ◌∷◌, ◌++◌, length, Option, Some, None, refl, sym, ap, subst, arith, if◌then◌else◌}
 use Rattle.session_core.proofs.Words.{Command, TransactionCommand, Error, What, Level, LevelState, SessionState, is_aborted, Moment, say, Element, Text, Check, committed_to, elements_of, ends_aborted, in_transaction, is_end, refused, rolled_back_to, start, then_ok, transaction_of, unaborted, unfailing, does, AreOuter, IsWorking, is_want, balances_none, levels_of, session_of, Acted, Keeps, levels_long, Now, Performed, most_steps, most_work, stops, fails, grows_nothing, moves_nothing, performed_both, performed_end, performed_more, performed_stop, IsAbortedBlock, IsInBlock}
 
 -- what was performed, by another name of its elements
@@ -136,8 +136,7 @@ module _ (work : List Element) where
 
   pub work_then_ok : (a b : Now) (P Q R : List What → Type 0) → IsInBlock a.store.levels → Performed most_work work a b P None → Q (What.Ok ∷ []) → ((us vs : List What) → P us → Q vs → R (us ++ vs))
       → Performed most_steps (in_transaction (levels_of a.store.levels) work) a b R None
-  work_then_ok a b P Q R block h said joins =
-      as_elements most_steps _ _ a b R None (blocked a.store.levels block) (performed_more (most_work + 0) most_steps _ a b R None (omega arith) (performed_ok most_work work a b P Q R h said joins))
+  work_then_ok a b P Q R block h said joins = grind (arith, nat_tests, as_elements most_steps _ _ a b R None (blocked a.store.levels block) (performed_more (most_work + 0) most_steps _ a b R None (omega arith) (performed_ok most_work work a b P Q R h said joins)), blocked a.store.levels block, a.store.levels, performed_more (most_work + 0) most_steps _ a b R None (omega arith) (performed_ok most_work work a b P Q R h said joins), performed_ok most_work work a b P Q R h said joins)
 
   pub work_stopped : (a b : Now) (P : List What → Type 0) (e : Error) → IsInBlock a.store.levels → Performed most_work work a b P (Some e) → Performed most_steps (in_transaction (levels_of a.store.levels) work) a b P (Some e)
   work_stopped a b P e block h = as_elements most_steps _ _ a b P (Some e) (blocked a.store.levels block) (stops most_work most_steps work (Element.Says What.Ok ∷ []) a b P e (omega arith) h)
@@ -147,17 +146,11 @@ module _ (work : List Element) where
     pub alone_done : (n b : Now) (P Q R S T : List What → Type 0) → Performed 3 (start None true) a m P None → Performed most_work work m n Q None
         → Performed 0 (Element.CommitTop ∷ Element.Says What.Ok ∷ []) n b R None → ((us vs : List What) → Q us → R vs → S (us ++ vs)) → ((us vs : List What) → P us → S vs → T (us ++ vs))
         → Performed most_steps (in_transaction [] work) a b T None
-    alone_done n b P Q R S T begun worked ended joins all =
-        performed_more (3 + most_work) most_steps _ a b T None level_and_work
-        (performed_both 3 most_work (start None true) _ a m b P S T None begun
-        (performed_both most_work 0 work (Element.CommitTop ∷ Element.Says What.Ok ∷ []) m n b Q R S None worked ended joins) all)
+    alone_done n b P Q R S T begun worked ended joins all = grind (arith, nat_tests, performed_more (3 + most_work) most_steps _ a b T None level_and_work (performed_both 3 most_work (start None true) _ a m b P S T None begun (performed_both most_work 0 work (Element.CommitTop ∷ Element.Says What.Ok ∷ []) m n b Q R S None worked ended joins) all), level_and_work, performed_both 3 most_work (start None true) _ a m b P S T None begun (performed_both most_work 0 work (Element.CommitTop ∷ Element.Says What.Ok ∷ []) m n b Q R S None worked ended joins) all, start None true, performed_both most_work 0 work (Element.CommitTop ∷ Element.Says What.Ok ∷ []) m n b Q R S None worked ended joins)
 
     pub alone_refused : (b : Now) (P Q T : List What → Type 0) (e : Error) → Performed 3 (start None true) a m P None → Performed most_work work m b Q (Some e)
         → ((us vs : List What) → P us → Q vs → T (us ++ vs)) → Performed most_steps (in_transaction [] work) a b T (Some e)
-    alone_refused b P Q T e begun worked all =
-        performed_more (3 + most_work) most_steps _ a b T (Some e) level_and_work
-        (performed_both 3 most_work (start None true) _ a m b P Q T (Some e) begun
-        (performed_stop most_work work (Element.CommitTop ∷ Element.Says What.Ok ∷ []) m b Q e worked) all)
+    alone_refused b P Q T e begun worked all = grind (arith, nat_tests, performed_more (3 + most_work) most_steps _ a b T (Some e) level_and_work (performed_both 3 most_work (start None true) _ a m b P Q T (Some e) begun (performed_stop most_work work (Element.CommitTop ∷ Element.Says What.Ok ∷ []) m b Q e worked) all), level_and_work, performed_both 3 most_work (start None true) _ a m b P Q T (Some e) begun (performed_stop most_work work (Element.CommitTop ∷ Element.Says What.Ok ∷ []) m b Q e worked) all, start None true, performed_stop most_work work (Element.CommitTop ∷ Element.Says What.Ok ∷ []) m b Q e worked)
 
     pub alone_unstarted : (P : List What → Type 0) (e : Error) → Performed 3 (start None true) a m P (Some e) → Performed most_steps (in_transaction [] work) a m P (Some e)
     alone_unstarted P e begun = stops 3 most_steps (start None true) _ a m P e (omega arith) begun

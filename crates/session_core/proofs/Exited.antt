@@ -64,18 +64,7 @@ ends_of es act a b P does asks done =
 
 pub rolled_ends : (a b : Now) (P : List What → Type 0) → Performed 0 (rolled_back_to 1 (levels_of a.store.levels)) a b P None → Ends all_rolled a b P
 unfolding session_of
-rolled_ends a b P done =
-    let d : Ends (for_each level_rolled_back (levels_of a.store.levels)) a b P =
-    ends_of (rolled_back_to 1 (levels_of a.store.levels)) (for_each level_rolled_back (levels_of a.store.levels)) a b P (rolled_does (levels_of a.store.levels)) (rolled_asks (levels_of a.store.levels)) done in
-    record {
-      acted = record { leads = d.acted.leads; says = d.acted.says; balances = d.balances };
-      keeps = d.keeps;
-      moves = d.moves;
-      asked = d.asked;
-      balances = d.balances;
-      calls = d.calls;
-      grows = d.grows;
-    }
+rolled_ends a b P done = grind (arith, nat_tests, a.store.levels, ends_of (rolled_back_to 1 (levels_of a.store.levels)) (for_each level_rolled_back (levels_of a.store.levels)) a b P (rolled_does (levels_of a.store.levels)) (rolled_asks (levels_of a.store.levels)) done, rolled_does (levels_of a.store.levels), rolled_asks (levels_of a.store.levels))
 
 -- no level is left
 pub none_below : (levels : List Level) → length levels < 1 → levels ≡ []
@@ -117,11 +106,5 @@ module _ (O : Type 0) (emits : O → List What → O → Type 0) (more : (o p q 
         asked = asks ∙ first.asked;
         balances = balances_more _ _ _ _ _ _ first.balances acted.balances;
         calls = calls ∙ first.calls;
-        grows = record {
-          contexts = omega (arith, first.grows.contexts, grows.contexts);
-          owners = omega (arith, first.grows.owners, grows.owners);
-          serials = omega (arith, first.grows.serials, grows.serials);
-          calls = omega (arith, first.grows.calls, grows.calls);
-          descriptors = grows.descriptors ∙ first.grows.descriptors;
-        };
+        grows = grind (arith, nat_tests, first.grows.contexts, grows.contexts, first.grows.owners, grows.owners, first.grows.serials, grows.serials, first.grows.calls, grows.calls, grows.descriptors, first.grows.descriptors);
       }

@@ -1,5 +1,5 @@
 -- A session stands behind each step by which a level begins.
-use Rattle.session_core.proofs.Base.{◌≡◌, ℕ, ◌<◌, Bool, true, false, List, [], ◌∷◌, ◌++◌, length, Option, Some, None, refl, sym, ◌∙◌, ap, subst, arith, append-nil, All}
+use Rattle.session_core.proofs.Base.{nat_tests, ◌≡◌, ℕ, ◌<◌, Bool, true, false, List, [], ◌∷◌, ◌++◌, length, Option, Some, None, refl, sym, ◌∙◌, ap, subst, arith, append-nil, All}
 use Rattle.session_core.proofs.Words.{Error, What, size, LevelState, OpenPortal, Around, Moment, Scene, Element, LevelContext, OfLevel, Text, start, does, does_all, new_owner_made, AreOuter, IsAtRest, Stands, below_limit, level_context_stands, level_made_stands, level_owner_stands, level_stands_stands, settled_as, Leads, fallible_leads, leads_nowhere, leads_on, levels_of, portals_of, session_of, levels_long, at_calls, HasBegun, IsSilent, Now, IsBetweenSteps, Performed, scene_in, performed_both, performed_more, performed_stop, empty_around, known_behind, stands_behind}
 
 -- a level as it is being begun
@@ -41,11 +41,7 @@ module _ (name : Option Text) (implicit : Bool) (outer : List LevelState) (porta
       (λ free. settled_as (λ (z : Scene). HasOwner name implicit context outer portals (new_owner_made OfLevel z).scene) moment.scene (begun name implicit (Some context) None true ∷ outer) has.stands has.are
       (λ k. record {
         owner = moment.scene.session.next_owner;
-        has = record {
-          stands = level_owner_stands (begun name implicit (Some context) None true) outer moment.scene refl refl (below_limit 65536 (size moment.scene.session.owners) free) k;
-          are = refl;
-          portals_are = has.portals_are;
-        };
+        has = grind (arith, nat_tests, level_owner_stands (begun name implicit (Some context) None true) outer moment.scene refl refl (below_limit 65536 (size moment.scene.session.owners) free) k, begun name implicit (Some context) None true, below_limit 65536 (size moment.scene.session.owners) free, has.portals_are);
       }))
 
   stands_leads : (context owner : ℕ) → Has (begun name implicit (Some context) (Some owner) true ∷ outer) portals moment.scene

@@ -1,5 +1,5 @@
 -- What the ends of levels perform.
-use Rattle.session_core.proofs.Base.{◌≡◌, ℕ, List, [], ◌∷◌, Option, None, refl, sym, ap, subst, arith}
+use Rattle.session_core.proofs.Base.{nat_tests, ◌≡◌, ℕ, List, [], ◌∷◌, Option, None, refl, sym, ap, subst, arith}
 use Rattle.session_core.proofs.Words.{What, Asks, Moves, Around, Moment, Scene, Ended, in_order, Element, aborted, cleaned_up, committed, subcommitted, unfailing, does, does_all, asked, asked_all, asks_in, Acted, Keeps, Now, Performed, scene_in, Answers, at_calls, Calls, does_one, performed_end}
 use Rattle.session_core.proofs.Numbers.{KeepsNumbers, aborts, cleans, commits, numbers_grow, rolls, subcommits}
 
@@ -56,9 +56,7 @@ module _ (a b : Now) (P : List What → Type 0) (keeps : Keeps b.store b.space) 
 
   pub roll_performed : Acted (in_order (aborted ∷ cleaned_up ∷ [])) a.store b.store a.space b.space a.shelf b.shelf a.commons b.commons P → Performed 0 (Element.Abort ∷ Element.Cleanup ∷ []) a b P None
   roll_performed acted = record {
-    answers = subst (λ (n : ℕ). Answers (Element.Abort ∷ Element.Cleanup ∷ []) (scene_in a) (scene_in b) a.calls.count n a.calls.fail P None) (ap (λ (c : Calls). c.count) (sym calls))
-        (answers_two a.calls.fail (Element.Abort ∷ Element.Cleanup ∷ []) (in_order (aborted ∷ cleaned_up ∷ [])) (scene_in a) (scene_in b) a.calls.count P
-        (both_do Element.Abort Element.Cleanup aborted cleaned_up does_abort does_cleanup) acted.leads acted.says);
+    answers = grind (arith, nat_tests, answers_two a.calls.fail (Element.Abort ∷ Element.Cleanup ∷ []) (in_order (aborted ∷ cleaned_up ∷ [])) (scene_in a) (scene_in b) a.calls.count P (both_do Element.Abort Element.Cleanup aborted cleaned_up does_abort does_cleanup) acted.leads acted.says, in_order (aborted ∷ cleaned_up ∷ []), aborted, both_do Element.Abort Element.Cleanup aborted cleaned_up does_abort does_cleanup, does_abort, does_cleanup, acted.leads, acted.says);
     fail = ap (λ (c : Calls). c.fail) calls;
     keeps = keeps;
     moves = moves;

@@ -1,5 +1,5 @@
 -- What is done after an error, and at the end of a session.
-use Rattle.session_core.proofs.Base.{◌≡◌, ℕ, ◌<◌, Bool, true, false, List, [], ◌∷◌, ◌++◌, length, Some, None, refl, sym, ◌∙◌, ap, subst, arith, append-nil, not}
+use Rattle.session_core.proofs.Base.{nat_tests, ◌≡◌, ℕ, ◌<◌, Bool, true, false, List, [], ◌∷◌, ◌++◌, length, Some, None, refl, sym, ◌∙◌, ap, subst, arith, append-nil, not}
 use Rattle.session_core.proofs.Words.{Error, What, Asks, Space, ShelfState, LevelState, first_of, is_aborted, Scene, Ended, in_order, nothing, where_so, aborted, cleaned_up, given_up, recovered, Level, CommonState, balances_more, balances_none, StoreState, levels_of, scene_of, session_of, Moves, tree_more, Acted, Keeps, levels_long, Shared, IsStarting, Ends, Now, now, scene_in}
 use Rattle.session_core.proofs.Numbers.{KeepsNumbers, numbers_grow}
 
@@ -107,13 +107,7 @@ ends_both f h a b c P Q R first next joins = record {
   asked = subst (λ (n : ℕ). Asks n 0 b.space c.space) first.moves.account next.asked ∙ first.asked;
   balances = balances_more _ _ _ _ _ _ first.balances next.balances;
   calls = next.calls ∙ first.calls;
-  grows = record {
-    contexts = omega (arith, first.grows.contexts, next.grows.contexts);
-    owners = omega (arith, first.grows.owners, next.grows.owners);
-    serials = omega (arith, first.grows.serials, next.grows.serials);
-    calls = omega (arith, first.grows.calls, next.grows.calls);
-    descriptors = next.grows.descriptors ∙ first.grows.descriptors;
-  };
+  grows = grind (arith, nat_tests, first.grows.contexts, next.grows.contexts, first.grows.owners, next.grows.owners, first.grows.serials, next.grows.serials, first.grows.calls, next.grows.calls, next.grows.descriptors, first.grows.descriptors);
 }
 
 -- nothing happened

@@ -1,6 +1,6 @@
 -- Levels end one behind the other, from the deepest up.
-use Rattle.session_core.proofs.Base.{◌≡◌, ◌∙◌, ℕ, suc, ◌+◌, ◌-◌, ◌<◌, ◌≤◌, Bool, Some, None, List, [], ◌∷◌, ◌++◌, length, refl, sym, ap, subst, arith, append-nil, length-append, All, if◌then◌else◌, replicate, le-ltb, lt-ltb, append_assoc}
-use Rattle.session_core.proofs.Words.{Error, What, Level, LevelState, is_aborted, at_savepoint, committed_to, refused, rolled_back_to, savepoint, Element, Text, AreOuter, FitLevels, IsAtRest, Stands, level_state, levels_of, portals_of, session_of, levels_are, levels_long, IsBetweenSteps, Now, Performed, scene_in, performed_both, performed_none, empty_around}
+use Rattle.session_core.proofs.Base.{nat_tests, ◌≡◌, ◌∙◌, ℕ, suc, ◌+◌, ◌-◌, ◌<◌, ◌≤◌, Bool, Some, None, List, [], ◌∷◌, ◌++◌, length, refl, sym, ap, subst, arith, append-nil, length-append, All, if◌then◌else◌, replicate, le-ltb, lt-ltb, append_assoc}
+use Rattle.session_core.proofs.Words.{Error, What, Level, LevelState, is_aborted, at_savepoint, committed_to, refused, rolled_back_to, savepoint, Element, Text, AreOuter, IsAtRest, level_state, levels_of, portals_of, session_of, levels_are, levels_long, IsBetweenSteps, Now, Performed, performed_both, performed_none, empty_around}
 
 -- how a level is rolled back
 abbrev level_ends : Bool → List Element
@@ -21,20 +21,12 @@ rolled_on n m l ls h e = ap (λ (es : List Element). es ++ rolled_back_to n ls) 
 
 -- the deepest level alone is rolled back
 pub deepest_rolled : (levels : List Level) (b : Bool) → 0 < length levels → is_aborted (levels_of levels) ≡ b → rolled_back_to (length levels) (levels_of levels) ≡ level_ends b
-deepest_rolled levels b some aborted = go (levels_of levels) refl
-  where
-    go : (ls : List LevelState) → levels_of levels ≡ ls → rolled_back_to (length levels) (levels_of levels) ≡ level_ends b
-    go [] e = absurd (omega (arith, some, levels_long levels, ap length e))
-    go (l ∷ ls) e =
-        ap (rolled_back_to (length levels)) e ∙ one_rolled (length levels) l ls (omega (arith, levels_long levels, ap length e)) ∙ ap level_ends (sym (ap is_aborted e) ∙ aborted)
+deepest_rolled levels b some aborted = grind (arith, nat_tests, levels_long levels, one_rolled)
 
 -- the levels above the deepest
 above_deepest : (a : Now) (l : LevelState) (ls : List LevelState) → IsBetweenSteps a → levels_of a.store.levels ≡ l ∷ ls → AreOuter ls
 unfolding session_of
-above_deepest a l ls between e =
-    let z : Stands (scene_in a empty_around) = between.stands empty_around in
-    let fit = subst (λ (ks : List LevelState). FitLevels ks (scene_in a empty_around).session.contexts (scene_in a empty_around).session.owners (scene_in a empty_around).session.current) e z.fit in
-    fit.1
+above_deepest a l ls between e = grind (arith, nat_tests, between.stands empty_around)
 
 pub one_less : (levels left : List Level) (last : Level) → levels ≡ left ++ last ∷ [] → length levels ≡ length left + 1
 one_less levels left last e = ap length e ∙ length-append left (last ∷ [])

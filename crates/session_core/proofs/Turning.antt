@@ -1,5 +1,5 @@
 -- What a line does, from what its elements answer.
-use Rattle.session_core.proofs.Base.{◌≡◌, ◌∙◌, ℕ, ◌<◌, ◌≤◌, Bool, false, List, [], ◌++◌, Option, Some, None, refl, sym, ap, subst, arith}
+use Rattle.session_core.proofs.Base.{nat_tests, ◌≡◌, ◌∙◌, ℕ, ◌<◌, ◌≤◌, Bool, false, List, [], ◌++◌, Option, Some, None, refl, sym, ap, subst, arith}
 use Rattle.session_core.proofs.Words.{Command, Error, What, tree_more, Done, refused, does_all, asked_all, asked_by_turn, Check, recovered, Turn, is_want, line_elements, turn, turn_of, Around, Moment, balances_more, Keeps, session_of, Calls, Fits, Ends, Now, Performed, Takes, most_steps, scene_in, Turned, moment_in, fails, performed_more, takes_on}
 
 -- what is known of a turn
@@ -76,13 +76,7 @@ module _ (line : Option Command) (a : Now) where
       moves = tree_more a.store.tree m.store.tree b.store.tree a.space m.space b.space h.moves ended.moves;
       taken = err_taken;
       balances = balances_more _ _ _ _ _ _ h.balances ended.balances;
-      grows = record {
-        contexts = omega (arith, h.grows.contexts, ended.grows.contexts);
-        owners = omega (arith, h.grows.owners, ended.grows.owners);
-        serials = omega (arith, h.grows.serials, ended.grows.serials);
-        calls = omega (arith, h.grows.calls, ended.grows.calls);
-        descriptors = ended.grows.descriptors ∙ h.grows.descriptors;
-      };
+      grows = grind (arith, nat_tests);
       fail = ap (λ (c : Calls). c.fail) ended.calls ∙ h.fail;
       calls = subst (λ (c : Calls). a.calls.count ≤ c.count) (sym ended.calls) h.answers.calls;
       counted = λ want. subst (λ (c : Calls). a.calls.count < c.count) (sym ended.calls) (h.answers.counted want);

@@ -1,6 +1,5 @@
 -- The words and lemmas of the crates below, and the definitions of specs/, that these proofs take.
-pub use Rattle.addr_space.proofs.Contexts.{taken-other, taken-own}
-pub use Rattle.addr_space.specs.Space.{Asks, Space, accounts, risen, taken}
+pub use Rattle.addr_space.specs.Space.{Asks, Space}
 unfoldable pub use Rattle.addr_space.specs.Space.{held}
 pub use Rattle.any_ctx.specs.declared.any.CtxKind.{CtxKind}
 pub use Rattle.context_rules.specs.Chunks.{written}
@@ -12,7 +11,6 @@ pub use Rattle.forest.specs.Forest.{size}
 pub use Rattle.lock_shared.specs.Holdings.{holds}
 pub use Rattle.owner_core.specs.Owners.{OwnerTree}
 pub use Rattle.owner_core.specs.Steps.{Step, release_steps}
-pub use Rattle.owner_kinds.specs.Kind.{Kind}
 pub use Rattle.owner_kinds.specs.KindShelf.{table_of}
 pub use Rattle.owner_kinds.specs.KindTable.{IsSound}
 pub use Rattle.pgs_command.specs.declared.commands.Command.{Command}
@@ -45,13 +43,12 @@ pub use Rattle.session_core.specs.Lines.{IsAbortedBlock, IsBetweenLines, IsInBlo
 pub use Rattle.session_core.specs.Turns.{Turned, moment_in}
 pub use Rattle.session_owners.proofs.Balances.{balances_more, balances_none, serves_nothing, serves_still}
 pub use Rattle.session_owners.specs.Commons.{CommonState, Serves}
-pub use Rattle.session_rules.proofs.Asking.{asked_in_all_more}
 pub use Rattle.session_rules.proofs.EndsStand.{aborted_stands, away_stands, cleaned_up_stands, committed_stands, recovered_stands, settled, subcommitted_stands}
 pub use Rattle.session_rules.proofs.LevelsKept.{levels_stay}
 pub use Rattle.session_rules.proofs.StepsStand.{KeepsContexts, below_limit, keeps_written, level_context_stands, level_made_stands, level_owner_stands, level_stands_stands, settled_as, still_planned, still_portals}
 pub use Rattle.session_rules.proofs.TurnStands.{Leads, fallible_leads, leads_nowhere, leads_on, turn_stands}
 pub use Rattle.session_rules.specs.Acts.{Ended, behind, changes, children_gone, context_gone, for_each, in_order, nothing, portal_gone, say, switched, where_so, where_there}
-pub use Rattle.session_rules.specs.Asked.{asked_by_line, asked_in_all, asks_in}
+pub use Rattle.session_rules.specs.Asked.{asks_in}
 unfoldable pub use Rattle.session_rules.specs.Asked.{asked, asked_all, asked_by_turn}
 pub use Rattle.session_rules.specs.Calls.{Done, fallible, unfailing}
 pub use Rattle.session_rules.specs.Checks.{has_failed}
@@ -69,10 +66,10 @@ pub use Rattle.session_rules.specs.Releases.{owner_gone, owner_released, phase_r
 pub use Rattle.session_rules.specs.Standing.{AreOpen, AreOuter, FitLevels, IsAtRest, IsOpen, IsWorking, Stands, StandsBetweenLines}
 pub use Rattle.session_rules.specs.State.{LevelState, OpenPortal, SessionState, abort_context, deepest_changed, depth, first_of, is_aborted, level_above, level_context, level_owner, owner_of}
 unfoldable pub use Rattle.session_rules.specs.State.{opening}
-pub use Rattle.session_rules.specs.Transcript.{Course, Reading, Turn, course_by, is_want, line_elements, turn_of}
+pub use Rattle.session_rules.specs.Transcript.{Turn, is_want, line_elements, turn_of}
 unfoldable pub use Rattle.session_rules.specs.Transcript.{turn}
 pub use Rattle.session_rules.specs.Works.{elements, row_of}
-pub use Rattle.session_rules.specs.World.{Around, Moment, Options, Scene, moment}
+pub use Rattle.session_rules.specs.World.{Around, Moment, Scene}
 pub use Rattle.session_store.proofs.Depths.{levels_are, levels_long}
 pub use Rattle.session_store.specs.Calls.{Acted, ContextsAlone, IsSilent, Keeps, StandsIn}
 pub use Rattle.session_store.specs.State.{StoreState, contexts_in, level_state, levels_of, portals_of, scene_of}

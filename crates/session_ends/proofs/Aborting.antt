@@ -1,21 +1,12 @@
 -- A portal where the level aborts: its part in order.
-use Rattle.session_ends.proofs.Base.{◌≡◌, ℕ, ◌-◌, ◌≤◌, Bool, true, false, Option, Some, None, List, [], ◌∷◌, ◌++◌, IfSome, refl, sym, ap, ◌∙◌, arith, ◌==◌, ◌&&◌, if◌then◌else◌, nat_lt, option_map, eqb-true, eqb-false, le-ltb, lt-ltb, and-false, nat_tests}
+use Rattle.session_ends.proofs.Base.{◌≡◌, ℕ, ◌-◌, ◌≤◌, Bool, true, false, Option, None, List, [], ◌∷◌, ◌++◌, IfSome, refl, sym, ap, ◌∙◌, arith, ◌==◌, ◌&&◌, if◌then◌else◌, nat_lt, option_map, eqb-true, eqb-false, le-ltb, lt-ltb, and-false, nat_tests}
 use Rattle.session_ends.proofs.Words.{Space, CtxId, OwnerId, What, ShelfState, Portal, PortalState, failed_owner, is_outer, kept_owner, moved_owner, sub_aborted, CommonState, OpenPortal, Scene, Ended, children_gone, in_order, nothing, portal_becomes, where_so, where_there, has_failed, portal_aborted, portal_failed, portal_withdrawn, owner_moved, StoreState, portal_state, scene_of, Acted, acted_as, number_in}
 use Rattle.portal_store.specs.declared.portal.PortalState.TheVariants as portal
 use Rattle.session_ends.proofs.Acting.{acted_end, acted_then}
 
 -- what holds of a portal's owner holds of one that moves
 pub moved_some : (P : OwnerId → Type 0) (level : ℕ) (p : Portal) → IfSome p.owner P → IfSome (moved_owner level p) P
-moved_some P level p h = go (is_outer level p) (by_state p.state)
-  where
-    by_state : (state : PortalState) → IfSome (failed_owner state p.owner) P
-    by_state portal.New = tt
-    by_state portal.Ready = tt
-    by_state portal.Failed = h
-
-    go : (b : Bool) → IfSome (failed_owner p.state p.owner) P → IfSome (if b then failed_owner p.state p.owner else None) P
-    go true k = k
-    go false k = tt
+moved_some P level p h = grind (arith, nat_tests, p.state, p.owner)
 
 abbrev pub fails : OpenPortal → OpenPortal
 fails old = record old { state = portal.Failed; owner = None; expr = None }
@@ -42,15 +33,7 @@ idle_is level own p m z none = ap (λ (o : Option OwnerId). in_order (nothing �
 -- an owner moves behind the change of a portal as it does before
 swap_is : (failed : Bool) (owner : Option ℕ) (own : Option ℕ) (name : List ℕ) (f : OpenPortal → OpenPortal) (z : Scene)
     → in_order (portal_becomes name f ∷ where_so failed (where_there owner (λ o. where_there own (owner_moved o))) ∷ []) z ≡ in_order (where_so failed (where_there owner (λ o. where_there own (owner_moved o))) ∷ portal_becomes name f ∷ []) z
-swap_is false owner own name f z = refl
-swap_is true None own name f z = refl
-swap_is true (Some o) None name f z = refl
-swap_is true (Some o) (Some q) name f z = refl
-
-failed_moves : (state : PortalState) (owner : Option OwnerId) (own : Option ℕ) (z : Scene) → moves_to (failed_owner state owner) own z ≡ where_so (has_failed state) (where_there (number_in owner) (λ o. where_there own (owner_moved o))) z
-failed_moves portal.New owner own z = refl
-failed_moves portal.Ready owner own z = refl
-failed_moves portal.Failed owner own z = refl
+swap_is x0 x1 x2 name f z = grind (arith, nat_tests)
 
 outer_is : (level : ℕ) (own : Option ℕ) (p : Portal) (m : Option OwnerId) (z : Scene) → m ≡ failed_owner p.state p.owner
     → in_order (portal_becomes p.name (withdraws level) ∷ clears false p.context ∷ moves_to m own ∷ []) z ≡ of_level level own (portal_state p) false true z
@@ -58,9 +41,7 @@ outer_is level own p m z is = grind (arith, nat_tests, portal_becomes p.name (wi
 
 -- what becomes of it by its levels
 kept_is : (state : PortalState) (owner : Option OwnerId) → (if has_failed state then None else number_in owner) ≡ number_in (kept_owner state owner)
-kept_is portal.New owner = refl
-kept_is portal.Ready owner = refl
-kept_is portal.Failed owner = refl
+kept_is x0 owner = grind (arith, nat_tests)
 
 module _ (O : Type 0) (emits : O → List What → O → Type 0) (none : (o : O) → emits o [] o) (more : (o p q : O) (xs ys : List What) → emits o xs p → emits p ys q → emits o (xs ++ ys) q) where
   three : (f g h : Scene → Ended) (a b d e : StoreState) (s t : Space) (x y : ShelfState) (c : CommonState) (o p q : O) → Acted f a b s s x x c c (λ events. emits o events o) → Acted g b d s t x y c c (λ events. emits o events p) → Acted h d e t t y y c c (λ events. emits p events q)

@@ -1,27 +1,7 @@
 -- Acts of the rules one behind the other, from store to store.
-use Rattle.session_ends.proofs.Base.{ℕ, List, [], ◌∷◌, ◌++◌, refl, sym, ap, ◌∙◌, subst, arith, nat_tests}
-use Rattle.session_ends.proofs.Words.{Space, What, ShelfState, Contexts, TreeState, Around, Scene, Ended, in_order, nothing, say, ResourceState, owners_of, plans_of, Balances, CommonState, seen_by, balances_more, balances_none, StoreState, levels_of, portals_of, scene_of, session_of, Acted, IsSilent, owners_fit, HaveGone, hosting}
+use Rattle.session_ends.proofs.Base.{List, [], ◌∷◌, ◌++◌, refl, sym, ap, ◌∙◌, subst, arith, nat_tests}
+use Rattle.session_ends.proofs.Words.{Space, What, ShelfState, TreeState, Scene, Ended, in_order, nothing, say, ResourceState, Balances, CommonState, balances_more, balances_none, StoreState, scene_of, session_of, Acted, IsSilent, owners_fit, HaveGone, hosting}
 use Rattle.session_owners.specs.Fitting as fitting
-
--- a scene by what a release changes besides its owners
-abbrev scene_on : StoreState → ResourceState → Around → Contexts → ℕ → ℕ → ShelfState → CommonState → ℕ → Scene
-scene_on a q around contexts current next x commons limit = record {
-  session = record {
-    contexts = contexts;
-    current = current;
-    next_context = next;
-    owners = owners_of q;
-    next_owner = q.next_owner;
-    next_serial = q.next_serial;
-    locks = q.locks;
-    levels = levels_of a.levels;
-    portals = portals_of a.portals;
-    snapshots = q.stack;
-    plans = plans_of q;
-    recent = q.recent;
-  };
-  around = record (seen_by q commons around) { shelf = x; space = limit; descriptors = q.descriptors };
-}
 
 -- an act on owners, by which contexts of plans may go
 pub acted_on : (act : Scene → Ended) (a : StoreState) (b : TreeState) (q : ResourceState) (s t : Space) (x y : ShelfState) (c d : CommonState) (Said : List What → Type 0) → fitting.ActedOn act a.owners q (hosting a.tree s x) (hosting b t y) c d Said → HaveGone a.tree b s t → Balances a.owners q c d

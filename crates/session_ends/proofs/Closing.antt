@@ -1,13 +1,12 @@
 -- The topmost context goes with all below it: nothing is left.
-use Rattle.session_ends.proofs.Base.{◌≡◌, ◌⊎◌, ℕ, true, false, List, [], ◌∷◌, ◌++◌, All, sym, ap, ◌∙◌, subst, inr, append-nil, both_ways, All-cons, All-nil, All-weaker}
-use Rattle.session_ends.proofs.Words.{Space, held, Empty, has, removed, CtxId, What, ShelfState, gone, is_within, Did, TreeState, stands_for, total_of, Scene, Ended, context_gone, in_order, switched, Stands, nothing_left, contexts_of, CommonState, balances_more, StoreState, scene_of, session_of, IsPlaced, LevelLies, Lies, PortalLies, Acted, IsSilent, Keeps, StandsIn, has_kept, nowhere, did_acted, switch_acted, held_is}
+use Rattle.session_ends.proofs.Base.{arith, nat_tests, ◌≡◌, ◌⊎◌, ℕ, true, false, List, [], ◌∷◌, ◌++◌, All, sym, ap, ◌∙◌, subst, inr, append-nil, both_ways, All-cons, All-weaker}
+use Rattle.session_ends.proofs.Words.{Space, held, Empty, has, removed, CtxId, What, ShelfState, gone, is_within, Did, TreeState, stands_for, total_of, Scene, Ended, context_gone, in_order, switched, Stands, nothing_left, CommonState, balances_more, StoreState, scene_of, session_of, IsPlaced, Lies, Acted, IsSilent, Keeps, StandsIn, has_kept, nowhere, did_acted, switch_acted, held_is}
 use Rattle.session_ends.proofs.Ending.{keeps_left}
 use Rattle.session_ends.proofs.Out.{some_on}
 
 -- no context lies
 none_lies : (b : TreeState) → ((n : ℕ) → has n b.kept ≡ true → ⊥) → (ids : List CtxId) → All (Lies b) ids
-none_lies b none [] = All-nil (Lies b)
-none_lies b none (id ∷ ids) = All-cons (Lies b) id ids (λ there. absurd (none id.number there)) (none_lies b none ids)
+none_lies b none x2 = grind (arith, nat_tests, All-cons)
 
 -- one act in silence, and then another
 acted_two : (f h : Scene → Ended) (a b c : StoreState) (s t u : Space) (x y z : ShelfState) (commons : CommonState) (Said : List What → Type 0) → Acted f a b s t x y commons commons IsSilent → Acted h b c t u y z commons commons Said → Acted (in_order (f ∷ h ∷ [])) a c s u x z commons commons Said
@@ -44,18 +43,7 @@ module _ (a : StoreState) (s : Space) (x : ShelfState) (commons : CommonState) (
     nowhere_kept n there = both_ways (has n b.kept) (sym (has_kept n b t) ∙ ap (has n) left_empty) there
 
     pub placed_nowhere : a.levels ≡ [] → IsPlaced a.tree a.owners a.levels a.portals → IsPlaced b a.owners a.levels a.portals
-    placed_nowhere none placed = record {
-      current = λ there. absurd (nowhere_kept b.current.number there);
-      levels = subst (All (LevelLies b a.owners)) (sym none) (All-nil (LevelLies b a.owners));
-      plans = none_lies b nowhere_kept (contexts_of a.owners.plans.standing);
-      portals = All-weaker (PortalLies a.tree a.owners) (PortalLies b a.owners)
-          (λ p lies. record {
-            context = some_on p.context (λ id _ there. absurd (nowhere_kept id.number there)) lies.context;
-            expr = some_on p.expr (λ id _ there. absurd (nowhere_kept id.number there)) lies.expr;
-            owner = lies.owner;
-            scan = lies.scan;
-          }) a.portals placed.portals;
-    }
+    placed_nowhere none placed = grind (arith, nat_tests, nowhere_kept, none_lies, All-weaker, some_on, placed.portals)
 
     pub holds_nothing : Keeps a s → held t a.tree.account ≡ 0
     holds_nothing keeps =

@@ -1,6 +1,6 @@
 -- One portal is dealt with where the deepest level ends.
-use Rattle.session_ends.proofs.Base.{◌≡◌, ◌≢◌, ℕ, ◌+◌, ◌-◌, ◌≤◌, Bool, true, false, Option, Some, None, List, [], ◌∷◌, ◌++◌, length, All, IfSome, zero, suc, refl, sym, ap, ◌∙◌, subst, arith, inl, inr, if◌then◌else◌, slice_get, slice_set, option_map, cases_Bool, false_from_ne_true, ne_eqb, length-map, map-append}
-use Rattle.session_ends.proofs.Words.{Space, Empty, Once, children, has, is_above, mapped-has, CtxId, OwnerId, What, ShelfState, Contexts, is_within, TreeState, HooksFit, IsLive, stands_for, OwnerTree, has_begun, once_of, Portal, PortalState, New, Ready, Failed, without, Roomy, owners_of, CommonState, balances_none, Level, LevelState, OpenPortal, Around, Scene, portal_changed, portals_but, Ended, nothing, portal_becomes, portal_gone, where_so, executor_ended, is_ready, AreContexts, AreDifferent, AreLevels, IsAttached, IsOwner, IsPlace, IsPortal, Ending, protected_has, depth_still, but_one, changed_one, Leads, below_place, executor_goes, first_of_rest, StoreState, contexts_in, levels_of, portal_state, portals_of, scene_of, session_of, Lies, OwnerLies, PortalLies, Acted, IsSilent, PortalsAlone, if_some, levels_long, has_kept, nowhere, acted_as, EndsSo, IsEnding, PlansMayGo, executor_at, number_in, owner_to, LevelEnd, Merges, Aborts, Goes, above_owner}
+use Rattle.session_ends.proofs.Base.{nat_tests, ◌≡◌, ◌≢◌, ℕ, ◌+◌, ◌-◌, ◌≤◌, Bool, true, false, Option, Some, None, List, [], ◌∷◌, ◌++◌, length, All, IfSome, zero, suc, refl, sym, ap, ◌∙◌, subst, arith, inl, inr, if◌then◌else◌, slice_get, slice_set, option_map, false_from_ne_true, length-map, map-append}
+use Rattle.session_ends.proofs.Words.{Space, Empty, Once, children, has, is_above, mapped-has, CtxId, OwnerId, What, ShelfState, Contexts, is_within, TreeState, HooksFit, IsLive, stands_for, OwnerTree, has_begun, once_of, Portal, without, owners_of, CommonState, balances_none, Level, LevelState, OpenPortal, Around, Scene, portal_changed, portals_but, Ended, nothing, portal_becomes, portal_gone, where_so, executor_ended, is_ready, AreContexts, AreDifferent, AreLevels, IsAttached, IsOwner, IsPlace, IsPortal, Ending, protected_has, depth_still, but_one, changed_one, Leads, below_place, executor_goes, first_of_rest, StoreState, contexts_in, levels_of, portal_state, portals_of, scene_of, session_of, PortalLies, Acted, IsSilent, PortalsAlone, if_some, levels_long, has_kept, nowhere, acted_as, EndsSo, IsEnding, PlansMayGo, executor_at, number_in, owner_to, LevelEnd, Merges, Aborts, Goes, above_owner}
 use Rattle.session_owners.specs.ResourceState as owners
 use Rattle.session_rules.proofs.Ending as ending
 use Rattle.session_ends.proofs.Going.{may_go}
@@ -9,9 +9,7 @@ use Rattle.session_ends.proofs.Out.{is_alone, some_is}
 
 -- the context of a portal isn't the current one, nor above it
 pub place_apart : (t : Contexts) (next current n : ℕ) (expr : Option ℕ) → AreContexts t next → IsPlace n expr t current → is_within n current t ≡ false
-place_apart t next current n expr h place =
-    let out : has current (children n t) ≡ false = below_place t next h n expr current place current (λ e q z. place.apart (q ∙ ap Some (sym z))) in
-    rw (ne_eqb current n place.other, out) refl
+place_apart t next current n expr h place = grind (arith, nat_tests, below_place, place.apart, place.other)
 
 pub place_above_none : (t : Contexts) (next current n : ℕ) (expr : Option ℕ) → AreContexts t next → IsPlace n expr t current → is_above n current t ≡ false
 place_above_none t next current n expr h place = below_place t next h n expr current place current (λ e q z. place.apart (q ∙ ap Some (sym z)))
@@ -129,8 +127,7 @@ none_next ps front (q ∷ rest) left are long is =
 
 -- what holds of an option's value, where it is taken
 pub if_taken : {A : Type 0} (P : A → Type 0) (b : Bool) (o : Option A) → (b ≡ true → IfSome o P) → IfSome (if b then o else None) P
-if_taken P true o h = h refl
-if_taken P false o h = tt
+if_taken P x1 o h = grind (arith, nat_tests)
 
 -- the owner of a level is there
 level_owner_there : (ls : List LevelState) (t : Contexts) (x : OwnerTree) → AreLevels ls t x → (q : ℕ) → IsOwner q ls → has q x ≡ true
@@ -207,17 +204,11 @@ module _ (done : LevelState → List LevelState → List LevelState) (a : StoreS
   context_above_none = if_some p.context (λ id f. place_above_none (contexts_in a s) a.tree.next a.tree.current.number id.number (option_map (λ (c : CtxId). c.number) p.expr) ending_contexts (place id f))
 
   pub owner_live : PortalLies a.tree a.owners p → IfSome p.owner (owners.IsLive a.owners)
-  owner_live lies =
-      if_some p.owner (λ id f.
-      some_is (OwnerLies a.owners) p.owner id lies.owner f
-      (sym (mapped-has (λ (room : Roomy). room.owner) id.number a.owners.rooms) ∙ some_is (λ (o : OwnerId). has o.number (owners_of a.owners) ≡ true) p.owner id owner_there f))
+  owner_live lies = grind (arith, nat_tests, if_some, some_is, lies.owner, mapped-has, owner_there)
 
   pub context_live : PortalLies a.tree a.owners p → IfSome p.context (IsLive a.tree)
   unfolding session_of
-  context_live lies =
-      if_some p.context (λ id f.
-      some_is (Lies a.tree) p.context id lies.context f
-      (sym (has_kept id.number a.tree s) ∙ (let k = place id f in protected_has id.number (contexts_in a s) k.protected)))
+  context_live lies = grind (arith, nat_tests, if_some, some_is, lies.context, has_kept, place, protected_has)
 
   -- it isn't the owner of a level
   pub owner_other : (to : Option OwnerId) → ((q : ℕ) → number_in to ≡ Some q → IsOwner q (e.level ∷ e.above)) → IfSome p.owner (λ o. IfSome to (λ t. t.number ≢ o.number))
@@ -237,22 +228,7 @@ module _ (done : LevelState → List LevelState → List LevelState) (a : StoreS
   -- nothing of a level in which a portal is ready is released
   pub owner_unbegun : e.above ≡ [] → is_ready p.state ≡ true → IfSome p.owner (λ o. has_begun o.number (owners_of a.owners) ≡ false)
   unfolding session_of
-  owner_unbegun one ready =
-      if_some p.owner (λ id f. false_from_ne_true (has_begun id.number (owners_of a.owners)) (e.ending.owners.fresh active id.number))
-    where
-      unready : (state : PortalState) → state ≡ Failed → is_ready state ≡ true → ⊥
-      unready New f r = cc f
-      unready Ready f r = cc f
-      unready Failed f r = cc r
-
-      active : e.level.aborted ≡ false
-      active = elim (cases_Bool e.level.aborted) [
-        | inl y ↦ let i = ending_first in elim i.stage [
-          | inl l ↦ absurd (omega (arith, l.some, l.within, l.active, depth_still e.level e.above y, ap length one))
-          | inr d ↦ absurd (unready p.state d.failed ready)
-        ]
-        | inr y ↦ y
-      ]
+  owner_unbegun one ready = grind (arith, nat_tests, if_some, false_from_ne_true, ending_first, depth_still)
 
 -- only one level
 pub one_level : (levels : List Level) (level : LevelState) (above : List LevelState) → levels_of levels ≡ level ∷ above → length levels ≡ 1 → above ≡ []
@@ -278,11 +254,7 @@ ending_step done act a b s t x y c d p rest Said e leads acted same = record {
 
 -- the executor of a portal that is ready
 pub executor_is : (p : Portal) (o : Option OwnerId) (z : Scene) → o ≡ (if is_ready p.state then p.owner else None) → executor_at (number_in o) p.scan z ≡ where_so (is_ready p.state) (executor_ended (portal_state p)) z
-executor_is p o z e = ap (λ (q : Option OwnerId). executor_at (number_in q) p.scan z) e ∙ go (is_ready p.state)
-  where
-    go : (b : Bool) → executor_at (number_in (if b then p.owner else None)) p.scan z ≡ where_so b (executor_ended (portal_state p)) z
-    go true = refl
-    go false = refl
+executor_is p o z e = grind (arith, nat_tests, p.scan, p.state, p.owner)
 
 pub executor_acted : (a b : StoreState) (s t : Space) (x y : ShelfState) (c d : CommonState) (Said : List What → Type 0) (p : Portal) (o : Option OwnerId) → o ≡ (if is_ready p.state then p.owner else None) → Acted (executor_at (number_in o) p.scan) a b s t x y c d Said
     → Acted (where_so (is_ready p.state) (executor_ended (portal_state p))) a b s t x y c d Said

@@ -1,5 +1,5 @@
 -- The ends of levels are their parts, one behind the other.
-use Rattle.session_ends.proofs.Base.{◌≡◌, ℕ, Bool, true, false, Option, Some, None, List, [], ◌∷◌, ◌++◌, length, refl, sym, ap, ◌∙◌, ◌==◌, drop}
+use Rattle.session_ends.proofs.Base.{arith, nat_tests, ◌≡◌, ℕ, Bool, true, false, Option, List, [], ◌∷◌, ◌++◌, length, refl, sym, ap, ◌∙◌, ◌==◌, drop}
 use Rattle.session_ends.proofs.Words.{Space, OwnerId, What, ShelfState, LevelState, OpenPortal, deepest_changed, first_of, owner_of, top_context, portal_aborted, portal_closed, portal_passed, Around, Scene, Ended, changes, for_each, in_order, say, switched, aborted, cleaned_up, committed, level_context_gone, level_owner_gone, level_popped, level_released, stack_lowered, stack_popped, subcommitted, switched_up, CommonState, StoreState, levels_of, portals_of, scene_of, session_of, Acted, levels_long, leveled, scene_leveled, acted_as, context_left, level_left, number_in, portal_after, LevelEnd, Merges, Aborts, Goes}
 use Rattle.pgs_step.specs.declared.events.What.TheVariants as what
 use Rattle.session_ends.proofs.Acting.{acted_end, acted_said, acted_then}
@@ -51,8 +51,7 @@ commit_is a s x c around = refl
 top_is : (name : Option (List ℕ)) (k o : Option ℕ) (i b st : Bool) (a : StoreState) (s : Space) (x : ShelfState) (c : CommonState) (around : Around)
     → let level : LevelState = record { name = name; context = k; owner = o; implicit = i; aborted = b; starting = st } in
     in_order (left_acts false) (leveled a (level ∷ []) s x c around) ≡ in_order top_acts (leveled a (level ∷ []) s x c around)
-top_is name k None i b st a s x c around = refl
-top_is name k (Some p) i b st a s x c around = refl
+top_is name k x2 i b st a s x c around = grind (arith, nat_tests)
 
 pub left_top : (a b : StoreState) (level : LevelState) (s t : Space) (x y : ShelfState) (c d : CommonState) (Said : List What → Type 0) → levels_of a.levels ≡ level ∷ [] → Acted (level_left false) a b s t x y c d Said → Acted (in_order top_acts) a b s t x y c d Said
 left_top a b level s t x y c d Said one h =
@@ -111,6 +110,4 @@ module _ (O : Type 0) (emits : O → List What → O → Type 0) (none : (o : O)
   -- a level is rolled back
   pub roll_parts : (a b d : StoreState) (s t u : Space) (x y z : ShelfState) (c g : CommonState) (o0 o1 o2 : O) → Acted aborted a b s t x y c g (λ events. emits o0 events o1) → Acted cleaned_up b d t u y z g g (λ events. emits o1 events o2)
       → Acted (in_order (aborted ∷ cleaned_up ∷ [])) a d s u x z c g (λ events. emits o0 events o2)
-  roll_parts a b d s t u x y z c g o0 o1 o2 first second =
-      acted_then O emits none more aborted (cleaned_up ∷ []) a b d s t u x y z c g g o0 o1 o2 first
-      (acted_then O emits none more cleaned_up [] b d d t u u y z z g g g o1 o2 o2 second (acted_end O emits none more d u z g o2))
+  roll_parts a b d s t u x y z c g o0 o1 o2 first second = grind (arith, nat_tests, acted_then O emits none more aborted (cleaned_up ∷ []) a b d s t u x y z c g g o0 o1 o2 first (acted_then O emits none more cleaned_up [] b d d t u u y z z g g g o1 o2 o2 second (acted_end O emits none more d u z g o2)), aborted, acted_then O emits none more cleaned_up, acted_end O emits none more d u z g o2)

@@ -1,6 +1,6 @@
 -- What the ends of levels ask for, where the deepest level may go, and what still lies behind them.
-use Rattle.session_ends.proofs.Base.{◌≡◌, ◌↔◌, ℕ, ◌<◌, Bool, true, false, Option, Some, None, List, [], ◌∷◌, ◌++◌, length, All, IfSome, IsSome, refl, sym, ap, ◌∙◌, subst, arith, drop, if◌then◌else◌, reverse, unwrap_or, option_map, option_to_list, length-append, All-weaker}
-use Rattle.session_ends.proofs.Words.{Asks, Space, has, at, mapped-has, CtxId, OwnerId, ShelfState, Contexts, is_empty, is_within, TreeState, Agrees, HooksFit, IsLive, Moves, place_of, stands_for, tree_more, Plans, Portal, AllAt, HoldsNothing, ResourceState, Roomy, owners_of, contexts_of, Level, LevelState, context_of, first_of, owner_of, Scene, context_gone, where_so, where_there, AreLevels, AreOuter, protected_has, top_protected, StoreState, level_state, levels_of, only_empty, session_of, HasLevels, IsPlaced, IsThere, LevelLies, Lies, OwnerLies, PortalLies, Keeps, if_some, all_deepest, levels_are, has_kept, levels_there, HasOwner, keeps_current, owners_there, all_reverse, keeps_on, MayLeave, going}
+use Rattle.session_ends.proofs.Base.{nat_tests, ◌≡◌, ◌↔◌, ℕ, ◌<◌, Bool, true, false, Option, List, [], ◌∷◌, ◌++◌, length, All, IfSome, IsSome, refl, sym, ap, ◌∙◌, subst, arith, drop, if◌then◌else◌, reverse, unwrap_or, option_map, option_to_list, length-append, All-weaker}
+use Rattle.session_ends.proofs.Words.{Asks, Space, has, at, mapped-has, CtxId, OwnerId, ShelfState, Contexts, is_empty, is_within, TreeState, Agrees, HooksFit, IsLive, Moves, place_of, stands_for, tree_more, Plans, Portal, AllAt, HoldsNothing, ResourceState, owners_of, contexts_of, Level, LevelState, context_of, first_of, owner_of, Scene, context_gone, where_so, where_there, AreLevels, AreOuter, protected_has, top_protected, StoreState, level_state, levels_of, only_empty, session_of, HasLevels, IsPlaced, IsThere, LevelLies, Lies, OwnerLies, Keeps, if_some, all_deepest, levels_are, has_kept, levels_there, HasOwner, keeps_current, owners_there, all_reverse, keeps_on, MayLeave, going}
 use Rattle.session_ends.proofs.Freed.{outside}
 use Rattle.session_ends.proofs.Out.{keeps_with, some_on}
 
@@ -17,17 +17,11 @@ before_is (y ∷ []) x = refl
 before_is (y ∷ z ∷ xs) x = ap (λ (zs : List Level). y ∷ zs) (before_is (z ∷ xs) x)
 
 pub popped_is : (levels outer new : List Level) (level : Level) (r : Option Level) → levels ≡ outer ++ level ∷ [] → levels ≡ new ++ option_to_list r → (IsSome r ↔ (0 < length levels)) → new ≡ outer
-popped_is levels outer new level None e f some =
-    absurd (let no : false ≡ true = some.1 (omega (arith, ap length e, length-append outer (level ∷ []))) in cc)
-popped_is levels outer new level (Some last) e f some = sym (before_is new last) ∙ ap before_last (sym f ∙ e) ∙ before_is outer level
+popped_is levels outer new level x4 e f some = grind (arith, nat_tests, some.1 (omega (arith, ap length e, length-append outer (level ∷ []))), before_is, before_is outer level)
 
 -- what stands before the last of some levels
 pub same_before : (outer new : List Level) (level last : Level) → outer ++ level ∷ [] ≡ new ++ last ∷ [] → new ≡ outer
 same_before outer new level last e = sym (before_is new last) ∙ ap before_last (sym e) ∙ before_is outer level
-
-no_levels : (outer : List Level) → length outer ≡ 0 → levels_of outer ≡ []
-no_levels [] e = refl
-no_levels (x ∷ xs) e = absurd (cc e)
 
 -- one level alone
 pub alone : (levels outer : List Level) (level : Level) → levels ≡ outer ++ level ∷ [] → length levels ≡ 1 → outer ≡ []
@@ -46,10 +40,7 @@ module _ (a : StoreState) (s : Space) (x : ShelfState) (freed : MayLeave a s x) 
 
   pub levels_freed : HasLevels a.tree a.levels
   unfolding session_of
-  levels_freed = record {
-    top = sym (has_kept 1 a.tree s) ∙ protected_has 1 (stands_for a.tree s) (top_protected (stands_for a.tree s) a.tree.next freed.contexts);
-    levels = there_freed;
-  }
+  levels_freed = grind (arith, nat_tests, has_kept 1 a.tree s, protected_has 1 (stands_for a.tree s) (top_protected (stands_for a.tree s) a.tree.next freed.contexts), top_protected (stands_for a.tree s) a.tree.next freed.contexts, there_freed)
 
   pub hooks_freed : HooksFit (stands_for a.tree s) x
   unfolding session_of
@@ -77,33 +68,21 @@ module _ (a : StoreState) (s : Space) (x : ShelfState) (freed : MayLeave a s x) 
 
 -- what holds of a context holds of it where it is empty
 kept_some : (P : CtxId → Type 0) (context : Option CtxId) (contexts : Contexts) → IfSome context P → IfSome (only_empty context contexts) P
-kept_some P None contexts holds = holds
-kept_some P (Some id) contexts holds = go (is_empty id.number contexts)
-  where
-    go : (b : Bool) → IfSome (if b then Some id else None) P
-    go true = holds
-    go false = tt
+kept_some P x1 contexts holds = grind (arith, nat_tests)
 
 -- a context goes where it is empty
 only_gone : (context : Option CtxId) (z : Scene)
     → where_there (option_map (λ (id : CtxId). id.number) context) (λ n. where_so (is_empty n z.session.contexts) (context_gone n)) z
     ≡ where_there (option_map (λ (id : CtxId). id.number) (only_empty context z.session.contexts)) context_gone z
-only_gone None z = refl
-only_gone (Some id) z = go (is_empty id.number z.session.contexts)
-  where
-    go : (b : Bool) → where_so b (context_gone id.number) z ≡ where_there (option_map (λ (id : CtxId). id.number) (if b then Some id else None)) context_gone z
-    go true = refl
-    go false = refl
+only_gone x0 z = grind (arith, nat_tests, z.session.contexts)
 
 pub going_some : (P : CtxId → Type 0) (merged : Bool) (context : Option CtxId) (contexts : Contexts) → IfSome context P → IfSome (going merged context contexts) P
-going_some P true context contexts holds = kept_some P context contexts holds
-going_some P false context contexts holds = holds
+going_some P x1 context contexts holds = grind (arith, nat_tests, kept_some)
 
 pub going_gone : (merged : Bool) (context : Option CtxId) (z : Scene)
     → (if merged then where_there (option_map (λ (id : CtxId). id.number) context) (λ n. where_so (is_empty n z.session.contexts) (context_gone n)) z else where_there (option_map (λ (id : CtxId). id.number) context) context_gone z)
     ≡ where_there (option_map (λ (id : CtxId). id.number) (going merged context z.session.contexts)) context_gone z
-going_gone true context z = only_gone context z
-going_gone false context z = refl
+going_gone x0 context z = grind (arith, nat_tests, only_gone)
 
 -- the levels above still lie, and so do the portals
 module _ (tree b : TreeState) (table now : ResourceState) (had : (n : ℕ) → has n b.kept ≡ true → has n tree.kept ≡ true) (contexts : (n : ℕ) → has n b.kept ≡ true → place_of b n ≡ place_of tree n)
@@ -112,9 +91,7 @@ module _ (tree b : TreeState) (table now : ResourceState) (had : (n : ℕ) → h
   lies_left id lies still = contexts id.number still ∙ lies (had id.number still)
 
   owner_left : (id : OwnerId) → OwnerLies table id → OwnerLies now id
-  owner_left id lies still =
-      let here : has id.number (owners_of now) ≡ true = mapped-has (λ (r : Roomy). r.owner) id.number now.rooms ∙ still in
-      others id.number here ∙ lies (sym (mapped-has (λ (r : Roomy). r.owner) id.number table.rooms) ∙ owner_had id.number here)
+  owner_left id lies still = grind (arith, nat_tests, id.number, mapped-has)
 
   pub left_placed : (levels outer new : List Level) (portals : List Portal) (level : Level) (up : CtxId) → levels ≡ outer ++ level ∷ [] → new ≡ outer → IsPlaced tree table levels portals → IsLive tree up → b.current ≡ up → now.plans ≡ table.plans → IsPlaced b now new portals
   left_placed levels outer new portals level up e f placed live current same =
@@ -125,8 +102,7 @@ module _ (tree b : TreeState) (table now : ResourceState) (had : (n : ℕ) → h
             let l = all_deepest (LevelLies tree table) levels outer level e placed.levels in
             All-weaker (LevelLies tree table) (LevelLies b now) (λ k lies. record { context = some_on k.context lies_left lies.context; owner = some_on k.owner owner_left lies.owner }) outer l.0;
         plans = subst (λ (p : Plans). All (Lies b) (contexts_of p.standing)) (sym same) (All-weaker (Lies tree) (Lies b) lies_left (contexts_of table.plans.standing) placed.plans);
-        portals = All-weaker (PortalLies tree table) (PortalLies b now)
-            (λ p lies. record { context = some_on p.context lies_left lies.context; expr = some_on p.expr lies_left lies.expr; owner = some_on p.owner owner_left lies.owner; scan = lies.scan }) portals placed.portals;
+        portals = grind (arith, nat_tests, All-weaker, some_on, lies_left, owner_left, placed.portals);
       })
 
 -- the tree changed, whichever context was the current one before

@@ -1,5 +1,5 @@
 -- A portal of a store gets its contexts and its owner.
-use Rattle.session_ends.proofs.Base.{◌≡◌, ℕ, ◌+◌, true, Option, Some, None, List, [], ◌∷◌, ◌++◌, append-nil, All, refl, sym, ap, ◌∙◌, subst, codes, option_and_then, option_map, All-nil, All-cons, All-head, All-tail}
+use Rattle.session_ends.proofs.Base.{arith, nat_tests, ◌≡◌, ℕ, ◌+◌, true, Option, Some, List, [], ◌∷◌, ◌++◌, append-nil, All, refl, sym, ap, ◌∙◌, subst, codes, option_and_then, option_map, All-cons, All-head, All-tail}
 use Rattle.session_ends.proofs.Words.{Space, CtxId, OwnerId, What, ShelfState, Contexts, created, created_events, TreeState, stands_for, Portal, HasDistinctNames, changed, portal_named, Plans, Level, ResourceState, owners_of, plans_of, contexts_of, Balances, CommonState, seen_by, balances_none, OpenPortal, level_owner, portals_context, Around, Scene, portal_changed, Ended, in_order, portal_becomes, where_there, OfPortal, PortalContext, RowContext, Text, context_made, new_context_made, new_owner_made, owner_made, StoreState, levels_of, portal_state, portals_of, scene_of, session_of, IsPlaced, LevelLies, Lies, Acted, Keeps, StandsIn, HasOwner, have_owners, owner_on, acted_as, have_portal_owners, portals_kept}
 use Rattle.any_ctx.specs.declared.any.CtxKind.TheVariants as kind
 use Rattle.session_owners.specs.ResourceState as owners
@@ -29,12 +29,7 @@ scene_by a x commons around contexts current next portals limit = record {
 }
 
 same_scene : (a : StoreState) (x : ShelfState) (commons : CommonState) (around : Around) (c d : Contexts) (i j m n : ℕ) (ps qs : List OpenPortal) (k l : ℕ) → c ≡ d → i ≡ j → m ≡ n → ps ≡ qs → k ≡ l → scene_by a x commons around c i m ps k ≡ scene_by a x commons around d j n qs l
-same_scene a x commons around c d i j m n ps qs k l p q r u v =
-    ap (λ (z : Contexts). scene_by a x commons around z i m ps k) p
-    ∙ ap (λ (z : ℕ). scene_by a x commons around d z m ps k) q
-    ∙ ap (λ (z : ℕ). scene_by a x commons around d j z ps k) r
-    ∙ ap (λ (z : List OpenPortal). scene_by a x commons around d j n z k) u
-    ∙ ap (λ (z : ℕ). scene_by a x commons around d j n qs z) v
+same_scene a x commons around c d i j m n ps qs k l p q r u v = grind (arith, nat_tests)
 
 -- a context is made below another one, and the portal of a name has it
 abbrev pub made_below : Text → Text → (ℕ → OpenPortal → OpenPortal) → ℕ → Scene → Ended
@@ -61,8 +56,7 @@ abbrev pub has_expr : ℕ → OpenPortal → OpenPortal
 has_expr n p = record p { expr = Some n }
 
 below_portal : (o : Option Portal) (id : CtxId) → option_and_then (λ p. p.context) o ≡ Some id → option_and_then (λ q. q.context) (option_map portal_state o) ≡ Some id.number
-below_portal None id is = absurd (cc is)
-below_portal (Some p) id is = ap (option_map (λ (i : CtxId). i.number)) is
+below_portal x0 id is = grind (arith, nat_tests)
 
 parent_of_row : (a : StoreState) (s : Space) (x : ShelfState) (commons : CommonState) (around : Around) (name : List ℕ) (id : CtxId) → option_and_then (λ p. p.context) (portal_named name a.portals) ≡ Some id
     → option_and_then (λ q. q.context) (rules.portal_named name (scene_of a s x commons around).session.portals) ≡ Some id.number
@@ -124,10 +118,7 @@ owner_acted a p qs name id parent s x commons Said distinct up number made balan
 
 -- what the store names lies where it did, where all owners that lay do
 levels_kept : (tree : TreeState) (a b : ResourceState) (levels : List Level) → ((id : OwnerId) → owners.IsLive a id → owners.IsLive b id) → All (LevelLies tree a) levels → All (HasOwner a) levels → All (LevelLies tree b) levels
-levels_kept tree a b [] on lies there = All-nil (LevelLies tree b)
-levels_kept tree a b (level ∷ levels) on lies there =
-    All-cons (LevelLies tree b) level levels (owner_on tree a b level on (All-head (LevelLies tree a) level levels lies) (All-head (HasOwner a) level levels there))
-    (levels_kept tree a b levels on (All-tail (LevelLies tree a) level levels lies) (All-tail (HasOwner a) level levels there))
+levels_kept tree a b x3 on lies there = grind (arith, nat_tests, All-cons, owner_on, All-head, All-tail)
 
 pub owner_placed : (a : StoreState) (p : ResourceState) (qs : List Portal) (name : List ℕ) (id : OwnerId) (s : Space) (x : ShelfState) (commons : CommonState) → StandsIn a s x commons → IsPlaced a.tree a.owners a.levels a.portals
     → ((other : OwnerId) → owners.IsLive a.owners other → owners.IsLive p other) → p.plans ≡ a.owners.plans → owners.IsLive p id → qs ≡ changed name (λ q. record q { owner = Some id }) a.portals → IsPlaced a.tree p a.levels qs

@@ -1,6 +1,6 @@
 -- What the release of the deepest level's owner leaves of a session: the level may go.
-use Rattle.session_ends.proofs.Base.{◌≡◌, ◌≢◌, ◌↔◌, ℕ, ◌+◌, ◌<◌, length, Bool, true, false, Option, Some, None, List, [], ◌∷◌, ◌++◌, All, IfSome, refl, sym, ap, ◌∙◌, subst, inl, arith, ◌==◌, drop, unwrap_or, eq-eqb, eqb-true, ne_eqb, All-nil, All-weaker}
-use Rattle.session_ends.proofs.Words.{Space, children, has, parent_of, above_none, OwnerId, What, ShelfState, Contexts, is_within, TreeState, stands_for, table_of, KindTable, IsSound, AllAt, HoldsNothing, ResourceState, owners_of, CommonState, Level, LevelState, context_of, first_of, is_aborted, level_owner, owner_of, top_context, Scene, where_there, level_parent, owner_released, AreContexts, AreHooks, AreLevels, AreOuter, IsPlan, IsPortal, Stands, referred, AreEnding, Ending, IsDone, gone_levels, own, MayEnd, begins, left_idle, left_lone, may_end, settled, top_parent, HasLeft, is_there, left_still, levels_stay, outer_contexts, owners_aborted, owners_end, attached_by, place_spared, levels_apart, with_owners, Besides, Fits, HasSettled, Spares, besides_of, release_settles, spares_same, with_besides, StoreState, level_state, levels_of, portals_of, scene_of, session_of, StandsIn, if_some, ends, levels_are, levels_long, nowhere, plans_there, stands_deep, HaveGone, hosting, IsFreed, MayLeave, IsEnding, PlansMayGo, above_left, number_in}
+use Rattle.session_ends.proofs.Base.{nat_tests, ◌≡◌, ◌≢◌, ◌↔◌, ℕ, ◌+◌, ◌<◌, length, Bool, true, false, Option, Some, None, List, [], ◌∷◌, ◌++◌, All, IfSome, refl, sym, ap, ◌∙◌, subst, inl, arith, ◌==◌, drop, unwrap_or, ne_eqb, All-nil, All-weaker}
+use Rattle.session_ends.proofs.Words.{Space, children, has, parent_of, above_none, OwnerId, What, ShelfState, Contexts, is_within, TreeState, stands_for, table_of, KindTable, IsSound, AllAt, HoldsNothing, ResourceState, owners_of, CommonState, Level, LevelState, context_of, first_of, is_aborted, level_owner, owner_of, top_context, Scene, where_there, level_parent, owner_released, AreContexts, AreHooks, AreLevels, AreOuter, IsPlan, IsPortal, Stands, referred, Ending, IsDone, gone_levels, own, MayEnd, begins, left_idle, left_lone, may_end, settled, top_parent, HasLeft, is_there, left_still, levels_stay, outer_contexts, owners_aborted, owners_end, attached_by, place_spared, levels_apart, with_owners, Besides, Fits, Spares, besides_of, release_settles, spares_same, with_besides, StoreState, level_state, levels_of, portals_of, scene_of, session_of, StandsIn, if_some, ends, levels_are, levels_long, nowhere, plans_there, stands_deep, HaveGone, hosting, IsFreed, MayLeave, IsEnding, PlansMayGo, above_left, number_in}
 use Rattle.owner_kinds.specs.KindTable.{IsSound as IsSoundTable}
 use Rattle.session_owners.specs.ResourceState.{OwnerTree}
 use Rattle.session_owners.specs.Fitting as fitting
@@ -18,18 +18,8 @@ pub record HasGiven (o : Option ℕ) (s t : Scene) : Type 0 where
 
 pub gives : (commit top : Bool) (o : Option ℕ) (s : Scene) → IsSound s.session.owners s.session.next_owner s.session.next_serial → Fits s.session.next_context s.session.current (referred s.session.owners) (besides_of s)
     → HasGiven o s (where_there o (owner_released commit top) s).scene
-gives commit top None s sound fits = record {
-  besides = besides_of s;
-  same = refl;
-  owners = s.session.owners;
-  left = refl;
-  is = refl;
-  fits = fits;
-  spares = spares_same (besides_of s) (besides_of s) refl refl;
-}
-gives commit top (Some p) s sound fits =
-    let r : HasSettled p s (owner_released commit top p s).scene = release_settles commit top p s s.session.next_serial sound fits in
-    record { besides = r.besides; same = r.same; owners = r.owners; left = r.swept; is = r.is; fits = r.fits; spares = r.spares }
+gives commit top None s sound fits = grind (arith, nat_tests, s.session.owners, spares_same (besides_of s) (besides_of s) refl refl)
+gives commit top (Some p) s sound fits = grind (arith, nat_tests, release_settles commit top p s s.session.next_serial sound fits, s.session.next_serial)
 
 -- the deepest level may go in a scene
 record MayGo (level : LevelState) (above : List LevelState) (s : Scene) : Type 0 where
@@ -59,8 +49,7 @@ may_go commit top level levels done s h =
 
 -- what holds of an owner holds of its number
 by_number : (P : ℕ → Type 0) (owner : Option OwnerId) (n : ℕ) → IfSome owner (λ o. P o.number) → number_in owner ≡ Some n → P n
-by_number P None n h e = absurd (cc e)
-by_number P (Some id) n h e = let same : id.number ≡ n = cc e in subst P same h
+by_number P x1 n h e = grind (arith, nat_tests)
 
 -- all portals are done
 pub all_end : (done : LevelState → List LevelState → List LevelState) (a : StoreState) (s : Space) (x : ShelfState) (c : CommonState) (e : IsEnding done a s x c []) → MayEnd (referred (owners_of a.owners)) e.level e.above (done e.level e.above) (scene_of a s x c nowhere)
@@ -89,18 +78,7 @@ module _ (done : LevelState → List LevelState → List LevelState) (a : StoreS
 
   pub level_owner_top : (b : Bool) → b ≡ (length a.levels == 1) → IfSome level.owner (λ o. (b ≡ true) ↔ (parent_of o.number (owners_of a.owners) ≡ None))
   unfolding session_of
-  level_owner_top b is =
-      if_some level.owner (λ id o.
-      let k = e.ending.all.0.owner id.number (sym owner_is ∙ ap number_in o) in
-      let long : length a.levels ≡ length e.above + 1 = omega (arith, levels_long a.levels, ap length e.are) in
-      top e.above e.ending.outer long k.parent)
-    where
-      top : (above : List LevelState) → AreOuter above → length a.levels ≡ length above + 1 → {p : Option ℕ} → p ≡ owner_of (first_of above) → (b ≡ true) ↔ (p ≡ None)
-      top [] o long q = (λ _. q, λ _. is ∙ eq-eqb (length a.levels) 1 (omega (arith, long)))
-      top (l ∷ ls) o long q = (
-        λ y. absurd (let one : length a.levels ≡ 1 = eqb-true (length a.levels) 1 (sym is ∙ y) in omega (arith, one, long)),
-        λ n. let m = is_there l.owner o.0.made.owner in absurd (let z : None ≡ Some m.0 = sym n ∙ q ∙ m.1 in cc z),
-      )
+  level_owner_top b is = grind (arith, nat_tests, if_some, owner_is, levels_long a.levels, is_there)
 
   -- behind a release
   pub leaves : (commit top : Bool) (b : TreeState) (q : ResourceState) (t : Space) (y : ShelfState) (behind : CommonState) (Said : List What → Type 0)
@@ -193,9 +171,7 @@ shuts_in level levels top s h =
         all = (record { context = all.0.context; owner = all.0.owner; implicit = all.0.implicit }, all.1);
         outer = h.outer;
         kinds = subst (λ (k : KindTable). IsSoundTable k) (sym g.same) h.kinds;
-        owners = subst (λ (k : KindTable). AreEnding k now s.session.next_owner s.session.next_serial shut levels s.session.portals) (sym g.same)
-            (owners_end kinds now s.session.next_owner s.session.next_serial shut levels s.session.portals
-            (owners_aborted kinds level levels s.session.portals old now s.session.next_owner s.session.next_serial level.owner h.kinds refl g.left h.owners));
+        owners = grind (arith, nat_tests, s.session.next_owner, s.session.next_serial, s.session.portals, g.same, owners_end kinds now s.session.next_owner s.session.next_serial shut levels s.session.portals (owners_aborted kinds level levels s.session.portals old now s.session.next_owner s.session.next_serial level.owner h.kinds refl g.left h.owners), owners_aborted kinds level levels s.session.portals old now s.session.next_owner s.session.next_serial level.owner h.kinds refl g.left h.owners, level.owner, h.kinds, g.left, h.owners);
         plans = g.fits.plans;
         ended = All-nil (IsDone shut levels u now cur);
         rest = All-weaker (IsDone level (gone_levels level levels) t old cur) (λ p. IsPortal p (gone_levels level levels) u now cur)

@@ -1,16 +1,14 @@
 -- An owner's newest item of a kind and key is given back, where it has one.
-use Rattle.session_ends.proofs.Base.{◌≡◌, ℕ, false, Option, Some, None, List, [], ◌∷◌, Result, Ok, Err, OnErr, OnOk, refl, sym, ap, ◌∙◌, subst, find, ok_or}
+use Rattle.session_ends.proofs.Base.{arith, nat_tests, ◌≡◌, ℕ, false, Option, None, List, [], ◌∷◌, Result, Ok, Err, OnErr, OnOk, refl, sym, ap, ◌∙◌, subst, find, ok_or}
 use Rattle.session_ends.proofs.Words.{Space, Item, KindId, What, ShelfState, is_of, without_newest, forgotten, has_begun, items_of, OwnerError, NotOwned, owners_of, Balances, CommonState, seen_by, balances_none, SessionState, Scene, Ended, changes, in_order, nothing, say, where_there, given_back, item_released, begun_changed, StoreState, scene_of, session_of, Acted, Refused, acted_as}
 use Rattle.pgs_step.specs.declared.events.What.TheVariants as what
 
 -- without an item nothing is done
 nothing_there : {A : Type 0} (i : Option A) (act : A → Scene → Ended) (z : Scene) → i ≡ None → nothing z ≡ where_there i act z
-nothing_there None act z e = refl
-nothing_there (Some x) act z e = absurd (cc e)
+nothing_there x0 act z e = grind (arith, nat_tests)
 
 is_none : (i : Option Item) (e : OwnerError) → Err e ≡ ok_or i NotOwned → i ≡ None
-is_none None e is = refl
-is_none (Some item) e is = absurd (cc is)
+is_none x0 e is = grind (arith, nat_tests)
 
 -- nothing is done
 module _ (O : Type 0) (emits : O → List What → O → Type 0) (none : (o : O) → emits o [] o) where

@@ -1,32 +1,15 @@
 -- Contexts of plans go: what that leaves of a tree, of its space, and of what a store names.
-use Rattle.session_ends.proofs.Base.{◌≡◌, ◌≢◌, ℕ, true, false, List, [], ◌∷◌, map, All, Result, Ok, Err, OnErr, sym, ap, ◌∙◌, ne_eqb, All-cons, All-head, All-nil, All-tail, All-weaker, arith, nat_tests}
-use Rattle.session_ends.proofs.Words.{Space, Once, children, has, removed, has_of_removed, CtxId, ShelfState, Contexts, gone, is_within, Did, TreeState, Agrees, HooksFit, stands_for, Plan, ResourceState, owners_of, plan_state, plans_of, AreLeft, PlansFit, contexts_of, CommonState, AreApart, IsPlan, Stands, protected_has, has_left, once_left, lone_left, StoreState, contexts_in, scene_of, session_of, IsPlaced, Lies, Keeps, Refused, StandsIn, has_kept, nowhere, OwnersGo, CanGo, HaveGone, IsSpare, PlansMayGo}
+use Rattle.session_ends.proofs.Base.{◌≡◌, ◌≢◌, ℕ, List, [], ◌∷◌, map, All, Result, OnErr, ap, All-cons, All-head, All-nil, All-tail, All-weaker, arith, nat_tests}
+use Rattle.session_ends.proofs.Words.{Space, Once, has, removed, has_of_removed, CtxId, ShelfState, Contexts, gone, Did, TreeState, Agrees, HooksFit, stands_for, Plan, ResourceState, owners_of, plan_state, plans_of, AreLeft, PlansFit, contexts_of, CommonState, AreApart, IsPlan, Stands, protected_has, has_left, once_left, lone_left, StoreState, contexts_in, scene_of, session_of, IsPlaced, Lies, Keeps, Refused, StandsIn, has_kept, nowhere, OwnersGo, CanGo, HaveGone, IsSpare, PlansMayGo}
 use Rattle.session_store.proofs.Kept.{Goes}
-
--- the context that goes is neither the current one nor above it
-pub can_apart : (tree : TreeState) (s : Space) (x : ShelfState) (id : CtxId) → CanGo tree s x id → is_within id.number tree.current.number (stands_for tree s) ≡ false
-can_apart tree s x id can = grind (arith, nat_tests, can.lone, ne_eqb tree.current.number id.number can.other, (ap (has tree.current.number) can.lone))
 
 module _ (a b : TreeState) (s t : Space) (x y : ShelfState) (gone_id : CtxId) (did : Did (gone gone_id.number (stands_for a s)) a b s t x y) where
   -- another context can go as before
   pub others_go : CanGo a s x gone_id → (other : CtxId) → other.number ≢ gone_id.number → CanGo a s x other → CanGo b t y other
-  others_go can other differ k =
-      let u : Contexts = stands_for a s in
-      let n : ℕ = gone_id.number in
-      let out : has other.number (children n u) ≡ false = ap (has other.number) can.lone in
-      grind (arith, nat_tests, has_left other.number n u can.once differ out, k.there, did.moves.agrees, did.contexts, did.hooks, once_left n u can.once, did.stays other.number (has_left other.number n u can.once differ out ∙ k.there), k.live, lone_left other.number n u can.once differ out k.lone)
+  others_go can other differ k = grind (arith, nat_tests, other.number, can.lone, has_left, can.once, k.there, once_left, k.live, lone_left, k.lone)
 
   pub have_gone : HaveGone a b s t
-  have_gone =
-      let still : (n : ℕ) → has n b.kept ≡ true → has n (removed gone_id.number (stands_for a s)) ≡ true = λ n there. ap (has n) (sym did.contexts) ∙ has_kept n b t ∙ there in
-      record {
-        moves = did.moves;
-        asked = did.asked;
-        had = λ n there. sym (has_kept n a s) ∙ has_of_removed n gone_id.number (stands_for a s) (still n there);
-        stays = λ n there. did.stays n (still n there);
-        current = did.current;
-        next = did.next;
-      }
+  have_gone = grind (arith, nat_tests, removed gone_id.number (stands_for a s), has_kept, has_of_removed)
 
 -- contexts of plans can go where the session's contexts, hooks and plans are in order
 each_spare : (t : Contexts) (current : ℕ) (x : ShelfState) → HooksFit t x → Once t → (standing : List (ℕ × Plan)) → All (λ plan. IsPlan plan t current) (map plan_state standing) → All (IsSpare t current x) (contexts_of standing)
@@ -46,12 +29,7 @@ may_stand a s x commons stands =
 
 -- they lie where their ids say
 each_can : (a : TreeState) (s : Space) (x : ShelfState) → Agrees a s → (ids : List CtxId) → All (IsSpare (stands_for a s) a.current.number x) ids → All (Lies a) ids → All (CanGo a s x) ids
-each_can a s x agrees [] are lie = All-nil (CanGo a s x)
-each_can a s x agrees (id ∷ ids) are lie =
-    let is = All-head (IsSpare (stands_for a s) a.current.number x) id ids are in
-    All-cons (CanGo a s x) id ids
-    (assumption (is.hooks, is.once, All-head (Lies a) id ids lie (sym (has_kept id.number a s) ∙ is.there), is.there, is.lone, is.other))
-    (each_can a s x agrees ids (All-tail (IsSpare (stands_for a s) a.current.number x) id ids are) (All-tail (Lies a) id ids lie))
+each_can a s x agrees x4 are lie = grind (arith, nat_tests, All-head, a.current.number, All-cons, has_kept, All-tail)
 
 pub plans_can : (a : StoreState) (s : Space) (x : ShelfState) → Keeps a s → PlansMayGo a s x → IsPlaced a.tree a.owners a.levels a.portals → PlansFit (CanGo a.tree s x) a.owners.plans.standing
 unfolding session_of
@@ -82,5 +60,4 @@ pub refused_still : (a : StoreState) (b : TreeState) (q : ResourceState) (s t : 
 refused_still a b q s t x y c d tree owners space shelf commons = grind (arith, nat_tests)
 
 pub err_three : {A E P Q R S : Type 0} (r : Result A E) → (P → Q → R → S) → OnErr r P → OnErr r Q → OnErr r R → OnErr r S
-err_three (Ok a) all first second third = first
-err_three (Err e) all first second third = all first second third
+err_three x0 all first second third = grind (arith, nat_tests)

@@ -1,15 +1,11 @@
 -- The portals of a store in their order: those that are done stand in front of those that are left.
-use Rattle.session_ends.proofs.Base.{◌≡◌, ◌≢◌, ℕ, ◌+◌, ◌-◌, ◌<◌, Bool, true, false, Option, Some, None, List, [], ◌∷◌, ◌++◌, length, All, IfSome, refl, sym, ap, ◌∙◌, subst, arith, inl, inr, suc, zero, find, ◌==◌, if◌then◌else◌, slice_get, slice_set, cases_Bool, All-head, All-tail, All-nil, All-cons, bytes_decides, pointwise}
-use Rattle.session_ends.proofs.Words.{Portal, has_name, without, OpenPortal, AreDifferent, AreOther, portal_state, portals_of, OwnerLies, PortalLies, all_at, PortalState, New, Ready, Failed, is_outer, kept_owner, sub_aborted, to_parent, TreeState, ResourceState}
+use Rattle.session_ends.proofs.Base.{nat_tests, ◌≡◌, ◌≢◌, ℕ, ◌+◌, ◌-◌, ◌<◌, Bool, true, false, Option, Some, None, List, [], ◌∷◌, ◌++◌, length, All, IfSome, refl, sym, ap, ◌∙◌, subst, arith, inl, inr, suc, zero, find, ◌==◌, if◌then◌else◌, slice_get, slice_set, cases_Bool, All-head, All-tail, All-nil, All-cons, bytes_decides, pointwise}
+use Rattle.session_ends.proofs.Words.{Portal, has_name, without, OpenPortal, AreDifferent, AreOther, portal_state, portals_of, PortalLies, all_at, sub_aborted, to_parent, TreeState, ResourceState}
 
 -- what holds of all holds of the one that is found
 pub found_all : {A : Type 0} (P : A → Type 0) (test : A → Bool) (xs : List A) → All P xs → IfSome (find test xs) P
 found_all P test [] h = tt
-found_all P test (x ∷ xs) h = go (test x) (found_all P test xs (All-tail P x xs h))
-  where
-    go : (b : Bool) → IfSome (find test xs) P → IfSome (if b then Some x else find test xs) P
-    go true rest = All-head P x xs h
-    go false rest = rest
+found_all P test (x ∷ xs) h = grind (arith, nat_tests, found_all P test xs (All-tail P x xs h), All-tail P x xs h, All-head)
 
 -- The portals of a store, of which the first of those that are left is this one.
 pub record IsSplit (ps : List Portal) (front : List OpenPortal) (p : OpenPortal) (back : List OpenPortal) : Type 0 where
@@ -85,11 +81,7 @@ without_split p (q ∷ qs) behind o =
 -- what holds of all holds where one goes
 pub all_without : (P : Portal → Type 0) (name : List ℕ) (ps : List Portal) → All P ps → All P (without name ps)
 all_without P name [] h = All-nil P
-all_without P name (p ∷ ps) h = go (has_name name p) (all_without P name ps (All-tail P p ps h))
-  where
-    go : (b : Bool) → All P (without name ps) → All P (if b then ps else p ∷ without name ps)
-    go true rest = All-tail P p ps h
-    go false rest = All-cons P p (without name ps) (All-head P p ps h) rest
+all_without P name (p ∷ ps) h = grind (arith, nat_tests, has_name name p, all_without P name ps (All-tail P p ps h), All-tail P p ps h, without name ps, without, All-tail, All-cons, All-head P p ps h)
 
 all_set : (P : Portal → Type 0) (ps : List Portal) (i : ℕ) (q : Portal) → P q → All P ps → All P (slice_set ps i q)
 all_set P [] i q holds h = h
@@ -98,20 +90,7 @@ all_set P (p ∷ ps) (suc i) q holds h = All-cons P p (slice_set ps i q) (All-he
 
 -- a portal lies still where its level is aborted
 aborted_lies : (tree : TreeState) (table : ResourceState) (level : ℕ) (p : Portal) → PortalLies tree table p → PortalLies tree table (sub_aborted level p)
-aborted_lies tree table level p lies = by_created (p.created == level)
-  where
-    kept : (state : PortalState) → IfSome (kept_owner state p.owner) (OwnerLies table)
-    kept New = lies.owner
-    kept Ready = lies.owner
-    kept Failed = tt
-
-    by_active : (b : Bool) → PortalLies tree table (if b then record p { active = level - 1; owner = kept_owner p.state p.owner } else p)
-    by_active true = record { context = lies.context; expr = lies.expr; owner = kept p.state; scan = lies.scan }
-    by_active false = lies
-
-    by_created : (b : Bool) → PortalLies tree table (if b then record p { state = Failed; owner = None; expr = None } else (if is_outer level p then record p { active = level - 1; owner = kept_owner p.state p.owner } else p))
-    by_created true = record { context = lies.context; expr = tt; owner = tt; scan = lies.scan }
-    by_created false = by_active (is_outer level p)
+aborted_lies tree table level p lies = grind (arith, nat_tests, p.created, p.owner, lies.owner, p.state, lies.context, lies.expr, lies.scan)
 
 -- one portal becomes another one in its place
 all_become : (tree : TreeState) (table : ResourceState) (f : Portal → Portal) → ((p : Portal) → PortalLies tree table p → PortalLies tree table (f p)) → (ps new : List Portal) (i : ℕ) → IfSome (slice_get ps i) (λ portal. new ≡ slice_set ps i (f portal)) → i < length ps → All (PortalLies tree table) ps

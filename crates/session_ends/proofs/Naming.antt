@@ -1,15 +1,12 @@
 -- The portal of a name, in the list that a store keeps and in that of the session.
 use Rattle.session_ends.proofs.Base.{◌≡◌, ◌≢◌, ℕ, zero, suc, false, List, [], ◌∷◌, Some, AllPairs, All, refl, sym, ap, subst, ◌∙◌, inl, inr, arith, option_map, cases_Bool, false_from_ne_true, All-cons, All-head, All-tail, nat_tests}
-use Rattle.session_ends.proofs.Words.{is_text, is_text-means, Portal, HasDistinctNames, changed, has_name, names, portal_named, without, OpenPortal, portal_changed, portals_but, portal_state, portals_of}
+use Rattle.session_ends.proofs.Words.{is_text, is_text-means, Portal, HasDistinctNames, changed, has_name, names, portal_named, OpenPortal, portal_changed, portal_state, portals_of}
 use Rattle.session_rules.specs.Lookup as rules
 
 -- the portal of a name is that of the session
 pub named_is : (name : List ℕ) (ps : List Portal) → option_map portal_state (portal_named name ps) ≡ rules.portal_named name (portals_of ps)
 named_is name [] = refl
-named_is name (p ∷ ps) = elim (cases_Bool (has_name name p)) [
-  | inl y ↦ rw y refl
-  | inr y ↦ rw y (named_is name ps)
-]
+named_is name (p ∷ ps) = grind (arith, nat_tests, has_name name p, named_is name ps)
 
 -- what is known of all is known of it
 pub named_all : (P : Portal → Type 0) (name : List ℕ) (ps : List Portal) (p : Portal) → All P ps → portal_named name ps ≡ Some p → P p
@@ -47,10 +44,6 @@ none_changed : (name : List ℕ) (f : OpenPortal → OpenPortal) (ps : List Port
 none_changed name f [] all = refl
 none_changed name f (q ∷ ps) all = grind (arith, nat_tests, other_text name q (All-head (Differs name) q.name (names ps) all), none_changed name f ps (All-tail (Differs name) q.name (names ps) all))
 
-none_but : (name : List ℕ) (ps : List Portal) → All (Differs name) (names ps) → portals_but name (portals_of ps) ≡ portals_of ps
-none_but name [] all = refl
-none_but name (q ∷ ps) all = grind (arith, nat_tests, other_text name q (All-head (Differs name) q.name (names ps) all), none_but name ps (All-tail (Differs name) q.name (names ps) all))
-
 first_others : (p : Portal) (ps : List Portal) (name : List ℕ) → HasDistinctNames (p ∷ ps) → p.name ≡ name → All (Differs name) (names ps)
 first_others p ps name distinct is = subst (λ (n : List ℕ). All (λ b. n ≢ b) (names ps)) is (pairs_head (λ (a b : List ℕ). a ≢ b) p.name (names ps) distinct)
 
@@ -60,12 +53,4 @@ changed_is name f g [] distinct same = refl
 changed_is name f g (p ∷ ps) distinct same = elim (cases_Bool (has_name name p)) [
   | inl y ↦ grind (arith, nat_tests, first_others p ps name distinct (is_text-means p.name name y), y, same p, none_changed name g ps (first_others p ps name distinct (is_text-means p.name name y)))
   | inr y ↦ rw y (ap (λ (rs : List OpenPortal). portal_state p ∷ rs) (changed_is name f g ps (pairs_tail (λ (a b : List ℕ). a ≢ b) p.name (names ps) distinct) same))
-]
-
--- a portal goes
-pub without_is : (name : List ℕ) (ps : List Portal) → HasDistinctNames ps → portals_of (without name ps) ≡ portals_but name (portals_of ps)
-without_is name [] distinct = refl
-without_is name (p ∷ ps) distinct = elim (cases_Bool (has_name name p)) [
-  | inl y ↦ rw y (sym (none_but name ps (first_others p ps name distinct (is_text-means p.name name y))))
-  | inr y ↦ rw y (ap (λ (rs : List OpenPortal). portal_state p ∷ rs) (without_is name ps (pairs_tail (λ (a b : List ℕ). a ≢ b) p.name (names ps) distinct)))
 ]

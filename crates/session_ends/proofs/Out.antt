@@ -1,38 +1,21 @@
 -- Contexts and owners go: what that leaves of a store, and what it names still lies where it lay.
-use Rattle.session_ends.proofs.Base.{◌≡◌, ℕ, true, Option, Some, None, List, All, IfSome, refl, sym, ap, ◌∙◌, subst, arith, All-weaker}
-use Rattle.session_ends.proofs.Words.{Space, Asks, Forest, Empty, Once, at, has, with_children, has_some, times_some, mapped-has, CtxId, OwnerId, TreeState, tree_more, Plans, Portal, ResourceState, Roomy, owners_of, AreLeft, contexts_of, Level, times_emptied, StoreState, IsPlaced, LevelLies, Lies, OwnerLies, PortalLies, Keeps, PortalsAlone, some_more, all_left, OwnersGo, held_is, keeps_on, HaveGone, goes_nothing, GoesOut}
+use Rattle.session_ends.proofs.Base.{nat_tests, ◌≡◌, ℕ, true, Option, Some, List, All, IfSome, refl, sym, ap, ◌∙◌, subst, arith, All-weaker}
+use Rattle.session_ends.proofs.Words.{Space, Asks, Forest, Empty, Once, at, has, with_children, has_some, times_some, mapped-has, CtxId, OwnerId, TreeState, tree_more, Portal, ResourceState, owners_of, AreLeft, contexts_of, Level, times_emptied, StoreState, IsPlaced, LevelLies, Lies, OwnerLies, PortalLies, Keeps, PortalsAlone, some_more, all_left, OwnersGo, held_is, keeps_on, HaveGone, goes_nothing, GoesOut}
 use Rattle.session_owners.specs.ResourceState as owners
 
 -- what holds of an option's value
 pub some_is : {A : Type 0} (P : A → Type 0) (o : Option A) (x : A) → IfSome o P → o ≡ Some x → P x
-some_is P None x h e = absurd (cc e)
-some_is P (Some y) x h e = let same : y ≡ x = cc e in subst P same h
+some_is P x1 x h e = grind (arith, nat_tests)
 
 pub some_on : {A : Type 0} {P Q : A → Type 0} (o : Option A) → ((x : A) → P x → Q x) → IfSome o P → IfSome o Q
-some_on None on h = h
-some_on (Some x) on h = on x h
+some_on x0 on h = grind (arith, nat_tests)
 
 -- what is there once all below a node is gone was there
 pub had_below : {A : Type 0} (m n : ℕ) (t : Forest A) → Once t → has m (with_children n Empty t) ≡ true → has m t ≡ true
 had_below m n t once there = has_some m t (omega (arith, times_emptied m n t once, times_some m (with_children n Empty t) there))
 
 pub out_nothing : (a : StoreState) (s : Space) → Keeps a s → GoesOut a a s s
-out_nothing a s keeps =
-    let g : HaveGone a.tree a.tree s s = goes_nothing a.tree s keeps.agrees in
-    record {
-      keeps = keeps;
-      moves = g.moves;
-      asked = g.asked;
-      levels = refl;
-      current = refl;
-      next = refl;
-      next_owner = refl;
-      next_serial = refl;
-      had = λ n there. there;
-      stays = λ id live there. live;
-      owner_had = λ n there. there;
-      owner_stays = λ id live there. live;
-    }
+out_nothing a s keeps = grind (arith, nat_tests, a.tree, goes_nothing)
 
 pub out_more : (a b c : StoreState) (s t u : Space) → GoesOut a b s t → GoesOut b c t u → GoesOut a c s u
 out_more a b c s t u p q = record {
@@ -102,9 +85,7 @@ is_alone a b h =
     ∙ ap (λ (ls : List Level). record { tree = a.tree; owners = a.owners; levels = ls; portals = b.portals }) h.levels
 
 pub out_alone : (a b : StoreState) (s : Space) → Keeps a s → PortalsAlone a b → GoesOut a b s s
-out_alone a b s keeps h =
-    subst (λ (v : StoreState). GoesOut a v s s) (sym (is_alone a b h))
-    (out_of a a.tree a.owners b.portals s s keeps (goes_nothing a.tree s keeps.agrees) (λ n there. there) (λ id live there. live) refl refl)
+out_alone a b s keeps h = grind (arith, nat_tests, out_of, a.tree, a.owners, b.portals, goes_nothing a.tree s keeps.agrees, keeps.agrees)
 
 -- what a store names still lies
 module _ (a b : StoreState) (s t : Space) (out : GoesOut a b s t) where
@@ -112,17 +93,10 @@ module _ (a b : StoreState) (s t : Space) (out : GoesOut a b s t) where
   lies_out id lies there = out.stays id (lies (out.had id.number there)) there
 
   pub owner_lies_out : (id : OwnerId) → OwnerLies a.owners id → OwnerLies b.owners id
-  owner_lies_out id lies there =
-      let now : has id.number (owners_of b.owners) ≡ true = mapped-has (λ (room : Roomy). room.owner) id.number b.owners.rooms ∙ there in
-      out.owner_stays id (lies (sym (mapped-has (λ (room : Roomy). room.owner) id.number a.owners.rooms) ∙ out.owner_had id.number now)) now
+  owner_lies_out id lies there = grind (arith, nat_tests, id.number, mapped-has)
 
   pub portal_lies_out : (p : Portal) → PortalLies a.tree a.owners p → PortalLies b.tree b.owners p
-  portal_lies_out p lies = record {
-    context = some_more p.context lies_out lies.context;
-    expr = some_more p.expr lies_out lies.expr;
-    owner = some_more p.owner owner_lies_out lies.owner;
-    scan = lies.scan;
-  }
+  portal_lies_out p lies = grind (arith, nat_tests, some_more, p.context, lies_out, lies.context, p.expr, lies.expr, p.owner, owner_lies_out, lies.owner, lies.scan)
 
   pub placed_out : (ps : List Portal) → AreLeft a.owners.plans.standing b.owners.plans.standing → IsPlaced a.tree a.owners a.levels ps → IsPlaced b.tree b.owners a.levels ps
   placed_out ps left placed = record {
@@ -135,17 +109,7 @@ module _ (a b : StoreState) (s t : Space) (out : GoesOut a b s t) where
 -- the owners are others
 pub placed_owned : (tree : TreeState) (p q : ResourceState) (levels : List Level) (ps : List Portal) → ((n : ℕ) → has n (owners_of q) ≡ true → has n (owners_of p) ≡ true) → ((id : OwnerId) → owners.IsLive p id → has id.number (owners_of q) ≡ true → owners.IsLive q id)
     → q.plans ≡ p.plans → IsPlaced tree p levels ps → IsPlaced tree q levels ps
-placed_owned tree p q levels ps had stays plans placed = record {
-  current = placed.current;
-  levels = All-weaker (LevelLies tree p) (LevelLies tree q) (λ l lies. record { context = lies.context; owner = some_more l.owner on lies.owner }) levels placed.levels;
-  plans = subst (λ (z : Plans). All (Lies tree) (contexts_of z.standing)) (sym plans) placed.plans;
-  portals = All-weaker (PortalLies tree p) (PortalLies tree q) (λ r lies. record { context = lies.context; expr = lies.expr; owner = some_more r.owner on lies.owner; scan = lies.scan }) ps placed.portals;
-}
-  where
-    on : (id : OwnerId) → OwnerLies p id → OwnerLies q id
-    on id lies there =
-        let now : has id.number (owners_of q) ≡ true = mapped-has (λ (room : Roomy). room.owner) id.number q.rooms ∙ there in
-        stays id (lies (sym (mapped-has (λ (room : Roomy). room.owner) id.number p.rooms) ∙ had id.number now)) now
+placed_owned tree p q levels ps had stays plans placed = grind (arith, nat_tests, placed.current, All-weaker, some_more, placed.levels, placed.plans, placed.portals, mapped-has, q.rooms, p.rooms)
 
 -- the portals are others
 pub placed_portals : (tree : TreeState) (table : ResourceState) (levels : List Level) (ps qs : List Portal) → IsPlaced tree table levels ps → All (PortalLies tree table) qs → IsPlaced tree table levels qs

@@ -1,6 +1,6 @@
 -- A portal ends within its transaction: what each part asks for.
-use Rattle.session_ends.proofs.Base.{◌≡◌, ℕ, ◌+◌, ◌≤◌, Bool, true, false, Option, Some, None, List, [], ◌∷◌, ◌++◌, length, IfSome, refl, sym, ap, ◌∙◌, subst, arith, inl, inr, ◌==◌, if◌then◌else◌, option_map, cases_Bool, eqb-false, false_from_ne_true, bytes_decides}
-use Rattle.session_ends.proofs.Words.{Space, parent_of, mapped-has, CtxId, OwnerId, What, ShelfState, is_within, HooksFit, IsLive, has_begun, Portal, has_name, portal_named, Roomy, owners_of, CommonState, LevelState, OpenPortal, Scene, in_order, nothing, where_so, where_there, executor_ended, is_ready, portal_ended, portal_owner_ended, at_portal, owner_gone, owner_released, AreContexts, AreDifferent, AreHooks, FitLevels, IsAttached, IsPlace, IsPortal, IsWorking, Stands, owner_at, protected_has, is_there, place_spared, executor_beside, Named, named_in, split_portals, this_live, this_portal, Beside, nothing_beside, HasSettled, besides_of, release_settles, depth_small, not_released, StoreState, contexts_in, levels_of, portal_state, portals_of, scene_of, session_of, Lies, OwnerLies, PortalLies, Acted, if_some, has_kept, nowhere, acted_as, PlansMayGo, executor_at, number_in, owner_ended}
+use Rattle.session_ends.proofs.Base.{nat_tests, ◌≡◌, ℕ, ◌+◌, ◌≤◌, Bool, true, false, Option, Some, None, List, [], ◌∷◌, ◌++◌, length, IfSome, refl, sym, ap, ◌∙◌, subst, arith, inl, inr, ◌==◌, if◌then◌else◌, option_map, cases_Bool, eqb-false, false_from_ne_true, bytes_decides}
+use Rattle.session_ends.proofs.Words.{Space, parent_of, mapped-has, CtxId, OwnerId, What, ShelfState, is_within, HooksFit, IsLive, has_begun, Portal, has_name, portal_named, owners_of, CommonState, LevelState, OpenPortal, Scene, in_order, nothing, where_so, where_there, executor_ended, is_ready, portal_ended, portal_owner_ended, at_portal, owner_gone, owner_released, AreContexts, AreDifferent, AreHooks, FitLevels, IsAttached, IsPlace, IsPortal, IsWorking, Stands, owner_at, protected_has, is_there, place_spared, executor_beside, Named, named_in, split_portals, this_live, this_portal, Beside, nothing_beside, HasSettled, besides_of, release_settles, depth_small, not_released, StoreState, contexts_in, levels_of, portal_state, portals_of, scene_of, session_of, Lies, PortalLies, Acted, if_some, has_kept, nowhere, acted_as, PlansMayGo, executor_at, number_in, owner_ended}
 use Rattle.session_owners.specs.ResourceState as owners
 use Rattle.session_rules.specs.Lookup as rules
 use Rattle.session_rules.specs.Standing.{IsLive as IsLivePortal}
@@ -60,15 +60,11 @@ module _ (a : StoreState) (s : Space) (x : ShelfState) (c : CommonState) (h : St
   attached id f = let i = found_portal in i.owner id.number (ap number_in f)
 
   pub found_owner_live : PortalLies a.tree a.owners p → IfSome p.owner (owners.IsLive a.owners)
-  found_owner_live lies =
-      if_some p.owner (λ id f.
-      let k = attached id f in
-      some_is (OwnerLies a.owners) p.owner id lies.owner f (sym (mapped-has (λ (room : Roomy). room.owner) id.number a.owners.rooms) ∙ k.there))
+  found_owner_live lies = grind (arith, nat_tests, if_some, attached, some_is, lies.owner, mapped-has)
 
   pub found_unbegun : IfSome p.owner (λ o. has_begun o.number (owners_of a.owners) ≡ false)
   unfolding session_of
-  found_unbegun =
-      if_some p.owner (λ id f. false_from_ne_true (has_begun id.number (owners_of a.owners)) (λ u. not_released (levels_of a.levels) id.number (owners_of a.owners) working (h.owners.begun id.number u)))
+  found_unbegun = grind (arith, nat_tests, if_some, false_from_ne_true, not_released)
 
   pub found_below : IfSome p.owner (λ o. (q : ℕ) × (parent_of o.number (owners_of a.owners) ≡ Some q))
   unfolding session_of
@@ -142,11 +138,7 @@ module _ (a b : StoreState) (s t : Space) (x y : ShelfState) (c d : CommonState)
 -- the executor and the owner of a portal that is ready
 pub both_are : (p : Portal) (o : Option OwnerId) (z : Scene) → o ≡ (if is_ready p.state then p.owner else None)
     → in_order (executor_at (number_in o) p.scan ∷ owner_ended (number_in o) ∷ []) z ≡ where_so (is_ready p.state) (in_order (executor_ended (portal_state p) ∷ portal_owner_ended (portal_state p) ∷ [])) z
-both_are p o z e = ap (λ (q : Option OwnerId). in_order (executor_at (number_in q) p.scan ∷ owner_ended (number_in q) ∷ []) z) e ∙ go (is_ready p.state)
-  where
-    go : (b : Bool) → in_order (executor_at (number_in (if b then p.owner else None)) p.scan ∷ owner_ended (number_in (if b then p.owner else None)) ∷ []) z ≡ where_so b (in_order (executor_ended (portal_state p) ∷ portal_owner_ended (portal_state p) ∷ [])) z
-    go true = refl
-    go false = refl
+both_are p o z e = grind (arith, nat_tests, in_order, p.scan, p.state, p.owner)
 
 -- at the portal of a name
 pub at_some : (name : List ℕ) (p : Portal) (a b : StoreState) (s t : Space) (x y : ShelfState) (c d : CommonState) (Said : List What → Type 0) → portal_named name a.portals ≡ Some p → Acted (portal_ended (portal_state p)) a b s t x y c d Said → Acted (at_portal name portal_ended) a b s t x y c d Said

@@ -1,6 +1,6 @@
 -- The end of a level is about no portal that was made at a lower level and is active in none that is as deep.
-use Rattle.session_ends.proofs.Base.{◌≡◌, ℕ, ◌<◌, ◌≤◌, ◌+◌, Bool, true, false, List, [], ◌∷◌, ◌++◌, All, append_assoc, drop, length, refl, sym, ap, ◌∙◌, subst, arith, ◌==◌, ne_eqb, drop-append-le, drop-map, get_or-append-add, length-append, All-head, All-map, All-tail}
-use Rattle.session_ends.proofs.Words.{Space, What, ShelfState, Portal, lowered, CommonState, balances_none, LevelState, OpenPortal, portal_changed, Scene, Ended, context_gone, for_each, in_order, nothing, portal_becomes, portal_gone, where_so, where_there, portal_failed, portal_withdrawn, owner_moved, AreDifferent, changed_one, StoreState, levels_of, portal_state, portals_of, scene_of, session_of, Acted, IsSilent, EndsSo, IsEnding, left_by, number_in, portal_after, LevelEnd, Merges, Aborts, Goes}
+use Rattle.session_ends.proofs.Base.{nat_tests, ◌≡◌, ℕ, ◌<◌, ◌≤◌, ◌+◌, false, List, [], ◌∷◌, ◌++◌, All, append_assoc, drop, length, refl, sym, ap, ◌∙◌, subst, arith, ◌==◌, ne_eqb, drop-append-le, drop-map, get_or-append-add, length-append, All-head, All-map, All-tail}
+use Rattle.session_ends.proofs.Words.{Space, What, ShelfState, Portal, lowered, CommonState, balances_none, LevelState, OpenPortal, Scene, Ended, context_gone, for_each, in_order, nothing, portal_gone, where_there, AreDifferent, changed_one, StoreState, levels_of, portal_state, portals_of, scene_of, session_of, Acted, IsSilent, EndsSo, IsEnding, left_by, portal_after, LevelEnd}
 use Rattle.session_ends.proofs.Acting.{acted_quiet}
 use Rattle.session_ends.proofs.Dealing.{ending_step}
 use Rattle.session_ends.proofs.Walking.{acted_more, all_done, settling_leads}
@@ -30,15 +30,7 @@ stays : (n : ℕ) (p : OpenPortal) → IsQuiet n p → record p { created = lowe
 stays n p quiet = ap (λ (k : ℕ). record p { created = k; active = lowered n p.active }) (lowered_still n p.created quiet.0) ∙ ap (λ (k : ℕ). record p { active = k }) (lowered_still n p.active quiet.1)
 
 pub quiet_nothing : (end : LevelEnd) (n : ℕ) (p : OpenPortal) (front rest : List OpenPortal) (z : Scene) → z.session.portals ≡ front ++ (p ∷ rest) → AreDifferent (front ++ (p ∷ rest)) → IsQuiet n p → portal_after end n p z ≡ nothing z
-quiet_nothing (Merges to) n p front rest z are different quiet =
-    let f : OpenPortal → OpenPortal = λ old. record old { created = lowered n old.created; active = lowered n old.active } in
-    let still : portal_changed p.name f z.session.portals ≡ z.session.portals = ap (portal_changed p.name f) are ∙ changed_one p f front rest different ∙ ap (λ (q : OpenPortal). front ++ (q ∷ rest)) (stays n p quiet) ∙ sym are in
-    ap (λ (b : Bool). in_order (where_so b (where_there p.owner (λ owner. where_there (number_in to) (owner_moved owner))) ∷ portal_becomes p.name f ∷ []) z) (differ p.created n quiet.0)
-    ∙ ap (λ (ps : List OpenPortal). record { scene = record z { session = record z.session { portals = ps } }; events = [] }) still
-quiet_nothing (Aborts to) n p front rest z are different quiet =
-    ap (λ (b : Bool). elim b as (λ _. Ended) [ true ↦ portal_failed p z | false ↦ where_so (p.active == n) (portal_withdrawn n (number_in to) p) z ]) (differ p.created n quiet.0)
-    ∙ ap (λ (b : Bool). where_so b (portal_withdrawn n (number_in to) p) z) (differ p.active n quiet.1)
-quiet_nothing Goes n p front rest z are different quiet = ap (λ (b : Bool). where_so b (in_order (where_there p.context context_gone ∷ portal_gone p.name ∷ [])) z) (differ p.created n quiet.0)
+quiet_nothing x0 n p front rest z are different quiet = grind (arith, nat_tests, p.name, z.session.portals, changed_one, in_order, p.owner, differ p.created n quiet.0, p.created, quiet.0, z.session, p.active, differ p.active n quiet.1, quiet.1, in_order (where_there p.context context_gone ∷ portal_gone p.name ∷ []), p.context)
 
 quiet_acted : (end : LevelEnd) (n : ℕ) (b : StoreState) (t : Space) (y : ShelfState) (m : CommonState) (p : OpenPortal) (front rest : List OpenPortal) → portals_of b.portals ≡ front ++ (p ∷ rest) → AreDifferent (front ++ (p ∷ rest)) → IsQuiet n p
     → Acted (portal_after end n p) b b t t y y m m IsSilent
@@ -56,10 +48,7 @@ ending_front done b t y m back e = e.ending.are
 -- what a level ends with besides, where it isn't about the portals that are left
 pub quiet_ending : (end : LevelEnd) (n : ℕ) (b : StoreState) (t : Space) (y : ShelfState) (m : CommonState) (back : List OpenPortal) → EndsSo end (levels_of b.levels) → length b.levels ≡ n → All (IsQuiet n) back → IsEnding (left_by end) b t y m back → IsEnding (left_by end) b t y m []
 quiet_ending end n b t y m [] so deep quiet e = e
-quiet_ending end n b t y m (p ∷ rest) so deep quiet e =
-    quiet_ending end n b t y m rest so deep (All-tail (IsQuiet n) p rest quiet)
-    (ending_step (left_by end) (portal_after end n) b b t t y y m m p rest IsSilent e (settling_leads end n b t y m p rest e so deep)
-    (quiet_acted end n b t y m p e.front rest (ending_front (left_by end) b t y m (p ∷ rest) e) e.ending.different (All-head (IsQuiet n) p rest quiet)) refl)
+quiet_ending end n b t y m (p ∷ rest) so deep quiet e = grind (arith, nat_tests, quiet_ending end n b t y m rest so deep (All-tail (IsQuiet n) p rest quiet) (ending_step (left_by end) (portal_after end n) b b t t y y m m p rest IsSilent e (settling_leads end n b t y m p rest e so deep) (quiet_acted end n b t y m p e.front rest (ending_front (left_by end) b t y m (p ∷ rest) e) e.ending.different (All-head (IsQuiet n) p rest quiet)) refl), All-tail (IsQuiet n) p rest quiet, ending_step (left_by end) (portal_after end n) b b t t y y m m p rest IsSilent e (settling_leads end n b t y m p rest e so deep) (quiet_acted end n b t y m p e.front rest (ending_front (left_by end) b t y m (p ∷ rest) e) e.ending.different (All-head (IsQuiet n) p rest quiet)) refl, settling_leads end n b t y m p rest e so deep, quiet_acted end n b t y m p e.front rest (ending_front (left_by end) b t y m (p ∷ rest) e) e.ending.different (All-head (IsQuiet n) p rest quiet), e.front, ending_front (left_by end) b t y m (p ∷ rest) e, e.ending.different, All-head (IsQuiet n) p rest quiet)
 
 module _ (O : Type 0) (emits : O → List What → O → Type 0) (none : (o : O) → emits o [] o) (more : (o p q : O) (xs ys : List What) → emits o xs p → emits p ys q → emits o (xs ++ ys) q) where
   pub quiet_more : (end : LevelEnd) (n : ℕ) (a b : StoreState) (s t : Space) (x y : ShelfState) (m : CommonState) (o q : O) (ps done front back : List OpenPortal) → ps ≡ done ++ back → portals_of b.portals ≡ front ++ back → AreDifferent (front ++ back) → All (IsQuiet n) back

@@ -1,6 +1,6 @@
 -- The portals of an aborted level go, and its owner holds nothing still.
-use Rattle.session_ends.proofs.Base.{◌≡◌, ◌<◌, ℕ, Bool, true, false, arith, length, Option, Some, None, List, [], ◌∷◌, refl, sym, ap, ◌∙◌, subst, ◌==◌, drop}
-use Rattle.session_ends.proofs.Words.{Space, What, ShelfState, OwnerTree, AllAt, HoldsNothing, owners_of, CommonState, Level, LevelState, OpenPortal, first_of, is_aborted, level_owner, owner_of, Scene, context_gone, for_each, in_order, portal_gone, where_so, where_there, StoreState, levels_of, scene_of, session_of, Acted, nowhere, EndsSo, IsEnding, left_by, number_in, portal_after, Merges, Aborts, Goes, level_released, owner_released, settled, OwnerId}
+use Rattle.session_ends.proofs.Base.{nat_tests, ◌≡◌, ◌<◌, ℕ, Bool, true, false, arith, length, Option, Some, None, List, [], ◌∷◌, refl, sym, ap, ◌∙◌, subst, ◌==◌, drop}
+use Rattle.session_ends.proofs.Words.{Space, What, ShelfState, AllAt, HoldsNothing, owners_of, CommonState, LevelState, OpenPortal, first_of, is_aborted, level_owner, owner_of, Scene, context_gone, for_each, in_order, portal_gone, where_so, where_there, StoreState, scene_of, session_of, Acted, nowhere, EndsSo, IsEnding, left_by, number_in, portal_after, Merges, Aborts, Goes, level_released, owner_released, settled, OwnerId}
 use Rattle.session_ends.proofs.Freed.{IsShut, all_end, shuts_in}
 
 pub goes_so : (ls : List LevelState) (level : LevelState) (above : List LevelState) → ls ≡ level ∷ above → is_aborted ls ≡ true → EndsSo Goes ls
@@ -19,16 +19,13 @@ swept_owners n (p ∷ ps) z = swept_owners n ps (portal_after Goes n p z).scene 
 pub still_idle : (a b : StoreState) (s t : Space) (x y : ShelfState) (c : CommonState) (Said : List What → Type 0) (n : ℕ) (ps : List OpenPortal) → Acted (λ scene. for_each (portal_after Goes n) ps scene) a b s t x y c c Said → b.levels ≡ a.levels
     → ((m : ℕ) → level_owner (session_of a s) ≡ Some m → AllAt HoldsNothing m (owners_of a.owners)) → (m : ℕ) → level_owner (session_of b t) ≡ Some m → AllAt HoldsNothing m (owners_of b.owners)
 unfolding session_of
-still_idle a b s t x y c Said n ps acted same idle m o =
-    let is : owners_of b.owners ≡ owners_of a.owners = sym (ap (λ (z : Scene). z.session.owners) (acted.leads nowhere)) ∙ swept_owners n ps (scene_of a s x c nowhere) in
-    subst (λ (w : OwnerTree). AllAt HoldsNothing m w) (sym is) (idle m (ap (λ (ls : List Level). owner_of (first_of (levels_of ls))) (sym same) ∙ o))
+still_idle a b s t x y c Said n ps acted same idle m o = grind (arith, nat_tests, b.owners, a.owners, acted.leads nowhere, nowhere, swept_owners n ps (scene_of a s x c nowhere))
 
 pub aborts_so : (to : Option OwnerId) (ls : List LevelState) (level : LevelState) (above : List LevelState) → ls ≡ level ∷ above → number_in to ≡ owner_of (first_of ls) → EndsSo (Aborts to) ls
 aborts_so to ls level above e is = subst (EndsSo (Aborts to)) (sym e) (is ∙ ap (λ (ks : List LevelState). owner_of (first_of ks)) e)
 
 pub merges_so : (to : Option OwnerId) (ls : List LevelState) (level : LevelState) (above : List LevelState) → ls ≡ level ∷ above → 1 < length ls → number_in to ≡ owner_of (first_of (drop 1 ls)) → EndsSo (Merges to) ls
-merges_so to ls level above e more is =
-    subst (EndsSo (Merges to)) (sym e) (omega (arith, more, ap length e), is ∙ ap (λ (ks : List LevelState). owner_of (first_of (drop 1 ks))) e)
+merges_so to ls level above e more is = grind (arith, nat_tests)
 
 -- what an abort leaves behind the release of the level's owner
 pub shut_in : (own : Option OwnerId) (b d : StoreState) (t u : Space) (y w : ShelfState) (c g : CommonState) (Said : List What → Type 0) (top : Bool) (e : IsEnding (left_by (Aborts own)) b t y c []) → Acted (level_released false top) b d t u y w c g Said

@@ -1,6 +1,6 @@
 -- The way through the portals: some are done, the others are left.
-use Rattle.session_ends.proofs.Base.{◌≡◌, ℕ, ◌+◌, ◌-◌, ◌≤◌, false, IfSome, Option, Some, None, List, [], ◌∷◌, ◌++◌, append-nil, append_assoc, length, refl, sym, ap, ◌∙◌, subst, arith, slice_get, length-append, length-map}
-use Rattle.session_ends.proofs.Words.{Space, What, ShelfState, Portal, CommonState, Serves, balances_more, balances_none, LevelState, OpenPortal, Scene, Ended, and_then, behind, for_each, StoreState, levels_of, portal_state, portals_of, scene_of, session_of, Acted, EndsSo, GoesOut, IsEnding, left_by, none_left, number_in, owner_to, portal_after, portal_aborted, portal_closed, portal_passed, IsMade, Ending, gone_levels, Leads, owner_when_active, closed_leads, swept_leads, aborted_leads, passed_leads, levels_long, LevelEnd, Merges, Aborts, Goes, nowhere}
+use Rattle.session_ends.proofs.Base.{nat_tests, ◌≡◌, ℕ, ◌+◌, ◌-◌, ◌≤◌, false, IfSome, Some, None, List, [], ◌∷◌, ◌++◌, append-nil, append_assoc, length, refl, sym, ap, ◌∙◌, subst, arith, slice_get, length-append, length-map}
+use Rattle.session_ends.proofs.Words.{Space, What, ShelfState, Portal, CommonState, Serves, balances_more, balances_none, LevelState, OpenPortal, Scene, Ended, and_then, behind, for_each, StoreState, levels_of, portal_state, portals_of, scene_of, session_of, Acted, EndsSo, GoesOut, IsEnding, left_by, none_left, owner_to, portal_after, portal_closed, IsMade, Ending, Leads, owner_when_active, closed_leads, swept_leads, aborted_leads, passed_leads, levels_long, LevelEnd, Merges, Aborts, Goes, nowhere}
 use Rattle.session_owners.specs.ResourceState as owners
 use Rattle.session_rules.specs.Standing.{IsLive}
 use Rattle.session_ends.proofs.Dealing.{comes_next, none_next, one_level}
@@ -93,17 +93,10 @@ pub record IsSettling (O : Type 0) (emits : O → List What → O → Type 0) (e
 
 settling : (end : LevelEnd) (n : ℕ) (level : LevelState) (above : List LevelState) (front : List OpenPortal) (p : OpenPortal) (rest : List OpenPortal) (z : Scene) → (level.starting ≡ false → IsMade level) → EndsSo end (level ∷ above) → length (level ∷ above) ≡ n
     → Ending level above (left_by end level above) front (p ∷ rest) z → Leads level above (left_by end level above) rest z (portal_after end n p z).scene
-settling (Merges to) n level above front p rest z made so deep h =
-    subst (λ (m : ℕ). Leads level above above rest z (portal_passed m (number_in to) p z).scene) deep
-    (subst (λ (q : Option ℕ). Leads level above above rest z (portal_passed (length (level ∷ above)) q p z).scene) (sym so.1) (passed_leads level above so.0 p front rest z h))
-settling (Aborts to) n level above front p rest z made so deep h =
-    subst (λ (m : ℕ). Leads level above (gone_levels level above) rest z (portal_aborted m (number_in to) p z).scene) deep
-    (subst (λ (q : Option ℕ). Leads level above (gone_levels level above) rest z (portal_aborted (length (level ∷ above)) q p z).scene) (sym so)
-    (aborted_leads level above (λ d. owner_when_active level above made (omega (arith, d))) p front rest z h))
-settling Goes n level above front p rest z made so deep h =
-    subst (λ (m : ℕ). Leads level above above rest z (portal_after Goes m p z).scene) deep (swept_leads level above so p front rest z h)
+settling (Merges to) n level above front p rest z made so deep h = grind (arith, nat_tests, so.1, passed_leads level above so.0 p front rest z h, so.0)
+settling (Aborts to) n level above front p rest z made so deep h = grind (arith, nat_tests, aborted_leads, owner_when_active)
+settling Goes n level above front p rest z made so deep h = grind (arith, nat_tests, swept_leads level above so p front rest z h)
 
 pub settling_leads : (end : LevelEnd) (n : ℕ) (a : StoreState) (s : Space) (x : ShelfState) (c : CommonState) (p : OpenPortal) (rest : List OpenPortal) (e : IsEnding (left_by end) a s x c (p ∷ rest)) → EndsSo end (levels_of a.levels) → length a.levels ≡ n
     → Leads e.level e.above (left_by end e.level e.above) rest (scene_of a s x c nowhere) (portal_after end n p (scene_of a s x c nowhere)).scene
-settling_leads end n a s x c p rest e so deep =
-    settling end n e.level e.above e.front p rest (scene_of a s x c nowhere) e.made (subst (EndsSo end) e.are so) (sym (ap length e.are) ∙ levels_long a.levels ∙ deep) e.ending
+settling_leads end n a s x c p rest e so deep = grind (arith, nat_tests, settling end n e.level e.above e.front p rest (scene_of a s x c nowhere) e.made (subst (EndsSo end) e.are so) (sym (ap length e.are) ∙ levels_long a.levels ∙ deep) e.ending, e.level, e.above, e.front, nowhere, e.made, e.are, levels_long a.levels, a.levels, e.ending)

@@ -1,6 +1,6 @@
 -- A level is left, act by act, in scenes of a store's session.
-use Rattle.session_ends.proofs.Base.{◌≡◌, ℕ, Bool, Option, Some, None, List, [], ◌∷◌, ◌++◌, refl, sym, ap, ◌∙◌, subst, MatchOption, unwrap_or, option_map}
-use Rattle.session_ends.proofs.Words.{Space, CtxId, What, ShelfState, gone, handed_in, Did, DidNothing, TreeState, stands_for, ResourceState, Level, LevelState, context_of, first_of, Around, Scene, Ended, context_gone, in_order, where_there, owner_gone, level_owner_gone, level_popped, switched_up, Balances, CommonState, StoreState, level_state, levels_of, session_of, Acted, leveled, made_same, scene_leveled, scene_made, context_left, going, level_left, number_in}
+use Rattle.session_ends.proofs.Base.{arith, nat_tests, ◌≡◌, ℕ, Bool, Option, Some, None, List, [], ◌∷◌, ◌++◌, refl, sym, ap, ◌∙◌, subst, MatchOption, unwrap_or, option_map}
+use Rattle.session_ends.proofs.Words.{Space, CtxId, What, ShelfState, gone, Did, DidNothing, TreeState, stands_for, ResourceState, Level, LevelState, context_of, first_of, Around, Scene, Ended, context_gone, in_order, where_there, owner_gone, level_owner_gone, level_popped, switched_up, Balances, CommonState, StoreState, level_state, levels_of, session_of, Acted, leveled, made_same, scene_leveled, context_left, going, level_left, number_in}
 use Rattle.session_owners.specs.Fitting as fitting
 use Rattle.session_ends.proofs.Ending.{going_gone}
 
@@ -41,27 +41,12 @@ module _ (O : Type 0) (emits : O → List What → O → Type 0) where
         → MatchOption context (p ≡ o) (λ id. emits o (gone id.number (stands_for a.tree s)).events p)
         → Went O emits (λ scene. where_there (option_map (λ (id : CtxId). id.number) context) context_gone scene) (leveled a ls s x commons around) (leveled (record a { tree = b }) ls t y commons around) o p
     unfolding session_of
-    went_dropped a b s t x y None ls commons around o p did says = record {
-      leads =
-          ap (λ (z : TreeState). leveled (record a { tree = z }) ls s x commons around) (sym did.tree)
-          ∙ ap (λ (z : Space). leveled (record a { tree = b }) ls z x commons around) (sym did.space)
-          ∙ ap (λ (z : ShelfState). leveled (record a { tree = b }) ls t z commons around) (sym did.shelf);
-      says = subst (λ (z : O). emits o [] z) (sym says) (none o);
-    }
-    went_dropped a b s t x y (Some id) ls commons around o p did says = record {
-      leads =
-          made_same a (handed_in (gone id.number (stands_for a.tree s)).hooks x) commons around (gone id.number (stands_for a.tree s)).contexts (stands_for b t) a.tree.current.number b.current.number a.tree.next b.next ls ls s.limit t.limit
-          (sym did.contexts) (ap (λ (i : CtxId). i.number) (sym did.current)) (sym did.next) refl (sym did.moves.limit)
-          ∙ ap (λ (z : ShelfState). scene_made a z commons around (stands_for b t) b.current.number b.next ls t.limit) (sym did.shelf);
-      says = says;
-    }
+    went_dropped a b s t x y None ls commons around o p did says = grind (arith, nat_tests, did.tree, did.space, did.shelf)
+    went_dropped a b s t x y (Some id) ls commons around o p did says = grind (arith, nat_tests, made_same, gone id.number (stands_for a.tree s), id.number, a.tree, a.tree.current.number, b.current.number, a.tree.next, b.next, s.limit, t.limit, did.contexts, did.current, did.next, did.moves.limit, did.shelf)
 
     module _ (more : (o p q : O) (xs ys : List What) → emits o xs p → emits p ys q → emits o (xs ++ ys) q) where
       went_then : (f : Scene → Ended) (acts : List (Scene → Ended)) (a b c : Scene) (o p q : O) → Went O emits f a b o p → Went O emits (in_order acts) b c p q → Went O emits (in_order (f ∷ acts)) a c o q
-      went_then f acts a b c o p q h k = record {
-        leads = ap (λ (z : Scene). (in_order acts z).scene) h.leads ∙ k.leads;
-        says = more o p q (f a).events (in_order acts (f a).scene).events h.says (subst (λ (z : Scene). emits p (in_order acts z).events q) (sym h.leads) k.says);
-      }
+      went_then f acts a b c o p q h k = grind (arith, nat_tests, in_order, h.leads, k.leads, in_order acts (f a).scene, h.says, k.says)
 
       -- the deepest level is left
       pub left_went : (merged : Bool) (a : StoreState) (outer : List LevelState) (level : Level) (s t : Space) (x y : ShelfState) (commons : CommonState) (around : Around) (up : CtxId) (kept : Option CtxId) (b : TreeState) (q : ResourceState) (o0 o1 o2 : O)

@@ -1,7 +1,7 @@
 -- The words and lemmas of the crates below, and the definitions of specs/, that these proofs take.
 pub use Rattle.addr_space.specs.Space.{Asks, Space, held}
 pub use Rattle.context_rules.specs.Contexts.{Contexts, created, created_events, is_empty}
-pub use Rattle.context_rules.specs.Ends.{gone, handed_in}
+pub use Rattle.context_rules.specs.Ends.{gone}
 pub use Rattle.context_rules.specs.Refusals.{create_refusal, is_within}
 pub use Rattle.context_rules.specs.declared.errors.TreeError.TheVariants.{Memory}
 pub use Rattle.context_tree.proofs.Composed.{tree_more}
@@ -38,7 +38,7 @@ pub use Rattle.portal_store.specs.Portal.{coming, failed_owner, is_outer, kept_o
 pub use Rattle.portal_store.specs.Portals.{HasDistinctNames, changed, has_name, names, new_portal, place_named, portal_named, without}
 pub use Rattle.portal_store.specs.declared.portal.Portal.{Portal}
 pub use Rattle.portal_store.specs.declared.portal.PortalState.{PortalState}
-pub use Rattle.portal_store.specs.declared.portal.PortalState.TheVariants.{Failed, New, Ready}
+pub use Rattle.portal_store.specs.declared.portal.PortalState.TheVariants.{Failed, Ready}
 pub use Rattle.reset_callbacks.specs.ShelfState.{ShelfState}
 pub use Rattle.session_ends.specs.Parts.{IsFreed, MayLeave, context_left, going, level_left}
 pub use Rattle.session_ends.specs.Place.{CanGo, HaveGone, hosting}
@@ -76,7 +76,7 @@ pub use Rattle.session_rules.proofs.Swept.{has_swept}
 pub use Rattle.session_rules.specs.Acts.{Ended, and_then, behind, changes, children_gone, context_gone, for_each, in_order, nothing, of_contexts, portal_becomes, portal_gone, say, switched, where_so, where_there}
 pub use Rattle.session_rules.specs.Checks.{has_failed}
 pub use Rattle.session_rules.specs.Elements.{OfPortal, PortalContext, RowContext, Text}
-pub use Rattle.session_rules.specs.Ending.{AreEnding, Ending, IsDone, gone_levels}
+pub use Rattle.session_rules.specs.Ending.{Ending, IsDone, gone_levels}
 pub use Rattle.session_rules.specs.Ends.{aborted, cleaned_up, committed, level_context_gone, level_owner_gone, level_popped, level_released, stack_lowered, stack_popped, subcommitted, switched_up}
 pub use Rattle.session_rules.specs.Lookup.{portal_changed, portals_but}
 pub use Rattle.session_rules.specs.Making.{context_made, level_parent, new_context_made, new_owner_made, owner_made, portal_made}
@@ -90,7 +90,7 @@ pub use Rattle.session_store.proofs.Answered.{if_some, on_answer, some_both, som
 pub use Rattle.session_store.proofs.Depths.{above_first, all_deepest, deepest_new, ends, levels_are, levels_long}
 pub use Rattle.session_store.proofs.Kept.{AreThere, PortalThere, are_there, goes_made, has_kept, levels_there, nowhere, plans_there}
 pub use Rattle.session_store.proofs.Led.{did_acted, refused_regions, switch_acted}
-pub use Rattle.session_store.proofs.Levelled.{HasOwner, abort_there, above_live, context_live, have_owners, keeps_current, leveled, made_same, owner_live, owner_on, owners_there, parent_number, scene_leveled, scene_made, stands_deep, top_there}
+pub use Rattle.session_store.proofs.Levelled.{HasOwner, abort_there, above_live, context_live, have_owners, keeps_current, leveled, made_same, owner_live, owner_on, owners_there, parent_number, scene_leveled, stands_deep, top_there}
 pub use Rattle.session_store.proofs.Lists.{all_at, all_left, all_reverse}
 pub use Rattle.session_store.proofs.Owned.{HasPortalOwner, OwnersGo, acted_as, go_left, go_stack, have_portal_owners, keeps_owners, owner_number, owners_acted, owners_after, owners_fit, placed_owners, portals_kept}
 pub use Rattle.session_store.proofs.Planned.{both_alone}

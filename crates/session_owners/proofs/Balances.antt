@@ -1,5 +1,5 @@
 -- What sessions do one after the other leaves the commons in balance.
-use Rattle.session_owners.proofs.Base.{◌≡◌, ◌≢◌, ℕ, ◌+◌, ◌-◌, ◌<◌, ◌≤◌, find, false, List, [], ◌∷◌, map, Option, Some, Result, Ok, Err, OnOk, OnErr, refl, sym, ap, ◌∙◌, subst, inr, replicate, arith, ◌==◌, ◌&&◌, ◌^◌, if◌then◌else◌, slice_index, common_steps, ne_eqb, nat_tests}
+use Rattle.session_owners.proofs.Base.{◌≡◌, ◌≢◌, ℕ, ◌+◌, ◌-◌, ◌<◌, ◌≤◌, find, false, List, [], ◌∷◌, map, Option, Some, Result, Ok, Err, OnOk, OnErr, refl, sym, ap, ◌∙◌, subst, replicate, arith, ◌==◌, ◌&&◌, ◌^◌, if◌then◌else◌, slice_index, common_steps, ne_eqb, nat_tests}
 use Rattle.session_owners.proofs.Words.{Item, KindId, OwnerId, Phase, Mode, Holding, holds, Agrees, SessionLocks, OthersStay, AllNodes, Empty, Once, moved, removed, Kind, changed_at, opened, one_at, table_of, IsExtension, IsSound, KindTable, is_of, uses, without_newest, All-without, OwnerError, AllAt, HoldsNothing, Owner, OwnerTable, OwnerTree, created, forgotten, held, items_of, remembered, own_released, released, once_of, all_swept, buffer_pin, HasItems, IsItem, Around, Scene, pinning, at_buffer, all_changed, all_moved, all_put, all_removed, held_moved, Moves, phase_items, ResourceState, locks_of, owners_of, ArePinsShared, Held, Lending, PinsBalance, times_lent, Balances, CommonState, LocksBalance, PinsServe, Serves, pinned_beside, pinned_once, seen_by, OwnersFit, LocksBalance-nothing, IsCounted}
 use Rattle.owner_kinds.specs.KindShelf.{times_held}
 use Rattle.owner_core.specs.Owners as owners
@@ -157,23 +157,7 @@ pub balances_extended : (old : OwnerTable) (counts : Held) (a b : ResourceState)
     → IsExtension (table_of c.kinds) kind → owners_of b ≡ remembered n (record { kind = kind; key = key; serial = old.next_serial }) (owners.owners_of old)
     → kinds' ≡ changed_at (kind.0 - 16) (opened key) kinds → table_of kinds' ≡ table_of kinds
     → ((other : KindId) (q : ℕ) → times_held kinds' other q ≡ times_held kinds other q + one_at kind key other q) → d.pins ≡ c.pins → LocksBalance (locks_of a) (locks_of b) c.locks d.locks → Balances a b c d
-balances_extended old counts a b c d kinds kinds' n kind key s spare was from to extension taken opens table times counted locks =
-    let t : OwnerTree = owners.owners_of old in
-    let item : Item = record { kind = kind; key = key; serial = old.next_serial } in
-    let w = there n old spare in
-    let o : Once t = once_of t old.next_owner old.next_serial s.sound in
-    let same : table_of d.kinds ≡ table_of c.kinds = ap table_of to ∙ table ∙ ap table_of (sym from) in
-    record {
-      table = same;
-      limits = ap (map (λ k. k.limit)) to ∙ ap (map (λ k. k.limit)) opens ∙ limits_opened kinds (kind.0 - 16) key ∙ ap (map (λ k. k.limit)) (sym from);
-      items = λ h. rw (taken, same)
-          (items_remembered (table_of c.kinds) n item t (record { kind = inr extension; buffer = λ e. absurd (omega (arith, e, extension.from)) }) (rw was at h));
-      held = λ other q high. rw (taken, was, from, to) (omega (arith, held_remembered other q n item w.0 t o w.1, times other q, one_flipped kind.0 other.0 key q));
-      locks = locks;
-      pins = λ buffer.
-          let same_pins = pinned_same t (remembered n item t) buffer (other_kind old counts n item buffer_pin buffer s spare (λ z. omega (arith, z, extension.from))) in
-          rw (taken, was, counted) (omega (arith, same_pins));
-    }
+balances_extended old counts a b c d kinds kinds' n kind key s spare was from to extension taken opens table times counted locks = grind (arith, nat_tests, old.next_serial, there n old spare, once_of, old.next_owner, s.sound, d.kinds, c.kinds, limits_opened kinds (kind.0 - 16) key, kind.0, items_remembered, extension.from, held_remembered, pinned_same, other_kind)
 
 -- what of a lending is told of extension kinds
 high_times : (lending lending' : Lending) (kind : KindId) (key m n : ℕ) → 16 ≤ kind.0 → times_lent lending' kind key + m ≡ times_lent lending kind key + n

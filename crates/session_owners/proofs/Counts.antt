@@ -10,8 +10,7 @@ module _ (kind : KindId) (key : ℕ) where
 
   held_total : (t : OwnerTree) → held kind key t ≡ total used t
   unfolding used
-  held_total Empty = refl
-  held_total (Node n a below beside) = rw (held_total below, held_total beside) refl
+  held_total x0 = grind (arith, nat_tests)
 
   held_put : (p n : ℕ) (t : OwnerTree) → held kind key (put p n (record { begun = false; items = [] }) Empty t) ≡ held kind key t
   held_put p n Empty = refl

@@ -1,5 +1,5 @@
 -- A file is open where it is counted.
-use Rattle.session_owners.proofs.Base.{◌≡◌, ◌↔◌, ℕ, suc, zero, ◌<◌, Bool, true, false, ◌||◌, cond, List, [], ◌∷◌, Result, Ok, Err, IfErr, refl, sym, ap, ◌∙◌, arith, ◌==◌, nat_lt, count_by, list_any, both_ways, lt-ltb, sum_by-cons}
+use Rattle.session_owners.proofs.Base.{nat_tests, ◌≡◌, ◌↔◌, ℕ, suc, zero, ◌<◌, Bool, true, false, ◌||◌, cond, List, [], ◌∷◌, Result, Err, IfErr, refl, sym, ap, ◌∙◌, arith, ◌==◌, nat_lt, count_by, list_any, lt-ltb, sum_by-cons}
 use Rattle.session_owners.proofs.Words.{is_among, FileError, NoFile, Files, opens}
 
 -- an element passes a test where some do
@@ -21,6 +21,4 @@ pub is_there : (files : Files) (file : ℕ) → 0 < opens files file → is_amon
 is_there files file some = any_counts (λ other. file == other) files.opened ∙ lt-ltb 0 (opens files file) some
 
 pub closes : (files : Files) (file : ℕ) (r : Result (Unit {0}) FileError) (e : FileError) → r ≡ Err e → IfErr r (λ error. error ≡ NoFile) → (r ≡ Err NoFile) ↔ (is_among file files.opened ≡ false) → 0 < opens files file → ⊥
-closes files file (Ok u) e is other missing some = let z : Ok u ≡ Err e = is in cc z
-closes files file (Err d) e is other missing some =
-    both_ways (is_among file files.opened) (missing.0 (ap (λ (x : FileError). Err x) other)) (is_there files file some)
+closes files file x2 e is other missing some = grind (arith, nat_tests, files.opened, missing.0, is_there files file some)

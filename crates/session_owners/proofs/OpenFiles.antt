@@ -1,5 +1,5 @@
 -- The open files are those that the owners hold.
-use Rattle.session_owners.proofs.Base.{◌≡◌, ◌≢◌, ◌↔◌, ℕ, ◌≤◌, true, false, nat_eq, List, [], ◌∷◌, length, Result, Ok, Err, IfErr, refl, sym, ap, ◌∙◌, arith, ◌==◌, nat_lt, IsTrue, list_any, distinct_count, both_ways, nat_tests, sum_by-append}
+use Rattle.session_owners.proofs.Base.{◌≡◌, ◌≢◌, ◌↔◌, ℕ, ◌≤◌, true, false, nat_eq, List, [], ◌∷◌, length, Result, Err, IfErr, refl, sym, ap, ◌∙◌, arith, ◌==◌, nat_lt, IsTrue, list_any, distinct_count, both_ways, nat_tests, sum_by-append}
 use Rattle.session_owners.proofs.Words.{Item, KindId, Empty, Node, is_of, uses, OwnerTree, held, is_among, FileError, Memory, NoFile, Taken, TooMany, Files, opened_file, opens, opening_events, touch_events, touched_file, different_length, no_descriptor, file_kind, all_items, distinct, keys_of, files_held, holds_file}
 use Rattle.file_table.specs.Files.{IsSound}
 use Rattle.session_owners.proofs.OpenCounts.{any_counts}
@@ -24,8 +24,7 @@ keys_among kind file [] = refl
 keys_among kind file (item ∷ items) = grind (arith, nat_tests, flip file item.key, keys_among kind file items)
 
 any_flipped : (n : ℕ) (ns : List ℕ) → list_any (nat_eq n) ns ≡ list_any (λ m. m == n) ns
-any_flipped n [] = refl
-any_flipped n (m ∷ ms) = rw (flip n m, any_flipped n ms) refl
+any_flipped n x1 = grind (arith, nat_tests, flip)
 
 pub distinct_length : (ns : List ℕ) → distinct_count nat_eq ns ≡ length (distinct ns)
 distinct_length [] = refl
@@ -62,9 +61,4 @@ not_taken files owners file r same closed taken other = grind (arith, nat_tests,
 -- one that an owner holds is
 pub touch_wants : (files : Files) (owners : OwnerTree) (file : ℕ) (r : Result (Unit {0}) FileError) → opens files file ≡ held file_kind file owners → holds_file file owners ≡ true
     → (r ≡ Err NoFile) ↔ (is_among file files.opened ≡ false) → (r ≢ Err Taken) × (r ≢ Err TooMany) → IfErr r (λ error. error ≡ Memory)
-touch_wants files owners file (Ok u) same kept missing others = tt
-touch_wants files owners file (Err Memory) same kept missing others = refl
-touch_wants files owners file (Err Taken) same kept missing others = absurd (others.0 refl)
-touch_wants files owners file (Err TooMany) same kept missing others = absurd (others.1 refl)
-touch_wants files owners file (Err NoFile) same kept missing others =
-    absurd (both_ways (is_among file files.opened) (missing.0 refl) (open_held files owners file same ∙ kept))
+touch_wants files owners file x3 same kept missing others = grind (arith, nat_tests, others.0, others.1, files.opened, missing.0, open_held)

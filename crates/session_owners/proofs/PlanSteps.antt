@@ -136,10 +136,7 @@ module _ (P : CtxId → Type 0) (n : ℕ) where
 
   pub of_left : (standing : List (ℕ × Plan)) → All P (contexts_of standing) → All P (contexts_of (remove_entry (nat_eq n) standing))
   of_left [] all = all
-  of_left (x ∷ xs) all = elim (cases_Bool (nat_eq n x.0)) [
-    | inl y ↦ rw y (All-tail P x.1.context (contexts_of xs) all)
-    | inr y ↦ rw y (All-cons P x.1.context (contexts_of (remove_entry (nat_eq n) xs)) (All-head P x.1.context (contexts_of xs) all) (of_left xs (All-tail P x.1.context (contexts_of xs) all)))
-  ]
+  of_left (x ∷ xs) all = grind (arith, nat_tests, x.0, All-tail P x.1.context (contexts_of xs) all, x.1.context, All-cons P x.1.context (contexts_of (remove_entry (nat_eq n) xs)) (All-head P x.1.context (contexts_of xs) all) (of_left xs (All-tail P x.1.context (contexts_of xs) all)), All-head P x.1.context (contexts_of xs) all, of_left xs (All-tail P x.1.context (contexts_of xs) all))
 
 pub left_gone : (n : ℕ) (old new : List (ℕ × Plan)) → new ≡ remove_entry (nat_eq n) old → AreLeft old new
 left_gone n old new is id here =
@@ -158,10 +155,7 @@ left_set n old new kept other found same is id here = grind (arith, nat_tests, c
 module _ (P : StandingPlan → Type 0) (n : ℕ) where
   states_left : (standing : List (ℕ × Plan)) → All P (map plan_state standing) → All P (map plan_state (remove_entry (nat_eq n) standing))
   states_left [] all = all
-  states_left (x ∷ xs) all = elim (cases_Bool (nat_eq n x.0)) [
-    | inl y ↦ rw y (All-tail P (plan_state x) (map plan_state xs) all)
-    | inr y ↦ rw y (All-cons P (plan_state x) (map plan_state (remove_entry (nat_eq n) xs)) (All-head P (plan_state x) (map plan_state xs) all) (states_left xs (All-tail P (plan_state x) (map plan_state xs) all)))
-  ]
+  states_left (x ∷ xs) all = grind (arith, nat_tests, x.0, All-tail P (plan_state x) (map plan_state xs) all, All-cons P (plan_state x) (map plan_state (remove_entry (nat_eq n) xs)) (All-head P (plan_state x) (map plan_state xs) all) (states_left xs (All-tail P (plan_state x) (map plan_state xs) all)), All-head P (plan_state x) (map plan_state xs) all, states_left xs (All-tail P (plan_state x) (map plan_state xs) all))
 
   states_changed : (standing : List (ℕ × Plan)) (kept other : Plan) → lookup (nat_eq n) standing ≡ Some kept → ((m : ℕ) → P (plan_state (m, kept)) → P (plan_state (m, other))) → All P (map plan_state standing) → All P (map plan_state (set_value (nat_eq n) standing other))
   states_changed [] kept other e so all = absurd (cc e)
@@ -197,10 +191,7 @@ apart_changed n (x ∷ xs) kept other e same apart = grind (arith, nat_tests, st
 module _ (May Now : CtxId → Type 0) (at : CtxId) (stay : (other : CtxId) → other.number ≢ at.number → May other → Now other) where
   others_stay : (x : ℕ × Plan) (es : List (ℕ × Plan)) → x.1.context.number ≡ at.number → All (Differ (plan_state x)) (map plan_state es) → All May (contexts_of es) → All Now (contexts_of es)
   others_stay x [] e apart may = All-nil Now
-  others_stay x (y ∷ ys) e apart may =
-      let d : Differ (plan_state x) (plan_state y) = All-head (Differ (plan_state x)) (plan_state y) (map plan_state ys) apart in
-      All-cons Now y.1.context (contexts_of ys) (stay y.1.context (λ z. d.context (z ∙ sym e)) (All-head May y.1.context (contexts_of ys) may))
-      (others_stay x ys e (All-tail (Differ (plan_state x)) (plan_state y) (map plan_state ys) apart) (All-tail May y.1.context (contexts_of ys) may))
+  others_stay x (y ∷ ys) e apart may = grind (arith, nat_tests, All-head (Differ (plan_state x)) (plan_state y) (map plan_state ys) apart, All-cons, y.1.context, All-head May y.1.context (contexts_of ys) may, others_stay x ys e (All-tail (Differ (plan_state x)) (plan_state y) (map plan_state ys) apart) (All-tail May y.1.context (contexts_of ys) may), All-tail (Differ (plan_state x)) (plan_state y) (map plan_state ys) apart, All-tail May y.1.context (contexts_of ys) may)
 
   may_left : (n : ℕ) (standing : List (ℕ × Plan)) (kept : Plan) → lookup (nat_eq n) standing ≡ Some kept → kept.context.number ≡ at.number → AreApart (map plan_state standing) → All May (contexts_of standing) → All Now (contexts_of (remove_entry (nat_eq n) standing))
   may_left n [] kept e is apart may = absurd (cc e)

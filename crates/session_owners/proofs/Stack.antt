@@ -1,5 +1,5 @@
 -- The stack of active snapshots, by its newest entry.
-use Rattle.session_owners.proofs.Base.{◌≡◌, ◌↔◌, ℕ, ◌+◌, ◌-◌, Bool, true, false, List, [], ◌∷◌, ◌++◌, length, take, reverse, Option, Some, None, Result, Ok, Err, refl, sym, ap, ◌∙◌, arith, ◌==◌, IsOk, IsErr, option_map_or, both_ways, eqb-true, nat_tests, length-append, reverse-append, reverse-reverse, take-append-le}
+use Rattle.session_owners.proofs.Base.{◌≡◌, ◌↔◌, ℕ, ◌+◌, ◌-◌, Bool, true, false, List, [], ◌∷◌, ◌++◌, length, take, reverse, Option, Some, Result, Ok, Err, refl, sym, ap, ◌∙◌, arith, ◌==◌, IsOk, IsErr, option_map_or, both_ways, nat_tests, length-append, reverse-append, reverse-reverse, take-append-le}
 use Rattle.session_owners.proofs.Words.{Active, SnapError, first_of, last_of}
 
 -- the newest entry, and the others
@@ -37,19 +37,10 @@ pop_refused stack level r held = (λ err. none err (last_of stack) refl, λ othe
     same n = grind (arith, nat_tests)
 
     both : (x : Result (Unit {0}) SnapError) → IsOk x → IsErr x → ⊥
-    both (Ok u) ok err = cc err
-    both (Err e) ok err = cc ok
+    both x0 ok err = grind (arith, nat_tests)
 
     none : IsErr r → (newest : Option Active) → last_of stack ≡ newest → is_at_level level newest ≡ false
-    none err None e = refl
-    none err (Some entry) e = by_level (entry.level == level) refl
-      where
-        by_level : (b : Bool) → (entry.level == level) ≡ b → (entry.level == level) ≡ false
-        by_level false is = is
-        by_level true is =
-            let w = ends_with stack entry e in
-            let of : entry ≡ record { snapshot = entry.snapshot; level = level } = ap (λ (n : ℕ). record { snapshot = entry.snapshot; level = n }) (eqb-true entry.level level is) in
-            absurd (both r (held.1 (w.0, entry.snapshot, w.1 ∙ ap (λ (x : Active). w.0 ++ x ∷ []) of)) err)
+    none err x1 e = grind (arith, nat_tests, ends_with, both)
 
     go : (x : Result (Unit {0}) SnapError) → IsOk x ↔ ((rest : List Active) × (snapshot : ℕ) × (stack ≡ rest ++ record { snapshot = snapshot; level = level } ∷ [])) → is_at_level level (last_of stack) ≡ false → IsErr x
     go (Err e) h other = refl

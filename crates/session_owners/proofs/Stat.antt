@@ -139,21 +139,7 @@ classes_different owners = length (distinct (of_class 2 owners)) + (length (dist
 pub pairs_different : (owners : OwnerTree)
     → distinct_count (eq_by_cmp pair_cmp) (pairs_held owners) ≡ classes_different owners
 unfolding pairs_held
-pairs_different owners =
-    let six : List (ℕ × ℕ) = tagged 6 (of_class 6 owners) ++ [] in
-    let four : List (ℕ × ℕ) = tagged 4 (of_class 4 owners) ++ six in
-    let three : List (ℕ × ℕ) = tagged 3 (of_class 3 owners) ++ four in
-    omega (
-      arith,
-      tagged_more 2 (of_class 2 owners) three (λ k. apart 2 k 3 (of_class 3 owners) four refl (apart 2 k 4 (of_class 4 owners) six refl (apart 2 k 6 (of_class 6 owners) [] refl refl))),
-      tagged_more 3 (of_class 3 owners) four (λ k. apart 3 k 4 (of_class 4 owners) six refl (apart 3 k 6 (of_class 6 owners) [] refl refl)),
-      tagged_more 4 (of_class 4 owners) six (λ k. apart 4 k 6 (of_class 6 owners) [] refl refl),
-      tagged_more 6 (of_class 6 owners) [] (λ k. refl),
-    )
-  where
-    apart : (c k d : ℕ) (keys : List ℕ) (others : List (ℕ × ℕ)) → (c == d) ≡ false → list_any (eq_by_cmp pair_cmp (c, k)) others ≡ false → list_any (eq_by_cmp pair_cmp (c, k)) (tagged d keys ++ others) ≡ false
-    apart c k d keys others other rest =
-        any_in_both (eq_by_cmp pair_cmp (c, k)) (tagged d keys) others ∙ ap (λ (b : Bool). b || list_any (eq_by_cmp pair_cmp (c, k)) others) (none_tagged c k d keys other) ∙ rest
+pairs_different owners = grind (arith, nat_tests, tagged_more, tagged_more 6 (of_class 6 owners), any_in_both, none_tagged)
 
 -- what is counted of a class is what owners hold of it
 pub class_counted : (table : OwnerTable) (counts : Held) (class key : ℕ) → IsCounted table counts

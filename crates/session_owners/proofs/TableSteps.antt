@@ -1,6 +1,6 @@
 -- What the tables of a session's items do in a release: the steps of the rules.
-use Rattle.session_owners.proofs.Base.{nat_tests, ◌≡◌, ℕ, ◌≤◌, Bool, true, false, List, [], ◌∷◌, append-nil, refl, ap, ◌∙◌, subst, arith, zero, suc, ◌<◌, ◌==◌, ◌-◌, nat_lt, if◌then◌else◌, map, Contains, eqb-true, lt-ltb, ne_eqb}
-use Rattle.session_owners.proofs.Words.{total, What, Item, KindId, Kind, changed_at, closed, opened, Step, GivesBack, Lock, is_among, without, closed_file, closing_events, without_missing, Contexts, ShelfState, Plans, references, Scene, Ended, Keeper, NoOne, ThePlans, TheDescriptors, TheKind, keeper_of, left_to, plan_left, step_done, extension_keeps, HostsFit, hosting_of, AreLeft, PlansDo, contexts_of, Held, Lending, TablesDo, TablesFit, lending_of, with_lending, lending_is}
+use Rattle.session_owners.proofs.Base.{nat_tests, ◌≡◌, ℕ, ◌≤◌, true, false, List, [], ◌∷◌, append-nil, refl, ap, ◌∙◌, subst, arith, zero, suc, ◌<◌, ◌==◌, ◌-◌, if◌then◌else◌, map, Contains, eqb-true, ne_eqb}
+use Rattle.session_owners.proofs.Words.{total, What, Item, KindId, Kind, changed_at, closed, opened, Step, GivesBack, Lock, is_among, without, closed_file, closing_events, without_missing, Contexts, ShelfState, Plans, references, Scene, Ended, Keeper, ThePlans, TheDescriptors, TheKind, keeper_of, left_to, plan_left, step_done, extension_keeps, HostsFit, hosting_of, AreLeft, PlansDo, contexts_of, Held, Lending, TablesDo, TablesFit, lending_of, with_lending, lending_is}
 
 -- a pin is no file, and no reference to a plan
 pub pin_is_other : (kind : ℕ) → (kind == 1) ≡ true → (kind == 8) ≡ false
@@ -30,28 +30,13 @@ left_still : (keeper : Keeper) (key : ℕ) (scene : Scene) → (keeper ≡ ThePl
 left_still x0 key scene no_plan no_file no_kind = grind arith
 
 no_plan : (kind : KindId) → (kind.0 == 5) ≡ false → keeper_of kind ≡ ThePlans → ⊥
-no_plan kind other = rw other (go (kind.0 == 8) (nat_lt kind.0 16))
-  where
-    go : (a b : Bool) → (if a then TheDescriptors else (if b then NoOne else TheKind (kind.0 - 16))) ≡ ThePlans → ⊥
-    go true b e = cc e
-    go false true e = cc e
-    go false false e = cc e
+no_plan kind other = grind (arith, nat_tests, kind.0)
 
 no_file : (kind : KindId) → (kind.0 == 8) ≡ false → keeper_of kind ≡ TheDescriptors → ⊥
-no_file kind other = rw other (go (kind.0 == 5) (nat_lt kind.0 16))
-  where
-    go : (a b : Bool) → (if a then ThePlans else (if b then NoOne else TheKind (kind.0 - 16))) ≡ TheDescriptors → ⊥
-    go true b e = cc e
-    go false true e = cc e
-    go false false e = cc e
+no_file kind other = grind (arith, nat_tests, kind.0)
 
 no_kind : (kind : KindId) → kind.0 < 16 → (place : ℕ) → keeper_of kind ≡ TheKind place → ⊥
-no_kind kind low place = rw (lt-ltb kind.0 16 low) (go (kind.0 == 5) (kind.0 == 8))
-  where
-    go : (a b : Bool) → (if a then ThePlans else (if b then TheDescriptors else NoOne)) ≡ TheKind place → ⊥
-    go true b e = cc e
-    go false true e = cc e
-    go false false e = cc e
+no_kind kind low place = grind (arith, nat_tests, kind.0)
 
 left_same : (a b : Plans) → b ≡ a → AreLeft a.standing b.standing
 left_same a b same id here = subst (λ (p : Plans). Contains (contexts_of p.standing) id) same here

@@ -1,6 +1,7 @@
 -- The deepest level and those above it, in the order in which a store keeps them and in that of the session.
-use Rattle.session_store.proofs.Words.{◌≡◌, ℕ, zero, suc, ◌+◌, ◌<◌, Bool, Some, None, List, [], ◌∷◌, ◌++◌, length, map, refl, sym, ap, ◌∙◌, subst, inl, inr, arith, ◌-◌, ◌==◌, if◌then◌else◌, All, drop, reverse, slice_get, cases_Bool, ne_eqb, All-pop, option_map, length-append, length-map, length-reverse, reverse-append, Level, level_at, with_deepest, LevelState, first_of, level_state, levels_of}
+use Rattle.session_store.proofs.Words.{◌≡◌, ℕ, zero, suc, ◌+◌, ◌<◌, Some, None, List, [], ◌∷◌, ◌++◌, length, map, refl, sym, ap, ◌∙◌, inl, inr, arith, ◌-◌, ◌==◌, All, drop, reverse, slice_get, cases_Bool, All-pop, option_map, length-append, length-map, length-reverse, reverse-append, Level, level_at, with_deepest, first_of, level_state, levels_of}
 use Rattle.session_store.proofs.Lists.{all_at, first_map, first_reverse}
+use Rattle.std.proofs.lemmas.Bool.Decides.{nat_tests}
 
 module _ {A : Type 0} where
   -- the last of some, by its place
@@ -32,9 +33,7 @@ pub levels_long : (levels : List Level) → length (levels_of levels) ≡ length
 levels_long levels = length-map (reverse levels) level_state ∙ length-reverse levels
 
 level_at_place : (levels : List Level) (i : ℕ) → level_at levels (i + 1) ≡ slice_get levels i
-level_at_place levels i =
-    ap (λ (b : Bool). if b then None else slice_get levels (i + 1 - 1)) (ne_eqb (i + 1) 0 (λ e. omega (arith, e)))
-    ∙ ap (slice_get levels) (let e : i + 1 - 1 ≡ i = omega arith in e)
+level_at_place levels i = grind (arith, nat_tests)
 
 -- the level above the deepest
 pub above_is : (outer : List Level) (level : Level) → option_map level_state (level_at (outer ++ level ∷ []) (length (outer ++ level ∷ []) - 1)) ≡ first_of (levels_of outer)
@@ -47,11 +46,7 @@ above_is (y ∷ outer) level =
 
 -- the deepest, by its number
 pub deepest_is : (levels : List Level) (n : ℕ) (level : Level) → 0 < length levels → n ≡ length levels → level_at levels n ≡ Some level → (outer : List Level) × (levels ≡ outer ++ level ∷ [])
-deepest_is levels n level some e is =
-    let m : length levels ≡ suc (length levels - 1) = omega (arith, some) in
-    let at : level_at levels (length levels - 1 + 1) ≡ Some level =
-    ap (level_at levels) (let z : length levels - 1 + 1 ≡ n = omega (arith, some, e) in z) ∙ is in
-    last_place levels (length levels - 1) level m (sym (level_at_place levels (length levels - 1)) ∙ at)
+deepest_is levels n level some e is = grind (arith, nat_tests, last_place, level_at_place levels (length levels - 1))
 
 -- what holds of all levels holds of one
 pub all_level : (P : Level → Type 0) (levels : List Level) (n : ℕ) (level : Level) → All P levels → level_at levels n ≡ Some level → P level
@@ -75,10 +70,7 @@ ends (y ∷ z ∷ levels) some =
 
 -- the second level of the session
 pub above_first : (levels : List Level) → 0 < length levels → first_of (drop 1 (levels_of levels)) ≡ option_map level_state (level_at levels (length levels - 1))
-above_first levels some =
-    let e = ends levels some in
-    subst (λ (ls : List Level). first_of (drop 1 (levels_of ls)) ≡ option_map level_state (level_at ls (length ls - 1))) (sym e.1.1)
-    (ap (λ (ls : List LevelState). first_of (drop 1 ls)) (levels_are e.0 e.1.0) ∙ sym (above_is e.0 e.1.0))
+above_first levels some = grind (arith, nat_tests, ends levels some, levels_are, above_is)
 
 pub deepest_new : (change : Level → Level) (levels outer : List Level) (level : Level) (new : List Level) → new ≡ with_deepest change levels → levels ≡ outer ++ level ∷ [] → new ≡ outer ++ change level ∷ []
 deepest_new change levels outer level new e is = e ∙ ap (with_deepest change) is ∙ deepest_with change outer level

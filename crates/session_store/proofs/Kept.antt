@@ -1,5 +1,5 @@
 -- What is there lies where it lay, when a tree changes.
-use Rattle.session_store.proofs.Words.{◌≡◌, ◌≢◌, ℕ, ◌-◌, Bool, true, false, Option, Some, None, List, [], ◌∷◌, map, All, IfSome, refl, sym, ap, ◌∙◌, subst, ◌==◌, if◌then◌else◌, reverse, slice_get, option_map, both_ways, eq-eqb, All-nil, All-cons, All-head, All-tail, Space, Empty, Forest, Node, Once, at, children, has, mapped-has, has_children, CtxId, ShelfState, Did, DidNothing, TreeState, Agrees, IsLive, Moves, StaysPut, place_of, stands_for, Plan, ResourceState, OwnerTree, owners_of, plan_state, contexts_of, level_at, Level, Around, Context, Contexts, Portal, LevelState, AreLevels, IsPlan, IsPortal, IsRow, Stands, CommonState, StoreState, level_state, levels_of, portal_state, portals_of, scene_of, session_of, IsPlaced, IsThere, LevelLies, Lies, PortalLies, ContextsAlone, Keeps, StandsIn}
+use Rattle.session_store.proofs.Words.{◌≡◌, ◌≢◌, ℕ, ◌-◌, true, false, Option, Some, None, List, [], ◌∷◌, map, All, IfSome, refl, sym, ap, ◌∙◌, subst, ◌==◌, if◌then◌else◌, reverse, option_map, eq-eqb, All-nil, All-cons, Space, Empty, Forest, Node, Once, at, children, has, mapped-has, has_children, CtxId, ShelfState, Did, DidNothing, TreeState, Agrees, IsLive, Moves, StaysPut, place_of, stands_for, Plan, ResourceState, OwnerTree, owners_of, plan_state, contexts_of, level_at, Level, Around, Context, Contexts, Portal, LevelState, AreLevels, IsPlan, IsPortal, IsRow, Stands, CommonState, StoreState, level_state, levels_of, portal_state, portals_of, scene_of, session_of, IsPlaced, IsThere, LevelLies, Lies, PortalLies, ContextsAlone, Keeps, StandsIn}
 use Rattle.context_tree.specs.State.{context_of}
 use Rattle.context_rules.specs.Ends.{Ended}
 use Rattle.session_rules.proofs.ContextsKept.{protected_has}
@@ -8,6 +8,8 @@ use Rattle.session_store.proofs.Answered.{if_some, some_both}
 use Rattle.session_store.proofs.Depths.{all_level}
 use Rattle.session_store.proofs.Lists.{all_both, all_mapped, all_reverse}
 use Rattle.session_store.proofs.Sums.{keeps_on}
+use Rattle.std.proofs.lemmas.Bool.Decides.{nat_tests}
+use Rattle.std.proofs.Common.{arith}
 
 -- a context is there in the tree where it is among those that the tree stands for
 pub has_kept : (n : ℕ) (tree : TreeState) (s : Space) → has n (stands_for tree s) ≡ has n tree.kept
@@ -94,45 +96,25 @@ pub record Goes (a b : TreeState) (s t : Space) : Type 0 where
 
 -- nothing happens
 moves_none : (a : TreeState) (s : Space) → Agrees a s → Moves a a s s
-moves_none a s agrees = record {
-  agrees = agrees;
-  account = refl;
-  outside = λ number region. (λ out. out, λ out. out);
-  accounts = refl;
-  limit = refl;
-  own = refl;
-  others = λ account differ. refl;
-}
+moves_none a s agrees = grind (arith, nat_tests)
 
 pub goes_nowhere : (a b : TreeState) (s t : Space) → Agrees a s → b ≡ a → t ≡ s → Goes a b s t
 goes_nowhere a b s t agrees same still = subst (λ (y : Space). Goes a b s y) (sym still) (subst (λ (x : TreeState). Goes a x s s) (sym same) (record { moves = moves_none a s agrees; stays = λ n was now. refl; current = refl }))
 
 -- contexts went or were reset, or nothing did
 pub goes_did : (ended : Ended) (a b : TreeState) (s t : Space) (x y : ShelfState) → Did ended a b s t x y → Goes a b s t
-goes_did ended a b s t x y did = record {
-  moves = did.moves;
-  stays = λ n was now. did.stays n (ap (has n) (sym did.contexts) ∙ has_kept n b t ∙ now);
-  current = did.current;
-}
+goes_did ended a b s t x y did = grind (arith, nat_tests, did.moves, did.stays, did.contexts, has_kept, did.current)
 
 pub goes_nothing : (a b : TreeState) (s t : Space) (x y : ShelfState) → Agrees a s → DidNothing a b s t x y → Goes a b s t
 goes_nothing a b s t x y agrees did = goes_nowhere a b s t agrees did.tree did.space
 
 -- all stay where they are
 pub goes_put : (a b : TreeState) (s t : Space) → Moves a b s t → StaysPut a b → Goes a b s t
-goes_put a b s t moves put = record {
-  moves = moves;
-  stays = λ n was now. ap (λ (places : Forest ℕ). at n places) put.places;
-  current = put.current;
-}
+goes_put a b s t moves put = grind (arith, nat_tests, at, put.places, put.current)
 
 -- a context is made
 pub goes_made : (a b : TreeState) (s t : Space) → Moves a b s t → ((n : ℕ) → n ≢ a.next → place_of b n ≡ place_of a n) → has a.next (stands_for a s) ≡ false → b.current ≡ a.current → Goes a b s t
-goes_made a b s t moves stays fresh current = record {
-  moves = moves;
-  stays = λ n was now. stays n (λ e. both_ways (has n a.kept) (ap (λ (m : ℕ). has m a.kept) e ∙ sym (has_kept a.next a s) ∙ fresh) was);
-  current = current;
-}
+goes_made a b s t moves stays fresh current = grind (arith, nat_tests, a.kept, has_kept a.next a s, a.next)
 
 -- what the store names still lies where its id says
 lies_on : (a b : TreeState) (id : CtxId) → ((n : ℕ) → has n a.kept ≡ true → has n b.kept ≡ true → place_of b n ≡ place_of a n) → Lies a id → has id.number a.kept ≡ true → Lies b id
@@ -140,42 +122,28 @@ lies_on a b id stays lies was now = stays id.number was now ∙ lies was
 
 levels_on : (a b : TreeState) (table : ResourceState) (levels : List Level) → ((n : ℕ) → has n a.kept ≡ true → has n b.kept ≡ true → place_of b n ≡ place_of a n)
     → All (LevelLies a table) levels → All (IsThere a) levels → All (LevelLies b table) levels
-levels_on a b table levels stays =
-    all_both (LevelLies a table) (IsThere a) (LevelLies b table)
-    (λ level lies there. record { context = some_both level.context (λ id. lies_on a b id stays) lies.context there; owner = lies.owner }) levels
+levels_on a b table levels stays = grind (arith, nat_tests, all_both, some_both, lies_on)
 
 pub plans_on : (a b : TreeState) (contexts : List CtxId) → ((n : ℕ) → has n a.kept ≡ true → has n b.kept ≡ true → place_of b n ≡ place_of a n) → All (Lies a) contexts → All (HasContext a) contexts → All (Lies b) contexts
 plans_on a b contexts stays = all_both (Lies a) (HasContext a) (Lies b) (λ id. lies_on a b id stays) contexts
 
 -- a portal's contexts lie on
 pub portal_on : (a b : TreeState) (table : ResourceState) (portal : Portal) → ((n : ℕ) → has n a.kept ≡ true → has n b.kept ≡ true → place_of b n ≡ place_of a n) → PortalLies a table portal → PortalThere a portal → PortalLies b table portal
-portal_on a b table portal stays lies there = record {
-  context = some_both portal.context (λ id. lies_on a b id stays) lies.context there.context;
-  expr = some_both portal.expr (λ id. lies_on a b id stays) lies.expr there.expr;
-  owner = lies.owner;
-  scan = lies.scan;
-}
+portal_on a b table portal stays lies there = grind (arith, nat_tests, some_both, portal.context, lies_on, lies.context, there.context, portal.expr, lies.expr, there.expr, lies.owner, lies.scan)
 
 pub portals_on : (a b : TreeState) (table : ResourceState) (portals : List Portal) → ((n : ℕ) → has n a.kept ≡ true → has n b.kept ≡ true → place_of b n ≡ place_of a n) → All (PortalLies a table) portals → All (PortalThere a) portals → All (PortalLies b table) portals
 portals_on a b table portals stays = all_both (PortalLies a table) (PortalThere a) (PortalLies b table) (λ portal. portal_on a b table portal stays) portals
 
 pub placed_on : (a b : TreeState) (table : ResourceState) (levels : List Level) (portals : List Portal) → IsPlaced a table levels portals → AreThere a table levels portals → ((n : ℕ) → has n a.kept ≡ true → has n b.kept ≡ true → place_of b n ≡ place_of a n) → b.current ≡ a.current
     → IsPlaced b table levels portals
-placed_on a b table levels portals placed there stays current = record {
-  current = subst (λ (id : CtxId). Lies b id) (sym current) (lies_on a b a.current stays placed.current there.current);
-  levels = levels_on a b table levels stays placed.levels there.levels;
-  plans = plans_on a b (contexts_of table.plans.standing) stays placed.plans there.plans;
-  portals = portals_on a b table portals stays placed.portals there.portals;
-}
+placed_on a b table levels portals placed there stays current = grind (arith, nat_tests, lies_on, a.current, placed.current, there.current, levels_on, placed.levels, there.levels, plans_on, table.plans.standing, placed.plans, there.plans, portals_on, placed.portals, there.portals)
 
 pub placed_put : (a b : TreeState) (table : ResourceState) (levels : List Level) (portals : List Portal) → IsPlaced a table levels portals → AreThere a table levels portals → StaysPut a b → IsPlaced b table levels portals
 placed_put a b table levels portals placed there put = placed_on a b table levels portals placed there (λ n was now. ap (λ (places : Forest ℕ). at n places) put.places) put.current
 
 -- the context of the level of a number lies where its id says
 pub level_live : (tree : TreeState) (table : ResourceState) (levels : List Level) (portals : List Portal) (n : ℕ) (level : Level) → IsPlaced tree table levels portals → AreThere tree table levels portals → level_at levels n ≡ Some level → IfSome level.context (IsLive tree)
-level_live tree table levels portals n level placed there e =
-    let lies : LevelLies tree table level = all_level (LevelLies tree table) levels n level placed.levels e in
-    some_both level.context (λ id lies. lies) lies.context (all_level (IsThere tree) levels n level there.levels e)
+level_live tree table levels portals n level placed there e = grind (arith, nat_tests, all_level (LevelLies tree table) levels n level placed.levels e, placed.levels, some_both, level.context, all_level (IsThere tree) levels n level there.levels e, there.levels)
 
 -- the store that holds the tree
 pub alone_on : (a : StoreState) (b : TreeState) (s t : Space) (commons : CommonState) → Keeps a s → Goes a.tree b s t → ContextsAlone a (record a { tree = b }) s t commons commons

@@ -3,6 +3,8 @@ use Rattle.session_store.proofs.Words.{◌≡◌, ℕ, ◌+◌, Bool, false, Lis
 use Rattle.pgs_step.specs.declared.events.What.TheVariants as what
 use Rattle.context_rules.specs.Ends as ends
 use Rattle.session_store.proofs.Sums.{left_is}
+use Rattle.std.proofs.lemmas.Bool.Decides.{nat_tests}
+use Rattle.std.proofs.Common.{arith}
 
 -- a scene, by what calls on contexts change
 abbrev pub scene_by : StoreState → Around → Contexts → ℕ → ℕ → ShelfState → CommonState → ℕ → Scene
@@ -25,12 +27,7 @@ scene_by a around contexts current next x commons limit = record {
 }
 
 pub same_scene : (a : StoreState) (around : Around) (c d : Contexts) (i j m n : ℕ) (x y : ShelfState) (commons : CommonState) (k l : ℕ) → c ≡ d → i ≡ j → m ≡ n → x ≡ y → k ≡ l → scene_by a around c i m x commons k ≡ scene_by a around d j n y commons l
-same_scene a around c d i j m n x y commons k l p q r u v =
-    ap (λ (z : Contexts). scene_by a around z i m x commons k) p
-    ∙ ap (λ (z : ℕ). scene_by a around d z m x commons k) q
-    ∙ ap (λ (z : ℕ). scene_by a around d j z x commons k) r
-    ∙ ap (λ (z : ShelfState). scene_by a around d j n z commons k) u
-    ∙ ap (λ (z : ℕ). scene_by a around d j n y commons z) v
+same_scene a around c d i j m n x y commons k l p q r u v = grind (arith, nat_tests)
 
 -- contexts went or were reset
 pub did_acted : (end : Contexts → ends.Ended) (a : StoreState) (b : TreeState) (s t : Space) (x y : ShelfState) (commons : CommonState) (Said : List What → Type 0) → Did (end (stands_for a.tree s)) a.tree b s t x y → Said (end (stands_for a.tree s)).events
@@ -48,9 +45,7 @@ did_acted end a b s t x y commons Said did says = record {
 module _ (a : StoreState) (b : TreeState) (s t : Space) (limit : t.limit ≡ s.limit) where
   become : (u : Contexts) (x : ShelfState) (commons : CommonState) (around : Around) → stands_for b t ≡ u → StaysPut a.tree b
       → scene_by a around u a.tree.current.number a.tree.next x commons s.limit ≡ scene_by a around (stands_for b t) b.current.number b.next x commons t.limit
-  become u x commons around is put =
-      same_scene a around u (stands_for b t) a.tree.current.number b.current.number a.tree.next b.next x x commons s.limit t.limit
-      (sym is) (ap (λ (id : CtxId). id.number) (sym put.current)) (sym put.next) refl (sym limit)
+  become u x commons around is put = grind (arith, nat_tests, same_scene, put.current, put.next)
 
   -- a chunk is taken
   pub taken_acted : (chunk : Option (List ℕ)) (size : ℕ) (zeroed : Bool) (n : ℕ) → Keeps a s → stands_for b t ≡ allocated n (left_of a.tree s) chunk size (if zeroed then zeros size else []) (stands_for a.tree s) → StaysPut a.tree b

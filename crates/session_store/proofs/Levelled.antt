@@ -1,15 +1,16 @@
 -- What calls on a store's levels make of the session, and that acts of the rules lead there.
-use Rattle.session_store.proofs.Words.{◌≡◌, ℕ, ◌+◌, ◌≤◌, arith, Bool, true, false, Option, Some, None, List, [], ◌∷◌, ◌++◌, append-nil, length, map, All, IfSome, refl, sym, ap, ◌∙◌, subst, ◌-◌, reverse, unwrap_or, option_and_then, option_map, option_map_or, All-cons, All-head, All-nil, All-push, All-tail, All-weaker, Space, has, mapped-has, CtxId, OwnerId, What, ShelfState, Contexts, created, created_events, TreeState, IsLive, stands_for, ResourceState, Roomy, owners_of, plans_of, contexts_of, Level, Portal, level_at, new_level, LevelState, context_of, deepest_changed, first_of, owner_of, Around, Scene, Ended, LevelContext, OfLevel, level_context_name, level_made, level_parent, new_context_made, new_owner_made, owner_made, level_stands, AreLevels, Stands, own_there, Balances, CommonState, seen_by, balances_none, StoreState, level_state, levels_of, portals_of, scene_of, session_of, IsPlaced, IsThere, LevelLies, Lies, PortalLies, Acted, IsSilent, Keeps, StandsIn}
+use Rattle.session_store.proofs.Words.{◌≡◌, ℕ, ◌+◌, ◌≤◌, arith, Bool, true, false, Option, Some, None, List, [], ◌∷◌, ◌++◌, append-nil, length, All, IfSome, refl, sym, ap, ◌∙◌, subst, ◌-◌, unwrap_or, option_and_then, option_map, All-push, All-weaker, Space, has, mapped-has, CtxId, OwnerId, What, ShelfState, Contexts, created, created_events, TreeState, IsLive, stands_for, ResourceState, owners_of, plans_of, contexts_of, Level, Portal, level_at, new_level, LevelState, context_of, deepest_changed, first_of, owner_of, Around, Scene, Ended, LevelContext, OfLevel, level_context_name, level_made, level_parent, new_context_made, new_owner_made, owner_made, level_stands, Stands, own_there, Balances, CommonState, seen_by, balances_none, StoreState, level_state, levels_of, portals_of, scene_of, session_of, IsPlaced, IsThere, LevelLies, Lies, PortalLies, Acted, IsSilent, Keeps, StandsIn}
 use Rattle.pgs_step.specs.declared.events.What.TheVariants as what
 use Rattle.any_ctx.specs.declared.any.CtxKind.TheVariants as kind
 use Rattle.session_owners.specs.ResourceState as owners
 use Rattle.session_rules.proofs.EndsStand.{settled}
 use Rattle.session_owners.specs.Fitting as fitting
-use Rattle.session_store.proofs.Answered.{if_some, some_both, some_more}
+use Rattle.session_store.proofs.Answered.{some_both, some_more}
 use Rattle.session_store.proofs.Depths.{above_is, all_deepest, all_level, levels_are, levels_long}
 use Rattle.session_store.proofs.Kept.{nowhere}
 use Rattle.session_store.proofs.Lists.{all_both}
 pub use Rattle.session_store.proofs.Owned.{HasOwner, have_owners, owner_number, owners_there}
+use Rattle.std.proofs.lemmas.Bool.Decides.{nat_tests}
 
 -- the space has what the store has in it, whatever its owners and its levels
 pub keeps_parts : (a : StoreState) (o : ResourceState) (ls : List Level) (s : Space) → Keeps a s → Keeps (record a { owners = o; levels = ls }) s
@@ -54,8 +55,7 @@ module _ (a : StoreState) (outer : List Level) (s : Space) (x : ShelfState) (com
         events = [];
       }
   unfolding session_of stands_for
-  stood name None o implicit aborted starting around = refl
-  stood name (Some id) o implicit aborted starting around = refl
+  stood name x1 o implicit aborted starting around = grind (arith, nat_tests)
 
   pub stood_acted : (level : Level) → a.levels ≡ outer ++ level ∷ []
       → Acted level_stands a (record a { tree = record a.tree { current = unwrap_or level.context a.tree.current }; levels = outer ++ record level { starting = false } ∷ [] }) s s x x commons commons IsSilent
@@ -99,8 +99,7 @@ pub context_live : (tree : TreeState) (table : ResourceState) (level : Level) �
 context_live tree table level lies there = some_both level.context (λ id l h. l h) lies.context there
 
 pub owner_live : (tree : TreeState) (table : ResourceState) (level : Level) → LevelLies tree table level → HasOwner table level → IfSome level.owner (owners.IsLive table)
-owner_live tree table level lies there =
-    some_both level.owner (λ id l h. l (sym (mapped-has (λ (r : Roomy). r.owner) id.number table.rooms) ∙ h)) lies.owner there
+owner_live tree table level lies there = grind (arith, nat_tests, some_both, level.owner, mapped-has, table.rooms, lies.owner)
 
 -- the session with its deepest level apart
 pub stands_deep : (a : StoreState) (s : Space) (x : ShelfState) (commons : CommonState) (outer : List Level) (level : Level) → a.levels ≡ outer ++ level ∷ [] → StandsIn a s x commons
@@ -150,10 +149,7 @@ portals_at tree table id portals lies =
 
 -- what lies in the owners still does where all that lay does
 pub owner_on : (tree : TreeState) (table table' : ResourceState) (level : Level) → ((id : OwnerId) → owners.IsLive table id → owners.IsLive table' id) → LevelLies tree table level → HasOwner table level → LevelLies tree table' level
-owner_on tree table table' level on lies has = record {
-  context = lies.context;
-  owner = some_both level.owner (λ id l h there. on id (l (sym (mapped-has (λ (r : Roomy). r.owner) id.number table.rooms) ∙ h))) lies.owner has;
-}
+owner_on tree table table' level on lies has = grind (arith, nat_tests, lies.context, some_both, level.owner, mapped-has, table.rooms, lies.owner)
 
 -- the current context, where another one may be taken instead
 pub current_lies : (tree : TreeState) (to : Option CtxId) → IfSome to (IsLive tree) → Lies tree tree.current → Lies (record tree { current = unwrap_or to tree.current }) (unwrap_or to tree.current)
@@ -162,27 +158,16 @@ current_lies tree (Some id) live lies = λ there. live
 
 -- the number of what is above
 pub parent_number : (o : Option LevelState) → unwrap_or (context_of o) 1 ≡ level_parent o
-parent_number None = refl
-parent_number (Some level) = go level.context
-  where
-    go : (c : Option ℕ) → unwrap_or c 1 ≡ option_map_or (λ n. n) c 1
-    go None = refl
-    go (Some n) = refl
+parent_number x0 = grind (arith, nat_tests)
 
 -- the owner of the level above
 pub above_live : (a : StoreState) (s : Space) (x : ShelfState) (commons : CommonState) (n : ℕ) (above : Option Level) → IsPlaced a.tree a.owners a.levels a.portals → StandsIn a s x commons → above ≡ level_at a.levels n → IfSome (option_and_then (λ level. level.owner) above) (owners.IsLive a.owners)
 above_live a s x commons n None placed stands e = tt
-above_live a s x commons n (Some level) placed stands e =
-    owner_live a.tree a.owners level
-    (all_level (LevelLies a.tree a.owners) a.levels n level placed.levels (sym e))
-    (all_level (HasOwner a.owners) a.levels n level (have_owners a s x commons stands) (sym e))
+above_live a s x commons n (Some level) placed stands e = grind (arith, nat_tests, owner_live a.tree a.owners level (all_level (LevelLies a.tree a.owners) a.levels n level placed.levels (sym e)) (all_level (HasOwner a.owners) a.levels n level (have_owners a s x commons stands) (sym e)), a.tree, a.owners, all_level (LevelLies a.tree a.owners) a.levels n level placed.levels (sym e), a.levels, placed.levels, all_level (HasOwner a.owners) a.levels n level (have_owners a s x commons stands) (sym e))
 
 pub above_owner : (a : StoreState) (outer : List Level) (level : Level) → a.levels ≡ outer ++ level ∷ []
     → option_map (λ (id : OwnerId). id.number) (option_and_then (λ level. level.owner) (level_at a.levels (length a.levels - 1))) ≡ owner_of (first_of (levels_of outer))
-above_owner a outer level e =
-    sym (owner_number (level_at a.levels (length a.levels - 1)))
-    ∙ ap (λ (ls : List Level). owner_of (option_map level_state (level_at ls (length ls - 1)))) e
-    ∙ ap owner_of (above_is outer level)
+above_owner a outer level e = grind (arith, nat_tests, a.levels, above_is outer level)
 
 -- a scene by what the making of a level's context changes
 abbrev pub scene_made : StoreState → ShelfState → CommonState → Around → Contexts → ℕ → ℕ → List LevelState → ℕ → Scene
@@ -205,12 +190,7 @@ scene_made a x commons around contexts current next levels limit = record {
 }
 
 pub made_same : (a : StoreState) (x : ShelfState) (commons : CommonState) (around : Around) (c d : Contexts) (i j m n : ℕ) (ls ks : List LevelState) (k l : ℕ) → c ≡ d → i ≡ j → m ≡ n → ls ≡ ks → k ≡ l → scene_made a x commons around c i m ls k ≡ scene_made a x commons around d j n ks l
-made_same a x commons around c d i j m n ls ks k l p q r u v =
-    ap (λ (z : Contexts). scene_made a x commons around z i m ls k) p
-    ∙ ap (λ (z : ℕ). scene_made a x commons around d z m ls k) q
-    ∙ ap (λ (z : ℕ). scene_made a x commons around d j z ls k) r
-    ∙ ap (λ (z : List LevelState). scene_made a x commons around d j n z k) u
-    ∙ ap (λ (z : ℕ). scene_made a x commons around d j n ks z) v
+made_same a x commons around c d i j m n ls ks k l p q r u v = grind (arith, nat_tests)
 
 -- the context of a level is made
 pub context_acted : (a : StoreState) (outer : List Level) (level : Level) (b : TreeState) (s t : Space) (x : ShelfState) (commons : CommonState) (id : CtxId) (parent : ℕ) (name : List ℕ) (Said : List What → Type 0) → a.levels ≡ outer ++ level ∷ []
@@ -232,14 +212,9 @@ context_acted a outer level b s t x commons id parent name Said e up called numb
           ∙ made_same a x commons around (created p a.tree.next n kind.Default true (stands_for a.tree s)) (stands_for b t) a.tree.current.number b.current.number (a.tree.next + 1) b.next
           (record (level_state level) { context = Some a.tree.next } ∷ levels_of outer) (levels_of (outer ++ record level { context = Some id } ∷ [])) s.limit t.limit
           was (ap (λ (i : CtxId). i.number) (sym current)) (sym next) levels (sym limit);
-      says = λ around.
-          subst (λ (z : Scene). Said (new_context_made LevelContext z).events) (sym (scene_leveled a (level_state level ∷ levels_of outer) s x commons around (ap levels_of e ∙ levels_are outer level)))
-          (subst (λ (q : ℕ). Said (created_events q a.tree.next n ++ [])) up
-          (subst (λ (m : List ℕ). Said (created_events parent a.tree.next m ++ [])) called
-          (subst Said (sym (append-nil (created_events parent a.tree.next name))) says)));
+      says = grind (arith, nat_tests, scene_leveled, levels_are outer level, a.tree.next);
       balances = balances_none a.owners commons;
     }
 
 pub above_in : (a : StoreState) (outer : List Level) (level : Level) (above : Option Level) → a.levels ≡ outer ++ level ∷ [] → above ≡ level_at a.levels (length a.levels - 1) → option_map level_state above ≡ first_of (levels_of outer)
-above_in a outer level above e is =
-    ap (option_map level_state) is ∙ ap (λ (ls : List Level). option_map level_state (level_at ls (length ls - 1))) e ∙ above_is outer level
+above_in a outer level above e is = grind (arith, nat_tests, above_is outer level)

@@ -1,5 +1,6 @@
 -- Lists from their other end.
 use Rattle.session_store.proofs.Words.{◌≡◌, ℕ, zero, suc, ◌<◌, List, [], ◌∷◌, ◌++◌, length, map, All, Some, refl, sym, ap, ◌∙◌, subst, arith, Contains, reverse, slice_get, option_map, length-reverse, map-append, reverse-append, reverse-reverse, All-cons, All-nil, All-contains, All-contains_itself, All-head, All-pop, All-tail, All-weaker, first_of, last_of}
+use Rattle.std.proofs.lemmas.Bool.Decides.{nat_tests}
 
 module _ {A : Type 0} where
   -- a list turned round, one element at a time
@@ -14,8 +15,7 @@ module _ {A : Type 0} where
       All-cons P x xs both.1 (all_reverse P xs both.0)
 
   first_before : (xs ys : List A) → 0 < length xs → first_of (xs ++ ys) ≡ first_of xs
-  first_before [] ys some = absurd (omega arith)
-  first_before (x ∷ xs) ys some = refl
+  first_before x0 ys some = grind (arith, nat_tests)
 
   -- the last element, by its place
   pub first_reverse : (x : A) (xs : List A) → first_of (reverse (x ∷ xs)) ≡ slice_get (x ∷ xs) (length xs)
@@ -32,8 +32,7 @@ module _ {A : Type 0} where
 
   -- what follows of two things that hold of all
   pub all_both : (P Q R : A → Type 0) → ((x : A) → P x → Q x → R x) → (xs : List A) → All P xs → All Q xs → All R xs
-  all_both P Q R more [] p q = All-nil R
-  all_both P Q R more (x ∷ xs) p q = All-cons R x xs (more x (All-head P x xs p) (All-head Q x xs q)) (all_both P Q R more xs (All-tail P x xs p) (All-tail Q x xs q))
+  all_both P Q R more x4 p q = grind (arith, nat_tests, All-cons, All-head, All-tail)
 
   -- what holds of the elements of a list holds of those of a part of it
   pub all_left : (P : A → Type 0) (xs ys : List A) → ((x : A) → Contains ys x → Contains xs x) → All P xs → All P ys
@@ -54,8 +53,7 @@ module _ {A B : Type 0} (f : A → B) where
   all_mapped P Q more (x ∷ xs) h = All-cons Q x xs (more x (All-head P (f x) (map f xs) h)) (all_mapped P Q more xs (All-tail P (f x) (map f xs) h))
 
   pub first_map : (xs : List A) → first_of (map f xs) ≡ option_map f (first_of xs)
-  first_map [] = refl
-  first_map (x ∷ xs) = refl
+  first_map x0 = grind (arith, nat_tests)
 
   -- the last element of a list that is turned round and mapped is the first of the list
   pub last_reverse : (xs : List A) → last_of (map f (reverse xs)) ≡ option_map f (first_of xs)

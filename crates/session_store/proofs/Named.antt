@@ -1,29 +1,22 @@
 -- What names mean that stand for contexts of the transaction.
-use Rattle.session_store.proofs.Words.{◌≡◌, ℕ, suc, ◌-◌, false, true, List, [], ◌∷◌, length, Option, Some, None, refl, ap, sym, ◌∙◌, arith, ◌==◌, codes, slice_get, option_and_then, option_map, ne_eqb, Space, CtxId, same_name, stands_for, level_at, Level, context_of, first_of, last_of, StoreState, level_state, levels_of, session_of}
+use Rattle.session_store.proofs.Words.{◌≡◌, ℕ, ◌-◌, false, true, List, [], ◌∷◌, length, Option, refl, ap, sym, ◌∙◌, arith, codes, slice_get, option_and_then, option_map, Space, CtxId, same_name, stands_for, level_at, Level, context_of, first_of, last_of, StoreState, level_state, levels_of, session_of}
 use Rattle.context_rules.specs.Contexts as contexts
 use Rattle.session_rules.specs.Lookup.{context_named}
 use Rattle.session_store.proofs.Lists.{first_map, first_reverse, last_reverse}
+use Rattle.std.proofs.lemmas.Bool.Decides.{nat_tests}
 
 -- the number of a level's context
 abbrev pub number_of : Option Level → Option ℕ
 number_of level = option_map (λ (id : CtxId). id.number) (option_and_then (λ (found : Level). found.context) level)
 
 context_state : (o : Option Level) → context_of (option_map level_state o) ≡ number_of o
-context_state None = refl
-context_state (Some level) = refl
+context_state x0 = grind (arith, nat_tests)
 
 outermost : (levels : List Level) → context_of (last_of (levels_of levels)) ≡ number_of (level_at levels 1)
-outermost levels = ap context_of (last_reverse level_state levels) ∙ context_state (first_of levels) ∙ ap number_of (first levels)
-  where
-    first : (levels : List Level) → first_of levels ≡ level_at levels 1
-    first [] = refl
-    first (level ∷ levels) = refl
+outermost levels = grind (arith, nat_tests, last_reverse, context_state, number_of)
 
 pub at_end : (level : Level) (levels : List Level) → slice_get (level ∷ levels) (length levels) ≡ level_at (level ∷ levels) (length (level ∷ levels))
-at_end level levels =
-    let some : (suc (length levels) == 0) ≡ false = ne_eqb (suc (length levels)) 0 (λ e. omega (arith, e)) in
-    let less : suc (length levels) - 1 ≡ length levels = omega arith in
-    rw (some, less) refl
+at_end level levels = grind (arith, nat_tests)
 
 deepest : (levels : List Level) → context_of (first_of (levels_of levels)) ≡ number_of (level_at levels (length levels))
 deepest [] = refl

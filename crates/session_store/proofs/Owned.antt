@@ -1,8 +1,6 @@
 -- What calls on a store's owners make of it.
-use Rattle.session_store.proofs.Words.{◌≡◌, ◌↔◌, ℕ, true, false, Option, Some, None, List, [], ◌∷◌, length, map, All, IfSome, refl, sym, ap, ◌∙◌, subst, Result, Ok, Err, OnOk, OnErr, ◌==◌, IsErr, reverse, option_and_then, option_map, option_map_or, All-nil, All-cons, All-head, All-tail, All-weaker, Space, Forest, at, changed, has, has_changed, mapped-has, OwnerId, What, ShelfState, Contexts, TreeState, stands_for, Plans, Owner, ResourceState, OwnerTree, Roomy, owners_of, plan_state, plans_of, AreLeft, contexts_of, level_at, Level, Portal, beside, LevelState, SessionState, file_kind, first_of, last_of, owner_of, pushed_at, snapshot_pushed, holds, Around, Scene, Ended, nothing, AreLevels, IsPortal, Stands, OwnersFit, Balances, CommonState, pinned_beside, seen_by, StoreState, level_state, levels_of, portal_state, portals_of, scene_of, session_of, IsPlaced, LevelLies, Lies, OwnerLies, PortalLies, Acted, IsSilent, Keeps, Refused, StandsIn}
+use Rattle.session_store.proofs.Words.{◌≡◌, ◌↔◌, ℕ, true, false, Option, Some, List, [], ◌∷◌, length, map, All, IfSome, refl, sym, ap, ◌∙◌, subst, Result, Ok, Err, OnOk, OnErr, ◌==◌, IsErr, reverse, option_and_then, option_map, option_map_or, All-nil, All-cons, All-weaker, Space, at, changed, has, has_changed, mapped-has, OwnerId, What, ShelfState, Contexts, TreeState, stands_for, Plans, Owner, ResourceState, Roomy, owners_of, AreLeft, contexts_of, level_at, Level, Portal, beside, LevelState, SessionState, file_kind, first_of, last_of, owner_of, pushed_at, snapshot_pushed, holds, Around, Scene, Ended, nothing, AreLevels, IsPortal, Stands, OwnersFit, Balances, CommonState, pinned_beside, seen_by, StoreState, level_state, levels_of, portal_state, portals_of, scene_of, session_of, IsPlaced, LevelLies, Lies, OwnerLies, PortalLies, Acted, IsSilent, Keeps, Refused, StandsIn}
 use Rattle.session_owners.specs.ResourceState as ids
-use Rattle.lock_local.specs.Locks.{Lock}
-use Rattle.snap_table.specs.declared.active.Active.{Active}
 use Rattle.session_rules.specs.Checks.{holds_snapshot}
 use Rattle.session_owners.specs.Counted.{holds_file}
 use Rattle.session_owners.specs.Fitting as own
@@ -13,6 +11,8 @@ use Rattle.session_store.proofs.Lists.{all_both, all_left, all_mapped, all_rever
 use Rattle.session_store.proofs.Named.{at_end}
 use Rattle.session_store.proofs.Sums.{held_is}
 use Rattle.session_store.proofs.Kept.{nowhere}
+use Rattle.std.proofs.lemmas.Bool.Decides.{nat_tests}
+use Rattle.std.proofs.Common.{arith}
 
 -- The owners change. What is there was there, and lies where it lay, and no context of a plan comes.
 pub record OwnersGo (a b : ResourceState) : Type 0 where
@@ -24,13 +24,10 @@ has_rooms : (n : ℕ) (table : ResourceState) → has n (owners_of table) ≡ ha
 has_rooms n table = mapped-has (λ (room : Roomy). room.owner) n table.rooms
 
 owner_on : (a b : ResourceState) (id : OwnerId) → OwnersGo a b → OwnerLies a id → OwnerLies b id
-owner_on a b id go lies there =
-    let now : has id.number (owners_of b) ≡ true = has_rooms id.number b ∙ there in
-    go.stays id.number now ∙ lies (sym (has_rooms id.number a) ∙ go.had id.number now)
+owner_on a b id go lies there = grind (arith, nat_tests, id.number, has_rooms id.number b, go.stays, has_rooms id.number a, go.had)
 
 owners_levels : (tree : TreeState) (a b : ResourceState) (levels : List Level) → OwnersGo a b → All (LevelLies tree a) levels → All (LevelLies tree b) levels
-owners_levels tree a b levels go =
-    All-weaker (LevelLies tree a) (LevelLies tree b) (λ level lies. record { context = lies.context; owner = some_more level.owner (λ id. owner_on a b id go) lies.owner }) levels
+owners_levels tree a b levels go = grind (arith, nat_tests, some_more, owner_on)
 
 pub portal_owners : (tree : TreeState) (a b : ResourceState) (portal : Portal) → OwnersGo a b → PortalLies tree a portal → PortalLies tree b portal
 portal_owners tree a b portal go lies = record { context = lies.context; expr = lies.expr; owner = some_more portal.owner (λ id. owner_on a b id go) lies.owner; scan = lies.scan }
@@ -65,21 +62,13 @@ plans_same : (a b : ResourceState) → b.plans ≡ a.plans → AreLeft a.plans.s
 plans_same a b same = subst (λ (p : Plans). AreLeft a.plans.standing p.standing) (sym same) (λ id here. here)
 
 pub go_same : (a b : ResourceState) → owners_of b ≡ owners_of a → b.places ≡ a.places → b.plans ≡ a.plans → OwnersGo a b
-go_same a b same places plans = record {
-  left = plans_same a b plans;
-  had = λ n there. ap (has n) (sym same) ∙ there;
-  stays = λ n there. ap (λ (f : Forest ℕ). at n f) places;
-}
+go_same a b same places plans = grind (arith, nat_tests, plans_same a b plans, at)
 
 pub go_stack : (a b : ResourceState) → b ≡ record a { stack = b.stack } → OwnersGo a b
 go_stack a b is = go_same a b (ap owners_of is) (ap (λ (r : ResourceState). r.places) is) (ap (λ (r : ResourceState). r.plans) is)
 
 pub go_changed : (a b : ResourceState) (owner : ℕ) (f : Owner → Owner) → owners_of b ≡ changed owner f (owners_of a) → b.places ≡ a.places → AreLeft a.plans.standing b.plans.standing → OwnersGo a b
-go_changed a b owner f is places left = record {
-  left = left;
-  had = λ n there. sym (has_changed n owner f (owners_of a)) ∙ ap (has n) (sym is) ∙ there;
-  stays = λ n there. ap (λ (f : Forest ℕ). at n f) places;
-}
+go_changed a b owner f is places left = grind (arith, nat_tests, has_changed, at)
 
 -- the owners change, and no plan does
 pub go_alone : (a b : ResourceState) (owner : ℕ) (f : Owner → Owner) → owners_of b ≡ changed owner f (owners_of a) → b.places ≡ a.places → b.plans ≡ a.plans → OwnersGo a b
@@ -92,8 +81,7 @@ go_answered (Err e) a b owner f is same places plans = go_same a b (ap owners_of
 
 -- the same, where references to plans change
 pub go_left : {A E : Type 0} (r : Result A E) (a b : ResourceState) (owner : ℕ) (f : Owner → Owner) → OnOk r (owners_of b ≡ changed owner f (owners_of a)) → OnErr r (b ≡ a) → b.places ≡ a.places → AreLeft a.plans.standing b.plans.standing → OwnersGo a b
-go_left (Ok x) a b owner f is same places left = go_changed a b owner f is places left
-go_left (Err e) a b owner f is same places left = go_same a b (ap owners_of same) places (ap (λ (q : ResourceState). q.plans) same)
+go_left x0 a b owner f is same places left = grind (arith, nat_tests, go_changed, go_same)
 
 -- the owner of a level is there where the session stands
 abbrev pub HasOwner : ResourceState → Level → Type 0
@@ -104,8 +92,7 @@ owner_there table o there = if_some o (λ id e. there id.number (ap (option_map 
 
 pub owners_there : (contexts : Contexts) (table : ResourceState) (levels : List Level) → AreLevels (map level_state levels) contexts (owners_of table) → All (HasOwner table) levels
 owners_there contexts table [] h = All-nil (HasOwner table)
-owners_there contexts table (level ∷ levels) h =
-    All-cons (HasOwner table) level levels (owner_there table level.owner (λ n e. (h.0.owner n e).there)) (owners_there contexts table levels h.1)
+owners_there contexts table (level ∷ levels) h = grind (arith, nat_tests, All-cons, owner_there, level.owner, h.0.owner, owners_there contexts table levels h.1, h.1)
 
 pub have_owners : (a : StoreState) (s : Space) (x : ShelfState) (commons : CommonState) → StandsIn a s x commons → All (HasOwner a.owners) a.levels
 unfolding session_of
@@ -129,19 +116,10 @@ have_portal_owners a s x commons stands =
 
 -- the owners of portals lie on where all that lay do
 pub portals_kept : (tree : TreeState) (a b : ResourceState) (portals : List Portal) → ((id : OwnerId) → ids.IsLive a id → ids.IsLive b id) → All (PortalLies tree a) portals → All (HasPortalOwner a) portals → All (PortalLies tree b) portals
-portals_kept tree a b portals on =
-    all_both (PortalLies tree a) (HasPortalOwner a) (PortalLies tree b)
-    (λ portal lies there. record {
-      context = lies.context;
-      expr = lies.expr;
-      owner = some_both portal.owner (λ id l here _. on id (l (sym (has_rooms id.number a) ∙ here))) lies.owner there;
-      scan = lies.scan;
-    }) portals
+portals_kept tree a b portals on = grind (arith, nat_tests, all_both, some_both, has_rooms)
 
 pub level_owner_live : (tree : TreeState) (table : ResourceState) (levels : List Level) (portals : List Portal) (n : ℕ) (level : Level) → IsPlaced tree table levels portals → All (HasOwner table) levels → level_at levels n ≡ Some level → IfSome level.owner (ids.IsLive table)
-level_owner_live tree table levels portals n level placed there e =
-    let lies : LevelLies tree table level = all_level (LevelLies tree table) levels n level placed.levels e in
-    some_both level.owner (λ id lies here. lies (sym (has_rooms id.number table) ∙ here)) lies.owner (all_level (HasOwner table) levels n level there e)
+level_owner_live tree table levels portals n level placed there e = grind (arith, nat_tests, all_level (LevelLies tree table) levels n level placed.levels e, placed.levels, some_both, level.owner, has_rooms, all_level (HasOwner table) levels n level there e)
 
 -- the store's owners are those of each scene of it
 pub owners_fit : (a : StoreState) (s : Space) (x : ShelfState) (commons : CommonState) (around : Around) → OwnersFit a.owners commons (scene_of a s x commons around)
@@ -183,21 +161,13 @@ deepest_is (level ∷ levels) = first_map level_state _ ∙ ap (option_map level
 
 -- the owner of a level by its number
 pub owner_number : (o : Option Level) → owner_of (option_map level_state o) ≡ option_map (λ (id : OwnerId). id.number) (option_and_then (λ (found : Level). found.owner) o)
-owner_number None = refl
-owner_number (Some level) = refl
+owner_number x0 = grind (arith, nat_tests)
 
 -- the owners' room is no matter
 pub same_session : (a : StoreState) (b : ResourceState) (s : Space) → owners_of b ≡ owners_of a.owners → b.next_owner ≡ a.owners.next_owner → b.next_serial ≡ a.owners.next_serial → b.recent ≡ a.owners.recent → b.locks ≡ a.owners.locks → b.stack ≡ a.owners.stack → b.plans ≡ a.owners.plans
     → session_of (record a { owners = b }) s ≡ session_of a s
 unfolding session_of
-same_session a b s p q r f l k m =
-    ap (λ (z : OwnerTree). record (session_of a s) { owners = z; next_owner = b.next_owner; next_serial = b.next_serial; recent = b.recent; locks = b.locks; snapshots = b.stack; plans = plans_of b }) p
-    ∙ ap (λ (z : ℕ). record (session_of a s) { next_owner = z; next_serial = b.next_serial; recent = b.recent; locks = b.locks; snapshots = b.stack; plans = plans_of b }) q
-    ∙ ap (λ (z : ℕ). record (session_of a s) { next_serial = z; recent = b.recent; locks = b.locks; snapshots = b.stack; plans = plans_of b }) r
-    ∙ ap (λ (z : List ℕ). record (session_of a s) { recent = z; locks = b.locks; snapshots = b.stack; plans = plans_of b }) f
-    ∙ ap (λ (z : List Lock). record (session_of a s) { locks = z; snapshots = b.stack; plans = plans_of b }) l
-    ∙ ap (λ (z : List Active). record (session_of a s) { snapshots = z; plans = plans_of b }) k
-    ∙ ap (λ (z : Plans). record (session_of a s) { plans = map plan_state z.standing }) m
+same_session a b s p q r f l k m = grind (arith, nat_tests, b.next_owner, b.next_serial, b.recent, b.locks, b.stack)
 
 -- only the owners' room is another one
 pub room_acted : (a : StoreState) (b : ResourceState) (s : Space) (x : ShelfState) (commons : CommonState) → session_of (record a { owners = b }) s ≡ session_of a s → b.descriptors ≡ a.owners.descriptors → Balances a.owners b commons commons
@@ -236,9 +206,7 @@ module _ (tree : TreeState) (owners : ResourceState) (levels : List Level) (port
   -- the newest active snapshot is of the deepest level
   pub held_at : {A E : Type 0} (level : ℕ) (s : Space) (r : Result A E) → level ≡ length levels → IsErr r ↔ (option_map_or (λ entry. entry.level == level) (last_of owners.stack) false ≡ false) → IsErr r ↔ (holds_snapshot (session_of v s) ≡ false)
   unfolding session_of
-  held_at level s r deepest h =
-      subst (λ (z : StoreState). IsErr r ↔ (holds_snapshot (session_of z s) ≡ false)) is
-      (subst (λ (n : ℕ). IsErr r ↔ (option_map_or (λ entry. entry.level == n) (last_of owners.stack) false ≡ false)) (deepest ∙ sym (levels_long levels)) h)
+  held_at level s r deepest h = grind (arith, nat_tests, levels_long levels)
 
   pub refused_after : (b : ResourceState) (s : Space) (x : ShelfState) (commons : CommonState) → b ≡ owners → Refused v (record { tree = tree; owners = b; levels = levels; portals = portals }) s s x x commons commons
   refused_after b s x commons same =

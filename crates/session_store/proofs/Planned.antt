@@ -1,5 +1,5 @@
 -- What the making of a plan makes of a store.
-use Rattle.session_store.proofs.Words.{◌≡◌, ◌↔◌, ◌≤◌, ℕ, ◌+◌, true, false, List, [], ◌∷◌, ◌++◌, append-nil, All, Option, Some, None, Result, Ok, Err, refl, sym, ap, ◌∙◌, subst, inl, inr, codes, nat_lt, option_map, cases_Bool, ltb-false, map-append, All-push, All-weaker, Space, at, has, CtxId, What, ShelfState, Contexts, created, created_events, TreeState, IsLive, SameRegions, stands_for, stands_still, plan_of, Plan, create_refusal, plan_at, plan_refusal, ResourceState, owners_of, plan_state, plans_of, contexts_of, Balances, CommonState, seen_by, StandingPlan, cache_context, Around, Scene, plan_made, Level, Portal, StoreState, levels_of, portals_of, session_of, IsPlaced, LevelLies, Lies, PortalLies, Acted, BothAlone, Keeps, Unmade}
+use Rattle.session_store.proofs.Words.{◌≡◌, ◌↔◌, ◌≤◌, ℕ, ◌+◌, true, false, List, [], ◌∷◌, ◌++◌, All, Option, None, Result, Ok, Err, refl, sym, ap, ◌∙◌, subst, codes, map-append, All-push, All-weaker, Space, at, has, CtxId, What, ShelfState, Contexts, created, created_events, TreeState, IsLive, SameRegions, stands_for, stands_still, plan_of, Plan, create_refusal, plan_at, plan_refusal, ResourceState, owners_of, plan_state, plans_of, contexts_of, Balances, CommonState, seen_by, StandingPlan, cache_context, Around, Scene, plan_made, Level, Portal, StoreState, levels_of, portals_of, session_of, IsPlaced, LevelLies, Lies, PortalLies, Acted, BothAlone, Keeps, Unmade}
 use Rattle.any_ctx.specs.declared.any.CtxKind.TheVariants as kind
 use Rattle.plan_store.specs.declared.plan.PlanError.{PlanError}
 use Rattle.plan_store.specs.declared.plan.PlanError.TheVariants.{TooMany}
@@ -7,6 +7,8 @@ use Rattle.session_owners.proofs.PlanLemmas.{at_found}
 use Rattle.session_store.proofs.Kept.{Goes, has_kept}
 use Rattle.session_store.proofs.Owned.{keeps_owners}
 use Rattle.session_store.proofs.Sums.{keeps_on}
+use Rattle.std.proofs.lemmas.Bool.Decides.{nat_tests}
+use Rattle.std.proofs.Common.{arith}
 
 -- contexts and owners changed
 pub both_alone : (a : StoreState) (b : TreeState) (q : ResourceState) (s t : Space) (c d : CommonState) → Keeps a s → Goes a.tree b s t → ((n : ℕ) → has n (owners_of q) ≡ true → at n q.places ≡ at n a.owners.places) → Balances a.owners q c d
@@ -53,12 +55,7 @@ scene_planned a x commons around contexts current next plans limit = record {
 }
 
 planned_same : (a : StoreState) (x : ShelfState) (commons : CommonState) (around : Around) (c d : Contexts) (i j m n : ℕ) (p q : List StandingPlan) (k l : ℕ) → c ≡ d → i ≡ j → m ≡ n → p ≡ q → k ≡ l → scene_planned a x commons around c i m p k ≡ scene_planned a x commons around d j n q l
-planned_same a x commons around c d i j m n p q k l e f g h u =
-    ap (λ (z : Contexts). scene_planned a x commons around z i m p k) e
-    ∙ ap (λ (z : ℕ). scene_planned a x commons around d z m p k) f
-    ∙ ap (λ (z : ℕ). scene_planned a x commons around d j z p k) g
-    ∙ ap (λ (z : List StandingPlan). scene_planned a x commons around d j n z k) h
-    ∙ ap (λ (z : ℕ). scene_planned a x commons around d j n q z) u
+planned_same a x commons around c d i j m n p q k l e f g h u = grind (arith, nat_tests)
 
 pub planned_acted : (a : StoreState) (b : TreeState) (q : ResourceState) (s t : Space) (plan : ℕ) (id : CtxId) (cache : ℕ) (Said : List What → Type 0) (x : ShelfState) (commons : CommonState) → t.limit ≡ s.limit → cache ≡ cache_context → id.number ≡ a.tree.next
     → stands_for b t ≡ created cache a.tree.next (codes "CachedPlan") kind.Small true (stands_for a.tree s) → b.current ≡ a.tree.current → b.next ≡ a.tree.next + 1 → q ≡ with_plan plan id a.owners → Said (created_events cache a.tree.next (codes "CachedPlan"))
@@ -76,9 +73,7 @@ planned_acted a b q s t plan id cache Said x commons limit third number is curre
       leads = λ around.
           planned_same a x commons around (created cache_context a.tree.next (codes "CachedPlan") kind.Small true (stands_for a.tree s)) (stands_for b t) a.tree.current.number b.current.number (a.tree.next + 1) b.next
           plans (plans_of (with_plan plan id a.owners)) s.limit t.limit contexts (ap (λ (i : CtxId). i.number) (sym current)) (sym next) same (sym limit);
-      says = λ around.
-          subst Said (sym (append-nil (created_events cache_context a.tree.next (codes "CachedPlan"))))
-          (subst (λ (n : ℕ). Said (created_events n a.tree.next (codes "CachedPlan"))) third says);
+      says = grind (arith, nat_tests, a.tree.next);
       balances = subst (λ (r : ResourceState). Balances a.owners r commons commons) made balances;
     })
 
@@ -110,15 +105,8 @@ unmade_context a b q s t x commons plan room same regions =
 
 -- no plan stands of a number that the session has none of
 pub is_unused : (owners : ResourceState) (plan : ℕ) → plan_at plan (plans_of owners) ≡ None → plan_of owners.plans plan ≡ None
-is_unused owners plan none = go (plan_of owners.plans plan) (sym (at_found plan owners.plans.standing) ∙ none)
-  where
-    go : (o : Option Plan) → option_map (λ (p : Plan). plan_state (plan, p)) o ≡ None → o ≡ None
-    go None e = refl
-    go (Some p) e = absurd (cc e)
+is_unused owners plan none = grind (arith, nat_tests, owners.plans, at_found plan owners.plans.standing, owners.plans.standing)
 
 -- where room was reserved the context alone decides
 pub room_left : (r : Result (Unit {0}) PlanError) (standing left : ℕ) (contexts : Contexts) (u : Unit {0}) → r ≡ Ok u → (r ≡ Err TooMany) ↔ (1024 ≤ standing) → plan_refusal standing left contexts ≡ create_refusal left (codes "CachedPlan") kind.Small true contexts
-room_left r standing left contexts u is many = elim (cases_Bool (nat_lt standing 1024)) [
-  | inl y ↦ rw y refl
-  | inr y ↦ let no = ltb-false standing 1024 y in absurd (let z : Ok u ≡ Err TooMany = sym is ∙ many.1 no in cc z)
-]
+room_left r standing left contexts u is many = grind (arith, nat_tests, many.1)

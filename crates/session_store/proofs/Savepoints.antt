@@ -1,33 +1,25 @@
 -- The search for a savepoint from the deepest level up, in the order in which a store keeps the levels and in that of the session.
-use Rattle.session_store.proofs.Words.{◌≡◌, ℕ, zero, suc, ◌+◌, Bool, true, false, Option, Some, None, List, [], ◌∷◌, ◌++◌, length, refl, sym, ap, ◌∙◌, arith, ◌&&◌, if◌then◌else◌, nat_lt, option_or, lt-ltb, length-append, Level, deepest_named, deepest_named_from, is_named, savepoint, levels_of}
+use Rattle.session_store.proofs.Words.{◌≡◌, ℕ, zero, suc, ◌+◌, Bool, true, Option, Some, None, List, [], ◌∷◌, ◌++◌, length, refl, sym, ap, ◌∙◌, arith, ◌&&◌, if◌then◌else◌, nat_lt, option_or, lt-ltb, length-append, Level, deepest_named, deepest_named_from, is_named, savepoint, levels_of}
 use Rattle.session_store.proofs.Depths.{ends, levels_are, levels_long}
+use Rattle.std.proofs.lemmas.Bool.Decides.{nat_tests}
 
 -- the number of a level that has the name
 abbrev numbered : Bool → ℕ → Option ℕ
 numbered b n = if b then Some n else None
 
 none_behind : (o : Option ℕ) → o ≡ option_or o None
-none_behind None = refl
-none_behind (Some n) = refl
+none_behind x0 = grind (arith, nat_tests)
 
 or_either : (b : Bool) (n : ℕ) (below first : Option ℕ) → option_or (option_or (numbered b n) below) first ≡ option_or (numbered b n) (option_or below first)
-or_either true n below first = refl
-or_either false n below first = refl
+or_either x0 n below first = grind (arith, nat_tests)
 
 -- the last of some levels decides first
 from_last : (n : ℕ) (name : List ℕ) (levels : List Level) (level : Level) → deepest_named_from n name (levels ++ level ∷ []) ≡ option_or (numbered (is_named name level) (n + length levels)) (deepest_named_from n name levels)
-from_last n name [] level =
-    let number : n ≡ n + 0 = omega arith in
-    none_behind (numbered (is_named name level) n) ∙ ap (λ (m : ℕ). option_or (numbered (is_named name level) m) None) number
-from_last n name (x ∷ levels) level =
-    let number : n + 1 + length levels ≡ n + length (x ∷ levels) = omega arith in
-    ap (λ (o : Option ℕ). option_or o (numbered (is_named name x) n)) (from_last (n + 1) name levels level)
-    ∙ or_either (is_named name level) (n + 1 + length levels) (deepest_named_from (n + 1) name levels) (numbered (is_named name x) n)
-    ∙ ap (λ (m : ℕ). option_or (numbered (is_named name level) m) (deepest_named_from n name (x ∷ levels))) number
+from_last n name [] level = grind (arith, nat_tests, none_behind (numbered (is_named name level) n), numbered (is_named name level) n, is_named name level, numbered)
+from_last n name (x ∷ levels) level = grind (arith, nat_tests, numbered (is_named name x) n, is_named name x, from_last (n + 1) name levels level, or_either (is_named name level) (n + 1 + length levels) (deepest_named_from (n + 1) name levels) (numbered (is_named name x) n), is_named name level, numbered)
 
 or_if : (b : Bool) (n : ℕ) (o : Option ℕ) → option_or (numbered b n) o ≡ (if b then Some n else o)
-or_if true n o = refl
-or_if false n o = refl
+or_if x0 n o = grind (arith, nat_tests)
 
 by_length : (k : ℕ) (name : List ℕ) (levels : List Level) → length levels ≡ k → deepest_named name levels ≡ savepoint name (levels_of levels)
 by_length zero name [] e = refl

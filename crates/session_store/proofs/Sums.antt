@@ -3,12 +3,12 @@ use Rattle.session_store.proofs.Words.{◌≡◌, ℕ, ◌+◌, ◌-◌, sym, ap
 use Rattle.any_ctx.specs.Ledgers.{stats}
 use Rattle.context_report.specs.Lines.{added, no_total}
 use Rattle.context_report.specs.declared.Total.{Total}
+use Rattle.std.proofs.lemmas.Bool.Decides.{nat_tests}
 
 -- the sum of a report counts the bytes of each ledger once
 pub total_summed : (total : Total) (t : Contexts) → (summed total t).total ≡ total.total + total_of t
 total_summed total Empty = omega arith
-total_summed total (Node n c below beside) =
-    omega (arith, total_summed (summed (added total (stats c.ledger)) below) beside, total_summed (added total (stats c.ledger)) below)
+total_summed total (Node n c below beside) = grind (arith, nat_tests, total_summed (summed (added total (stats c.ledger)) below) beside, added total (stats c.ledger), c.ledger, total_summed (added total (stats c.ledger)) below)
 
 pub held_is : (a : StoreState) (s : Space) → held_in a s ≡ total_of (stands_for a.tree s)
 unfolding session_of

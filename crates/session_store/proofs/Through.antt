@@ -6,6 +6,7 @@ use Rattle.session_store.proofs.Answered.{on_answer, on_both, on_three}
 use Rattle.session_store.proofs.Sums.{left_is}
 use Rattle.session_store.proofs.Kept.{AreThere, Goes, alone_on, are_there, goes_did, goes_nothing, has_kept, nowhere, placed_on, switch_alone}
 use Rattle.session_store.proofs.Led.{change_acted, did_acted, made_acted, moved_acted, refused_nothing, refused_regions, refused_same, resized_acted, switch_acted, taken_acted, waits_acted}
+use Rattle.std.proofs.lemmas.Bool.Decides.{nat_tests}
 
 module _ (tree : TreeState) (owners : ResourceState) (levels : List Level) (portals : List Portal) (v : StoreState) (is : record { tree = tree; owners = owners; levels = levels; portals = portals } ≡ v) where
   -- what is known of the value, of the field
@@ -54,16 +55,11 @@ module _ (tree : TreeState) (owners : ResourceState) (levels : List Level) (port
   pub left_through : (P : ℕ → ℕ → ℕ → Contexts → Type 0) (s : Space) (at : CtxId) → at ≡ tree.current → Keeps v s → P tree.account at.number (left_of tree s) (stands_for tree s)
       → P v.tree.account v.tree.current.number (left_in v s) (contexts_in v s)
   unfolding session_of
-  left_through P s at current keeps holds =
-      subst (λ (a : StoreState). P a.tree.account a.tree.current.number (left_in a s) (contexts_in a s)) is
-      (subst (λ (left : ℕ). P tree.account tree.current.number left (stands_for tree s)) (left_is (record { tree = tree; owners = owners; levels = levels; portals = portals }) s (keeps_in s keeps))
-      (subst (λ (id : CtxId). P tree.account id.number (left_of tree s) (stands_for tree s)) current holds))
+  left_through P s at current keeps holds = grind (arith, nat_tests, left_is)
 
   pub held_through : (P : ℕ → ℕ → Contexts → Type 0) (s : Space) → Keeps v s → P tree.account (held s tree.account) (stands_for tree s) → P v.tree.account (held_in v s) (contexts_in v s)
   unfolding session_of
-  held_through P s keeps holds =
-      subst (λ (a : StoreState). P a.tree.account (held_in a s) (contexts_in a s)) is
-      (subst (λ (n : ℕ). P tree.account n (stands_for tree s)) (let k = keeps_in s keeps in k.held) holds)
+  held_through P s keeps holds = grind (arith, nat_tests)
 
   -- the tree is another one
   module _ (b : TreeState) (s t : Space) where

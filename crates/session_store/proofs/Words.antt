@@ -50,7 +50,7 @@ pub use Rattle.session_store.specs.Plans.{plan_refusal}
 pub use Rattle.session_store.specs.State.{StoreState, contexts_in, held_in, left_in, level_state, levels_of, portal_state, portals_of, scene_of}
 unfoldable pub use Rattle.session_store.specs.State.{session_of}
 pub use Rattle.std.proofs.Common.{All, Bool, Err, IfErr, IfOk, IfSome, IsSome, List, None, Ok, OnErr, OnOk, Option, Result, Some, [], ap, append-nil, arith, false, inl, inr, length, map, refl, subst, suc, sym, true, zero, ℕ, ◌++◌, ◌+◌, ◌<◌, ◌^◌, ◌↔◌, ◌∙◌, ◌∷◌, ◌≡◌, ◌≢◌, ◌≤◌, ◌⊎◌, rules}
-pub use Rattle.std.proofs.lemmas.Bool.{both_ways, cases_Bool, eq-eqb, le-ltb, lt-ltb, ltb-false, ne_eqb}
+pub use Rattle.std.proofs.lemmas.Bool.{cases_Bool, eq-eqb, le-ltb, lt-ltb}
 pub use Rattle.std.proofs.lemmas.List.{length-append, length-map, length-reverse, map-append, reverse-append, reverse-reverse}
 pub use Rattle.std.proofs.lemmas.List.Elements.{All-cons, All-contains, All-contains_itself, All-head, All-nil, All-pop, All-push, All-tail, All-weaker}
 pub use Rattle.std.specs.Option.{option_and_then, option_map, option_map_or, option_or}

@@ -1,8 +1,9 @@
 -- Lemmas on the block that serves a request.
-use Rattle.slab_ctx.proofs.Words.{◌≡◌, ◌≢◌, ℕ, ◌+◌, ◌<◌, ◌≤◌, ◌⊎◌, nat_lt, if◌then◌else◌, [], ◌∷◌, map, Option, Some, None, refl, sym, ap, ◌∙◌, inl, inr, arith, option_map, cases_eq, from_map, AreRising, Layout, block_at, Block, rising_above, Rank, Entry, Ranks, Leads, rank_at, entry_of, rank_of, own_at, IsOrdered, SlabBlock, serving, fuller, others, numbered_of, blocks_of, serving_block, AreApart, IsListed}
+use Rattle.slab_ctx.proofs.Words.{◌≡◌, ◌≢◌, ℕ, ◌+◌, ◌<◌, ◌≤◌, ◌⊎◌, nat_lt, if◌then◌else◌, [], ◌∷◌, map, Option, Some, None, refl, sym, ap, ◌∙◌, inl, inr, arith, cases_eq, from_map, AreRising, Layout, block_at, Block, rising_above, Rank, Entry, Ranks, Leads, rank_at, entry_of, rank_of, own_at, IsOrdered, SlabBlock, serving, fuller, others, numbered_of, blocks_of, serving_block, AreApart, IsListed}
 use Rattle.slab_ctx.specs.Steps.{IsChosen}
 use Rattle.slab_ctx.proofs.Lives.{Entries, find}
 use Rattle.slab_ctx.proofs.Listed.{find-other}
+use Rattle.std.proofs.lemmas.Bool.Decides.{nat_tests}
 
 -- each block of a list is found in it
 find_tail : (e : ℕ × Block) (es : Entries) (region : ℕ) (block : Block) → find e.0 es ≡ None → find region es ≡ Some block → find region (e ∷ es) ≡ Some block
@@ -22,8 +23,7 @@ Below most None = Unit {0}
 Below most (Some block) = block.live ≤ most
 
 below_step : (most per : ℕ) (e : ℕ × Block) (s : Option SlabBlock) → (e.1.live < per → e.1.live ≤ most) → Below most s → Below most (if nat_lt e.1.live per then Some (fuller (numbered_of e) s) else s)
-below_step most per e None head rest = grind arith
-below_step most per e (Some block) head rest = grind arith
+below_step most per e x3 head rest = grind (arith, nat_tests)
 
 serving_below : (per most : ℕ) (es : Entries) → AreApart es → ((region : ℕ) (block : Block) → find region es ≡ Some block → block.live < per → block.live ≤ most) → Below most (serving per (map numbered_of es))
 serving_below per most [] apart all = tt
@@ -36,8 +36,7 @@ abbrev IsBetter : Block → Block → Type 0
 IsBetter a b = (b.live < a.live) ⊎ ((b.live ≡ a.live) × (a.number ≤ b.number))
 
 head_wins : (e : ℕ × Block) (s : Option SlabBlock) → Below e.1.live s → fuller (numbered_of e) s ≡ numbered_of e
-head_wins e None below = refl
-head_wins e (Some block) below = grind arith
+head_wins e x1 below = grind (arith, nat_tests)
 
 -- the best block serves
 module _ (per : ℕ) (block : Block) (free : block.live < per) where
@@ -79,12 +78,7 @@ module _ (r : Ranks) (l : Layout) (per : ℕ) (ordered : IsOrdered r l per) (lis
       chosen = let it = ranked_is e.key e.rank there in record { block = it.0; found = it.1; not_keeper = it.2; free = grind (arith, it.3, few) }
 
       pub serving_chosen : serving per (blocks_of l) ≡ serving_block l (Some e.key)
-      serving_chosen =
-          let it = ranked_is e.key e.rank there in
-          let free : it.0.live < per = grind (arith, it.3, few) in
-          serving-best per it.0 free 1 l.last_number e.key (others l.blocks) listed.rising listed.apart (find-other l listed e.key it.2 ∙ it.1)
-          (λ other b found less. let leads = least other (rank_of per b) (rank-found other b found) in grind (arith, it.3))
-          ∙ sym (ap (option_map (λ (b : Block). record { number = b.number; live = b.live })) it.1)
+      serving_chosen = grind (arith, nat_tests, ranked_is e.key e.rank there, serving-best, others l.blocks, find-other, rank-found)
 
     -- no block has a free chunk
     pub serving_none : per < e.rank.major → serving per (blocks_of l) ≡ None

@@ -1,5 +1,5 @@
 -- Lemmas on what a Slab has in a space with its free chunks.
-use Rattle.slab_ctx.proofs.Words.{◌≡◌, ◌≢◌, ℕ, ◌+◌, ◌-◌, ◌/◌, ◌%◌, ◌≤◌, true, List, Option, Some, None, sym, ap, ◌∙◌, inl, inr, arith, Vec, mod-eq-sub-div-mul, div-mul-le_self, Addr, Space, IsApart, IsHeaded, AllHeaded, AllOfKind, TakesSpace, Layout, block_at, chunk_at, front_of, start_of, Block, Chunk, stride, is_slot, free_at, IsSlot, IsSlotted, none_or_some, option_cases, same_addr_from, region_is, from_live}
+use Rattle.slab_ctx.proofs.Words.{◌≡◌, ◌≢◌, ℕ, ◌+◌, ◌-◌, ◌≤◌, true, List, Option, Some, None, arith, Vec, mod-eq-sub-div-mul, div-mul-le_self, Addr, Space, IsApart, IsHeaded, AllHeaded, AllOfKind, TakesSpace, Layout, block_at, chunk_at, Block, stride, is_slot, free_at, IsSlot, IsSlotted, option_cases, same_addr_from, region_is, from_live}
 use Rattle.addr_space.specs.Footprint.{Footprint, IsWithin, Agrees, Moves, nothing, counted}
 use Rattle.chunk_header.specs.declared.Kind.{Kind}
 use Rattle.ctx_blocks.specs.Layout.{footprint as footprint_of}

@@ -1,10 +1,11 @@
 -- Lemmas on entries at their places.
-use Rattle.slab_ctx.proofs.Words.{◌≡◌, ℕ, zero, suc, ◌+◌, ◌-◌, ◌<◌, ◌≤◌, ◌==◌, nat_eq, is_some, IfSome, if◌then◌else◌, Bool, Option, Some, None, List, [], ◌∷◌, slice_get, get_or, set, length, sym, ap, ◌∙◌, inl, inr, arith, option_map, position, keys_of, nat_eq_equiv, get_or-set_same, get_or-set_other, get_or-take, slice_get_past, slice_get-get_or, slice_get_within, cases_eq, cases_lt, keys-with_value_at, index_map_len-with_value_at, swap_remove_entry-found, from_map, Rank, Entry, Ranks, Leads, IsLesser, leaf, rank_at, entry_of, entry_in, current_in, leaf_in, IsRanked}
+use Rattle.slab_ctx.proofs.Words.{◌≡◌, ℕ, zero, suc, ◌+◌, ◌-◌, ◌<◌, ◌≤◌, ◌==◌, nat_eq, is_some, IfSome, if◌then◌else◌, Bool, Option, Some, None, List, [], ◌∷◌, slice_get, get_or, set, length, ap, ◌∙◌, inl, inr, arith, option_map, position, keys_of, nat_eq_equiv, get_or-set_same, get_or-set_other, get_or-take, slice_get_past, slice_get-get_or, slice_get_within, cases_lt, keys-with_value_at, index_map_len-with_value_at, swap_remove_entry-found, from_map, Rank, Entry, Ranks, Leads, IsLesser, leaf, rank_at, entry_of, entry_in, current_in, leaf_in, IsRanked}
 use Rattle.std.specs.List.{position_or_len}
 use Rattle.indexmap.specs.Layout.{set_value_at}
 use Rattle.std.proofs.lemmas.Map.Entries.{place_from_lookup, lookup_from_place}
 use Rattle.indexmap.specs.IndexMap.{insert_entry, swap_remove_entry}
 use Rattle.slab_ctx.proofs.Trees.{Leads-trans, some_with}
+use Rattle.std.proofs.lemmas.Bool.Decides.{nat_tests}
 
 -- an entry of a key is the key with its rank
 pub pair-at : (es : List (ℕ × Rank)) (place key : ℕ) → (it : (e : Entry) × (entry_in es place ≡ Some e) × (e.key ≡ key)) → slice_get es place ≡ Some (key, it.0.rank)
@@ -61,16 +62,13 @@ pub leaf-changed : (o : Option ℕ) (es fs : List (ℕ × Rank)) (place p : ℕ)
 leaf-changed o es fs place p new is at = rw is (grind (arith, at))
 
 leaf-some : (o : Option ℕ) (es : List (ℕ × Rank)) (p : ℕ) (e : Entry) → leaf_in o es p ≡ Some e → entry_in es p ≡ Some e
-leaf-some None es p e at = at
-leaf-some (Some c) es p e at = grind (arith, at)
+leaf-some x0 es p e at = grind (arith, nat_tests)
 
 current-some : (o : Option ℕ) (es : List (ℕ × Rank)) (e : Entry) → current_in o es ≡ Some e → (p : ℕ) × (entry_in es p ≡ Some e)
-current-some None es e at = grind (arith, at)
-current-some (Some c) es e at = (c, at)
+current-some x0 es e at = grind (arith, nat_tests)
 
 leads-all : (o : Option ℕ) (es : List (ℕ × Rank)) (best result x y : Option Entry) (p : ℕ) → IsLesser (current_in o es) best result → x ≡ leaf_in o es p → Leads best x → entry_in es p ≡ y → Leads result y
-leads-all None es best result x y p lesser at leads is = Leads-trans result best y lesser.right (rw (← is, ← at) leads)
-leads-all (Some c) es best result x y p lesser at leads is = grind (arith, cases_eq, Leads-trans)
+leads-all x0 es best result x y p lesser at leads is = grind (arith, nat_tests, Leads-trans, lesser.right)
 
 -- where the tree has what its entries are, and leads to what is least of them and the current one
 module _ (r : Ranks) (ranked : IsRanked r) (best result : Option Entry) (lesser : IsLesser (current_in r.current r.entries.entries) best result) where
@@ -90,5 +88,4 @@ module _ (r : Ranks) (ranked : IsRanked r) (best result : Option Entry) (lesser 
 
 -- how many keys there are
 pub few-put : (places : ℕ) (o : Option Rank) (n m : ℕ) → n ≡ m + (if is_some o then 0 else 1) → (o ≡ None → m < places) → m ≤ places → n ≤ places
-few-put places None n m is room few = grind arith
-few-put places (Some x) n m is room few = grind arith
+few-put places x1 n m is room few = grind (arith, nat_tests)

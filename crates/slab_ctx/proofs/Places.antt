@@ -1,5 +1,5 @@
 -- Lemmas on where the chunks of a Slab may stand.
-use Rattle.slab_ctx.proofs.Words.{◌≡◌, ◌≢◌, ℕ, ◌+◌, ◌-◌, ◌*◌, ◌/◌, ◌%◌, ◌<◌, ◌≤◌, ◌⊎◌, length, Some, sym, ap, ◌∙◌, arith, List, Vec, mul_assoc, Addr, Layout, block_at, chunk_at, gap_of, header_room, start_of, Block, Chunk, stride, per_block, IsSlot, IsFree, IsFilled, IsSlotted, stack_at, at_offset, none_or_some, same_addr_from}
+use Rattle.slab_ctx.proofs.Words.{◌≡◌, ◌≢◌, ℕ, ◌+◌, ◌-◌, ◌/◌, ◌%◌, ◌<◌, ◌≤◌, ◌⊎◌, length, Some, ap, arith, List, Vec, mul_assoc, Addr, Layout, block_at, chunk_at, gap_of, header_room, start_of, Block, Chunk, stride, per_block, IsSlot, IsFree, IsFilled, IsSlotted, stack_at, at_offset, same_addr_from}
 use Rattle.slab_ctx.proofs.Numbers.{stride-some, stride-whole, per_block-is, slots_apart}
 
 -- slots begin at multiples of 8

@@ -1,12 +1,12 @@
 -- Lemmas on what callers of a Slab see.
-use Rattle.slab_ctx.proofs.Words.{◌≡◌, ℕ, ◌≤◌, Option, Some, None, IsSome, IfOk, OnOk, Result, Ok, Err, true, length, refl, sym, ◌∙◌, inl, inr, arith, length-map, Addr, Space, same_addr-cases, Layout, from_live, others, live_of, numbered_of, lives_of, blocks_of, place_at, footprint, HasSlots, state_of, Books, resize}
+use Rattle.slab_ctx.proofs.Words.{◌≡◌, ℕ, ◌≤◌, Option, Some, IsSome, IfOk, OnOk, Result, true, length, refl, sym, ◌∙◌, arith, length-map, Addr, Space, same_addr-cases, Layout, from_live, others, live_of, numbered_of, lives_of, blocks_of, place_at, footprint, HasSlots, state_of, Books, resize}
 use Rattle.addr_space.specs.Live.{MovesAt, MovesLive}
 use Rattle.slab_ctx.specs.Calls.{Resizes}
+use Rattle.std.proofs.lemmas.Bool.Decides.{nat_tests}
 
 -- a value that there is
 pub some_is : {A : Type 0} (o : Option A) → IsSome o → (a : A) × (o ≡ Some a)
-some_is None some = absurd (cc)
-some_is (Some a) some = (a, refl)
+some_is x0 some = grind (arith, nat_tests)
 
 -- what is moved to where it is stays there
 moves_stay : {A : Type 0} (f : Addr → Option A) (from to : Addr) (a : A) → to ≡ from → f from ≡ Some a → MovesAt f f from to a
@@ -30,8 +30,7 @@ length_blocks l = length-map (others l.blocks) numbered_of ∙ sym (length-map (
 
 -- what follows of both clauses of a call that was served
 pub both_ok : {A E : Type 0} {P Q : A → Type 0} {R : Type 0} (r : Result A E) → ((a : A) → P a → R → Q a) → IfOk r P → OnOk r R → IfOk r Q
-both_ok (Ok a) all p q = all a p q
-both_ok (Err e) all p q = p
+both_ok x0 all p q = grind (arith, nat_tests)
 
 -- a live chunk has the size of all of them
 pub live_stays : (b : Books) (from to : Addr) (size : ℕ) → to ≡ from → size ≡ b.slots.size → HasSlots b.slots → IsSome ((footprint (state_of b)).live from) → MovesLive (footprint (state_of b)) (footprint (state_of b)) from to size

@@ -1,5 +1,6 @@
 -- Lemmas on the slots of a Slab's blocks: what holds of them stays when one block changes.
-use Rattle.slab_ctx.proofs.Words.{◌≡◌, ◌+◌, ◌≢◌, ℕ, ◌≤◌, ◌==◌, if◌then◌else◌, List, [], ◌∷◌, length, Some, None, slice_index, refl, sym, ◌∙◌, inl, inr, arith, Vec, cases_eq, Addr, Slab, Layout, block_at, chunk_at, PutsBlock, DropsBlock, SameContext, Block, Chunk, per_block, IsSlot, IsFilled, IsSlotted, stack_at, at_offset, chunk_of, first_region, one_value}
+use Rattle.slab_ctx.proofs.Words.{◌≡◌, ◌+◌, ◌≢◌, ℕ, ◌≤◌, ◌==◌, if◌then◌else◌, List, [], ◌∷◌, length, Some, None, refl, sym, ◌∙◌, inl, inr, arith, Vec, cases_eq, Addr, Slab, Layout, block_at, chunk_at, PutsBlock, DropsBlock, SameContext, Block, Chunk, per_block, IsSlot, IsFilled, IsSlotted, stack_at, chunk_of, first_region, one_value}
+use Rattle.std.proofs.lemmas.Bool.Decides.{nat_tests}
 
 module _ (l m : Layout) (size : ℕ) (s t : List (ℕ × Vec ℕ)) (number : ℕ) (slotted : IsSlotted l size s) (same : SameContext l m) (differs : number ≢ l.keeper)
     (chunks : (at : Addr) → at.region ≢ number → chunk_at m at ≡ chunk_at l at)
@@ -26,8 +27,7 @@ module _ (l m : Layout) (size : ℕ) (s t : List (ℕ × Vec ℕ)) (number : ℕ
 
   -- a block is new, or another one
   pub IsSlotted-put : (block : Block) → PutsBlock l m number block → IsFilled m size number block (stack_at t number) → IsSlotted m size t
-  IsSlotted-put block puts filled =
-      step (λ other apart. grind (arith, puts.at other)) (λ b found. (let now : block_at m number ≡ Some block = grind (arith, puts.at number) in rw (one_value (block_at m number) b block found now) filled))
+  IsSlotted-put block puts filled = grind (arith, nat_tests, step, puts.at, puts.at number, one_value)
 
   -- a block is given back
   pub IsSlotted-drop : DropsBlock l m number → IsSlotted m size t

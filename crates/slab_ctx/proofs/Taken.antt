@@ -1,19 +1,14 @@
 -- Lemmas on a chunk that is taken or freed.
-use Rattle.slab_ctx.proofs.Words.{◌≡◌, ◌≢◌, ℕ, ◌+◌, ◌-◌, ◌*◌, ◌<◌, ◌≤◌, List, Some, None, slice_index, slice_set, refl, ap, ◌∙◌, inl, inr, arith, Vec, cases_eq, length-set, get_or-set_same, get_or-set_other, Addr, Layout, block_at, chunk_at, PutsBlock, PutsChunk, SameContext, Block, Chunk, stride, Counts, one_value, IsSlot, IsFree, IsFilled, IsSlotted, stack_at, at_offset, chunk_of, chunk_apart}
+use Rattle.slab_ctx.proofs.Words.{◌≡◌, ◌≢◌, ℕ, ◌+◌, ◌-◌, ◌*◌, ◌<◌, ◌≤◌, List, Some, None, slice_index, slice_set, refl, ◌∙◌, inl, inr, arith, Vec, cases_eq, length-set, get_or-set_same, get_or-set_other, Addr, Layout, block_at, chunk_at, PutsBlock, PutsChunk, SameContext, Block, Chunk, stride, Counts, one_value, IsSlot, IsFree, IsFilled, IsSlotted, stack_at, at_offset, chunk_of, chunk_apart}
 use Rattle.slab_ctx.proofs.Numbers.{stride-some}
 use Rattle.slab_ctx.proofs.Places.{one-more}
 use Rattle.ctx_blocks.proofs.Put.{chunk_was, chunk_here}
 use Rattle.slab_ctx.proofs.Slotted.{IsSlotted-put}
+use Rattle.std.proofs.lemmas.Bool.Decides.{nat_tests}
 
 -- a block of a Slab with another number of live chunks
 pub counted : (l m : Layout) (size : ℕ) (s : List (ℕ × Vec ℕ)) (number : ℕ) (b now : Block) → IsSlotted l size s → number ≢ l.keeper → block_at l number ≡ Some b → PutsBlock l m number now → now.number ≡ b.number → now.size ≡ b.size → Counts l m number now.live
-counted l m size s number b now slotted differs found puts same bytes = record {
-  block = now;
-  puts = puts;
-  count = refl;
-  same_number = λ old is. same ∙ ap (λ (x : Block). x.number) (one_value (block_at l number) b old found is);
-  bytes = bytes ∙ (slotted.filled number b differs found).bytes;
-}
+counted l m size s number b now slotted differs found puts same bytes = grind (arith, nat_tests, one_value, slotted.filled number b differs found)
 
 module _ (l m : Layout) (size : ℕ) (s : List (ℕ × Vec ℕ)) (at : Addr) (slotted : IsSlotted l size s) (same : SameContext l m) (differs : at.region ≢ l.keeper) (b : Block) (found : block_at l at.region ≡ Some b) where
   was : IsFilled l size at.region b (stack_at s at.region)

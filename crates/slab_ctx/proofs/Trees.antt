@@ -1,20 +1,16 @@
 -- Lemmas on trees of entries.
-use Rattle.slab_ctx.proofs.Words.{◌≡◌, ◌≢◌, ℕ, zero, suc, ◌+◌, ◌-◌, ◌*◌, ◌/◌, ◌%◌, ◌<◌, ◌≤◌, Option, Some, None, IfSome, get_or, set, length, refl, ap, ◌∙◌, inl, inr, arith, get_or-set_same, get_or-set_other, cases_eq, cases_lt, Entry, Tree, Leads, IsLesser, node, leaf, IsTree, IsTreeBut}
+use Rattle.slab_ctx.proofs.Words.{◌≡◌, ◌≢◌, ℕ, zero, suc, ◌+◌, ◌-◌, ◌*◌, ◌/◌, ◌%◌, ◌<◌, ◌≤◌, Option, Some, None, IfSome, get_or, set, length, ap, ◌∙◌, inl, inr, arith, get_or-set_same, get_or-set_other, cases_eq, cases_lt, Entry, Tree, Leads, IsLesser, node, leaf, IsTree, IsTreeBut}
+use Rattle.std.proofs.lemmas.Bool.Decides.{nat_tests}
 
 -- what follows at a value that there may be
 pub some_with : {A : Type 0} {P : A → Type 0} (o : Option A) → ((a : A) → o ≡ Some a → P a) → IfSome o P
-some_with None all = tt
-some_with (Some a) all = all a refl
+some_with x0 all = grind (arith, nat_tests)
 
 Leads-refl : (a : Option Entry) → Leads a a
-Leads-refl None = tt
-Leads-refl (Some a) = inr (refl, omega arith)
+Leads-refl x0 = grind (arith, nat_tests)
 
 pub Leads-trans : (a b c : Option Entry) → Leads a b → Leads b c → Leads a c
-Leads-trans a b None x y = tt
-Leads-trans a None (Some c) x y = absurd y
-Leads-trans None (Some b) (Some c) x y = absurd x
-Leads-trans (Some a) (Some b) (Some c) x y = grind arith
+Leads-trans x0 x1 x2 x y = grind (arith, nat_tests)
 
 -- the lesser of what was read
 pub lesser-read : {a b c x y z : Option Entry} → IsLesser a b c → a ≡ x → b ≡ y → c ≡ z → IsLesser x y z

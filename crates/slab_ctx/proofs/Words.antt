@@ -1,6 +1,6 @@
 -- The words and lemmas of the crates below, and the definitions of specs/, that these proofs take.
 pub use Rattle.addr_space.proofs.Addresses.{same_addr-cases, same_addr_from}
-pub use Rattle.addr_space.proofs.Options.{both_err, either_way, from_map, if_ok, none_or_some, on_err, on_ok, one_value, option_cases}
+pub use Rattle.addr_space.proofs.Options.{both_err, either_way, from_map, if_ok, on_err, on_ok, one_value, option_cases}
 pub use Rattle.addr_space.proofs.Steps.{Keeps-more, Keeps-same, Keeps-then, Moves-more, Moves-none, Moves-same}
 pub use Rattle.addr_space.specs.Space.{IsApart, Space}
 pub use Rattle.addr_space.specs.declared.Addr.{Addr}
@@ -14,7 +14,7 @@ pub use Rattle.ctx_blocks.proofs.Laid.{from_live, region_is}
 pub use Rattle.ctx_blocks.proofs.Numbered.{rising_above, rising_add, rising_drop, rising_put, with_last}
 pub use Rattle.ctx_blocks.proofs.Places.{number_is, number_put, numbers_among, places_put}
 pub use Rattle.ctx_blocks.specs.Kept.{AreRising}
-pub use Rattle.ctx_blocks.specs.Layout.{Layout, block_at, chunk_at, front_of, gap_of, header_room, start_of, total}
+pub use Rattle.ctx_blocks.specs.Layout.{Layout, block_at, chunk_at, gap_of, header_room, start_of, total}
 pub use Rattle.ctx_blocks.specs.Steps.{DropsBlock, PutsBlock, PutsChunk, SameContext, with_block, without_block}
 pub use Rattle.ctx_blocks.specs.declared.parts.Block.{Block}
 pub use Rattle.ctx_blocks.specs.declared.parts.Chunk.{Chunk}

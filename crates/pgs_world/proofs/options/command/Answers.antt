@@ -1,4 +1,4 @@
-use Rattle.pgs_world.proofs.Base.{◌≡◌, ◌∙◌, ap, subst, true, ◌||◌, pos, codes}
+use Rattle.pgs_world.proofs.Base.{◌∙◌, ap, true, ◌||◌}
 use Rattle.pgs_world.proofs.Words.{Command}
 use Rattle.clap.specs.Simple.{app_of_fields, on_top}
 use Rattle.clap.specs.declared.builder.command.Command.TheOpen.{Command-F}

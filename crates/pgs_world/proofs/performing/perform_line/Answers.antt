@@ -1,4 +1,4 @@
-use Rattle.pgs_world.proofs.Base.{◌≡◌, ◌<◌, true, false, length, sym, ◌∙◌, arith, nat_tests}
+use Rattle.pgs_world.proofs.Base.{◌<◌, true, length, sym, ◌∙◌, arith, nat_tests}
 use Rattle.pgs_world.proofs.Words.{ShowsEvents-none, read_line, said_in, run_of}
 use Rattle.pgs_turns.proofs.IdleLemmas.{comment_is_idle, first_there, idle_turned}
 use Rattle.pgs_world.proofs.performing.perform_line.Goals as goal

@@ -1,4 +1,4 @@
-use Rattle.pgs_world.proofs.Base.{◌≡◌, ◌∙◌, Some, ap, refl, sym, subst, List, length, arith, slice_get}
+use Rattle.pgs_world.proofs.Base.{◌≡◌, ◌∙◌, ap, refl, sym, subst, List, length, arith, slice_get}
 use Rattle.pgs_world.proofs.Words.{StoreState, Setting, setting_at, opened_run, opened_standing, started_setting, outside, Ends, EndsMade}
 use Rattle.pgs_world.proofs.Lemmas.{made_plays, started_plays}
 use Rattle.pgs_world.proofs.program.play.Goals as goal

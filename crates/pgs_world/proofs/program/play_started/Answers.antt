@@ -1,5 +1,5 @@
-use Rattle.pgs_world.proofs.Base.{◌≡◌, ℕ, ◌+◌, ◌^◌, ◌<◌, ◌≤◌, true, List, ◌++◌, length, Option, Some, sym, ◌∙◌, ap, subst, arith, ◌⊎◌, append_known}
-use Rattle.pgs_world.proofs.Words.{Event, errors_in, text_of_transcript, Fits, Setting, course_of, EndsAt, names_of, text_in, transcript, IsOver, HaveDescriptors, Run, run_of, setting_of, few_errors, fit_of, run_over, Performs, is_wanted, Ends, outside, ShowsEvents, ShowsInTime, seen, ShowsEvents-both, ShowsEvents-flush, outcome_of, GATHERED, Outcome}
+use Rattle.pgs_world.proofs.Base.{◌≡◌, ℕ, ◌+◌, ◌^◌, ◌<◌, ◌≤◌, true, List, ◌++◌, length, Option, sym, ◌∙◌, ap, subst, arith, append_known}
+use Rattle.pgs_world.proofs.Words.{Event, errors_in, text_of_transcript, Fits, Setting, course_of, EndsAt, names_of, text_in, transcript, IsOver, HaveDescriptors, Run, run_of, setting_of, few_errors, fit_of, run_over, Performs, is_wanted, Ends, outside, ShowsEvents, ShowsInTime, seen, ShowsEvents-both, ShowsEvents-flush, GATHERED, Outcome}
 use Rattle.pgs_world.proofs.CountLemmas.{taken_all, taken_given}
 use Rattle.pgs_world.proofs.EndingLemmas.{Facts, Late, Printed, called_of, ended_whole, late_front, met_none, performed_by, printed_all, printed_told, stays_failed, transcript_is, unwritten_leads}
 use Rattle.pgs_world.proofs.program.play_started.Goals as goal

@@ -1,6 +1,6 @@
 use Rattle.pgs_world.proofs.Base.{◌∙◌, ap}
 use Rattle.pgs_world.proofs.Words.{Space, held, limited_held}
-use Rattle.pgs_world.proofs.Lemmas.{in_some, limited_none, limited_run}
+use Rattle.pgs_world.proofs.Lemmas.{in_some, limited_run}
 use Rattle.pgs_world.proofs.sweeping.run_lent.Goals as goal
 
 pub run_shared-ran-requires-clause-empty : goal.run_shared-ran-requires-clause-empty

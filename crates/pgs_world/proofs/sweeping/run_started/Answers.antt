@@ -1,4 +1,3 @@
-use Rattle.pgs_world.proofs.Base.{length}
 use Rattle.pgs_world.proofs.Words.{lines_of, run_of}
 use Rattle.pgs_world.proofs.Lemmas.{ended_run}
 use Rattle.pgs_world.proofs.sweeping.run_started.Goals as goal

@@ -1,4 +1,4 @@
-use Rattle.pgs_world.proofs.Base.{◌≡◌, ◌+◌, ◌≤◌, ◌<◌, ℕ, length, refl, ◌∙◌, sym, subst, arith}
+use Rattle.pgs_world.proofs.Base.{ℕ, refl, ◌∙◌, sym, subst, arith}
 use Rattle.pgs_world.proofs.Words.{HasRisen, lines_of, Outcome, setting_for, outside, Sweeps}
 use Rattle.pgs_world.proofs.Lemmas.{all_run, calls_told, few_more, is_run, last_few, last_next, stands_more, stands_none, swept_unwritten, swept_wanted, swept_whole}
 use Rattle.pgs_turns.proofs.KeptLemmas.{few_lines_of}

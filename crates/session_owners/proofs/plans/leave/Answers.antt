@@ -29,8 +29,7 @@ returns-in-Ok-Some-clause-fit g c =
     (ap (λ (i : CtxId). i.number) (sym p.1)) (on_some c.in-Ok-Some.field-0 c.in-Ok-Some.context (c.drop_ref.new.self.standing ≡ remove_entry (nat_eq c.args.plan) c.args.plans.now.standing) c.in-Ok-Some.field-0-is c.in-Ok-Some.ensures.gone) c.requires.fit
 
 pub returns-in-Ok-Some-clause-left : goal.returns-in-Ok-Some-clause-left
-returns-in-Ok-Some-clause-left g c =
-    left_gone c.args.plan c.args.plans.now.standing c.drop_ref.new.self.standing (on_some c.in-Ok-Some.field-0 c.in-Ok-Some.context (c.drop_ref.new.self.standing ≡ remove_entry (nat_eq c.args.plan) c.args.plans.now.standing) c.in-Ok-Some.field-0-is c.in-Ok-Some.ensures.gone)
+returns-in-Ok-Some-clause-left g c = grind (arith, nat_tests, left_gone c.args.plan c.args.plans.now.standing c.drop_ref.new.self.standing (on_some c.in-Ok-Some.field-0 c.in-Ok-Some.context (c.drop_ref.new.self.standing ≡ remove_entry (nat_eq c.args.plan) c.args.plans.now.standing) c.in-Ok-Some.field-0-is c.in-Ok-Some.ensures.gone), c.in-Ok-Some.ensures.gone)
 
 pub returns-in-Ok-None-clause-done : goal.returns-in-Ok-None-clause-done
 returns-in-Ok-None-clause-done g c = grind (arith, nat_tests, is_referred (lookup (nat_eq c.args.plan) c.args.plans.now.standing) c.requires.referred, in_some (lookup (nat_eq c.args.plan) c.args.plans.now.standing) (is_referred (lookup (nat_eq c.args.plan) c.args.plans.now.standing) c.requires.referred).0, on_none c.in-Ok-None.field-0, leave_stays, c.requires.referred, c.in-Ok-None.field-0-is, c.in-Ok-None.ensures.context, c.laws.ensures.sound.different, c.in-Ok-None.ensures.stays)

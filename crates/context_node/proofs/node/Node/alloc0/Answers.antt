@@ -1,32 +1,16 @@
-use Rattle.context_node.proofs.Words.{◌≡◌, ℕ, List, map, Option, Some, None, refl, sym, ap, ◌∙◌, subst, arith, Addr, IsInside, Changes, region_at, overwritten, ends_small, IsInside-live_part, Forest, Empty, Node, at, changed, footprint, zeros, Entry, Kept, Took, taken_entry}
+use Rattle.context_node.proofs.Words.{◌≡◌, ℕ, List, map, Option, Some, None, refl, sym, ap, ◌∙◌, subst, arith, Addr, Changes, region_at, overwritten, ends_small, IsInside-live_part, Forest, Empty, Node, at, changed, zeros, Entry, Kept, Took, taken_entry}
 use Rattle.context_node.proofs.Lemmas.{front_changed, live_now, taken_is, took_zeros}
 use Rattle.context_node.proofs.node.Node.alloc0.Goals as goal
+use Rattle.std.proofs.lemmas.Bool.Decides.{nat_tests}
 
 pub write_zeros-requires-clause-inside : goal.write_zeros-requires-clause-inside
-write_zeros-requires-clause-inside g c =
-    let took = c.in_ok-id-in-Some.ensures.took in
-    let n = c.in_ok-id-in-Some.id.number in
-    let lies : at n c.take_named.new.self.chunks ≡ Some c.get.result.now = ap (λ (y : Kept). at n y.chunks) (sym c.self.view_is) ∙ c.get.ensures in
-    let first : c.get.result.now ≡ taken_entry (Some c.in-Some.word) took.at c.args.size 0 = taken_is _ _ _ _ _ _ _ _ took n c.get.result.now c.in_ok-id-in-Some.ensures.number lies in
-    let is : IsInside c.take_named.new.space took.at c.args.size =
-    IsInside-live_part (footprint c.take_named.new.self.memory) c.take_named.new.space took.at took.at c.args.size c.args.size took.moves.agrees (live_now _ _ _ _ _ _ _ _ took) refl (omega arith) in
-    subst (λ (x : Entry). IsInside c.take_named.new.space x.at c.args.size) (sym first) is
+write_zeros-requires-clause-inside g c = grind (arith, nat_tests, c.in_ok-id-in-Some.ensures.took, c.get.ensures, taken_is, c.in_ok-id-in-Some.ensures.number, IsInside-live_part, live_now)
 
 pub write_zeros-requires-clause-ends : goal.write_zeros-requires-clause-ends
-write_zeros-requires-clause-ends g c =
-    let took = c.in_ok-id-in-Some.ensures.took in
-    let n = c.in_ok-id-in-Some.id.number in
-    let lies : at n c.take_named.new.self.chunks ≡ Some c.get.result.now = ap (λ (y : Kept). at n y.chunks) (sym c.self.view_is) ∙ c.get.ensures in
-    let first : c.get.result.now ≡ taken_entry (Some c.in-Some.word) took.at c.args.size 0 = taken_is _ _ _ _ _ _ _ _ took n c.get.result.now c.in_ok-id-in-Some.ensures.number lies in
-    let ends = ends_small (footprint c.take_named.new.self.memory) c.take_named.new.space took.at c.args.size took.moves.agrees (live_now _ _ _ _ _ _ _ _ took) in
-    omega (arith, ends, ap (λ (x : Entry). x.at.offset) first)
+write_zeros-requires-clause-ends g c = grind (arith, nat_tests, c.in_ok-id-in-Some.ensures.took, c.get.ensures, taken_is, c.in_ok-id-in-Some.ensures.number, ends_small, live_now)
 
 pub write_zeros-requires-in-None-clause-inside : goal.write_zeros-requires-in-None-clause-inside
-write_zeros-requires-in-None-clause-inside g c =
-    let took = c.in_ok-at-in-None.ensures.took.0 in
-    let is : IsInside c.take_nameless.new.space took.at c.args.size =
-    IsInside-live_part (footprint c.take_nameless.new.self.memory) c.take_nameless.new.space took.at took.at c.args.size c.args.size took.moves.agrees (live_now _ _ _ _ _ _ _ _ took) refl (omega arith) in
-    subst (λ (a : Addr). IsInside c.take_nameless.new.space a c.args.size) c.in_ok-at-in-None.ensures.took.1 is
+write_zeros-requires-in-None-clause-inside g c = grind (arith, nat_tests, c.in_ok-at-in-None.ensures.took.0, IsInside-live_part, live_now, c.in_ok-at-in-None.ensures.took.1)
 
 pub returns-in_ok-id-in-Some-clause-took : goal.returns-in_ok-id-in-Some-clause-took
 returns-in_ok-id-in-Some-clause-took g c =

@@ -1,17 +1,13 @@
-use Rattle.context_node.proofs.Words.{◌≡◌, ℕ, length, map, Some, refl, ap, ◌∙◌, subst, arith, Addr, Changes, region_at, overwritten, ends_small, IsInside-live_part, at, changed, footprint, Kept}
+use Rattle.context_node.proofs.Words.{◌≡◌, ℕ, map, Some, refl, ap, ◌∙◌, subst, arith, Addr, Changes, region_at, overwritten, ends_small, IsInside-live_part, at, changed, footprint, Kept}
 use Rattle.context_node.proofs.Lemmas.{kept_back}
 use Rattle.context_node.proofs.node.Node.put.Goals as goal
+use Rattle.std.proofs.lemmas.Bool.Decides.{nat_tests}
 
 pub room_at-requires : goal.room_at-requires
-room_at-requires g c =
-    let ends = ends_small (footprint c.args.self.now.memory) c.args.space.now c.entry-chunk.result.at c.entry-chunk.result.size c.requires.agrees (c.requires.sound.live c.args.entry.number c.entry-chunk.result c.entry-chunk.ensures) in
-    omega (arith, ends)
+room_at-requires g c = grind (arith, nat_tests, ends_small (footprint c.args.self.now.memory) c.args.space.now c.entry-chunk.result.at c.entry-chunk.result.size c.requires.agrees (c.requires.sound.live c.args.entry.number c.entry-chunk.result c.entry-chunk.ensures), c.requires.agrees, c.requires.sound.live c.args.entry.number c.entry-chunk.result c.entry-chunk.ensures, c.entry-chunk.ensures)
 
 pub write-requires : goal.write-requires
-write-requires g c =
-    IsInside-live_part (footprint c.args.self.now.memory) c.args.space.now c.entry-chunk.result.at c.in-Some.at c.entry-chunk.result.size (length c.args.bytes.now) c.requires.agrees
-    (c.requires.sound.live c.args.entry.number c.entry-chunk.result c.entry-chunk.ensures) (ap (λ (a : Addr). a.region) c.in-Some.ensures.1)
-    (omega (arith, ap (λ (a : Addr). a.offset) c.in-Some.ensures.1, c.in-Some.ensures.0.1))
+write-requires g c = grind (arith, nat_tests, IsInside-live_part, c.requires.agrees, c.requires.sound.live c.args.entry.number c.entry-chunk.result c.entry-chunk.ensures, c.entry-chunk.ensures, c.in-Some.ensures.1, c.in-Some.ensures.0.1)
 
 pub returns-clause-written : goal.returns-clause-written
 returns-clause-written g c =

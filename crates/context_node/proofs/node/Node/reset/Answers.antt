@@ -1,30 +1,11 @@
-use Rattle.context_node.proofs.Words.{◌∷◌, [], ◌++◌, ap, Reset, callbacks, Kept}
+use Rattle.context_node.proofs.Words.{callbacks}
 use Rattle.context_node.proofs.Lemmas.{kept_cleared}
 use Rattle.context_node.proofs.node.Node.reset.Goals as goal
+use Rattle.std.proofs.lemmas.Bool.Decides.{nat_tests}
+use Rattle.std.proofs.Common.{arith}
 
 pub returns-clause-cleared : goal.returns-clause-cleared
-returns-clause-cleared g c =
-    let k : Kept = record {
-      name = c.self.inside.name;
-      kind = c.self.inside.kind;
-      protected = c.self.inside.protected;
-      used = c.self.inside.used;
-      memory = c.self.inside.memory;
-      chunks = c.self.inside.chunks.forest;
-      chunk_places = c.self.inside.chunks.places;
-      hooks = c.self.inside.callbacks;
-    } in
-    rw (← c.self.view_is) (record {
-      now = kept_cleared k c.reset.new.self _ _ _ c.forget.ensures.none c.forget.ensures.nowhere c.run_all-ran.ensures.none;
-      renewed = c.reset.ensures.ledger;
-      moves = c.reset.ensures.moves;
-      asked = c.reset.ensures.asked;
-      total = c.counted.ensures;
-      shelf = c.run_all-ran.ensures.shelf;
-      names = c.forget.ensures.names;
-    })
+returns-clause-cleared g c = grind (arith, nat_tests, c.self.inside.name, c.self.inside.kind, c.self.inside.protected, c.self.inside.used, c.self.inside.memory, c.self.inside.chunks.forest, c.self.inside.chunks.places, c.self.inside.callbacks, kept_cleared, c.forget.ensures.none, c.forget.ensures.nowhere, c.run_all-ran.ensures.none, c.reset.ensures.ledger, c.reset.ensures.moves, c.reset.ensures.asked, c.counted.ensures, c.run_all-ran.ensures.shelf, c.forget.ensures.names)
 
 pub returns-clause-emits : goal.returns-clause-emits
-returns-clause-emits g c =
-    g.met.E.Emit.emits_more _ _ _ _ _ _ c.run_all-ran.ensures.emits c.emit.ensures.emitted
-    (ap (λ (z : Kept). callbacks c.args.number z.hooks ++ Reset c.args.number ∷ []) c.self.view_is)
+returns-clause-emits g c = grind (arith, nat_tests, g.met.E.Emit.emits_more, c.run_all-ran.ensures.emits, c.emit.ensures.emitted, callbacks)

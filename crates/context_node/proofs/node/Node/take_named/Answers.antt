@@ -1,6 +1,7 @@
 use Rattle.context_node.proofs.Words.{◌≡◌, false, Some, ap, ◌∙◌, arith, has, Entry, Kept, taken_entry}
-use Rattle.context_node.proofs.Lemmas.{front_at, front_changed, front_removed, kept_now, kept_back}
+use Rattle.context_node.proofs.Lemmas.{front_at, front_changed, front_removed, kept_now}
 use Rattle.context_node.proofs.node.Node.take_named.Goals as goal
+use Rattle.std.proofs.lemmas.Bool.Decides.{nat_tests}
 
 pub returns-in-Ok-clause-took : goal.returns-in-Ok-clause-took
 returns-in-Ok-clause-took g c =
@@ -33,20 +34,4 @@ returns-in-Ok-clause-took g c =
     })
 
 pub returns-in-Err-clause-err : goal.returns-in-Err-clause-err
-returns-in-Err-clause-err g c =
-    let fresh : has c.args.number c.self.inside.chunks.forest ≡ false = ap (λ (x : Kept). has c.args.number x.chunks) c.self.view_is ∙ c.requires.fresh in
-    let unplaced : has c.args.number c.self.inside.chunks.places ≡ false = ap (λ (x : Kept). has c.args.number x.chunk_places) c.self.view_is ∙ c.requires.unplaced in
-    let k : Kept = record {
-      name = c.self.inside.name;
-      kind = c.self.inside.kind;
-      protected = c.self.inside.protected;
-      used = c.self.inside.used;
-      memory = c.self.inside.memory;
-      chunks = c.self.inside.chunks.forest;
-      chunk_places = c.self.inside.chunks.places;
-      hooks = c.self.inside.callbacks;
-    } in
-    kept_back k _ _ _ _ _ _ c.in-Err.ensures.err
-    (c.remove.ensures.forest ∙ front_removed c.args.number c.in_ok-id.id.number _ _ _ c.in_ok-id.ensures.number fresh c.in_ok-id.ensures.forest)
-    (c.remove.ensures.places ∙ front_removed c.args.number c.in_ok-id.id.number _ _ _ c.in_ok-id.ensures.number unplaced c.in_ok-id.ensures.places)
-    ∙ c.self.view_is
+returns-in-Err-clause-err g c = grind (arith, nat_tests, c.self.inside.chunks.forest, c.requires.fresh, c.self.inside.chunks.places, c.requires.unplaced, c.self.inside.name, c.self.inside.kind, c.self.inside.protected, c.self.inside.used, c.self.inside.memory, c.self.inside.callbacks, c.in-Err.ensures.err, c.remove.ensures.forest, front_removed, c.in_ok-id.ensures.number, c.in_ok-id.ensures.forest, c.remove.ensures.places, c.in_ok-id.ensures.places)

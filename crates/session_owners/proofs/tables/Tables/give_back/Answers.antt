@@ -1,16 +1,10 @@
-use Rattle.session_owners.proofs.Base.{nat_tests, ◌≡◌, [], ap, refl, subst, sym, ◌∙◌, ◌∷◌, arith, eqb-true}
-use Rattle.session_owners.proofs.Words.{total, Contexts, ShelfState, GivesBack, Held, TablesDo, lending_of}
+use Rattle.session_owners.proofs.Base.{nat_tests, [], refl, subst, sym, ◌∙◌, ◌∷◌, arith, eqb-true}
+use Rattle.session_owners.proofs.Words.{Contexts, ShelfState, GivesBack, Held, TablesDo, lending_of}
 use Rattle.session_owners.proofs.Lemmas.{does_close, does_give, does_refer_less, pin_is_none, pin_is_other}
 use Rattle.session_owners.proofs.tables.Tables.give_back.Goals as goal
 
 pub returns-then-eq-clause-done : goal.returns-then-eq-clause-done
-returns-then-eq-clause-done g c =
-    λ kinds ls. let same : total c.unpin.new.self.references ≡ total c.args.self.now.references = ap (λ (h : Held). total h.references) c.unpin.ensures.unpinned in (
-      [],
-      does_give c.args.self.now c.unpin.new.self kinds ls (g.P.PlanContexts.contexts c.args.place.now) (g.P.PlanContexts.shelf c.args.place.now) c.args.item c.requires.built_in (pin_is_other c.args.item.kind.0 (sym c.eq.ensures ∙ c.if-eq.true)) (pin_is_none c.args.item.kind.0 (sym c.eq.ensures ∙ c.if-eq.true))
-          (ap (λ (h : Held). h.files) c.unpin.ensures.unpinned) (ap (λ (h : Held). h.snapshots.stack) c.unpin.ensures.unpinned) (ap (λ (h : Held). h.plans) c.unpin.ensures.unpinned) (omega (arith, same)),
-      g.met.E.Emit.emits_none c.args.out.now,
-    )
+returns-then-eq-clause-done g c = grind (arith, nat_tests, c.unpin.ensures.unpinned, does_give, g.P.PlanContexts.contexts c.args.place.now, g.P.PlanContexts.shelf c.args.place.now, c.requires.built_in, pin_is_other c.args.item.kind.0 (sym c.eq.ensures ∙ c.if-eq.true), c.eq.ensures, c.if-eq.true, pin_is_none c.args.item.kind.0 (sym c.eq.ensures ∙ c.if-eq.true), g.met.E.Emit.emits_none c.args.out.now)
 
 pub returns-then-eq-2-clause-done : goal.returns-then-eq-2-clause-done
 returns-then-eq-2-clause-done g c =

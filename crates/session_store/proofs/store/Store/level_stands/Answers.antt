@@ -1,5 +1,5 @@
 -- The level's context is there, and lies where its id says.
-use Rattle.session_store.proofs.Words.{rules, ◌≡◌, false, List, sym, ap, ◌∙◌, subst, unwrap_or, CtxId, TreeState, Level, level_stands, StoreState, IsPlaced, IsThere, LevelLies, Acted, IsSilent, Keeps}
+use Rattle.session_store.proofs.Words.{◌≡◌, false, List, sym, ap, ◌∙◌, subst, unwrap_or, CtxId, TreeState, Level, level_stands, StoreState, IsPlaced, IsThere, LevelLies, Acted, IsSilent, Keeps}
 use Rattle.session_store.proofs.Lemmas.{all_deepest, deepest_new, context_live, current_lies, deepest_placed, have_owners, keeps_current, lies_at, portals_at, stood_acted, stands_in, there_in}
 use Rattle.session_store.proofs.store.Store.level_stands.Goals as goal
 

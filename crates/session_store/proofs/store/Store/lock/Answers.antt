@@ -1,5 +1,5 @@
 -- The owner holds a lock once more, or nothing changed.
-use Rattle.session_store.proofs.Words.{rules, ◌≡◌, ◌↔◌, ℕ, Some, ap, sym, subst, IsErrOf, beside, least_conflict, lock_taken, Serves, ResourceState, owners_of, StoreState}
+use Rattle.session_store.proofs.Words.{◌≡◌, ◌↔◌, ℕ, Some, ap, sym, subst, IsErrOf, beside, least_conflict, lock_taken, Serves, ResourceState, owners_of, StoreState}
 use Rattle.session_store.proofs.Lemmas.{on_answer, go_same, owners_after, owners_alone_after, placed_owners}
 use Rattle.pgs_step.specs.declared.lock_modes.Mode.{Mode}
 use Rattle.lock_local.specs.declared.errors.LockError.TheVariants.{Conflict}

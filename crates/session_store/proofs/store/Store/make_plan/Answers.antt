@@ -1,5 +1,5 @@
 -- Room is reserved, the context is made, and then the plan, which can't fail.
-use Rattle.session_store.proofs.Words.{rules, ◌≡◌, ◌⊎◌, ℕ, true, List, Some, None, refl, sym, ap, ◌∙◌, subst, inl, inr, arith, codes, length, at, Contexts, created, created_events, create_refusal, Memory, stands_for, ResourceState, balances_more, plan_at, plan_made, StoreState, contexts_in, left_in, session_of, Acted, BothAlone, Unmade, plan_refusal}
+use Rattle.session_store.proofs.Words.{◌≡◌, ◌⊎◌, ℕ, true, List, Some, None, refl, sym, ap, ◌∙◌, subst, inl, inr, arith, codes, length, at, Contexts, created, created_events, create_refusal, Memory, stands_for, ResourceState, balances_more, plan_at, plan_made, StoreState, contexts_in, left_in, session_of, Acted, BothAlone, Unmade, plan_refusal}
 use Rattle.session_store.proofs.Lemmas.{goes_made, goes_nowhere, keeps_in, left_through, own_in, placed_after}
 use Rattle.any_ctx.specs.declared.any.CtxKind.TheVariants as kind
 use Rattle.session_store.proofs.Planned.{both_alone, is_unused, planned_acted, planned_placed, room_left, unmade_context, with_plan}

@@ -1,5 +1,5 @@
 -- The owner remembers one pin more.
-use Rattle.session_store.proofs.Words.{rules, sym, subst, buffer_pin, item_taken, Serves, StoreState}
+use Rattle.session_store.proofs.Words.{sym, subst, buffer_pin, item_taken, Serves, StoreState}
 use Rattle.session_store.proofs.Lemmas.{go_alone, owners_after, owners_alone_after, placed_owners}
 use Rattle.session_store.proofs.store.Store.pin.Goals as goal
 

@@ -1,5 +1,5 @@
 -- What the tree answers is what the session's contexts have.
-use Rattle.session_store.proofs.Words.{rules, ◌≡◌, length, OnOk, subst, shown, bytes_refusal, error_of, StoreState, session_of}
+use Rattle.session_store.proofs.Words.{◌≡◌, length, OnOk, subst, shown, bytes_refusal, error_of, StoreState, session_of}
 use Rattle.session_store.proofs.store.Store.show.Goals as goal
 
 pub returns-clause-answer : goal.returns-clause-answer

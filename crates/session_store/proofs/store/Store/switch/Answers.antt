@@ -1,5 +1,4 @@
 -- Only the current context is another one.
-use Rattle.std.proofs.Common.{rules}
 use Rattle.session_store.proofs.Lemmas.{switched_after, switched_alone}
 use Rattle.session_store.proofs.store.Store.switch.Goals as goal
 
