@@ -167,6 +167,18 @@ impl Trial {
         Ok(())
     }
 
+    /// Makes protected contexts for little below the topmost one.
+    pub fn widen(&mut self, name: Name, count: u32) -> Result<(), TreeError>
+        requires { Stands self.old }
+        ensures { Stands self.new }
+    {
+        for _ in 0..count {
+            let top = self.find(At::Top)?;
+            self.make(top, name, CtxKind::Small, true)?;
+        }
+        Ok(())
+    }
+
     /// Takes a chunk.
     pub fn alloc(&mut self, at: At, chunk: Name, size: u64) -> Result<(), TreeError>
         requires { Stands self.old }
