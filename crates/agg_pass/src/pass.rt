@@ -81,6 +81,13 @@ impl AggPass {
         })
     }
 
+    /// What its context has of the space is the total of the ledger. A caller cites the clause.
+    pub fn counted(&self)
+        ensures { (footprint self.now.groups).total ≡ self.now.groups.state.ledger.total }
+    {
+        self.groups.counted();
+    }
+
     /// How many groups are held.
     pub fn len(&self) -> usize
         ensures { result ≡ length (kept_groups self.now.budget self.now.rows) }

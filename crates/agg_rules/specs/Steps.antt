@@ -1,5 +1,5 @@
 -- What one row more does to a pass, and what the rows of a pass ask for.
-use Rattle.std.specs.Prelude.{ℕ, ◌-◌, nat_eq, nat_lt, nat_le, if◌then◌else◌, List, [], ◌∷◌, ◌++◌, length, Result, Ok, Err}
+use Rattle.std.specs.Prelude.{ℕ, ◌-◌, nat_eq, nat_lt, nat_le, if◌then◌else◌, List, [], ◌∷◌, ◌++◌, length, Option, Some, None, Result, Ok, Err}
 use Rattle.std.specs.List.{list_any}
 use Rattle.chunk_header.specs.declared.CtxError.{CtxError}
 use Rattle.bump_ctx.specs.Ledger.{BumpLedger, BumpTaken, take}
@@ -42,3 +42,19 @@ abbrev pub meets_all : ℕ → Result Pass NodeError → List Row → Result Pas
 meets_all budget pass [] = pass
 meets_all budget (Err refused) (row ∷ rows) = Err refused
 meets_all budget (Ok pass) (row ∷ rows) = meets_all budget (meets budget pass row.group) rows
+
+-- where a pass stands behind the rows that it met, and what refused the next one, if a row was refused
+pub record Stand : Type 0 where
+  pub pass : Pass
+  pub refused : Option NodeError
+
+-- rows are met in order, until one is refused: from what the row before them came to, and from where the pass stood
+-- before that row
+abbrev pub stands : ℕ → Pass → Result Pass NodeError → List Row → Stand
+stands budget before (Err refused) rows = record { pass = before; refused = Some refused }
+stands budget before (Ok pass) [] = record { pass = pass; refused = None }
+stands budget before (Ok pass) (row ∷ rows) = stands budget pass (meets budget pass row.group) rows
+
+-- where the pass stands behind rows
+abbrev pub stand_behind : ℕ → Pass → List Row → Stand
+stand_behind budget pass rows = stands budget pass (Ok pass) rows

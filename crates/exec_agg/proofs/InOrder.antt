@@ -6,7 +6,7 @@ use Rattle.std.specs.List.{flat_map}
 use Rattle.temp_store.specs.Temp.{Temp}
 use Rattle.agg_rules.specs.declared.Row.{Row}
 use Rattle.agg_rules.specs.declared.NodeError.{NodeError}
-use Rattle.agg_rules.specs.Steps.{Pass, meets, meets_all}
+use Rattle.agg_rules.specs.Steps.{Pass, Stand, meets, meets_all, stands, stand_behind}
 use Rattle.row_files.specs.RowBytes.{HasRows, row_bytes}
 use Rattle.agg_pass.specs.Spilled.{IsOf, KeepsFiles}
 
@@ -27,9 +27,25 @@ row_parts [] place row is = absurd (cc is)
 row_parts (x ∷ rows) zero row is = grind (arith, nat_tests)
 row_parts (x ∷ rows) (suc place) row is = grind (arith, nat_tests, row_parts rows place row)
 
+-- behind the rows that were met it goes on with the next one
+pub stands-append : (budget : ℕ) (before first now : Pass) (rows : List Row) (row : Row) (more : List Row) → meets_all budget (Ok first) rows ≡ Ok now
+    → stands budget before (Ok first) (rows ++ row ∷ more) ≡ stands budget now (meets budget now row.group) more
+stands-append budget before first now [] row more so = ap (λ (p : Pass). stands budget before (Ok p) (row ∷ more)) (let same : first ≡ now = cc in same)
+stands-append budget before first now (r ∷ rows) row more so = by_step (λ pass. stands-append budget first pass now rows row more) (meets budget first r.group) refl
+  where
+    by_step : ((pass : Pass) → meets_all budget (Ok pass) rows ≡ Ok now → stands budget first (Ok pass) (rows ++ row ∷ more) ≡ stands budget now (meets budget now row.group) more) → (step : Result Pass NodeError) → meets budget first r.group ≡ step
+        → stands budget first (meets budget first r.group) (rows ++ row ∷ more) ≡ stands budget now (meets budget now row.group) more
+    by_step behind (Ok pass) is = ap (λ s. stands budget first s (rows ++ row ∷ more)) is ∙ behind pass (ap (λ s. meets_all budget s rows) (sym is) ∙ so)
+    by_step behind (Err refused) is =
+        let clash : Err refused ≡ Ok now = sym (meets_all-refused budget refused rows) ∙ ap (λ s. meets_all budget s rows) (sym is) ∙ so in absurd (cc)
+
+-- a row was refused where a pass stood
+abbrev pub stopped : NodeError → Pass → Stand
+stopped refused pass = record { pass = pass; refused = Some refused }
+
 -- what was met before, one more, and what comes then
 pub meets_all-next : (budget : ℕ) (first now : Pass) (rows : List Row) (place : ℕ) (row : Row) → slice_get rows place ≡ Some row → meets_all budget (Ok first) (take place rows) ≡ Ok now
-    → (meets_all budget (Ok first) (take (place + 1) rows) ≡ meets budget now row.group) × ((refused : NodeError) → meets budget now row.group ≡ Err refused → meets_all budget (Ok first) rows ≡ Err refused)
+    → (meets_all budget (Ok first) (take (place + 1) rows) ≡ meets budget now row.group) × ((refused : NodeError) → meets budget now row.group ≡ Err refused → stand_behind budget first rows ≡ record { pass = now; refused = Some refused })
 meets_all-next budget first now rows place row is so = (step, stops)
   where
     parts : (rows ≡ take place rows ++ row ∷ drop (place + 1) rows) × (take (place + 1) rows ≡ take place rows ++ row ∷ [])
@@ -38,10 +54,10 @@ meets_all-next budget first now rows place row is so = (step, stops)
     step : meets_all budget (Ok first) (take (place + 1) rows) ≡ meets budget now row.group
     step = ap (meets_all budget (Ok first)) parts.1 ∙ meets_all-append budget (Ok first) (take place rows) (row ∷ []) ∙ ap (λ p. meets_all budget p (row ∷ [])) so
 
-    stops : (refused : NodeError) → meets budget now row.group ≡ Err refused → meets_all budget (Ok first) rows ≡ Err refused
+    stops : (refused : NodeError) → meets budget now row.group ≡ Err refused → stand_behind budget first rows ≡ record { pass = now; refused = Some refused }
     stops refused met =
-        ap (meets_all budget (Ok first)) parts.0 ∙ meets_all-append budget (Ok first) (take place rows) (row ∷ drop (place + 1) rows) ∙ ap (λ p. meets_all budget p (row ∷ drop (place + 1) rows)) so
-        ∙ ap (λ p. meets_all budget p (drop (place + 1) rows)) met ∙ meets_all-refused budget refused (drop (place + 1) rows)
+        ap (stand_behind budget first) parts.0 ∙ stands-append budget first first now (take place rows) row (drop (place + 1) rows) so
+        ∙ ap (λ p. stands budget now p (drop (place + 1) rows)) met
 
 -- a file that isn't the pass's own keeps its rows
 pub rows_stay : (s t : Temp) (was now : Option ℕ) (file : ℕ) (rows : List Row) → was ≡ None → KeepsFiles (IsOf was) s (IsOf now) t → HasRows s file rows → HasRows t file rows

@@ -1,5 +1,5 @@
 -- What holds of a node behind each call.
-use Rattle.std.proofs.Common.{◌≡◌, ℕ, ◌+◌, ◌-◌, ◌*◌, ◌<◌, ◌≤◌, List, [], ◌∷◌, ◌++◌, length, take, drop, Option, Some, None, Result, Ok, Err, OnOk, OnErr, refl, ap, sym, ◌∙◌, subst, arith}
+use Rattle.std.proofs.Common.{◌≡◌, ℕ, ◌+◌, ◌-◌, ◌*◌, ◌<◌, ◌≤◌, List, [], ◌∷◌, ◌++◌, length, take, drop, Option, Some, None, Result, Ok, Err, OnOk, OnErr, IfErr, ◌⊎◌, inl, inr, refl, ap, sym, ◌∙◌, subst, arith}
 use Rattle.std.specs.Prelude.{slice_get, IfNone}
 use Rattle.std.proofs.lemmas.List.{drop_all, length-map}
 use Rattle.addr_space.specs.Space.{Space, Asks}
@@ -7,9 +7,10 @@ use Rattle.addr_space.specs.Footprint.{Agrees}
 use Rattle.addr_space.proofs.Asked.{Asks-more}
 use Rattle.temp_store.specs.Temp.{Temp, held as stored, file_at, bytes_of}
 use Rattle.agg_rules.specs.declared.Row.{Row}
+use Rattle.agg_rules.specs.declared.NodeError.{NodeError}
 use Rattle.agg_rules.specs.Rows.{results_of, result_of}
 use Rattle.agg_rules.specs.Passes.{is_outside, kept_groups, pass_results, spilled_rows}
-use Rattle.agg_rules.specs.Steps.{Pass, meets_all}
+use Rattle.agg_rules.specs.Steps.{Pass, meets_all, stand_behind}
 use Rattle.agg_rules.proofs.Filters.{length-filter_le}
 use Rattle.agg_rules.proofs.Given.{results_of-pass}
 use Rattle.row_files.specs.RowBytes.{HasRows}
@@ -17,7 +18,8 @@ use Rattle.held_groups.specs.Held.{footprint, HasTotals}
 use Rattle.agg_pass.specs.PassState.{PassState, HasSpilled, Spends, way_of, anew}
 use Rattle.exec_agg.specs.declared.stage.Stage.{Stage}
 use Rattle.exec_agg.specs.declared.stage.Stage.TheVariants.{Putting, Giving, Refused}
-use Rattle.exec_agg.specs.Nodes.{Node, Holds, Goes, IsNode, next_pass, way_over}
+use Rattle.exec_agg.specs.Nodes.{Node, Holds, Goes, Stops, IsNode, next_pass, way_over}
+use Rattle.exec_agg.proofs.InOrder.{stopped}
 use Rattle.exec_agg.proofs.Files.{rows_bytes}
 use Rattle.exec_agg.proofs.Places.{at_place, behind_place, none_kept, none_left, length-results}
 
@@ -133,6 +135,19 @@ module _
           subst (λ (w : Pass). Spends before.pass.groups.state.layout.account (anew before.pass s temp) w s t temp temps) over_then
           (Spends-turned before.pass.groups.state.layout.account begun.groups.state.layout.account (anew before.pass s temp) (way_of begun r temp) (way_of after.pass t mid) s r t temp mid temps account way asked spends written);
     }
+
+    -- what refuses a row
+    pub stops_over : {A : Type 0} (answer : Result A NodeError) → begun.budget ≡ before.pass.budget → way_of begun r temp ≡ anew before.pass s temp
+        → IfErr answer (λ e. (e ≡ NodeError.Memory) ⊎ (stand_behind begun.budget (way_of begun r temp) rows ≡ record { pass = way_of after.pass t mid; refused = Some e })) → IfErr answer (λ e. (e ≡ NodeError.Memory) ⊎ Stops before after s t temp temps e)
+    stops_over (Ok a) budget way stops = tt
+    stops_over (Err e) budget way stops =
+        elim stops [
+          | inl memory ↦ inl memory
+          | inr halted ↦
+              inr
+              (ap (stand_behind before.pass.budget (anew before.pass s temp)) (sym are) ∙ ap (λ b. stand_behind b (anew before.pass s temp) rows) (sym budget) ∙ ap (λ (w : Pass). stand_behind begun.budget w rows) (sym way) ∙ halted
+              ∙ ap (stopped e) over_then)
+        ]
 
 -- all rows were met
 pub went_over : {A E : Type 0} (r : Result A E) (before after : Node) (s t : Space) (temp temps : Temp) (rows : List Row) → rows ≡ spilled_rows before.pass.budget before.pass.rows → OnOk r (after.pass.rows ≡ rows) → Goes before after s t temp temps

@@ -1,5 +1,5 @@
 -- What a contract sees of a hash aggregate node.
-use Rattle.std.specs.Prelude.{◌≡◌, ℕ, ◌+◌, ◌-◌, ◌*◌, ◌≤◌, ◌<◌, List, ◌++◌, length, take, drop, Result, Ok, IsSome}
+use Rattle.std.specs.Prelude.{◌≡◌, ℕ, ◌+◌, ◌-◌, ◌*◌, ◌≤◌, ◌<◌, List, ◌++◌, length, take, drop, Some, Result, Ok, IsSome}
 use Rattle.addr_space.specs.Space.{Space}
 use Rattle.addr_space.specs.Footprint.{Agrees}
 use Rattle.temp_store.specs.Temp.{Temp, held as stored}
@@ -8,7 +8,7 @@ use Rattle.agg_rules.specs.declared.Row.{Row}
 use Rattle.agg_rules.specs.declared.NodeError.{NodeError}
 use Rattle.agg_rules.specs.Rows.{results_of}
 use Rattle.agg_rules.specs.Passes.{kept_groups, pass_results, spilled_rows}
-use Rattle.agg_rules.specs.Steps.{Pass, meets_all}
+use Rattle.agg_rules.specs.Steps.{Pass, meets_all, stand_behind}
 use Rattle.held_groups.specs.declared.held.TheConstants.{MOST_ROWS}
 use Rattle.held_groups.specs.Held.{footprint, HasTotals}
 use Rattle.agg_pass.specs.PassState.{PassState, HasSpilled, Spends, way_of, anew}
@@ -51,6 +51,11 @@ pub record Goes (before after : Node) (s t : Space) (temp temps : Temp) : Type 0
   pub met : after.pass.rows ≡ take (length after.pass.rows) (spilled_rows before.pass.budget before.pass.rows)
   pub went : meets_all before.pass.budget (Ok (anew before.pass s temp)) after.pass.rows ≡ Ok (way_over before after t temps)
   pub spends : Spends before.pass.groups.state.layout.account (anew before.pass s temp) (way_over before after t temps) s t temp temps
+
+-- the next pass met rows by the rules until this refused one
+abbrev pub Stops : Node → Node → Space → Space → Temp → Temp → NodeError → Type 0
+Stops before after s t temp temps refused =
+    stand_behind before.pass.budget (anew before.pass s temp) (spilled_rows before.pass.budget before.pass.rows) ≡ record { pass = way_over before after t temps; refused = Some refused }
 
 -- no file is the node's own
 abbrev pub NoFile : ℕ → Type 0

@@ -1,5 +1,5 @@
 //! A node.
-ghost use Rattle.std.specs.Prelude.{◌≡◌, ◌≢◌, ◌+◌, ◌*◌, ◌<◌, ◌≤◌, ◌⊎◌, ◌↔◌, [], ◌∷◌, ◌++◌, length, Some, None, Ok, Err, IfOk, IfErr, IfSome, IfNone, OnOk, OnErr, slice_get};
+ghost use Rattle.std.specs.Prelude.{◌≡◌, ◌≢◌, ◌+◌, ◌*◌, ◌<◌, ◌≤◌, ◌⊎◌, ◌↔◌, [], ◌∷◌, ◌++◌, length, drop, Some, None, Ok, Err, IfOk, IfErr, IfSome, IfNone, OnOk, OnErr, slice_get};
 ghost use Rattle.addr_space.specs.Space.{Space, accounts, held, Asks};
 ghost use Rattle.addr_space.specs.Footprint.{nothing, Moves};
 ghost use Rattle.chunk_header.specs.declared.TheConstants.{LARGEST_BLOCK};
@@ -7,14 +7,14 @@ ghost use Rattle.bump_ctx.specs.Ledger.{created};
 ghost use Rattle.temp_store.specs.Temp.{Temp, held as stored};
 ghost use Rattle.agg_rules.specs.declared.TheConstants.{ROW_BYTES};
 ghost use Rattle.agg_rules.specs.Rows.{results_of};
-ghost use Rattle.agg_rules.specs.Passes.{kept_groups, spilled_rows};
+ghost use Rattle.agg_rules.specs.Passes.{kept_groups, pass_results, spilled_rows};
 ghost use Rattle.agg_rules.specs.Steps.{meets};
 ghost use Rattle.held_groups.specs.declared.held.TheConstants.{FIRST_BLOCK, MOST_ROWS};
 ghost use Rattle.held_groups.specs.Held.{footprint};
 ghost use Rattle.agg_pass.specs.PassState.{Spends, way_of};
 ghost use Rattle.agg_pass.specs.Spilled.{IsOf, KeepsFiles};
 ghost use Rattle.exec_agg.specs.declared.stage.Stage.TheVariants.{Putting, Giving, Refused};
-ghost use Rattle.exec_agg.specs.Nodes.{Node, Holds, Goes, IsTurn, next_pass, way_over, NoFile};
+ghost use Rattle.exec_agg.specs.Nodes.{Node, Holds, Goes, Stops, IsTurn, next_pass, way_over, NoFile};
 
 use crate::over::go_over;
 use crate::stage::Stage;
@@ -112,6 +112,23 @@ impl AggNode {
         })
     }
 
+    /// What its context has of the space is the total of the ledger. A caller cites the clause.
+    pub fn counted(&self)
+        ensures { (footprint self.now.pass.groups).total ≡ self.now.pass.groups.state.ledger.total }
+    {
+        self.pass.counted();
+    }
+
+    /// What is left to give is what is left of the pass at hand, and then what the rows that it spilled give. A caller
+    /// cites a clause.
+    pub fn standing(&self)
+        ensures some { 0 < self.now.pass.budget }
+        ensures no_file { self.now.pass.file ≡ None → spilled_rows self.now.pass.budget self.now.pass.rows ≡ [] }
+        ensures left { self.now.stage ≡ Giving → drop self.now.given (results_of self.now.rows) ≡ drop self.now.place (pass_results self.now.pass.budget self.now.pass.rows) ++ results_of (spilled_rows self.now.pass.budget self.now.pass.rows) }
+    {
+        let _ = self.pass.file();
+    }
+
     /// Puts a row: its group is held, or the row is spilled.
     ///
     /// `NoSpace` comes only where the context's ledger asks for bytes that don't fit, and `Full` only where the store has
@@ -143,6 +160,7 @@ impl AggNode {
         ensures went { OnOk result (meets self.old.pass.budget (way_of self.old.pass space.old temp.old) group ≡ Ok (way_of self.new.pass space.new temp.new)) }
         ensures refused { IfErr result (λ e. (e ≡ NodeError.Memory) ⊎ (meets self.old.pass.budget (way_of self.old.pass space.old temp.old) group ≡ Err e)) }
         ensures spends { Spends self.old.pass.groups.state.layout.account (way_of self.old.pass space.old temp.old) (way_of self.new.pass space.new temp.new) space.old space.new temp.old temp.new }
+        ensures err_way { OnErr result (way_of self.new.pass space.new temp.new ≡ way_of self.old.pass space.old temp.old) }
         ensures err_space { OnErr result (space.new ≡ space.old) }
     {
         let row = Row { group, value };
@@ -198,7 +216,7 @@ impl AggNode {
         ensures moves { Moves (footprint self.old.pass.groups) (footprint self.new.pass.groups) space.old space.new }
         ensures others { KeepsFiles (IsOf self.old.pass.file) temp.old (IsOf self.new.pass.file) temp.new }
         ensures limit { temp.new.limit ≡ temp.old.limit }
-        ensures refused { IfErr result (λ e. (e ≡ NodeError.Memory) ⊎ (next_pass self.old space.old temp.old ≡ Err e)) }
+        ensures refused { IfErr result (λ e. (e ≡ NodeError.Memory) ⊎ Stops self.old self.new space.old space.new temp.old temp.new e) }
         ensures went { OnOk result (next_pass self.old space.old temp.old ≡ Ok (way_over self.old self.new space.new temp.new)) }
         ensures goes { Goes self.old self.new space.old space.new temp.old temp.new }
     {
@@ -257,7 +275,7 @@ impl AggNode {
         ensures moves { Moves (footprint self.old.pass.groups) (footprint self.new.pass.groups) space.old space.new }
         ensures others { KeepsFiles (IsOf self.old.pass.file) temp.old (IsOf self.new.pass.file) temp.new }
         ensures limit { temp.new.limit ≡ temp.old.limit }
-        ensures refused { IfErr result (λ e. (e ≡ NodeError.Memory) ⊎ (next_pass self.old space.old temp.old ≡ Err e)) }
+        ensures refused { IfErr result (λ e. (e ≡ NodeError.Memory) ⊎ Stops self.old self.new space.old space.new temp.old temp.new e) }
 
         // It is the next pass's turn where the groups of the pass at hand were all given and a row was spilled. Then the
         // next pass goes over the spilled rows, and takes what the rules say. Else the pass, the account and the store stay.

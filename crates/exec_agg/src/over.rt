@@ -1,7 +1,7 @@
 //! A pass over the rows of a file.
-ghost use Rattle.std.specs.Prelude.{◌≡◌, ◌⊎◌, ◌≤◌, [], length, take, None, Ok, Err, IfErr, OnOk};
+ghost use Rattle.std.specs.Prelude.{◌≡◌, ◌⊎◌, ◌≤◌, [], length, take, Some, None, Ok, IfErr, OnOk};
 ghost use Rattle.addr_space.specs.Footprint.{Agrees, Moves};
-ghost use Rattle.agg_rules.specs.Steps.{meets_all};
+ghost use Rattle.agg_rules.specs.Steps.{meets_all, stand_behind};
 ghost use Rattle.held_groups.specs.declared.held.TheConstants.{MOST_ROWS};
 ghost use Rattle.held_groups.specs.Held.{footprint, HasTotals};
 ghost use Rattle.row_files.specs.RowBytes.{HasRows};
@@ -38,7 +38,7 @@ pub(crate) fn go_over(
     ensures limit { temp.new.limit ≡ temp.old.limit }
     ensures others { KeepsFiles (IsOf pass.old.file) temp.old (IsOf pass.new.file) temp.new }
     ensures went { meets_all pass.old.budget (Ok (way_of pass.old space.old temp.old)) pass.new.rows ≡ Ok (way_of pass.new space.new temp.new) }
-    ensures refused { IfErr result (λ e. (e ≡ NodeError.Memory) ⊎ (meets_all pass.old.budget (Ok (way_of pass.old space.old temp.old)) rows.now.entries ≡ Err e)) }
+    ensures refused { IfErr result (λ e. (e ≡ NodeError.Memory) ⊎ (stand_behind pass.old.budget (way_of pass.old space.old temp.old) rows.now.entries ≡ record { pass = way_of pass.new space.new temp.new; refused = Some e })) }
     ensures spends { Spends pass.old.groups.state.layout.account (way_of pass.old space.old temp.old) (way_of pass.new space.new temp.new) space.old space.new temp.old temp.new }
 {
     let count = rows_in(temp, file) as u32;

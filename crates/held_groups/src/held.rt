@@ -76,6 +76,14 @@ impl HeldGroups {
         })
     }
 
+    /// What its context has of the space is the total of the ledger. A caller cites the clause.
+    #[tactic(auto, unfolding(bump_ctx::specs::Ledger::stats))]
+    pub fn counted(&self)
+        ensures { (footprint self.now).total ≡ self.now.state.ledger.total }
+    {
+        self.context.counted();
+    }
+
     /// How many groups are held.
     pub fn len(&self) -> usize
         ensures { result ≡ length (groups_of self.now.rows) }

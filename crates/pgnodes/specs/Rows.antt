@@ -1,5 +1,5 @@
 -- The rows of an aggregate.
-use Rattle.std.specs.Prelude.{ℕ, ◌+◌, ◌*◌, ◌%◌, List, map}
+use Rattle.std.specs.Prelude.{ℕ, ◌+◌, ◌*◌, ◌%◌, List, [], ◌∷◌, map}
 use Rattle.std.specs.List.{range_with_len}
 use Rattle.agg_rules.specs.declared.Row.{Row}
 use Rattle.pgnodes.specs.declared.lines.Aggregate.{Aggregate}
@@ -19,3 +19,7 @@ rows_made a = map (row_made a) (range_with_len 0 a.rows)
 -- four rows of two groups
 abbrev pub four_rows_asked : Aggregate
 four_rows_asked = record { object = 3; rows = 4; groups = 2; budget = 64 }
+
+-- their groups, in the order of their first rows, each with its count and its sum
+abbrev pub two_groups : List (ℕ × ℕ × ℕ)
+two_groups = (1, 2, 2) ∷ (0, 2, 4) ∷ []

@@ -3,9 +3,13 @@
 
 mod lines;
 mod making;
+mod playing;
+#[cfg(test)]
+mod trial;
 
 pub use lines::{
     Aggregate, Asked, LEAST_BUDGET, LEAST_GROUPS, MOST_BUDGET, MOST_GROUPS, MOST_OBJECT, MOST_ROWS,
     read_asked,
 };
 pub use making::{row_at, worked};
+pub use playing::{Groups, play};

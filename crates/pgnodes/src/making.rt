@@ -1,12 +1,13 @@
 //! The rows that an aggregate is made over.
-ghost use Rattle.std.specs.Prelude.{◌≡◌, ◌<◌, ◌≤◌, codes};
+ghost use Rattle.std.specs.Prelude.{◌≡◌, ◌<◌, ◌≤◌, [], None, Some, codes};
 ghost use Rattle.agg_rules.specs.Rows.{four_rows};
 ghost use Rattle.pgnodes.specs.Lines.{written};
-ghost use Rattle.pgnodes.specs.Rows.{row_made, rows_made, four_rows_asked};
+ghost use Rattle.pgnodes.specs.Rows.{row_made, rows_made, four_rows_asked, two_groups};
+ghost use Rattle.pgnodes.specs.Plays.{played, rows_played};
 ghost use Rattle.pgnodes.specs.declared.lines.TheConstants.{MOST_OBJECT, MOST_ROWS};
 
 use crate::lines::Aggregate;
-use agg_rules::Row;
+use agg_rules::{NodeError, Row};
 
 /// The row of a place, counted from 0.
 pub fn row_at(aggregate: &Aggregate, place: u32) -> Row
@@ -26,6 +27,13 @@ pub fn row_at(aggregate: &Aggregate, place: u32) -> Row
 pub fn worked()
     ensures line { written four_rows_asked ≡ codes "agg 3 4 2 64" }
     ensures rows { rows_made four_rows_asked ≡ four_rows }
+
+    // It comes to two groups. Where one group is held at once, two rows of the other one are spilled, and give the same
+    // groups. In a store of one row the second of them isn't taken. A block doesn't fit where one byte of it is missing.
+    ensures played { played four_rows_asked 16777216 67108864 ≡ record { groups = two_groups; refused = None; asked = 8192; written = 0 } }
+    ensures spilled { rows_played 1 16777216 67108864 four_rows ≡ record { groups = two_groups; refused = None; asked = 0; written = 16 } }
+    ensures full { rows_played 1 16777216 8 four_rows ≡ record { groups = []; refused = Some NodeError.Full; asked = 0; written = 8 } }
+    ensures no_space { played four_rows_asked 8191 67108864 ≡ record { groups = []; refused = Some NodeError.NoSpace; asked = 0; written = 0 } }
 {}
 
 #[test]

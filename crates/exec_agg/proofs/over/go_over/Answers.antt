@@ -6,7 +6,7 @@ use Rattle.agg_pass.specs.PassState.{Spends, way_of}
 use Rattle.agg_pass.proofs.Files.{KeepsFiles-more}
 use Rattle.agg_pass.proofs.Spending.{Spends-more}
 use Rattle.addr_space.proofs.Steps.{Moves-more}
-use Rattle.exec_agg.proofs.InOrder.{meets_all-next, row_parts, rows_stay}
+use Rattle.exec_agg.proofs.InOrder.{meets_all-next, row_parts, rows_stay, stopped}
 use Rattle.exec_agg.proofs.over.go_over.Goals as goal
 
 pub row_at-row-requires : goal.row_at-row-requires
@@ -24,7 +24,7 @@ returns-in-Err-clause-refused c =
     let next = meets_all-next c.args.pass.now.budget (way_of c.args.pass.now c.args.space.now c.args.temp.now) now rows c.loop-at.at c.row_at-row.result there c.loop-at.invariant.went in
     elim c.in-Err.ensures.refused [
       | inl memory ↦ inl memory
-      | inr refused ↦ inr (next.1 c.in-Err.refused (ap (λ b. meets b now c.row_at-row.result.group) (sym c.loop-at.invariant.budget) ∙ refused))
+      | inr refused ↦ inr (next.1 c.in-Err.refused (ap (λ b. meets b now c.row_at-row.result.group) (sym c.loop-at.invariant.budget) ∙ refused) ∙ ap (stopped c.in-Err.refused) (sym c.in-Err.ensures.err_way))
     ]
 
 pub loop-at-preserved : goal.loop-at-preserved

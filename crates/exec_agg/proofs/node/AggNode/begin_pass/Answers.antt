@@ -1,16 +1,17 @@
-use Rattle.std.proofs.Common.{◌≤◌, List, length, sym, ap, ◌∙◌, subst, arith}
+use Rattle.std.proofs.Common.{◌≡◌, ◌⊎◌, ◌≤◌, IfErr, List, length, sym, ap, ◌∙◌, subst, arith}
 use Rattle.addr_space.specs.Footprint.{Moves}
 use Rattle.addr_space.proofs.Steps.{Moves-more}
 use Rattle.agg_rules.specs.declared.Row.{Row}
+use Rattle.agg_rules.specs.declared.NodeError.{NodeError}
 use Rattle.agg_rules.specs.Passes.{is_outside, kept_groups, spilled_rows}
 use Rattle.agg_rules.proofs.Filters.{length-filter_le}
 use Rattle.row_files.specs.RowBytes.{HasRows}
 use Rattle.held_groups.specs.Held.{footprint}
 use Rattle.agg_pass.specs.PassState.{HasSpilled}
-use Rattle.exec_agg.specs.Nodes.{Node, Goes}
+use Rattle.exec_agg.specs.Nodes.{Node, Goes, Stops}
 use Rattle.exec_agg.proofs.InOrder.{rows_stay}
 use Rattle.exec_agg.proofs.Files.{HasSpilled-dropped, KeepsFiles-turned, not_own, rows_file}
-use Rattle.exec_agg.proofs.Standing.{goes_over, went_over, not_putting, turned, was_ok}
+use Rattle.exec_agg.proofs.Standing.{goes_over, stops_over, went_over, not_putting, turned, was_ok}
 use Rattle.exec_agg.proofs.node.AggNode.begin_pass.Goals as goal
 
 pub go_over-gone_over-requires-clause-rows : goal.go_over-gone_over-requires-clause-rows
@@ -72,3 +73,13 @@ pub returns-clause-went : goal.returns-clause-went
 returns-clause-went c =
     went_over c.go_over-gone_over.result c.args.self.now _ c.args.space.now c.go_over-gone_over.new.space c.args.temp.now c.drop_file.new.self _
     (c.of-rows.ensures ∙ ap (λ (n : Node). spilled_rows n.pass.budget n.pass.rows) c.self.view_is) c.go_over-gone_over.ensures.rows (returns-clause-goes c)
+
+pub returns-clause-refused : goal.returns-clause-refused
+returns-clause-refused c =
+    let spilled = subst (λ (n : Node). HasSpilled n.pass c.args.temp.now) (sym c.self.view_is) c.requires.holds.spilled in
+    let after : Node = record { rows = c.self.inside.rows.entries; given = c.self.inside.given; stage = c.stage_behind-self-inside.result; pass = c.go_over-gone_over.new.pass; place = 0 } in
+    let before : Node = record { rows = c.self.inside.rows.entries; given = c.self.inside.given; stage = c.self.inside.stage; pass = c.self.inside.pass; place = c.self.inside.place } in
+    subst (λ (n : Node). IfErr c.go_over-gone_over.result (λ e. (e ≡ NodeError.Memory) ⊎ Stops n after c.args.space.now c.go_over-gone_over.new.space c.args.temp.now c.drop_file.new.self e)) c.self.view_is
+    (stops_over before after c.restart.new.self c.args.space.now c.restart.new.space c.go_over-gone_over.new.space c.args.temp.now c.go_over-gone_over.new.temp c.drop_file.new.self c.args.file _ c.of-rows.ensures
+    (rows_stay c.args.temp.now c.go_over-gone_over.new.temp c.restart.new.self.file c.go_over-gone_over.new.pass.file c.args.file _ c.restart.ensures.file c.go_over-gone_over.ensures.others (subst (HasRows c.args.temp.now c.args.file) (sym c.of-rows.ensures) (spilled c.args.file (ap (λ (n : Node). n.pass.file) c.self.view_is ∙ c.requires.file))))
+    c.drop_file.ensures.changes.limit c.drop_file.ensures.held c.go_over-gone_over.result c.restart.ensures.budget (c.restart.ensures.way c.args.temp.now) c.go_over-gone_over.ensures.refused)
