@@ -6,61 +6,56 @@ use pgs_io::{
 };
 use std::collections::VecDeque;
 use std::io::{self, ErrorKind, Read, Write};
-use std::test::Fail;
 
 #[test]
-fn a_source_in_memory_gives_pieces(rt: HostRuntime) -> Result<(), Fail> {
-    let bytes = b"abcde".to_vec(rt.alloc())?;
-    let fail_at = [2].to_vec(rt.alloc())?;
+fn a_source_in_memory_gives_pieces(rt: HostRuntime) {
+    let bytes = b"abcde".to_vec(rt.alloc()).expect(&rt, "it is served");
+    let fail_at = [2].to_vec(rt.alloc()).expect(&rt, "it is served");
     let mut source = MemSource::new(bytes, 2, fail_at);
     let mut buf = [0; 4];
-    assert_eq!(rt; source.read(&mut buf), Ok(2));
-    assert_eq!(rt; buf, [b'a', b'b', 0, 0]);
-    assert_eq!(rt; source.read(&mut buf), Err(Failed));
-    assert_eq!(rt; source.read(&mut buf[..1]), Ok(1));
-    assert_eq!(rt; source.unread(), b"de".as_slice());
-    assert_eq!(rt; source.read(&mut buf), Ok(2));
-    assert_eq!(rt; source.read(&mut buf), Ok(0));
-    assert_eq!(rt; source.faults(), 1);
-    assert_eq!(rt; source.calls(), 5);
-    Ok(())
+    assert!(rt; source.read(&mut buf) == Ok(2));
+    assert!(rt; buf == [b'a', b'b', 0, 0]);
+    assert!(rt; source.read(&mut buf) == Err(Failed));
+    assert!(rt; source.read(&mut buf[..1]) == Ok(1));
+    assert!(rt; source.unread() == b"de".as_slice());
+    assert!(rt; source.read(&mut buf) == Ok(2));
+    assert!(rt; source.read(&mut buf) == Ok(0));
+    assert!(rt; source.faults() == 1);
+    assert!(rt; source.calls() == 5);
 }
 
 #[test]
-fn a_sink_in_memory_fills(rt: HostRuntime) -> Result<(), Fail> {
-    let fail_at = [2].to_vec(rt.alloc())?;
-    let mut sink = MemSink::new(rt.alloc(), 5, fail_at)?;
-    assert_eq!(rt; sink.write(b"abc"), Ok(3));
-    assert_eq!(rt; sink.write(b"abc"), Err(Failed));
-    assert_eq!(rt; put_all(&mut sink, b"de"), Ok(()));
-    assert_eq!(rt; put_all(&mut sink, b"f"), Err(Failed));
-    assert_eq!(rt; put_all(&mut sink, b""), Ok(()));
-    assert_eq!(rt; sink.written(), b"abcde".as_slice());
-    assert_eq!(rt; sink.faults(), 2);
-    assert_eq!(rt; sink.calls(), 4);
-    Ok(())
+fn a_sink_in_memory_fills(rt: HostRuntime) {
+    let fail_at = [2].to_vec(rt.alloc()).expect(&rt, "it is served");
+    let mut sink = MemSink::new(rt.alloc(), 5, fail_at).expect(&rt, "it is served");
+    assert!(rt; sink.write(b"abc") == Ok(3));
+    assert!(rt; sink.write(b"abc") == Err(Failed));
+    assert!(rt; put_all(&mut sink, b"de") == Ok(()));
+    assert!(rt; put_all(&mut sink, b"f") == Err(Failed));
+    assert!(rt; put_all(&mut sink, b"") == Ok(()));
+    assert!(rt; sink.written() == b"abcde".as_slice());
+    assert!(rt; sink.faults() == 2);
+    assert!(rt; sink.calls() == 4);
 }
 
 #[test]
-fn a_failing_sink_has_a_front(rt: HostRuntime) -> Result<(), Fail> {
-    let mut sink = MemSink::new(rt.alloc(), 3, Vec::new(rt.alloc()))?;
-    assert_eq!(rt; put_all(&mut sink, b"abcd"), Err(Failed));
-    assert_eq!(rt; sink.written(), b"abc".as_slice());
-    Ok(())
+fn a_failing_sink_has_a_front(rt: HostRuntime) {
+    let mut sink = MemSink::new(rt.alloc(), 3, Vec::new(rt.alloc())).expect(&rt, "it is served");
+    assert!(rt; put_all(&mut sink, b"abcd") == Err(Failed));
+    assert!(rt; sink.written() == b"abc".as_slice());
 }
 
 #[test]
-fn std_readers_and_writers_serve(rt: HostRuntime) -> Result<(), Fail> {
+fn std_readers_and_writers_serve(rt: HostRuntime) {
     let mut queue: VecDeque<u8> = VecDeque::new(rt.alloc());
-    queue.push_back(b'x')?;
+    queue.push_back(b'x').expect(&rt, "it is served");
     let mut source = StdSource::new(queue);
     let mut buf = [0; 2];
-    assert_eq!(rt; source.read(&mut buf), Ok(1));
-    assert_eq!(rt; source.read(&mut buf), Ok(0));
+    assert!(rt; source.read(&mut buf) == Ok(1));
+    assert!(rt; source.read(&mut buf) == Ok(0));
     let writer: VecDeque<u8> = VecDeque::new(rt.alloc());
     let mut sink = StdSink::new(writer);
-    assert_eq!(rt; put_all(&mut sink, b"xyz"), Ok(()));
-    Ok(())
+    assert!(rt; put_all(&mut sink, b"xyz") == Ok(()));
 }
 
 #[test]
@@ -68,11 +63,11 @@ fn a_buffer_takes_bytes(rt: HostRuntime) {
     let mut line = LineBuf::new();
     assert!(rt; line.push(b'a'));
     assert!(rt; line.extend(b"bc"));
-    assert_eq!(rt; line.as_slice(), b"abc".as_slice());
+    assert!(rt; line.as_slice() == b"abc".as_slice());
     assert!(rt; !line.extend(&[b'd'; 510]));
     assert!(rt; !line.push(b'e'));
     line.clear();
-    assert_eq!(rt; line.as_slice(), b"".as_slice());
+    assert!(rt; line.as_slice() == b"".as_slice());
 }
 
 #[test]
@@ -84,7 +79,7 @@ fn words_split_at_a_space(rt: HostRuntime) {
         (b"begin ", b"begin", b""),
     ];
     for (text, word, rest) in cases {
-        assert_eq!(rt; next_token(text), (word, rest));
+        assert!(rt; next_token(text) == (word, rest));
     }
 }
 
@@ -104,36 +99,35 @@ fn numbers_are_decimal(rt: HostRuntime) {
         (b"18446744073709551616", u64::MAX, None),
     ];
     for (word, max, want) in cases {
-        assert_eq!(rt; number(word, max), want);
+        assert!(rt; number(word, max) == want);
     }
 }
 
 #[test]
-fn lines_end_with_a_newline_or_the_input(rt: HostRuntime) -> Result<(), Fail> {
-    let bytes = b"a\nb".to_vec(rt.alloc())?;
+fn lines_end_with_a_newline_or_the_input(rt: HostRuntime) {
+    let bytes = b"a\nb".to_vec(rt.alloc()).expect(&rt, "it is served");
     let mut source = MemSource::new(bytes, 1, Vec::new(rt.alloc()));
     let mut feed = Feed::new(3);
     let mut buf = LineBuf::new();
-    assert_eq!(rt; feed.buffered(), None);
+    assert!(rt; feed.buffered() == None);
     let Fed::Line { long: false } = feed.line(&mut source, &mut buf) else {
         panic!(rt; "no line");
     };
-    assert_eq!(rt; buf.as_slice(), b"a".as_slice());
-    assert_eq!(rt; source.calls(), 2);
+    assert!(rt; buf.as_slice() == b"a".as_slice());
+    assert!(rt; source.calls() == 2);
     let Fed::Line { long: false } = feed.line(&mut source, &mut buf) else {
         panic!(rt; "no last line");
     };
-    assert_eq!(rt; buf.as_slice(), b"b".as_slice());
-    assert_eq!(rt; source.calls(), 4);
-    assert_eq!(rt; feed.line(&mut source, &mut buf), Fed::End);
-    assert_eq!(rt; source.calls(), 4);
-    Ok(())
+    assert!(rt; buf.as_slice() == b"b".as_slice());
+    assert!(rt; source.calls() == 4);
+    assert!(rt; feed.line(&mut source, &mut buf) == Fed::End);
+    assert!(rt; source.calls() == 4);
 }
 
 #[test]
-fn lines_in_one_read_are_buffered(rt: HostRuntime) -> Result<(), Fail> {
-    let bytes = b"a\nbc\n\nd".to_vec(rt.alloc())?;
-    let fail_at = [2].to_vec(rt.alloc())?;
+fn lines_in_one_read_are_buffered(rt: HostRuntime) {
+    let bytes = b"a\nbc\n\nd".to_vec(rt.alloc()).expect(&rt, "it is served");
+    let fail_at = [2].to_vec(rt.alloc()).expect(&rt, "it is served");
     let mut source = MemSource::new(bytes, 9, fail_at);
     let mut feed = Feed::new(100);
     let mut buf = LineBuf::new();
@@ -143,29 +137,27 @@ fn lines_in_one_read_are_buffered(rt: HostRuntime) -> Result<(), Fail> {
     let Some(line) = feed.buffered() else {
         panic!(rt; "no buffered line");
     };
-    assert_eq!(rt; line, b"bc".as_slice());
+    assert!(rt; line == b"bc".as_slice());
     let count = line.len();
     feed.pass(count);
     let Some(line) = feed.buffered() else {
         panic!(rt; "no empty line");
     };
-    assert_eq!(rt; line, b"".as_slice());
+    assert!(rt; line == b"".as_slice());
     let count = line.len();
     feed.pass(count);
-    assert_eq!(rt; feed.buffered(), None);
-    assert_eq!(rt; feed.line(&mut source, &mut buf), Fed::Fault);
-    assert_eq!(rt; source.faults(), 1);
-    Ok(())
+    assert!(rt; feed.buffered() == None);
+    assert!(rt; feed.line(&mut source, &mut buf) == Fed::Fault);
+    assert!(rt; source.faults() == 1);
 }
 
 #[test]
-fn a_read_asks_for_what_may_be_taken(rt: HostRuntime) -> Result<(), Fail> {
-    let bytes = vec![in rt.alloc(); b'x'; 700]?;
+fn a_read_asks_for_what_may_be_taken(rt: HostRuntime) {
+    let bytes = vec![in rt.alloc(); b'x'; 700].expect(&rt, "it is served");
     let mut source = MemSource::new(bytes, 700, Vec::new(rt.alloc()));
-    assert_eq!(rt; count_lines(&mut source, 600), (0, Fed::TooLong));
-    assert_eq!(rt; source.calls(), 2);
-    assert_eq!(rt; source.unread().len(), 99);
-    Ok(())
+    assert!(rt; count_lines(&mut source, 600) == (0, Fed::TooLong));
+    assert!(rt; source.calls() == 2);
+    assert!(rt; source.unread().len() == 99);
 }
 
 #[test]
@@ -180,7 +172,7 @@ fn a_line_is_split_off_bytes(rt: HostRuntime) {
         if text.is_empty() {
             continue;
         }
-        assert_eq!(rt; split_line(text), (line, rest));
+        assert!(rt; split_line(text) == (line, rest));
     }
 }
 
@@ -222,8 +214,8 @@ impl Write for Interrupted {
 fn an_interrupted_call_is_tried_again(rt: HostRuntime) {
     let mut source = StdSource::new(Interrupted { calls: 3 });
     let mut buf = [0; 2];
-    assert_eq!(rt; source.read(&mut buf), Ok(1));
-    assert_eq!(rt; buf, [b'x', 0]);
+    assert!(rt; source.read(&mut buf) == Ok(1));
+    assert!(rt; buf == [b'x', 0]);
     let mut sink = StdSink::new(Interrupted { calls: 3 });
-    assert_eq!(rt; sink.write(b"abc"), Ok(3));
+    assert!(rt; sink.write(b"abc") == Ok(3));
 }

@@ -4,7 +4,6 @@ ghost use Rattle.plan_store.specs.Plans.{references};
 
 use pgs_step::CtxId;
 use plan_store::{PlanError, PlanStore};
-use std::test::Fail;
 
 const CONTEXT: CtxId = CtxId { number: 7, slot: 3 };
 
@@ -36,23 +35,21 @@ fn let_go(store: &mut PlanStore) -> (u64, Gone, bool, u64) {
 }
 
 #[test]
-fn goes_with_the_last_reference(rt: HostRuntime) -> Result<(), Fail> {
+fn goes_with_the_last_reference(rt: HostRuntime) {
     let mut store = PlanStore::new(rt.alloc());
-    refer(&mut store)?;
-    assert_eq!(rt; discarded(&mut store), (true, Ok(None), true, false));
-    assert_eq!(rt; let_go(&mut store), (1, Ok(Some(CONTEXT)), false, 0));
-    Ok(())
+    refer(&mut store).expect(&rt, "it is served");
+    assert!(rt; discarded(&mut store) == (true, Ok(None), true, false));
+    assert!(rt; let_go(&mut store) == (1, Ok(Some(CONTEXT)), false, 0));
 }
 
 #[test]
-fn holds_1024_plans(rt: HostRuntime) -> Result<(), Fail> {
+fn holds_1024_plans(rt: HostRuntime) {
     let mut store = PlanStore::new(rt.alloc());
     for number in 0..1024 {
-        store.reserve(number)?;
+        store.reserve(number).expect(&rt, "it is served");
         store.make(number, CONTEXT);
     }
-    assert_eq!(rt; store.count(), 1024);
-    assert_eq!(rt; store.reserve(1024), Err(PlanError::TooMany));
-    assert_eq!(rt; store.reserve(3), Err(PlanError::Taken));
-    Ok(())
+    assert!(rt; store.count() == 1024);
+    assert!(rt; store.reserve(1024) == Err(PlanError::TooMany));
+    assert!(rt; store.reserve(3) == Err(PlanError::Taken));
 }

@@ -59,42 +59,29 @@ fn sub_abort(rt: &impl Abort, portals: &mut Portals, level: u32) -> Option<Owner
 }
 
 #[test]
-fn a_portal_lives(rt: HostRuntime) -> Result<(), Fail> {
-    let p = Name::new(b"p").ok_or("no name")?;
+fn a_portal_lives(rt: HostRuntime) {
+    let p = Name::new(b"p").ok_or("no name").expect(&rt, "it is served");
     let mut portals = Portals::new(rt.alloc());
     assert!(rt; portals.is_empty());
-    assert_eq!(rt; portals.create(p, Scan::new(40, 30, Some(3)), 1), Ok(()));
-    assert_eq!(rt;
-        portals.create(p, Scan::new(40, 30, None), 2),
-        Err(PortalError::Taken)
-    );
-    assert_eq!(rt;
-        portals.get(&p).map(|portal| portal.state),
-        Some(PortalState::New)
-    );
+    assert!(rt; portals.create(p, Scan::new(40, 30, Some(3)), 1) == Ok(()));
+    assert!(rt; portals.create(p, Scan::new(40, 30, None), 2) == Err(PortalError::Taken));
+    assert!(rt; portals.get(&p).map(|portal| portal.state) == Some(PortalState::New));
     put(&rt, &mut portals, portal(p, 1, None, PortalState::Ready));
-    assert_eq!(rt;
-        portals.get(&p).copied(),
-        Some(portal(p, 1, None, PortalState::Ready))
-    );
+    assert!(rt; portals.get(&p).copied() == Some(portal(p, 1, None, PortalState::Ready)));
     equip(&rt, &mut portals, &p);
-    assert_eq!(rt;
-        portals.take_out(&p),
-        Some(portal(p, 2, Some(OWNER), PortalState::Failed))
-    );
-    assert_eq!(rt; portals.get(&p), None);
-    assert_eq!(rt; portals.take_out(&p), None);
-    Ok(())
+    assert!(rt; portals.take_out(&p) == Some(portal(p, 2, Some(OWNER), PortalState::Failed)));
+    assert!(rt; portals.get(&p) == None);
+    assert!(rt; portals.take_out(&p) == None);
 }
 
 /// A turn goes on where it was left, or begins anew. Another portal's scan stays where it is.
 #[test]
-fn a_scan_takes_its_steps(rt: HostRuntime) -> Result<(), Fail> {
-    let p = Name::new(b"p").ok_or("no name")?;
-    let q = Name::new(b"q").ok_or("no name")?;
+fn a_scan_takes_its_steps(rt: HostRuntime) {
+    let p = Name::new(b"p").ok_or("no name").expect(&rt, "it is served");
+    let q = Name::new(b"q").ok_or("no name").expect(&rt, "it is served");
     let mut portals = Portals::new(rt.alloc());
-    assert_eq!(rt; portals.create(p, Scan::new(40, 30, Some(3)), 1), Ok(()));
-    assert_eq!(rt; portals.create(q, Scan::new(40, 30, Some(3)), 1), Ok(()));
+    assert!(rt; portals.create(p, Scan::new(40, 30, Some(3)), 1) == Ok(()));
+    assert!(rt; portals.create(q, Scan::new(40, 30, Some(3)), 1) == Ok(()));
     for (begins, expected) in [
         (true, ScanStep::Reset),
         (false, ScanStep::Pin(40)),
@@ -103,52 +90,35 @@ fn a_scan_takes_its_steps(rt: HostRuntime) -> Result<(), Fail> {
         (false, ScanStep::Alloc),
         (false, ScanStep::Row(0, 240)),
     ] {
-        assert_eq!(rt; step(&rt, &mut portals, &p, begins), Some(expected));
+        assert!(rt; step(&rt, &mut portals, &p, begins) == Some(expected));
     }
-    assert_eq!(rt;
-        portals.get(&q).map(|portal| portal.scan),
-        Some(Scan::new(40, 30, Some(3)))
-    );
-    Ok(())
+    assert!(rt; portals.get(&q).map(|portal| portal.scan) == Some(Scan::new(40, 30, Some(3))));
 }
 
 /// The newest stands in front, and stays there where both go to the parent.
 #[test]
-fn goes_to_the_parent(rt: HostRuntime) -> Result<(), Fail> {
-    let p = Name::new(b"p").ok_or("no name")?;
-    let q = Name::new(b"q").ok_or("no name")?;
+fn goes_to_the_parent(rt: HostRuntime) {
+    let p = Name::new(b"p").ok_or("no name").expect(&rt, "it is served");
+    let q = Name::new(b"q").ok_or("no name").expect(&rt, "it is served");
     let mut portals = Portals::new(rt.alloc());
-    assert_eq!(rt; portals.create(p, Scan::new(1, 5, None), 2), Ok(()));
-    assert_eq!(rt; portals.create(q, Scan::new(2, 5, None), 3), Ok(()));
-    assert_eq!(rt;
-        portals.at(0).map(|portal| (portal.name, portal.created)),
-        Some((q, 3))
-    );
+    assert!(rt; portals.create(p, Scan::new(1, 5, None), 2) == Ok(()));
+    assert!(rt; portals.create(q, Scan::new(2, 5, None), 3) == Ok(()));
+    assert!(rt; portals.at(0).map(|portal| (portal.name, portal.created)) == Some((q, 3)));
     portals.to_parent(3);
-    assert_eq!(rt;
-        portals.at(0).map(|portal| (portal.created, portal.active)),
-        Some((2, 2))
-    );
+    assert!(rt; portals.at(0).map(|portal| (portal.created, portal.active)) == Some((2, 2)));
     portals.to_parent(2);
-    assert_eq!(rt;
-        portals.at(0).map(|portal| (portal.created, portal.active)),
-        Some((1, 1))
-    );
-    assert_eq!(rt;
-        portals.at(1).map(|portal| (portal.name, portal.created)),
-        Some((p, 1))
-    );
-    assert_eq!(rt; portals.at(2), None);
-    Ok(())
+    assert!(rt; portals.at(0).map(|portal| (portal.created, portal.active)) == Some((1, 1)));
+    assert!(rt; portals.at(1).map(|portal| (portal.name, portal.created)) == Some((p, 1)));
+    assert!(rt; portals.at(2) == None);
 }
 
 /// Aborts of a subtransaction of level 2: a portal of level 1 that failed in it gives its owner away once,
 /// one that is ready keeps it, and one that is not active there stays. The abort of level 1 then fails it.
 #[test]
-fn aborts_of_subtransactions(rt: HostRuntime) -> Result<(), Fail> {
-    let p = Name::new(b"p").ok_or("no name")?;
+fn aborts_of_subtransactions(rt: HostRuntime) {
+    let p = Name::new(b"p").ok_or("no name").expect(&rt, "it is served");
     let mut portals = Portals::new(rt.alloc());
-    assert_eq!(rt; portals.create(p, Scan::new(40, 30, Some(3)), 1), Ok(()));
+    assert!(rt; portals.create(p, Scan::new(40, 30, Some(3)), 1) == Ok(()));
     for (active, owner, state, moved, kept) in [
         (2, Some(OWNER), PortalState::Failed, Some(OWNER), None),
         (2, None, PortalState::Failed, None, None),
@@ -156,38 +126,30 @@ fn aborts_of_subtransactions(rt: HostRuntime) -> Result<(), Fail> {
         (1, Some(OWNER), PortalState::Failed, None, Some(OWNER)),
     ] {
         put(&rt, &mut portals, portal(p, active, owner, state));
-        assert_eq!(rt; sub_abort(&rt, &mut portals, 2), moved);
-        assert_eq!(rt; portals.get(&p).copied(), Some(portal(p, 1, kept, state)));
+        assert!(rt; sub_abort(&rt, &mut portals, 2) == moved);
+        assert!(rt; portals.get(&p).copied() == Some(portal(p, 1, kept, state)));
     }
-    assert_eq!(rt; sub_abort(&rt, &mut portals, 1), None);
+    assert!(rt; sub_abort(&rt, &mut portals, 1) == None);
     let failed = portals
         .get(&p)
         .map(|portal| (portal.owner, portal.expr, portal.state));
-    assert_eq!(rt; failed, Some((None, None, PortalState::Failed)));
-    Ok(())
+    assert!(rt; failed == Some((None, None, PortalState::Failed)));
 }
 
 #[test]
-fn as_many_portals_as_there_may_be(rt: HostRuntime) -> Result<(), Fail> {
+fn as_many_portals_as_there_may_be(rt: HostRuntime) {
     let mut portals = Portals::new(rt.alloc());
     for i in 0..MAX_PORTALS {
-        let name = numbered(i).ok_or("no name")?;
-        assert_eq!(rt; portals.create(name, Scan::new(1, 1, None), 1), Ok(()));
+        let name = numbered(i).ok_or("no name").expect(&rt, "it is served");
+        assert!(rt; portals.create(name, Scan::new(1, 1, None), 1) == Ok(()));
     }
-    let last = numbered(1023).ok_or("no name")?;
-    let next = numbered(1024).ok_or("no name")?;
-    assert_eq!(rt;
-        portals.create(next, Scan::new(1, 1, None), 1),
-        Err(PortalError::TooMany)
-    );
-    assert_eq!(rt;
-        portals.create(last, Scan::new(1, 1, None), 1),
-        Err(PortalError::Taken)
-    );
+    let last = numbered(1023).ok_or("no name").expect(&rt, "it is served");
+    let next = numbered(1024).ok_or("no name").expect(&rt, "it is served");
+    assert!(rt; portals.create(next, Scan::new(1, 1, None), 1) == Err(PortalError::TooMany));
+    assert!(rt; portals.create(last, Scan::new(1, 1, None), 1) == Err(PortalError::Taken));
     assert!(rt; portals.take_out(&last).is_some());
-    assert_eq!(rt; portals.create(next, Scan::new(1, 1, None), 1), Ok(()));
-    assert_eq!(rt; portals.len(), 1024);
-    Ok(())
+    assert!(rt; portals.create(next, Scan::new(1, 1, None), 1) == Ok(()));
+    assert!(rt; portals.len() == 1024);
 }
 
 /// The portal name of a number below 2,600.
